@@ -1,0 +1,22 @@
+-- The guarded words of the stack: addresses of words, strictly rising.
+use Rattle.std.specs.Prelude.{◌≡◌, ℕ, ◌+◌, ◌%◌, ◌≤◌, ◌==◌, nat_lt, Bool, List, [], ◌∷◌, if◌then◌else◌}
+use Rattle.std.specs.Coded.{×_prop, le_prop, Coded-set, coded_ℕ}
+
+-- with the word at a
+abbrev pub inserted : ℕ → List ℕ → List ℕ
+inserted a [] = a ∷ []
+inserted a (g ∷ more) = if nat_lt g a then g ∷ inserted a more else (if g == a then g ∷ more else a ∷ g ∷ more)
+
+-- with all of these words, the last of them put in first
+abbrev pub insert_all : List ℕ → List ℕ → List ℕ
+insert_all [] guards = guards
+insert_all (a ∷ more) guards = inserted a (insert_all more guards)
+
+-- words from low on, one above the other, that end by the end of the stack
+abbrev pub RiseFrom : ℕ → List ℕ → Type 0
+RiseFrom low [] = low ≤ 0x40000000
+RiseFrom low (g ∷ more) = (low ≤ g) × ((g % 4 ≡ 0) × RiseFrom (g + 4) more)
+
+-- words of the stack, strictly rising
+abbrev pub AreGuards : List ℕ → Type 0
+AreGuards guards = RiseFrom 0x3fff0000 guards

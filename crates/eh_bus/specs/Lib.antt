@@ -1,0 +1,5 @@
+pub mod Segment
+pub mod Guards
+pub mod Memory
+pub mod Map
+pub mod Built

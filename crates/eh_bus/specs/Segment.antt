@@ -1,0 +1,23 @@
+-- A run of bytes at an address, with its rights.
+use Rattle.std.specs.Prelude.{ℕ, ◌+◌, ◌-◌, Bool, ◌&&◌, nat_le, List, length, take, drop, ◌++◌}
+use Rattle.byteorder.specs.Endian.{little_number, little_bytes}
+
+pub record Segment : Type 0 where
+  pub start : ℕ
+  pub bytes : List ℕ
+  pub write : Bool
+  pub exec : Bool
+
+-- all of the n bytes from address a on lie in the segment
+abbrev pub holds : Segment → ℕ → ℕ → Bool
+holds s a n = nat_le s.start a && nat_le (a - s.start + n) (length s.bytes)
+
+-- the number in the n bytes from address a on, the lowest first
+abbrev pub number_at : ℕ → Segment → ℕ → ℕ
+number_at n s a = little_number n (drop (a - s.start) s.bytes)
+
+-- the segment with v in the n bytes from address a on
+abbrev pub with_number_at : ℕ → Segment → ℕ → ℕ → Segment
+with_number_at n s a v = record s {
+  bytes = take (a - s.start) s.bytes ++ (little_bytes n v ++ drop (a - s.start + n) s.bytes);
+}

@@ -1,0 +1,224 @@
+// One table of calls of the program, each with what it reads, writes, answers and leaves.
+use eh_port::{Bytes, CallNumbers, FileList, MemFile, MemFiles, MemSink, MemSource};
+use ehabi_top::ehabi_main;
+use std::alloc::{AllocError, Global};
+use std::test::Fail;
+
+/// One call of the program.
+#[derive(Clone, Copy)]
+pub(crate) struct Case {
+    pub(crate) words: &'static [&'static str],
+    pub(crate) files: &'static [(&'static str, &'static [u8])],
+    pub(crate) input: &'static [u8],
+    pub(crate) status: u8,
+    pub(crate) written: &'static [u8],
+    pub(crate) left: &'static [u8],
+}
+
+/// The numbers of the calls of files, source and sink that fail, counted from 1. 0 is of no call.
+#[derive(Clone, Copy)]
+pub(crate) struct Failing {
+    pub(crate) files: u64,
+    pub(crate) input: u64,
+    pub(crate) out: u64,
+}
+
+pub(crate) const NONE: Failing = Failing {
+    files: 0,
+    input: 0,
+    out: 0,
+};
+
+pub(crate) const USAGE: &[u8] =
+    b"usage: ehabi_run flat FILE N | build FILE.. | check FILE.. | run FILE.. N | gen K M\n";
+
+/// movs r1, #3; movs r0, #65; svc #1; subs r1, #1; bne back to the second; movs r0, #0; svc #0.
+pub(crate) const COUNT: &[u8] = b"\x03\x21\x41\x20\x01\xdf\x01\x39\xfb\xd1\x00\x20\x00\xdf";
+
+static CASES: [Case; 12] = [
+    Case {
+        words: &["flat", "c.bin", "15"],
+        files: &[("c.bin", COUNT)],
+        input: b"in",
+        status: 0,
+        written: b"AAA\n-- exit 0\n",
+        left: b"in",
+    },
+    Case {
+        words: &["flat", "c.bin", "0000000014"],
+        files: &[("d.bin", b""), ("c.bin", COUNT)],
+        input: b"",
+        status: 6,
+        written: b"AAA\n-- budget\n",
+        left: b"",
+    },
+    Case {
+        words: &["flat", "c.bin", "1"],
+        files: &[("c.bin", b"")],
+        input: b"",
+        status: 5,
+        written: b"\n-- trap Unmapped 00008000 at 00008000\n",
+        left: b"",
+    },
+    Case {
+        words: &["flat", "c.bin", "0"],
+        files: &[("c.bin", COUNT)],
+        input: b"in",
+        status: 2,
+        written: USAGE,
+        left: b"in",
+    },
+    Case {
+        words: &["flat", "c.bin"],
+        files: &[("c.bin", COUNT)],
+        input: b"",
+        status: 2,
+        written: USAGE,
+        left: b"",
+    },
+    Case {
+        words: &["flat", "c.bin", "1000000001"],
+        files: &[("c.bin", COUNT)],
+        input: b"",
+        status: 2,
+        written: USAGE,
+        left: b"",
+    },
+    Case {
+        words: &["flat", "c.bin", "+15"],
+        files: &[("c.bin", COUNT)],
+        input: b"",
+        status: 2,
+        written: USAGE,
+        left: b"",
+    },
+    Case {
+        words: &["flat", "c.bin", "00000000015"],
+        files: &[("c.bin", COUNT)],
+        input: b"",
+        status: 2,
+        written: USAGE,
+        left: b"",
+    },
+    Case {
+        words: &["flat", "", "15"],
+        files: &[("", COUNT)],
+        input: b"",
+        status: 2,
+        written: USAGE,
+        left: b"",
+    },
+    Case {
+        words: &[],
+        files: &[],
+        input: b"",
+        status: 2,
+        written: USAGE,
+        left: b"",
+    },
+    Case {
+        words: &["flat", "c.bin", "15"],
+        files: &[("d.bin", COUNT)],
+        input: b"in",
+        status: 10,
+        written: b"c.bin: missing\n",
+        left: b"in",
+    },
+    Case {
+        // movs r0, #9; svc #99
+        words: &["flat", "-f", "15"],
+        files: &[("-f", b"\x09\x20\x63\xdf")],
+        input: b"in",
+        status: 5,
+        written: b"\n-- trap UnknownGate 00000063 at 00008002\n",
+        left: b"in",
+    },
+];
+
+fn bytes(alloc: Global, of: &[u8]) -> Result<Bytes, AllocError> {
+    Ok(Bytes::of_vec(of.to_vec(alloc)?))
+}
+
+fn numbers(alloc: Global, of: u64) -> Result<CallNumbers, AllocError> {
+    Ok(CallNumbers::of_vec(vec![in alloc; of]?))
+}
+
+pub(crate) fn files(alloc: Global, of: &[(&str, &[u8])]) -> Result<FileList, AllocError> {
+    let mut files = Vec::new(alloc);
+    for (name, content) in of {
+        files.push(MemFile {
+            name: bytes(alloc, name.as_bytes())?,
+            bytes: bytes(alloc, content)?,
+        })?;
+    }
+    Ok(FileList::of_vec(files))
+}
+
+pub(crate) fn source(alloc: Global, of: &[u8], failing: u64) -> Result<MemSource, AllocError> {
+    Ok(MemSource {
+        left: bytes(alloc, of)?,
+        next: 1,
+        failing: numbers(alloc, failing)?,
+        faults: 0,
+    })
+}
+
+pub(crate) fn sink(alloc: Global, failing: u64) -> Result<MemSink, AllocError> {
+    Ok(MemSink {
+        written: bytes(alloc, b"")?,
+        next: 1,
+        failing: numbers(alloc, failing)?,
+        faults: 0,
+    })
+}
+
+/// What a call of the program came to.
+#[derive(Drop)]
+pub(crate) struct Outcome {
+    pub(crate) status: u8,
+    pub(crate) input: MemSource,
+    pub(crate) out: MemSink,
+    /// How many calls of files, source and sink failed.
+    pub(crate) faults: (u64, u64, u64),
+}
+
+pub(crate) fn run_case(
+    alloc: Global,
+    case: &Case,
+    failing: Failing,
+) -> Result<Outcome, AllocError> {
+    let mut held = MemFiles {
+        files: files(alloc, case.files)?,
+        next: 1,
+        failing: numbers(alloc, failing.files)?,
+        faults: 0,
+    };
+    let mut input = source(alloc, case.input, failing.input)?;
+    let mut out = sink(alloc, failing.out)?;
+    let status = ehabi_main(alloc, case.words, &mut held, &mut input, &mut out);
+    let faults = (held.faults, input.faults, out.faults);
+    Ok(Outcome {
+        status,
+        input,
+        out,
+        faults,
+    })
+}
+
+// Whether the case comes out.
+fn comes_out(alloc: Global, case: &Case) -> Result<bool, AllocError> {
+    let outcome = run_case(alloc, case, NONE)?;
+    Ok(
+        outcome.status == case.status
+            && outcome.out.written.as_slice() == case.written
+            && outcome.input.left.as_slice() == case.left,
+    )
+}
+
+#[test]
+fn cases(rt: HostRuntime) -> Result<(), Fail> {
+    for (number, case) in CASES.iter().enumerate() {
+        assert!(rt; comes_out(rt.alloc(), case)?, "case {number}");
+    }
+    Ok(())
+}

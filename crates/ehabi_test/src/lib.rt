@@ -1,0 +1,7 @@
+//! Cases of the whole program, over files and streams in memory, and tests that cross crates.
+#![tactic(auto)]
+
+#[cfg(test)]
+mod cases;
+#[cfg(test)]
+mod faults;

@@ -1,0 +1,5 @@
+mod Answering
+mod Reporting
+mod FlatRunning
+mod FlatReports
+mod Commands

@@ -1,0 +1,46 @@
+-- What a report is, and the parts that the reports of several commands share.
+use Rattle.std.specs.Prelude.{ℕ, ◌==◌, List, ◌++◌, codes, if◌then◌else◌}
+use Rattle.event_runs.specs.Runs.{Ran}
+use Rattle.eh_port.specs.declared.FileAnswer.{FileAnswer}
+use Rattle.eh_port.specs.declared.FileAnswer.TheVariants.{Found, Missing, TooLong}
+use Rattle.thumb_core.specs.declared.end.End.{End}
+use Rattle.thumb_core.specs.declared.end.End.TheVariants.{Exit, Terminate, Trap, Budget, ReadFault, WriteFault}
+use Rattle.ehabi_top.specs.Text.{end_line, missing_line, too_long_line}
+
+-- what the program writes, its status, and what it leaves of the input
+pub record Report : Type 0 where
+  pub text : List ℕ
+  pub status : ℕ
+  pub left : List ℕ
+
+-- ---- files
+
+-- the most bytes of a file
+abbrev pub file_limit : ℕ
+file_limit = 4194304
+
+-- the report of a file that is there, and the line of one that is not
+abbrev pub with_file : List ℕ → List ℕ → (List ℕ → Report) → FileAnswer → Report
+with_file name input report (Found bytes) = report bytes
+with_file name input report Missing = record { text = missing_line name; status = 10; left = input }
+with_file name input report TooLong = record { text = too_long_line name; status = 10; left = input }
+
+-- the file is missing or too long
+abbrev pub IsLacking : FileAnswer → Type 0
+IsLacking (Found bytes) = ⊥
+IsLacking Missing = Unit {0}
+IsLacking TooLong = Unit {0}
+
+-- ---- runs
+
+abbrev pub status_of : End → ℕ
+status_of (Exit number) = if number == 0 then 0 else 1
+status_of (Terminate cause) = 4
+status_of (Trap kind value pc) = 5
+status_of Budget = 6
+status_of ReadFault = 7
+status_of WriteFault = 8
+
+-- the guest's bytes, and the line of the end
+abbrev pub ran_report : {S : Type 0} → Ran S End → Report
+ran_report ran = record { text = ran.text ++ (codes "\n" ++ end_line ran.end); status = status_of ran.end; left = ran.left }

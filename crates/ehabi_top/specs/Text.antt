@@ -1,0 +1,80 @@
+-- The texts that the program writes. Each line ends in a line feed.
+use Rattle.std.specs.Prelude.{ℕ, ◌+◌, ◌/◌, ◌%◌, ◌^◌, List, [], ◌∷◌, ◌++◌, map, codes, decimal, nat_lt, if◌then◌else◌}
+use Rattle.thumb_core.specs.declared.end.Cause.{Cause}
+use Rattle.thumb_core.specs.declared.end.Cause.TheVariants.{NoHandler, CannotUnwind, NoThrow, LeavesCleanup, Unexpected, NothingCaught, PoolFull, Called}
+use Rattle.thumb_core.specs.declared.end.End.{End}
+use Rattle.thumb_core.specs.declared.end.End.TheVariants.{Exit, Terminate, Trap, Budget, ReadFault, WriteFault}
+use Rattle.thumb_core.specs.declared.end.TrapKind.{TrapKind}
+use Rattle.thumb_core.specs.declared.end.TrapKind.TheVariants.{Undefined, Unpredictable, NotInProfile, EvenTarget, Unmapped, Unaligned, ReadOnly, SavedSlot, Protected, NotExecutable, FellOff, SpInCleanup, StackLimit, BadCallTarget, UnknownGate, BadObject, BadUcb, TooBig, BadType, CaughtOrder, NoCaught, NoCleanup, CleanupElsewhere, ObjectRead, NotBuilt}
+
+abbrev pub usage : List ℕ
+usage = codes "usage: ehabi_run flat FILE N | build FILE.. | check FILE.. | run FILE.. N | gen K M\n"
+
+-- ---- numbers
+
+-- an upper-case hexadecimal digit
+abbrev pub hex_digit : ℕ → ℕ
+hex_digit n = if nat_lt n 10 then 48 + n else 55 + n
+
+-- an address, a value or a pc: eight digits
+abbrev pub hex8 : ℕ → List ℕ
+hex8 n = map (λ k. hex_digit (n / 16 ^ k % 16)) (7 ∷ 6 ∷ 5 ∷ 4 ∷ 3 ∷ 2 ∷ 1 ∷ 0 ∷ [])
+
+-- ---- the last line of a run
+
+abbrev pub kind_name : TrapKind → List ℕ
+kind_name Undefined = codes "Undefined"
+kind_name Unpredictable = codes "Unpredictable"
+kind_name NotInProfile = codes "NotInProfile"
+kind_name EvenTarget = codes "EvenTarget"
+kind_name Unmapped = codes "Unmapped"
+kind_name Unaligned = codes "Unaligned"
+kind_name ReadOnly = codes "ReadOnly"
+kind_name SavedSlot = codes "SavedSlot"
+kind_name Protected = codes "Protected"
+kind_name NotExecutable = codes "NotExecutable"
+kind_name FellOff = codes "FellOff"
+kind_name SpInCleanup = codes "SpInCleanup"
+kind_name StackLimit = codes "StackLimit"
+kind_name BadCallTarget = codes "BadCallTarget"
+kind_name UnknownGate = codes "UnknownGate"
+kind_name BadObject = codes "BadObject"
+kind_name BadUcb = codes "BadUcb"
+kind_name TooBig = codes "TooBig"
+kind_name BadType = codes "BadType"
+kind_name CaughtOrder = codes "CaughtOrder"
+kind_name NoCaught = codes "NoCaught"
+kind_name NoCleanup = codes "NoCleanup"
+kind_name CleanupElsewhere = codes "CleanupElsewhere"
+kind_name ObjectRead = codes "ObjectRead"
+kind_name NotBuilt = codes "NotBuilt"
+
+abbrev pub cause_name : Cause → List ℕ
+cause_name NoHandler = codes "NoHandler"
+cause_name CannotUnwind = codes "CannotUnwind"
+cause_name NoThrow = codes "NoThrow"
+cause_name LeavesCleanup = codes "LeavesCleanup"
+cause_name Unexpected = codes "Unexpected"
+cause_name NothingCaught = codes "NothingCaught"
+cause_name PoolFull = codes "PoolFull"
+cause_name Called = codes "Called"
+
+-- a fault of the source or the sink has none
+abbrev pub end_line : End → List ℕ
+end_line (Exit number) = codes "-- exit " ++ decimal number ++ codes "\n"
+end_line (Terminate cause) = codes "-- terminate " ++ cause_name cause ++ codes "\n"
+end_line (Trap kind value pc) = codes "-- trap " ++ kind_name kind ++ codes " " ++ hex8 value ++ codes " at " ++ hex8 pc ++ codes "\n"
+end_line Budget = codes "-- budget\n"
+end_line ReadFault = []
+end_line WriteFault = []
+
+-- ---- refusals
+
+abbrev pub missing_line : List ℕ → List ℕ
+missing_line name = name ++ codes ": missing\n"
+
+abbrev pub too_long_line : List ℕ → List ℕ
+too_long_line name = name ++ codes ": too long\n"
+
+abbrev pub image_too_large : List ℕ
+image_too_large = codes "image: TooLarge\n"

@@ -1,0 +1,129 @@
+// The lines that are written, each built before it is written.
+ghost use Rattle.std.specs.Prelude.{◌≡◌, ◌<◌, ◌≤◌, ◌+◌, ◌++◌, length};
+ghost use Rattle.arrayvec.specs.ArrayVec.{array_vec_len};
+ghost use Rattle.ehabi_top.specs.Text.{hex_digit, hex8, kind_name, cause_name, end_line};
+
+use arrayvec::ArrayVec;
+use itoa::Buffer;
+use thumb_core::{Cause, End, TrapKind};
+
+/// A line, with room for the longest.
+pub type Line = ArrayVec<u8, 80>;
+
+fn hex_digit(n: u8) -> u8
+    requires { n < 16 }
+    ensures { result ≡ hex_digit n }
+{
+    if n < 10 { b'0' + n } else { b'A' - 10 + n }
+}
+
+fn nibble(n: u32) -> u8
+    requires { n < 16 }
+    ensures { result ≡ hex_digit n }
+{
+    hex_digit(n as u8)
+}
+
+/// Eight upper-case hexadecimal digits.
+fn hex8(n: u32) -> [u8; 8]
+    ensures { result ≡ hex8 n }
+{
+    [
+        nibble(n / 0x1000_0000 % 16),
+        nibble(n / 0x100_0000 % 16),
+        nibble(n / 0x10_0000 % 16),
+        nibble(n / 0x1_0000 % 16),
+        nibble(n / 0x1000 % 16),
+        nibble(n / 0x100 % 16),
+        nibble(n / 0x10 % 16),
+        nibble(n % 16),
+    ]
+}
+
+fn kind_name(kind: TrapKind) -> &'static [u8]
+    ensures name { result.now ≡ kind_name kind }
+    ensures short { length result.now ≤ 16 }
+{
+    match kind {
+        TrapKind::Undefined => b"Undefined",
+        TrapKind::Unpredictable => b"Unpredictable",
+        TrapKind::NotInProfile => b"NotInProfile",
+        TrapKind::EvenTarget => b"EvenTarget",
+        TrapKind::Unmapped => b"Unmapped",
+        TrapKind::Unaligned => b"Unaligned",
+        TrapKind::ReadOnly => b"ReadOnly",
+        TrapKind::SavedSlot => b"SavedSlot",
+        TrapKind::Protected => b"Protected",
+        TrapKind::NotExecutable => b"NotExecutable",
+        TrapKind::FellOff => b"FellOff",
+        TrapKind::SpInCleanup => b"SpInCleanup",
+        TrapKind::StackLimit => b"StackLimit",
+        TrapKind::BadCallTarget => b"BadCallTarget",
+        TrapKind::UnknownGate => b"UnknownGate",
+        TrapKind::BadObject => b"BadObject",
+        TrapKind::BadUcb => b"BadUcb",
+        TrapKind::TooBig => b"TooBig",
+        TrapKind::BadType => b"BadType",
+        TrapKind::CaughtOrder => b"CaughtOrder",
+        TrapKind::NoCaught => b"NoCaught",
+        TrapKind::NoCleanup => b"NoCleanup",
+        TrapKind::CleanupElsewhere => b"CleanupElsewhere",
+        TrapKind::ObjectRead => b"ObjectRead",
+        TrapKind::NotBuilt => b"NotBuilt",
+    }
+}
+
+fn cause_name(cause: Cause) -> &'static [u8]
+    ensures name { result.now ≡ cause_name cause }
+    ensures short { length result.now ≤ 16 }
+{
+    match cause {
+        Cause::NoHandler => b"NoHandler",
+        Cause::CannotUnwind => b"CannotUnwind",
+        Cause::NoThrow => b"NoThrow",
+        Cause::LeavesCleanup => b"LeavesCleanup",
+        Cause::Unexpected => b"Unexpected",
+        Cause::NothingCaught => b"NothingCaught",
+        Cause::PoolFull => b"PoolFull",
+        Cause::Called => b"Called",
+    }
+}
+
+fn append(line: &mut Line, text: &[u8])
+    requires { array_vec_len line.old + length text.now ≤ 80 }
+    ensures items { line.new.items ≡ line.old.items ++ text.now }
+    ensures len { array_vec_len line.new ≡ array_vec_len line.old + length text.now }
+{
+    line.try_extend_from_slice(text).unwrap();
+}
+
+/// The last line of a run.
+pub fn end_line(end: End) -> Line
+    ensures { result.items ≡ end_line end }
+{
+    let mut line = Line::new();
+    match end {
+        End::Exit(number) => {
+            append(&mut line, b"-- exit ");
+            append(&mut line, Buffer::new().format(number).as_bytes());
+            append(&mut line, b"\n");
+        }
+        End::Terminate(cause) => {
+            append(&mut line, b"-- terminate ");
+            append(&mut line, cause_name(cause));
+            append(&mut line, b"\n");
+        }
+        End::Trap(kind, value, pc) => {
+            append(&mut line, b"-- trap ");
+            append(&mut line, kind_name(kind));
+            append(&mut line, b" ");
+            append(&mut line, &hex8(value));
+            append(&mut line, b" at ");
+            append(&mut line, &hex8(pc));
+            append(&mut line, b"\n");
+        }
+        End::Budget => append(&mut line, b"-- budget\n"),
+        End::ReadFault | End::WriteFault => {}
+    }
+    line
+}

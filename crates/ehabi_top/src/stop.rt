@@ -1,0 +1,51 @@
+ghost use Rattle.std.specs.Prelude.{◌≡◌};
+ghost use Rattle.ehabi_top.specs.Writes.{stop_of, stop_status};
+
+use eh_bus::fault::BusMemory;
+use eh_port::FileFault;
+use std::alloc::{AllocError, AllocFailed};
+
+/// Why the program stops early.
+#[derive(Clone, Copy, Debug, PartialEq, Eq)]
+pub enum Stop {
+    /// A read of a file or of the input failed.
+    Read,
+    /// A write of the output failed.
+    Write,
+    /// There was no memory.
+    Memory,
+}
+
+impl Stop {
+    /// The status of the program.
+    pub fn status(self) -> u8
+        ensures { result ≡ stop_status self }
+    {
+        match self {
+            Stop::Read => 7,
+            Stop::Write => 8,
+            Stop::Memory => 9,
+        }
+    }
+}
+
+impl From<FileFault> for Stop {
+    ghost from_gives = { λ fault stop. stop ≡ stop_of fault };
+
+    fn from(fault: FileFault) -> Self {
+        match fault {
+            FileFault::Failed => Stop::Read,
+            FileFault::OutOfMemory => Stop::Memory,
+        }
+    }
+}
+
+impl From<BusMemory> for Stop {
+    ghost use Rattle.ehabi_top.specs.declared.stop.Stop.TheVariants.{Memory};
+
+    ghost from_gives = { λ _ stop. stop ≡ Memory };
+
+    fn from(_: BusMemory) -> Self {
+        Stop::Memory
+    }
+}

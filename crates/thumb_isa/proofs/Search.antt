@@ -1,0 +1,163 @@
+-- The search of a list of rows, by a test of every halfword of a range.
+use Rattle.std.proofs.Common.{◌≡◌, ℕ, zero, suc, ◌+◌, ◌<◌, ◌≤◌, Bool, true, false, not, ◌&&◌, ◌||◌, ◌==◌, bit_and, cond, List, [], ◌∷◌, refl, arith, ◌∙◌, ap}
+use Rattle.thumb_isa.specs.declared.instr.Decoded.{Decoded}
+use Rattle.thumb_isa.specs.declared.instr.Decoded.TheVariants.{NotBuilt}
+use Rattle.thumb_isa.specs.Rows.{Row, fits, fits_second, rows, first_fit, decoded_of}
+
+-- each of the n numbers from k up passes
+abbrev pub all_from : (ℕ → Bool) → ℕ → ℕ → Bool
+all_from p zero k = true
+all_from p (suc n) k = p k && all_from p n (k + 1)
+
+pub both : (a b : Bool) → (a && b) ≡ true → (a ≡ true) × (b ≡ true)
+both true b h = (refl, h)
+both false b h = cc
+
+pub all_from_at : (p : ℕ → Bool) (n k : ℕ) → all_from p n k ≡ true → (m : ℕ) → k ≤ m → m < k + n → p m ≡ true
+all_from_at p zero k h m low high = absurd (omega arith)
+all_from_at p (suc n) k h m low high =
+    let two = both (p k) (all_from p n (k + 1)) h in
+    all_from_step p n k m two.0 (λ l. all_from_at p n (k + 1) two.1 m l (omega arith)) low
+  where
+    all_from_step : (p : ℕ → Bool) (n k m : ℕ) → p k ≡ true → (k + 1 ≤ m → p m ≡ true) → k ≤ m → p m ≡ true
+    all_from_step p n k m here later low = grind arith
+
+-- the search stops at this place of the list, or runs past its end
+abbrev pub stops_at : ℕ → List Row → ℕ → ℕ → Bool
+stops_at i [] first second = true
+stops_at zero (row ∷ more) first second = fits row first second
+stops_at (suc i) (row ∷ more) first second = not (fits row first second) && stops_at i more first second
+
+abbrev pub meaning_at : ℕ → List Row → ℕ → ℕ → Decoded
+meaning_at i [] first second = NotBuilt
+meaning_at zero (row ∷ more) first second = row.means first second
+meaning_at (suc i) (row ∷ more) first second = meaning_at i more first second
+
+cond_true : {A : Type 0} (b : Bool) (x y : A) → b ≡ true → cond b x y ≡ x
+cond_true b x y h = rw h
+
+cond_not : {A : Type 0} (b : Bool) (x y : A) → not b ≡ true → cond b x y ≡ y
+cond_not true x y h = cc
+cond_not false x y h = refl
+
+pub first_fit-at : (i : ℕ) (rs : List Row) (first second : ℕ) → stops_at i rs first second ≡ true → first_fit rs first second ≡ meaning_at i rs first second
+first_fit-at zero [] first second h = refl
+first_fit-at (suc i) [] first second h = refl
+first_fit-at zero (row ∷ more) first second h = cond_true (fits row first second) _ _ h
+first_fit-at (suc i) (row ∷ more) first second h =
+    let two = both (not (fits row first second)) (stops_at i more first second) h in
+    cond_not (fits row first second) _ _ two.0 ∙ first_fit-at i more first second two.1
+
+-- of the n halfwords from low up, those that pass the test `when` have the meaning of the row at this place
+pub decoded_where : (when : ℕ → Bool) (i low n second : ℕ) → all_from (λ first. not (when first) || stops_at i rows first second) n low ≡ true
+    → (first : ℕ) → low ≤ first → first < low + n → when first ≡ true → decoded_of first second ≡ meaning_at i rows first second
+unfolding decoded_of
+decoded_where when i low n second h first above below w =
+    let at = all_from_at (λ first. not (when first) || stops_at i rows first second) n low h first above below in
+    first_fit-at i rows first second (implied (when first) _ at w)
+  where
+    implied : (a b : Bool) → (not a || b) ≡ true → a ≡ true → b ≡ true
+    implied true b h e = h
+    implied false b h e = cc
+
+-- the n halfwords from low up have the meaning of the row at this place
+pub decoded_at : (i low n second : ℕ) → all_from (λ first. stops_at i rows first second) n low ≡ true
+    → (first : ℕ) → low ≤ first → first < low + n → decoded_of first second ≡ meaning_at i rows first second
+unfolding decoded_of
+decoded_at i low n second h first above below =
+    first_fit-at i rows first second (all_from_at (λ first. stops_at i rows first second) n low h first above below)
+
+-- The same over a rectangle: the n first halfwords from low up, and the m second ones from low_2 up. Each row before the
+-- place fits none of the first or none of the second, and the row at the place fits all.
+abbrev pub skips_all : Row → ℕ → ℕ → ℕ → ℕ → Bool
+skips_all row low n low_2 m =
+    let seconds = all_from (λ second. not (fits_second row.second second)) m low_2 in
+    cond (all_from (λ first. not (bit_and first row.mask == row.value)) n low) true seconds
+
+abbrev pub stops_over : ℕ → List Row → ℕ → ℕ → ℕ → ℕ → Bool
+stops_over i [] low n low_2 m = true
+stops_over zero (row ∷ more) low n low_2 m =
+    all_from (λ first. bit_and first row.mask == row.value) n low && all_from (λ second. fits_second row.second second) m low_2
+stops_over (suc i) (row ∷ more) low n low_2 m =
+    skips_all row low n low_2 m && stops_over i more low n low_2 m
+
+skip_cases : (a b p q : Bool) → cond a true b ≡ true → (a ≡ true → not p ≡ true) → (b ≡ true → not q ≡ true) → not (p && q) ≡ true
+skip_cases true b false q h f g = refl
+skip_cases true b true q h f g = let e : false ≡ true = f refl in cc
+skip_cases false b false q h f g = refl
+skip_cases false b true q h f g = g h
+
+module _ (low n low_2 m first second : ℕ) (above : low ≤ first) (below : first < low + n) (above_2 : low_2 ≤ second) (below_2 : second < low_2 + m) where
+  stops_at-over : (i : ℕ) (rs : List Row) → stops_over i rs low n low_2 m ≡ true → stops_at i rs first second ≡ true
+  stops_at-over zero [] h = refl
+  stops_at-over (suc i) [] h = refl
+  stops_at-over zero (row ∷ more) h =
+      let two = both (all_from (λ f. bit_and f row.mask == row.value) n low) _ h in
+      and_both _ _ (all_from_at (λ f. bit_and f row.mask == row.value) n low two.0 first above below) (all_from_at (λ s. fits_second row.second s) m low_2 two.1 second above_2 below_2)
+    where
+      and_both : (a b : Bool) → a ≡ true → b ≡ true → (a && b) ≡ true
+      and_both true b p q = q
+      and_both false b p q = p
+  stops_at-over (suc i) (row ∷ more) h =
+      let two = both (skips_all row low n low_2 m) (stops_over i more low n low_2 m) h in
+      and_both _ _
+      (skip_cases _ _ (bit_and first row.mask == row.value) (fits_second row.second second) two.0
+      (λ e. all_from_at (λ f. not (bit_and f row.mask == row.value)) n low e first above below)
+      (λ e. all_from_at (λ s. not (fits_second row.second s)) m low_2 e second above_2 below_2))
+      (stops_at-over i more two.1)
+    where
+      and_both : (a b : Bool) → a ≡ true → b ≡ true → (a && b) ≡ true
+      and_both true b p q = q
+      and_both false b p q = p
+
+pub decoded_over : (i low n low_2 m : ℕ) → stops_over i rows low n low_2 m ≡ true
+    → (first second : ℕ) → low ≤ first → first < low + n → low_2 ≤ second → second < low_2 + m
+    → decoded_of first second ≡ meaning_at i rows first second
+unfolding decoded_of
+decoded_over i low n low_2 m h first second a b a2 b2 =
+    first_fit-at i rows first second (stops_at-over low n low_2 m first second a b a2 b2 i rows h)
+
+-- The rows at the places marked true. No row at another place has a pattern for the first halfword that fits.
+abbrev pub kept : List Bool → List Row → List Row
+kept [] rs = []
+kept (k ∷ ks) [] = []
+kept (true ∷ ks) (row ∷ more) = row ∷ kept ks more
+kept (false ∷ ks) (row ∷ more) = kept ks more
+
+abbrev pub drops_no_fit : List Bool → List Row → ℕ → Bool
+drops_no_fit [] [] first = true
+drops_no_fit [] (row ∷ more) first = false
+drops_no_fit (k ∷ ks) [] first = true
+drops_no_fit (true ∷ ks) (row ∷ more) first = drops_no_fit ks more first
+drops_no_fit (false ∷ ks) (row ∷ more) first = not (bit_and first row.mask == row.value) && drops_no_fit ks more first
+
+first_fit-past : (a b : Bool) (x y z : Decoded) → not a ≡ true → y ≡ z → cond (a && b) x y ≡ z
+first_fit-past true b x y z h e = cc
+first_fit-past false b x y z h e = e
+
+pub first_fit-kept : (ks : List Bool) (rs : List Row) (first second : ℕ) → drops_no_fit ks rs first ≡ true → first_fit rs first second ≡ first_fit (kept ks rs) first second
+first_fit-kept [] [] first second h = refl
+first_fit-kept [] (row ∷ more) first second h = cc
+first_fit-kept (k ∷ ks) [] first second h = refl
+first_fit-kept (true ∷ ks) (row ∷ more) first second h =
+    ap (cond (fits row first second) (row.means first second)) (first_fit-kept ks more first second h)
+first_fit-kept (false ∷ ks) (row ∷ more) first second h =
+    let two = both (not (bit_and first row.mask == row.value)) (drops_no_fit ks more first) h in
+    first_fit-past _ _ _ _ _ two.0 (first_fit-kept ks more first second two.1)
+
+-- the n halfwords from low up need only these rows
+pub decoded_by : (ks : List Bool) (low n second : ℕ) → all_from (drops_no_fit ks rows) n low ≡ true
+    → (first : ℕ) → low ≤ first → first < low + n → decoded_of first second ≡ first_fit (kept ks rows) first second
+unfolding decoded_of
+decoded_by ks low n second h first above below =
+    first_fit-kept ks rows first second (all_from_at (drops_no_fit ks rows) n low h first above below)
+
+-- the place of the row that this halfword fits
+abbrev pub place_of : List Row → ℕ → ℕ
+place_of [] first = 0
+place_of (row ∷ more) first = let later = suc (place_of more first) in cond (bit_and first row.mask == row.value) 0 later
+
+-- the n halfwords from low up have the meaning of the row that the lowest fits
+pub decoded_like : (low n second : ℕ) → all_from (λ first. stops_at (place_of rows low) rows first second) n low ≡ true
+    → (first : ℕ) → low ≤ first → first < low + n → decoded_of first second ≡ meaning_at (place_of rows low) rows first second
+decoded_like low n second = decoded_at (place_of rows low) low n second

@@ -1,0 +1,33 @@
+ghost use Rattle.std.specs.Prelude.{◌≡◌, ℕ, ◌+◌, ◌-◌, ◌*◌, ◌/◌, ◌%◌, ◌^◌, ◌<◌, ◌≤◌};
+ghost use Rattle.thumb_isa.specs.Fields.{field, signed_half};
+
+/// The `width` bits of a halfword that begin at bit `at`.
+pub fn field(half: u16, at: u32, width: u32) -> u16
+    requires at_in { at < 16 }
+    requires width_in { width < 16 }
+    ensures { result ≡ field half at width }
+{
+    (half >> at) & ((1 << width) - 1)
+}
+
+/// The same for a field of at most eight bits.
+pub fn small(half: u16, at: u32, width: u32) -> u8
+    requires at_in { at < 16 }
+    requires width_in { width ≤ 8 }
+    ensures { result ≡ field half at width }
+{
+    field(half, at, width) as u8
+}
+
+/// A field read as a signed number, where `half` is the weight of its sign bit.
+pub fn sign_extend(value: u32, half: u32) -> i32
+    requires half_in { half < 2 ^ 30 }
+    requires fits { value < 2 * half }
+    ensures { result ≡ signed_half half value }
+{
+    if value < half {
+        value as i32
+    } else {
+        value as i32 - 2 * half as i32
+    }
+}
