@@ -1,0 +1,9 @@
+pub mod Places
+pub mod Kept
+pub mod FlagLemmas
+pub mod BuiltLemmas
+pub mod WordLaws
+pub mod AccessLaws
+pub mod MapLaws
+pub mod GuardLaws
+pub mod PartLaws

@@ -1,5 +1,5 @@
 -- The guarded words of the stack: addresses of words, strictly rising.
-use Rattle.std.specs.Prelude.{◌≡◌, ℕ, ◌+◌, ◌%◌, ◌≤◌, ◌==◌, nat_lt, Bool, List, [], ◌∷◌, if◌then◌else◌}
+use Rattle.std.specs.Prelude.{◌≡◌, ℕ, ◌+◌, ◌%◌, ◌≤◌, ◌==◌, nat_lt, List, [], ◌∷◌, if◌then◌else◌}
 use Rattle.std.specs.Coded.{×_prop, le_prop, Coded-set, coded_ℕ}
 
 -- with the word at a
@@ -20,3 +20,10 @@ RiseFrom low (g ∷ more) = (low ≤ g) × ((g % 4 ≡ 0) × RiseFrom (g + 4) mo
 -- words of the stack, strictly rising
 abbrev pub AreGuards : List ℕ → Type 0
 AreGuards guards = RiseFrom 0x3fff0000 guards
+
+RiseFrom-prop : (low : ℕ) (guards : List ℕ) → IsProp (RiseFrom low guards)
+RiseFrom-prop low [] = le_prop
+RiseFrom-prop low (g ∷ more) = ×_prop le_prop (×_prop (Coded-set coded_ℕ _ _) (RiseFrom-prop (g + 4) more))
+
+pub AreGuards-prop : (guards : List ℕ) → IsProp (AreGuards guards)
+AreGuards-prop guards = RiseFrom-prop 0x3fff0000 guards

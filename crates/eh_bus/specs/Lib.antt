@@ -1,5 +1,9 @@
+pub mod Lists
 pub mod Segment
 pub mod Guards
 pub mod Memory
 pub mod Map
 pub mod Built
+pub mod Place
+pub mod Flags
+pub mod Flat

@@ -1,5 +1,5 @@
 -- A run of bytes at an address, with its rights.
-use Rattle.std.specs.Prelude.{ℕ, ◌+◌, ◌-◌, Bool, ◌&&◌, nat_le, List, length, take, drop, ◌++◌}
+use Rattle.std.specs.Prelude.{ℕ, ◌+◌, ◌-◌, ◌≤◌, ◌⊎◌, Bool, ◌&&◌, nat_le, List, length, take, drop, ◌++◌}
 use Rattle.byteorder.specs.Endian.{little_number, little_bytes}
 
 pub record Segment : Type 0 where
@@ -21,3 +21,7 @@ abbrev pub with_number_at : ℕ → Segment → ℕ → ℕ → Segment
 with_number_at n s a v = record s {
   bytes = take (a - s.start) s.bytes ++ (little_bytes n v ++ drop (a - s.start + n) s.bytes);
 }
+
+-- the n bytes from a on and the m bytes from b on have no byte in common
+abbrev pub Apart : ℕ → ℕ → ℕ → ℕ → Type 0
+Apart a n b m = (a + n ≤ b) ⊎ (b + m ≤ a)

@@ -1,19 +1,72 @@
-ghost use Rattle.std.specs.Prelude.{◌≡◌};
-ghost use Rattle.eh_bus.specs.Memory.{Memory, fetch};
+ghost use Rattle.std.specs.Prelude.{◌≡◌, ℕ, ◌+◌, ◌%◌, ◌^◌, ◌<◌, ◌≤◌, Ok, Err};
+ghost use Rattle.eh_bus.specs.Memory.{Memory, load, store, store_run, fetch, guarded, released, host_load, host_store};
+ghost use Rattle.eh_bus.specs.Map.{IsMap};
 
 use crate::fault::BusFault;
 
-/// A memory of segments with guarded words. Addresses are in bytes; numbers are read lowest byte first.
+/// A memory of segments with guarded words. Addresses are in bytes; numbers are read and written lowest byte first.
 ///
-/// The faults of a fetch are tested in this order, and each comes exactly where it holds: Unmapped, Unaligned, NotExecutable.
+/// The faults of an access are tested in this order, and each comes exactly where it holds: Unmapped, Unaligned;
+/// for a store ReadOnly, then SavedSlot; for a load and a store Protected; for a fetch NotExecutable.
+/// An access that is refused changes nothing.
 pub trait Bus {
     ghost memory: { Self → Memory };
+
+    fn load8(&self, a: u32) -> Result<u8, BusFault>
+        ensures { result ≡ load 1 (memory self.now) a };
+
+    fn load16(&self, a: u32) -> Result<u16, BusFault>
+        ensures { result ≡ load 2 (memory self.now) a };
+
+    fn load32(&self, a: u32) -> Result<u32, BusFault>
+        ensures { result ≡ load 4 (memory self.now) a };
+
+    fn store8(&mut self, a: u32, v: u8) -> Result<(), BusFault>
+        ensures { (result, memory self.new) ≡ store 1 (memory self.old) a v };
+
+    fn store16(&mut self, a: u32, v: u16) -> Result<(), BusFault>
+        ensures { (result, memory self.new) ≡ store 2 (memory self.old) a v };
+
+    fn store32(&mut self, a: u32, v: u32) -> Result<(), BusFault>
+        ensures { (result, memory self.new) ≡ store 4 (memory self.old) a v };
+
+    /// Stores words upwards from `a` on. Where one of them can't be stored none is, and the fault is that of the first.
+    fn store_run(&mut self, a: u32, words: &[u32]) -> Result<(), BusFault>
+        ensures { (result, memory self.new) ≡ store_run (memory self.old) a words.now };
 
     /// Loads a halfword of code.
     fn fetch16(&self, a: u32) -> Result<u16, BusFault>
         ensures { result ≡ fetch (memory self.now) a };
 
+    /// Guards the word of the stack at `a`: stores to its bytes are refused. Guarding twice is guarding once.
+    fn guard(&mut self, a: u32)
+        requires aligned { a % 4 ≡ 0 }
+        requires low { 0x3fff0000 ≤ a }
+        requires high { a < 0x40000000 }
+        ensures { memory self.new ≡ guarded (memory self.old) a };
+
+    /// Takes the guard from the words of the running stack below `a`.
+    fn release_below(&mut self, a: u32)
+        ensures { memory self.new ≡ released (memory self.old) a };
+
+    /// The word of the pool at `a`, whatever is closed.
+    fn host_load32(&self, a: u32) -> u32
+        requires aligned { a % 4 ≡ 0 }
+        requires low { 0x38000000 ≤ a }
+        requires high { a < 0x38008000 }
+        ensures { result ≡ host_load (memory self.now) a };
+
+    /// Stores the word of the pool at `a`, whatever is closed.
+    fn host_store32(&mut self, a: u32, v: u32)
+        requires aligned { a % 4 ≡ 0 }
+        requires low { 0x38000000 ≤ a }
+        requires high { a < 0x38008000 }
+        ensures { memory self.new ≡ host_store (memory self.old) a v };
+
     /// The running stack: its first address, and the one behind its last.
     fn home(&self) -> (u32, u32)
         ensures { result ≡ (memory self.now).home };
+
+    // What holds of the memory of every bus.
+    ghost is_map: { (bus : Self) → IsMap (memory bus) };
 }

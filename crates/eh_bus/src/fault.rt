@@ -1,3 +1,8 @@
+ghost use Rattle.std.specs.Prelude.{◌≡◌};
+ghost use Rattle.eh_bus.specs.declared.fault.BusMemory.TheVariants.{OutOfMemory};
+
+use std::alloc::AllocError;
+
 /// Why an access is refused. All but `SavedSlot` carry the address of the access, in bytes.
 #[derive(Clone, Copy, PartialEq, Eq, Debug)]
 pub enum BusFault {
@@ -19,4 +24,12 @@ pub enum BusFault {
 #[derive(Clone, Copy, PartialEq, Eq, Debug)]
 pub enum BusMemory {
     OutOfMemory,
+}
+
+impl From<AllocError> for BusMemory {
+    ghost from_gives = { λ _ e. e ≡ OutOfMemory };
+
+    fn from(_e: AllocError) -> BusMemory {
+        BusMemory::OutOfMemory
+    }
 }

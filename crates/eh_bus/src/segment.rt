@@ -1,13 +1,14 @@
-ghost use Rattle.std.specs.Prelude.{◌≡◌, ◌+◌, ◌-◌, ◌≤◌, ◌<◌, ◌*◌, ◌%◌, ◌^◌, ◌++◌, length, replicate, IfOk, IsTrue, Option, Some, None, IfNone, IfSome};
-ghost use Rattle.std.specs.List.{position_from};
-ghost use Rattle.eh_bus.specs.Segment.{Segment as Bytes, holds, number_at};
+ghost use Rattle.std.specs.Prelude.{◌≡◌, ℕ, ◌+◌, ◌-◌, ◌*◌, ◌%◌, ◌^◌, ◌<◌, ◌≤◌, ◌∷◌, [], length, take, drop, ◌++◌, IsTrue, IfOk};
+ghost use Rattle.byteorder.specs.Endian.{little_bytes};
+ghost use Rattle.eh_bus.specs.Segment.{holds, number_at, with_number_at};
+ghost use Rattle.eh_bus.specs.Built.{segment_of, zeros_at};
 
 use byteorder::{ByteOrder, LittleEndian};
 use std::alloc::{AllocError, Global};
 use std::marker::Model;
 
-/// A segment that is asked for: `size` bytes from `start` on, of which the first are `bytes` and the rest zeros.
-#[derive(Clone, Copy)]
+/// A segment that is asked for: `size` bytes from the address `start` on, of which the first are `bytes` and the rest zeros.
+#[derive(Clone, Copy, Debug)]
 pub struct SegmentSpec<'a> {
     pub start: u32,
     pub bytes: &'a [u8],
@@ -33,47 +34,45 @@ impl Model for Segment {
     ghost view = { λ s. record { start = s.start; bytes = s.bytes.items; write = s.write; exec = s.exec } };
 }
 
-/// These bytes, and zeros up to the size.
-fn filled(alloc: Global, bytes: &[u8], size: u32) -> Result<Vec<u8>, AllocError>
-    requires { length bytes.now ≤ size }
-    ensures { IfOk result (λ v. v.items ≡ bytes.now ++ replicate (size - length bytes.now) 0) }
-{
-    let mut all = Vec::with_capacity(alloc, size as usize)?;
-    all.extend_from_slice(bytes)?;
-    all.resize(size as usize, 0)?;
-    Ok(all)
-}
-
 impl Segment {
-    ghost use Rattle.eh_bus.specs.Built.{segment_of, zeros_at};
+    pub(crate) fn new(start: u32, bytes: Vec<u8>, write: bool, exec: bool) -> Self
+        ensures { result ≡ record { start = start; bytes = bytes.items; write = write; exec = exec } }
+    {
+        Segment {
+            start,
+            bytes,
+            write,
+            exec,
+        }
+    }
 
+    /// The segment that is asked for.
+    #[tactic(auto, unfolding(crate::specs::Built::zeros))]
     pub(crate) fn of(alloc: Global, spec: &SegmentSpec) -> Result<Self, AllocError>
         requires { length spec.now.bytes.now ≤ spec.now.size }
         ensures { IfOk result (λ s. s ≡ segment_of spec.now) }
     {
-        Ok(Segment {
-            start: spec.start,
-            bytes: filled(alloc, spec.bytes, spec.size)?,
-            write: spec.write,
-            exec: spec.exec,
-        })
+        let mut bytes = Vec::with_capacity(alloc, spec.size as usize)?;
+        bytes.extend_from_slice(spec.bytes)?;
+        bytes.resize(spec.size as usize, 0)?;
+        Ok(Segment::new(spec.start, bytes, spec.write, spec.exec))
     }
 
     /// Zeros that may be written and not executed.
-    #[tactic(auto, unfolding(crate::specs::Built::zeros_at))]
+    #[tactic(auto, unfolding(crate::specs::Built::zeros))]
     pub(crate) fn zeros(alloc: Global, start: u32, size: u32) -> Result<Self, AllocError>
         ensures { IfOk result (λ s. s ≡ zeros_at start size) }
     {
-        Ok(Segment {
-            start,
-            bytes: filled(alloc, &[], size)?,
-            write: true,
-            exec: false,
-        })
+        let bytes = vec![in alloc; 0; size as usize]?;
+        Ok(Segment::new(start, bytes, true, false))
     }
-}
 
-impl Segment {
+    pub(crate) fn may_write(&self) -> bool
+        ensures { result ≡ self.now.write }
+    {
+        self.write
+    }
+
     pub(crate) fn may_execute(&self) -> bool
         ensures { result ≡ self.now.exec }
     {
@@ -87,10 +86,66 @@ impl Segment {
         self.start <= a && u64::from(a - self.start) + u64::from(n) <= self.bytes.len() as u64
     }
 
+    pub(crate) fn load8(&self, a: u32) -> u8
+        requires { IsTrue (holds self.now a 1) }
+        ensures { result ≡ number_at 1 self.now a }
+    {
+        self.bytes[(a - self.start) as usize]
+    }
+
     pub(crate) fn load16(&self, a: u32) -> u16
         requires { IsTrue (holds self.now a 2) }
         ensures { result ≡ number_at 2 self.now a }
     {
         LittleEndian::read_u16(&self.bytes[(a - self.start) as usize..])
     }
+
+    pub(crate) fn load32(&self, a: u32) -> u32
+        requires { IsTrue (holds self.now a 4) }
+        ensures { result ≡ number_at 4 self.now a }
+    {
+        LittleEndian::read_u32(&self.bytes[(a - self.start) as usize..])
+    }
+
+    pub(crate) fn store8(&mut self, a: u32, v: u8)
+        requires { IsTrue (holds self.old a 1) }
+        ensures { self.new ≡ with_number_at 1 self.old a v }
+    {
+        put8(&mut self.bytes, (a - self.start) as usize, v);
+    }
+
+    pub(crate) fn store16(&mut self, a: u32, v: u16)
+        requires { IsTrue (holds self.old a 2) }
+        ensures { self.new ≡ with_number_at 2 self.old a v }
+    {
+        put16(&mut self.bytes, (a - self.start) as usize, v);
+    }
+
+    pub(crate) fn store32(&mut self, a: u32, v: u32)
+        requires { IsTrue (holds self.old a 4) }
+        ensures { self.new ≡ with_number_at 4 self.old a v }
+    {
+        put32(&mut self.bytes, (a - self.start) as usize, v);
+    }
+}
+
+fn put8(bytes: &mut [u8], at: usize, v: u8)
+    requires { at < length bytes.old }
+    ensures { bytes.new ≡ take at bytes.old ++ (little_bytes 1 v ++ drop (at + 1) bytes.old) }
+{
+    bytes[at] = v;
+}
+
+fn put16(bytes: &mut [u8], at: usize, v: u16)
+    requires { at + 2 ≤ length bytes.old }
+    ensures { bytes.new ≡ take at bytes.old ++ (little_bytes 2 v ++ drop (at + 2) bytes.old) }
+{
+    bytes[at..at + 2].copy_from_slice(&v.to_le_bytes());
+}
+
+fn put32(bytes: &mut [u8], at: usize, v: u32)
+    requires { at + 4 ≤ length bytes.old }
+    ensures { bytes.new ≡ take at bytes.old ++ (little_bytes 4 v ++ drop (at + 4) bytes.old) }
+{
+    bytes[at..at + 4].copy_from_slice(&v.to_le_bytes());
 }

@@ -1,4 +1,5 @@
-// Files, a source and a sink of the system. They tell no content. This is the trusted edge.
+// Files, a source and a sink of the system. What std tells of a reader's or a writer's bytes is handed on: all of those in
+// memory, and nothing of a file or a standard stream. This is the trusted edge.
 ghost use Rattle.std.specs.Prelude.{◌≡◌, ◌<◌, None, IfOk, IfSome, is_err, length, if◌then◌else◌};
 ghost use Rattle.std.specs.Io.{ReadsAtMost, WritesAtMost};
 ghost use Rattle.std.specs.Io.KnownBytes.{ReadConsumes, WriteAppends};
@@ -82,13 +83,13 @@ impl<R: rt::Files + Drop> Files for HostFiles<R> {
 }
 
 impl<R: Read + Drop> Source for HostSource<R> {
-    ghost left = { λ _. None };
+    ghost left = { λ s. R.remaining s.reader };
 
     ghost faults = { λ s. s.faults };
 
     fn take(&mut self, buf: &mut [u8]) -> Result<usize, Failed>
         ensures bound { ReadsAtMost result buf.new }
-        ensures bytes { ReadConsumes None None result buf.new }
+        ensures bytes { ReadConsumes (R.remaining self.old.reader) (R.remaining self.new.reader) result buf.new }
         ensures cause { HasCause self.old.faults self.new.faults result }
         ensures counts { self.new.faults ≡ (if is_err result then counted self.old.faults else self.old.faults) }
     {
@@ -103,14 +104,14 @@ impl<R: Read + Drop> Source for HostSource<R> {
 }
 
 impl<W: Write + Drop> Sink for HostSink<W> {
-    ghost written = { λ _. None };
+    ghost written = { λ s. W.contents s.writer };
 
     ghost faults = { λ s. s.faults };
 
     fn put(&mut self, bytes: &[u8]) -> Result<usize, Failed>
         ensures bound { WritesAtMost result bytes.now }
         ensures some { 0 < length bytes.now → IfOk result (λ count. 0 < count) }
-        ensures bytes { WriteAppends None None result bytes.now }
+        ensures bytes { WriteAppends (W.contents self.old.writer) (W.contents self.new.writer) result bytes.now }
         ensures cause { HasCause self.old.faults self.new.faults result }
         ensures counts { self.new.faults ≡ (if is_err result then counted self.old.faults else self.old.faults) }
     {

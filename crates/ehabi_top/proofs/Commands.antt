@@ -5,8 +5,8 @@ use Rattle.std.proofs.lemmas.Bool.{cases_lt}
 use Rattle.eh_port.specs.FileList.{answer_of}
 use Rattle.eh_port.specs.declared.FileAnswer.{FileAnswer}
 use Rattle.eh_port.specs.declared.FileAnswer.TheVariants.{Found, Missing, TooLong}
-use Rattle.thumb_core.specs.declared.end.End.{End}
-use Rattle.thumb_core.specs.declared.end.End.TheVariants.{Exit, Terminate, Trap, Budget, ReadFault, WriteFault}
+use Rattle.thumb_core.specs.declared.ends.End.{End}
+use Rattle.thumb_core.specs.declared.ends.End.TheVariants.{Exit, Terminate, Trap, Budget, ReadFault, WriteFault}
 use Rattle.ehabi_top.specs.declared.stop.Stop.{Stop}
 use Rattle.ehabi_top.specs.FlatMachine.{flat_ran}
 use Rattle.ehabi_top.specs.FlatReport.{IsTooLarge, code_report, flat_report, flat_start}

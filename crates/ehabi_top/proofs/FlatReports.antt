@@ -1,5 +1,6 @@
 -- The report of `flat`.
-use Rattle.std.proofs.Common.{◌≡◌, ℕ, ◌<◌, ◌≤◌, List, Option, Some, None, IfSome, Result, sym, ap, length, rules, tests}
+use Rattle.std.proofs.Common.{◌≡◌, ℕ, ◌<◌, ◌≤◌, ◌-◌, ◌++◌, List, append-nil, refl, arith, Option, Some, None, IfSome, Result, sym, ap, length, rules, tests}
+use Rattle.eh_bus.specs.Built.{zeros}
 use Rattle.eh_port.specs.FileList.{answer_of}
 use Rattle.eh_port.specs.declared.FileAnswer.{FileAnswer}
 use Rattle.ehabi_top.specs.declared.stop.Stop.{Stop}
@@ -31,3 +32,8 @@ pub told_file : (held : Option (List (List ℕ × List ℕ))) (name : List ℕ) 
 told_file None name budget answer result left left' before now h g = tt
 told_file (Some files) name budget answer result None left' before now h g = tt
 told_file (Some files) name budget answer result (Some b) left' before now h g = rw (flat_at name budget files b answer h) g
+
+-- the code has no zeros behind it
+pub no_zeros : (code : List ℕ) → code ++ zeros (length code - length code) ≡ code
+unfolding zeros
+no_zeros code = let none : length code - length code ≡ 0 = omega arith in rw (none, append-nil) refl

@@ -1,8 +1,8 @@
 -- A run of raw code, whatever it had to spare.
 use Rattle.std.proofs.Common.{ℕ, List, Option, Some, None, IfSome}
 use Rattle.event_runs.specs.Runs.{Runs}
-use Rattle.thumb_core.specs.declared.end.End.{End}
-use Rattle.thumb_core.specs.declared.end.End.TheVariants.{Budget}
+use Rattle.thumb_core.specs.declared.ends.End.{End}
+use Rattle.thumb_core.specs.declared.ends.End.TheVariants.{Budget}
 use Rattle.ehabi_top.specs.FlatMachine.{State, flat_event, is_fault, FlatRuns}
 
 pub some_unspent : (budget : ℕ) (old : State) (end : End) (new : State) (unspent : ℕ) (told left before now : Option (List ℕ))

@@ -6,8 +6,8 @@ use Rattle.std.specs.Bool.{OnFalse}
 use Rattle.std.proofs.KnownBytes.{Appends-trans}
 use Rattle.eh_port.proofs.Parts.{part_first, part_then}
 use Rattle.event_runs.specs.Runs.{Event, Ran, Runs, run}
-use Rattle.thumb_core.specs.declared.end.End.{End}
-use Rattle.thumb_core.specs.declared.end.End.TheVariants.{Budget}
+use Rattle.thumb_core.specs.declared.ends.End.{End}
+use Rattle.thumb_core.specs.declared.ends.End.TheVariants.{Budget}
 use Rattle.ehabi_top.specs.declared.stop.Stop.{Stop}
 use Rattle.ehabi_top.specs.FlatMachine.{is_fault}
 use Rattle.ehabi_top.specs.Words.{Command}

@@ -2,14 +2,13 @@
 use Rattle.std.specs.Prelude.{ℕ, ◌<◌, ◌==◌, true, false, List, [], ◌∷◌, ◌++◌, length, codes, nat_lt, if◌then◌else◌}
 use Rattle.event_runs.specs.Runs.{Ran}
 use Rattle.eh_bus.specs.Segment.{Segment}
-use Rattle.eh_bus.specs.Built.{with_host}
 use Rattle.eh_port.specs.FileList.{answer_of}
 use Rattle.eh_port.specs.declared.FileAnswer.{FileAnswer}
 use Rattle.eh_port.specs.declared.FileAnswer.TheVariants.{Found, Missing, TooLong}
-use Rattle.thumb_core.specs.declared.end.End.{End}
+use Rattle.thumb_core.specs.declared.ends.End.{End}
 use Rattle.thumb_core.specs.declared.regs.Regs.{Regs}
 use Rattle.ehabi_top.specs.FlatMachine.{State, flat_ran}
-use Rattle.ehabi_top.specs.Loading.{Report, file_limit, with_file, ran_report}
+use Rattle.ehabi_top.specs.Loading.{Report, file_limit, with_file, with_host, ran_report}
 use Rattle.ehabi_top.specs.Text.{image_too_large}
 
 -- where raw code is loaded and starts

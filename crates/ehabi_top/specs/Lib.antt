@@ -4,4 +4,5 @@ pub mod Text
 pub mod Writes
 pub mod Loading
 pub mod FlatReport
+
 pub mod Report

@@ -1,10 +1,13 @@
 -- What a report is, and the parts that the reports of several commands share.
-use Rattle.std.specs.Prelude.{ℕ, ◌==◌, List, ◌++◌, codes, if◌then◌else◌}
+use Rattle.std.specs.Prelude.{ℕ, ◌==◌, List, [], ◌∷◌, ◌++◌, codes, if◌then◌else◌}
 use Rattle.event_runs.specs.Runs.{Ran}
+use Rattle.eh_bus.specs.Built.{zeros_at}
+use Rattle.eh_bus.specs.Memory.{Memory}
+use Rattle.eh_bus.specs.Segment.{Segment}
 use Rattle.eh_port.specs.declared.FileAnswer.{FileAnswer}
 use Rattle.eh_port.specs.declared.FileAnswer.TheVariants.{Found, Missing, TooLong}
-use Rattle.thumb_core.specs.declared.end.End.{End}
-use Rattle.thumb_core.specs.declared.end.End.TheVariants.{Exit, Terminate, Trap, Budget, ReadFault, WriteFault}
+use Rattle.thumb_core.specs.declared.ends.End.{End}
+use Rattle.thumb_core.specs.declared.ends.End.TheVariants.{Exit, Terminate, Trap, Budget, ReadFault, WriteFault}
 use Rattle.ehabi_top.specs.Text.{end_line, missing_line, too_long_line}
 
 -- what the program writes, its status, and what it leaves of the input
@@ -32,6 +35,14 @@ IsLacking Missing = Unit {0}
 IsLacking TooLong = Unit {0}
 
 -- ---- runs
+
+-- the memory at the start: the stack, the pool, and these segments; no word is guarded
+abbrev pub with_host : List Segment → Memory
+with_host segments = record {
+  segments = zeros_at 0x3fff0000 0x10000 ∷ zeros_at 0x38000000 0x8000 ∷ segments;
+  guards = [];
+  home = (0x3fff0000, 0x40000000);
+}
 
 abbrev pub status_of : End → ℕ
 status_of (Exit number) = if number == 0 then 0 else 1

@@ -1,11 +1,11 @@
 -- The texts that the program writes. Each line ends in a line feed.
 use Rattle.std.specs.Prelude.{ℕ, ◌+◌, ◌/◌, ◌%◌, ◌^◌, List, [], ◌∷◌, ◌++◌, map, codes, decimal, nat_lt, if◌then◌else◌}
-use Rattle.thumb_core.specs.declared.end.Cause.{Cause}
-use Rattle.thumb_core.specs.declared.end.Cause.TheVariants.{NoHandler, CannotUnwind, NoThrow, LeavesCleanup, Unexpected, NothingCaught, PoolFull, Called}
-use Rattle.thumb_core.specs.declared.end.End.{End}
-use Rattle.thumb_core.specs.declared.end.End.TheVariants.{Exit, Terminate, Trap, Budget, ReadFault, WriteFault}
-use Rattle.thumb_core.specs.declared.end.TrapKind.{TrapKind}
-use Rattle.thumb_core.specs.declared.end.TrapKind.TheVariants.{Undefined, Unpredictable, NotInProfile, EvenTarget, Unmapped, Unaligned, ReadOnly, SavedSlot, Protected, NotExecutable, FellOff, SpInCleanup, StackLimit, BadCallTarget, UnknownGate, BadObject, BadUcb, TooBig, BadType, CaughtOrder, NoCaught, NoCleanup, CleanupElsewhere, ObjectRead, NotBuilt}
+use Rattle.thumb_core.specs.declared.ends.Cause.{Cause}
+use Rattle.thumb_core.specs.declared.ends.Cause.TheVariants.{NoHandler, CannotUnwind, NoThrow, LeavesCleanup, Unexpected, NothingCaught, PoolFull, Called}
+use Rattle.thumb_core.specs.declared.ends.End.{End}
+use Rattle.thumb_core.specs.declared.ends.End.TheVariants.{Exit, Terminate, Trap, Budget, ReadFault, WriteFault}
+use Rattle.thumb_core.specs.declared.ends.TrapKind.{TrapKind}
+use Rattle.thumb_core.specs.declared.ends.TrapKind.TheVariants.{Undefined, Unpredictable, NotInProfile, EvenTarget, Unmapped, Unaligned, ReadOnly, SavedSlot, Protected, NotExecutable, FellOff, SpInCleanup, StackLimit, BadCallTarget, UnknownGate, BadObject, BadUcb, TooBig, BadType, CaughtOrder, NoCaught, NoCleanup, CleanupElsewhere, ObjectRead}
 
 abbrev pub usage : List ℕ
 usage = codes "usage: ehabi_run flat FILE N | build FILE.. | check FILE.. | run FILE.. N | gen K M\n"
@@ -47,7 +47,6 @@ kind_name NoCaught = codes "NoCaught"
 kind_name NoCleanup = codes "NoCleanup"
 kind_name CleanupElsewhere = codes "CleanupElsewhere"
 kind_name ObjectRead = codes "ObjectRead"
-kind_name NotBuilt = codes "NotBuilt"
 
 abbrev pub cause_name : Cause → List ℕ
 cause_name NoHandler = codes "NoHandler"

@@ -6,7 +6,7 @@ ghost use Rattle.ehabi_top.specs.Text.{missing_line, too_long_line, end_line};
 use crate::line::end_line;
 use crate::stop::Stop;
 use eh_port::{Sink, put_all};
-use thumb_core::End;
+use thumb_core::ends::End;
 
 /// Ends with this text and this status.
 pub(crate) fn answer_text<O: Sink>(out: &mut O, text: &[u8], status: u8) -> Result<u8, Stop>

@@ -1,10 +1,10 @@
 // `flat FILE N`: runs the bytes of a file as raw code.
 ghost use Rattle.std.specs.Prelude.{◌≡◌, ◌≢◌, ◌≤◌, ◌⊎◌, ◌∷◌, [], length, IfOk, IfSome, IsErrOf, true, false};
 ghost use Rattle.eh_port.specs.Causes.{Rose};
-ghost use Rattle.eh_bus.specs.Built.{with_host};
+ghost use Rattle.eh_bus.specs.Flat.{memory_of};
 ghost use Rattle.ehabi_top.specs.FlatMachine.{is_fault};
 ghost use Rattle.ehabi_top.specs.FlatReport.{flat_report, code_report, start_regs, code_segment};
-ghost use Rattle.ehabi_top.specs.Loading.{status_of};
+ghost use Rattle.ehabi_top.specs.Loading.{status_of, with_host};
 ghost use Rattle.ehabi_top.specs.Report.{Gives, IfTold, is_settled};
 
 use crate::answer::{answer_end, answer_missing, answer_text, answer_too_long};
@@ -15,7 +15,8 @@ use eh_bus::flat::FlatBus;
 use eh_bus::segment::SegmentSpec;
 use eh_port::{FileAnswer, Files, Sink, Source};
 use std::alloc::Global;
-use thumb_core::{End, Regs};
+use thumb_core::ends::End;
+use thumb_core::regs::Regs;
 
 /// The most bytes of a file.
 pub(crate) const FILE_LIMIT: usize = 4_194_304;
@@ -75,7 +76,7 @@ pub(crate) fn status_of(end: End) -> Result<u8, Stop>
 // The memory of raw code.
 fn code_memory(alloc: Global, code: &[u8]) -> Result<FlatBus, BusMemory>
     requires { length code.now ≤ 1048576 }
-    ensures { IfOk result (λ bus. bus ≡ with_host (code_segment code.now ∷ [])) }
+    ensures { IfOk result (λ bus. memory_of bus ≡ with_host (code_segment code.now ∷ [])) }
 {
     let segment = SegmentSpec {
         start: CODE_START,

@@ -9,6 +9,7 @@ ghost use Rattle.ehabi_top.specs.Report.{Performs, DoesWhole, DoesPart, IfTold, 
 mod answer;
 mod flat;
 mod flat_machine;
+
 mod line;
 mod stop;
 mod words;

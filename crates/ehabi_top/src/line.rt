@@ -5,7 +5,7 @@ ghost use Rattle.ehabi_top.specs.Text.{hex_digit, hex8, kind_name, cause_name, e
 
 use arrayvec::ArrayVec;
 use itoa::Buffer;
-use thumb_core::{Cause, End, TrapKind};
+use thumb_core::ends::{Cause, End, TrapKind};
 
 /// A line, with room for the longest.
 pub type Line = ArrayVec<u8, 80>;
@@ -69,7 +69,6 @@ fn kind_name(kind: TrapKind) -> &'static [u8]
         TrapKind::NoCleanup => b"NoCleanup",
         TrapKind::CleanupElsewhere => b"CleanupElsewhere",
         TrapKind::ObjectRead => b"ObjectRead",
-        TrapKind::NotBuilt => b"NotBuilt",
     }
 }
 

@@ -1,0 +1,4 @@
+pub mod Listed
+pub mod Shifts
+pub mod Sound
+pub mod Follows

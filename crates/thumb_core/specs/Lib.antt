@@ -1,2 +1,12 @@
 pub mod Arith
-pub mod Effect
+pub mod Registers
+pub mod Shift
+pub mod Alu
+pub mod Data
+pub mod Outcome
+pub mod Access
+pub mod Branch
+pub mod Words
+pub mod Lists
+pub mod Step
+pub mod Laws

@@ -1,11 +1,15 @@
-//! The core: what one instruction does to the registers, and how a run may end.
+//! One instruction of an ARMv6-M core, over every memory.
 #![tactic(auto)]
 
-mod arith;
-mod end;
-mod regs;
-mod stepping;
-
-pub use end::{Cause, End, TrapKind};
-pub use regs::{CoreTrap, Regs, Stepped};
-pub use stepping::step;
+pub mod access;
+pub mod alu;
+pub mod arith;
+pub mod branch;
+pub mod data;
+pub mod ends;
+pub mod lists;
+pub mod regs;
+pub mod shift;
+pub mod step;
+#[cfg(test)]
+mod tests;

@@ -1,7 +1,7 @@
 -- The search of a list of rows, by a test of every halfword of a range.
 use Rattle.std.proofs.Common.{◌≡◌, ℕ, zero, suc, ◌+◌, ◌<◌, ◌≤◌, Bool, true, false, not, ◌&&◌, ◌||◌, ◌==◌, bit_and, cond, List, [], ◌∷◌, refl, arith, ◌∙◌, ap}
 use Rattle.thumb_isa.specs.declared.instr.Decoded.{Decoded}
-use Rattle.thumb_isa.specs.declared.instr.Decoded.TheVariants.{NotBuilt}
+use Rattle.thumb_isa.specs.declared.instr.Decoded.TheVariants.{Is, Undefined, Unpredictable, NotInProfile}
 use Rattle.thumb_isa.specs.Rows.{Row, fits, fits_second, rows, first_fit, decoded_of}
 
 -- each of the n numbers from k up passes
@@ -29,7 +29,7 @@ stops_at zero (row ∷ more) first second = fits row first second
 stops_at (suc i) (row ∷ more) first second = not (fits row first second) && stops_at i more first second
 
 abbrev pub meaning_at : ℕ → List Row → ℕ → ℕ → Decoded
-meaning_at i [] first second = NotBuilt
+meaning_at i [] first second = Undefined
 meaning_at zero (row ∷ more) first second = row.means first second
 meaning_at (suc i) (row ∷ more) first second = meaning_at i more first second
 
@@ -48,6 +48,10 @@ first_fit-at (suc i) (row ∷ more) first second h =
     let two = both (not (fits row first second)) (stops_at i more first second) h in
     cond_not (fits row first second) _ _ two.0 ∙ first_fit-at i more first second two.1
 
+implied : (a b : Bool) → (not a || b) ≡ true → a ≡ true → b ≡ true
+implied true b h e = h
+implied false b h e = cc
+
 -- of the n halfwords from low up, those that pass the test `when` have the meaning of the row at this place
 pub decoded_where : (when : ℕ → Bool) (i low n second : ℕ) → all_from (λ first. not (when first) || stops_at i rows first second) n low ≡ true
     → (first : ℕ) → low ≤ first → first < low + n → when first ≡ true → decoded_of first second ≡ meaning_at i rows first second
@@ -55,10 +59,6 @@ unfolding decoded_of
 decoded_where when i low n second h first above below w =
     let at = all_from_at (λ first. not (when first) || stops_at i rows first second) n low h first above below in
     first_fit-at i rows first second (implied (when first) _ at w)
-  where
-    implied : (a b : Bool) → (not a || b) ≡ true → a ≡ true → b ≡ true
-    implied true b h e = h
-    implied false b h e = cc
 
 -- the n halfwords from low up have the meaning of the row at this place
 pub decoded_at : (i low n second : ℕ) → all_from (λ first. stops_at i rows first second) n low ≡ true
@@ -161,3 +161,34 @@ place_of (row ∷ more) first = let later = suc (place_of more first) in cond (b
 pub decoded_like : (low n second : ℕ) → all_from (λ first. stops_at (place_of rows low) rows first second) n low ≡ true
     → (first : ℕ) → low ≤ first → first < low + n → decoded_of first second ≡ meaning_at (place_of rows low) rows first second
 decoded_like low n second = decoded_at (place_of rows low) low n second
+
+-- the place of the row that this pair fits
+abbrev pub place_of_pair : List Row → ℕ → ℕ → ℕ
+place_of_pair [] first second = 0
+place_of_pair (row ∷ more) first second = let later = suc (place_of_pair more first second) in cond (fits row first second) 0 later
+
+abbrev pub is_unpredictable : Decoded → Bool
+is_unpredictable (Is i size) = false
+is_unpredictable Undefined = false
+is_unpredictable Unpredictable = true
+is_unpredictable NotInProfile = false
+
+from_test : (d : Decoded) → is_unpredictable d ≡ true → d ≡ Unpredictable
+from_test (Is i size) h = cc
+from_test Undefined h = cc
+from_test Unpredictable h = refl
+from_test NotInProfile h = cc
+
+-- of the n halfwords from low up, those that pass the test `when` are unpredictable
+pub unpredictable_where : (when : ℕ → Bool) (low n second : ℕ) → all_from (λ first. not (when first) || is_unpredictable (first_fit rows first second)) n low ≡ true
+    → (first : ℕ) → low ≤ first → first < low + n → when first ≡ true → decoded_of first second ≡ Unpredictable
+unfolding decoded_of
+unpredictable_where when low n second h first above below w =
+    let at = all_from_at (λ first. not (when first) || is_unpredictable (first_fit rows first second)) n low h first above below in
+    from_test (first_fit rows first second) (implied (when first) _ at w)
+
+-- the rectangle of n first and m second halfwords has the meaning of the row that its lowest pair fits
+pub decoded_pair : (low n low_2 m : ℕ) → stops_over (place_of_pair rows low low_2) rows low n low_2 m ≡ true
+    → (first second : ℕ) → low ≤ first → first < low + n → low_2 ≤ second → second < low_2 + m
+    → decoded_of first second ≡ meaning_at (place_of_pair rows low low_2) rows first second
+decoded_pair low n low_2 m = decoded_over (place_of_pair rows low low_2) low n low_2 m

@@ -1,5 +1,6 @@
-ghost use Rattle.std.specs.Prelude.{◌≡◌, ℕ, ◌+◌, ◌-◌, ◌*◌, ◌/◌, ◌%◌, ◌^◌, ◌<◌, ◌≤◌};
+ghost use Rattle.std.specs.Prelude.{◌≡◌, ◌*◌, ◌%◌, ◌^◌, ◌<◌, ◌≤◌};
 ghost use Rattle.thumb_isa.specs.Fields.{field, signed_half};
+ghost use Rattle.thumb_isa.specs.Range.{IsBranch};
 
 /// The `width` bits of a halfword that begin at bit `at`.
 pub fn field(half: u16, at: u32, width: u32) -> u16
@@ -19,11 +20,12 @@ pub fn small(half: u16, at: u32, width: u32) -> u8
     field(half, at, width) as u8
 }
 
-/// A field read as a signed number, where `half` is the weight of its sign bit.
+/// A number read as a signed one, where `half` is the weight of its sign bit.
 pub fn sign_extend(value: u32, half: u32) -> i32
     requires half_in { half < 2 ^ 30 }
     requires fits { value < 2 * half }
-    ensures { result ≡ signed_half half value }
+    ensures value { result ≡ signed_half half value }
+    ensures even { value % 2 ≡ 0 → half % 2 ≡ 0 → IsBranch half result }
 {
     if value < half {
         value as i32

@@ -1,9 +1,7 @@
-//! What a pair of Thumb halfwords means (DDI 0419, the Armv6-M instruction set encoding).
+//! The instructions of the ARMv6-M profile (Armv6-M Architecture Reference Manual, DDI 0419), and what each pair of
+//! halfwords means.
 #![tactic(auto)]
 
-mod decoder;
-mod fields;
-mod instr;
-
-pub use decoder::decode;
-pub use instr::{Decoded, Instr};
+pub mod decode;
+pub mod fields;
+pub mod instr;

@@ -1,7 +1,7 @@
 use Rattle.std.proofs.Common.{arith, refl}
 use Rattle.ehabi_top.specs.FlatMachine.{State, flat_event, is_fault}
-use Rattle.thumb_core.specs.declared.end.End.{End}
-use Rattle.thumb_core.specs.declared.end.End.TheVariants.{Budget}
+use Rattle.thumb_core.specs.declared.ends.End.{End}
+use Rattle.thumb_core.specs.declared.ends.End.TheVariants.{Budget}
 use Rattle.event_runs.proofs.Progress.{starts, goes_on, ends, spent}
 use Rattle.ehabi_top.proofs.FlatRunning.{some_unspent}
 use Rattle.ehabi_top.proofs.flat_machine.flat_run.Goals as goal

@@ -1,8 +1,8 @@
 use Rattle.std.proofs.Common.{◌≤◌, IfSome}
 use Rattle.event_runs.proofs.Progress.{Progress}
 use Rattle.ehabi_top.specs.FlatMachine.{State, flat_event, is_fault}
-use Rattle.thumb_core.specs.declared.end.End.{End}
-use Rattle.thumb_core.specs.declared.end.End.TheVariants.{Budget}
+use Rattle.thumb_core.specs.declared.ends.End.{End}
+use Rattle.thumb_core.specs.declared.ends.End.TheVariants.{Budget}
 use Rattle.ehabi_top.proofs.flat_machine.flat_run.Given as goal
 
 -- what was done and what is left are the whole run, and no count has fallen

@@ -1,0 +1,10 @@
+// Words, relative addresses, ULEB128 numbers and names.
+#![tactic(auto)]
+
+pub mod fault;
+pub mod name;
+pub mod words;
+
+pub use fault::{NameMemory, WordFault};
+pub use name::Name;
+pub use words::{get_half, get_word, prel31, uleb128};

@@ -1,0 +1,95 @@
+-- Branches, calls, returns, and the instructions that may write pc.
+use Rattle.std.specs.Prelude.{ℕ, ℤ, ◌+◌, ◌%◌, ◌^◌, Bool, true, false, not, ◌&&◌, ◌||◌, ◌==◌, if◌then◌else◌}
+use Rattle.thumb_isa.specs.declared.instr.Instr.{Instr}
+use Rattle.thumb_isa.specs.declared.instr.Instr.TheVariants.{AddHigh, MovHigh, Bx, Blx, BCond, Svc, B, Bl}
+use Rattle.thumb_core.specs.declared.regs.Regs.{Regs}
+use Rattle.thumb_core.specs.declared.regs.CoreTrap.TheVariants.{EvenTarget}
+use Rattle.thumb_core.specs.declared.regs.Stepped.{Stepped}
+use Rattle.thumb_core.specs.declared.regs.Stepped.TheVariants.{Call, Done, Gate, Return, Trap}
+use Rattle.thumb_core.specs.Registers.{even, operand, pc_read, with_reg, with_pc, with_next}
+use Rattle.thumb_core.specs.Data.{forward, data_effect}
+
+-- the two flags are equal
+abbrev pub same_flag : Bool → Bool → Bool
+same_flag true b = b
+same_flag false b = not b
+
+-- EQ NE CS CC MI PL VS VC HI LS GE LT GT LE, numbered 0 to 13
+abbrev pub passes : ℕ → Regs → Bool
+passes cond regs =
+    if cond == 0 then regs.z else (if cond == 1 then not regs.z else (
+    if cond == 2 then regs.c else (if cond == 3 then not regs.c else (
+    if cond == 4 then regs.n else (if cond == 5 then not regs.n else (
+    if cond == 6 then regs.v else (if cond == 7 then not regs.v else (
+    if cond == 8 then regs.c && not regs.z else (if cond == 9 then not regs.c || regs.z else (
+    if cond == 10 then same_flag regs.n regs.v else (if cond == 11 then not (same_flag regs.n regs.v) else (
+    if cond == 12 then not regs.z && same_flag regs.n regs.v else (regs.z || not (same_flag regs.n regs.v))))))))))))))
+
+-- where a branch goes
+abbrev pub target_of : ℤ → Regs → ℕ
+target_of off regs = forward (pc_read regs) off
+
+-- B
+abbrev pub branch : ℤ → Regs → Regs
+branch off regs = with_pc regs (target_of off regs)
+
+-- a branch under a condition
+abbrev pub branch_if : ℕ → ℤ → ℕ → Regs → Regs
+branch_if cond off size regs = if passes cond regs then branch off regs else with_next size regs
+
+-- a register, low or high; a write to pc is a branch
+abbrev pub write_high : ℕ → ℕ → ℕ → Regs → Regs
+write_high d x size regs = if d == 15 then with_pc regs x else with_next size (with_reg regs d x)
+
+-- ADD of two registers, low or high
+abbrev pub add_high : ℕ → ℕ → ℕ → Regs → Regs
+add_high d k size regs = write_high d (operand regs d + operand regs k) size regs
+
+-- MOV of two registers, low or high
+abbrev pub mov_high : ℕ → ℕ → ℕ → Regs → Regs
+mov_high d k size regs = write_high d (operand regs k) size regs
+
+-- the next instruction's address with bit 0 set, which a call leaves in lr
+abbrev pub link_of : ℕ → Regs → ℕ
+link_of size regs = even ((regs.pc + size) % 2 ^ 32) + 1
+
+-- a call: pc goes to the target
+abbrev pub call_to : ℕ → ℕ → Regs → Stepped × Regs
+call_to target size regs =
+    (Call (even (target % 2 ^ 32)) (link_of size regs), with_pc (with_reg regs 14 (link_of size regs)) target)
+
+-- what is done where bit 0 of a target is set; else nothing is changed
+abbrev pub if_odd : ℕ → Regs → Stepped × Regs → Stepped × Regs
+if_odd target regs plain_outcome = if target % 2 == 0 then (Trap (EvenTarget target), regs) else plain_outcome
+
+-- BL
+abbrev pub bl : ℤ → ℕ → Regs → Stepped × Regs
+bl off size regs = call_to (target_of off regs) size regs
+
+-- BLX
+abbrev pub blx : ℕ → ℕ → Regs → Stepped × Regs
+blx k size regs = if_odd (operand regs k) regs (call_to (operand regs k) size regs)
+
+-- a return to a target, which leaves these registers but for pc
+abbrev pub return_to : ℕ → Regs → Stepped × Regs
+return_to target after = (Return (target % 2 ^ 32), with_pc after target)
+
+-- BX
+abbrev pub bx : ℕ → Regs → Stepped × Regs
+bx k regs = if_odd (operand regs k) regs (return_to (operand regs k) regs)
+
+-- SVC
+abbrev pub svc : ℕ → ℕ → Regs → Stepped × Regs
+svc number size regs = (Gate number, with_next size regs)
+
+-- what an instruction of `size` bytes does that leaves the memory alone: those of this group, else those of the data
+abbrev pub register_effect : Instr → ℕ → Regs → Stepped × Regs
+register_effect (AddHigh d k) size regs = (Done, add_high d k size regs)
+register_effect (MovHigh d k) size regs = (Done, mov_high d k size regs)
+register_effect (BCond cond off) size regs = (Done, branch_if cond off size regs)
+register_effect (B off) size regs = (Done, branch off regs)
+register_effect (Bl off) size regs = bl off size regs
+register_effect (Blx k) size regs = blx k size regs
+register_effect (Bx k) size regs = bx k regs
+register_effect (Svc imm) size regs = svc imm size regs
+register_effect i size regs = (Done, with_next size (data_effect i regs))

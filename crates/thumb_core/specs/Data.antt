@@ -1,0 +1,112 @@
+-- Instructions that change low registers, sp and flags alone, pc apart.
+use Rattle.std.specs.Prelude.{ℕ, ℤ, ◌+◌, ◌-◌, ◌*◌, ◌%◌, ◌^◌, Bool, ◌==◌, if◌then◌else◌}
+use Rattle.std.specs.Int.{cast_unsigned, w32}
+use Rattle.thumb_isa.specs.declared.instr.Instr.{Instr}
+use Rattle.thumb_isa.specs.declared.instr.Instr.TheVariants.{ShiftImm, AddSubReg, AddSubImm3, Imm8, Alu, CmpHigh, Adr, AddRdSp, AddSp, SubSp, Extend, Rev, Hint, Barrier}
+use Rattle.thumb_core.specs.declared.regs.Regs.{Regs}
+use Rattle.thumb_core.specs.declared.arith.Sum.{Sum}
+use Rattle.thumb_core.specs.Arith.{sum_of, difference_of, sum_or_difference, sign_extension, byte_of}
+use Rattle.thumb_core.specs.Registers.{reg, operand, base, with_reg, with_nz, with_flags}
+use Rattle.thumb_core.specs.Shift.{shift_of}
+use Rattle.thumb_core.specs.Alu.{alu}
+
+-- an address some bytes further on
+abbrev pub forward : ℕ → ℤ → ℕ
+forward a off = (a + cast_unsigned w32 off) % 2 ^ 32
+
+-- an address some bytes further back
+abbrev pub backward : ℕ → ℤ → ℕ
+backward a off = (a + (2 ^ 32 - cast_unsigned w32 off)) % 2 ^ 32
+
+-- a value in d, with N and Z
+abbrev pub with_value : ℕ → ℕ → Regs → Regs
+with_value d x regs = with_nz (with_reg regs d x) x
+
+-- a sum in d, with all flags
+abbrev pub with_sum : ℕ → Sum → Regs → Regs
+with_sum d s regs = with_flags (with_reg regs d s.value) s
+
+-- a shift in d, with N, Z and C
+abbrev pub with_shift : ℕ → ℕ × Bool → Regs → Regs
+with_shift d s regs = record (with_value d s.0 regs) { c = s.1 }
+
+-- LSL, LSR and ASR by a constant; LSL by 0 is MOVS
+abbrev pub shift_imm : ℕ → ℕ → ℕ → ℕ → Regs → Regs
+shift_imm op d m n regs = with_shift d (shift_of op (reg regs m) n regs.c) regs
+
+-- ADD and SUB of two registers
+abbrev pub add_sub_reg : Bool → ℕ → ℕ → ℕ → Regs → Regs
+add_sub_reg sub d n m regs = with_sum d (sum_or_difference sub (reg regs n) (reg regs m)) regs
+
+-- ADD and SUB of a small number
+abbrev pub add_sub_imm : Bool → ℕ → ℕ → ℕ → Regs → Regs
+add_sub_imm sub d n imm regs = with_sum d (sum_or_difference sub (reg regs n) imm) regs
+
+-- MOV, CMP, ADD and SUB of a byte, numbered 0 to 3
+abbrev pub imm8 : ℕ → ℕ → ℕ → Regs → Regs
+imm8 op d imm regs =
+    if op == 0 then with_value d imm regs else (
+    if op == 1 then with_flags regs (difference_of (reg regs d) imm) else (
+    if op == 2 then with_sum d (sum_of (reg regs d) imm 0) regs else
+    with_sum d (difference_of (reg regs d) imm) regs))
+
+-- CMP of two registers of which one is high
+abbrev pub cmp_high : ℕ → ℕ → Regs → Regs
+cmp_high n m regs = with_flags regs (difference_of (operand regs n) (operand regs m))
+
+-- ADR
+abbrev pub adr : ℕ → ℤ → Regs → Regs
+adr d off regs = with_reg regs d (forward (base regs) off)
+
+-- ADD of sp and a number, to a low register
+abbrev pub add_rd_sp : ℕ → ℤ → Regs → Regs
+add_rd_sp d off regs = with_reg regs d (forward (reg regs 13) off)
+
+-- ADD to sp
+abbrev pub add_sp : ℤ → Regs → Regs
+add_sp off regs = with_reg regs 13 (forward (reg regs 13) off)
+
+-- SUB from sp
+abbrev pub sub_sp : ℤ → Regs → Regs
+sub_sp off regs = with_reg regs 13 (backward (reg regs 13) off)
+
+-- SXTH, SXTB, UXTH and UXTB, numbered 0 to 3
+abbrev pub extension_of : ℕ → ℕ → ℕ
+extension_of op x =
+    if op == 0 then sign_extension 16 x else (if op == 1 then sign_extension 8 x else (
+    if op == 2 then x % 2 ^ 16 else x % 2 ^ 8))
+
+abbrev pub extend : ℕ → ℕ → ℕ → Regs → Regs
+extend op d m regs = with_reg regs d (extension_of op (reg regs m))
+
+-- the two lowest bytes, the other way round
+abbrev pub half_reversal : ℕ → ℕ
+half_reversal x = byte_of 1 x + byte_of 0 x * 2 ^ 8
+
+-- REV, REV16 and REVSH, numbered 0, 1 and 3
+abbrev pub reversal_of : ℕ → ℕ → ℕ
+reversal_of op x =
+    if op == 0 then byte_of 3 x + byte_of 2 x * 2 ^ 8 + byte_of 1 x * 2 ^ 16 + byte_of 0 x * 2 ^ 24 else (
+    if op == 1 then byte_of 1 x + byte_of 0 x * 2 ^ 8 + byte_of 3 x * 2 ^ 16 + byte_of 2 x * 2 ^ 24 else
+    sign_extension 16 (half_reversal x))
+
+abbrev pub rev : ℕ → ℕ → ℕ → Regs → Regs
+rev op d m regs = with_reg regs d (reversal_of op (reg regs m))
+
+-- what an instruction of this group leaves in the registers before it goes on; one of another group is met elsewhere
+abbrev pub data_effect : Instr → Regs → Regs
+data_effect (ShiftImm op d k n) regs = shift_imm op d k n regs
+data_effect (AddSubReg sub d n k) regs = add_sub_reg sub d n k regs
+data_effect (AddSubImm3 sub d n imm) regs = add_sub_imm sub d n imm regs
+data_effect (Imm8 op d imm) regs = imm8 op d imm regs
+data_effect (Alu op d k) regs = alu op d k regs
+data_effect (CmpHigh n k) regs = cmp_high n k regs
+data_effect (Adr d off) regs = adr d off regs
+data_effect (AddRdSp d off) regs = add_rd_sp d off regs
+data_effect (AddSp off) regs = add_sp off regs
+data_effect (SubSp off) regs = sub_sp off regs
+data_effect (Extend op d k) regs = extend op d k regs
+data_effect (Rev op d k) regs = rev op d k regs
+data_effect (Hint n) regs = regs
+data_effect (Barrier op option) regs = regs
+data_effect _ regs = regs

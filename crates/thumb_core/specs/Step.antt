@@ -1,0 +1,51 @@
+-- One instruction: the effect of each, and a step from the memory's halfwords to an outcome.
+use Rattle.std.specs.Prelude.{ℕ, ◌+◌, ◌%◌, ◌^◌, nat_le, Result, Ok, Err, if◌then◌else◌}
+use Rattle.thumb_isa.specs.declared.instr.Instr.{Instr}
+use Rattle.thumb_isa.specs.declared.instr.Instr.TheVariants.{LdrLit, MemReg, MemImm, MemSp, Push, Pop, Stm, Ldm}
+use Rattle.thumb_isa.specs.declared.instr.Decoded.{Decoded}
+use Rattle.thumb_isa.specs.declared.instr.Decoded.TheVariants.{Is, Undefined, Unpredictable, NotInProfile}
+use Rattle.thumb_isa.specs.Rows.{decoded_of}
+use Rattle.eh_bus.specs.Memory.{Memory, fetch}
+use Rattle.eh_bus.specs.declared.fault.BusFault.{BusFault}
+use Rattle.thumb_core.specs.declared.regs.Regs.{Regs}
+use Rattle.thumb_core.specs.declared.regs.CoreTrap.TheVariants as trap
+use Rattle.thumb_core.specs.declared.regs.Stepped.TheVariants.{Trap}
+use Rattle.thumb_core.specs.Outcome.{Outcome, fault_outcome, with_memory}
+use Rattle.thumb_core.specs.Access.{ldr_lit, mem_reg, mem_imm, mem_sp}
+use Rattle.thumb_core.specs.Branch.{register_effect}
+use Rattle.thumb_core.specs.Lists.{push, pop, stm, ldm}
+
+-- what an instruction of `size` bytes does: those that load and store, else those that leave the memory alone
+abbrev pub effect : Instr → ℕ → Regs → Memory → Outcome
+effect (LdrLit t off) size regs m = ldr_lit t off size regs m
+effect (MemReg op t n k) size regs m = mem_reg op t n k size regs m
+effect (MemImm op t n off) size regs m = mem_imm op t n off size regs m
+effect (MemSp is_load t off) size regs m = mem_sp is_load t off size regs m
+effect (Push list) size regs m = push list size regs m
+effect (Pop list) size regs m = pop list size regs m
+effect (Stm n list) size regs m = stm n list size regs m
+effect (Ldm n list) size regs m = ldm n list size regs m
+effect i size regs m = with_memory (register_effect i size regs) m
+
+-- an instruction acts; for halfwords that are none the trap holds the first of them, and nothing is changed
+abbrev pub outcome_of : Decoded → ℕ → Regs → Memory → Outcome
+outcome_of (Is i size) first regs m = effect i size regs m
+outcome_of Undefined first regs m = (Trap (trap.Undefined first), regs, m)
+outcome_of Unpredictable first regs m = (Trap (trap.Unpredictable first), regs, m)
+outcome_of NotInProfile first regs m = (Trap (trap.NotInProfile first), regs, m)
+
+-- with the second halfword of a wide encoding
+abbrev pub with_second : Result ℕ BusFault → ℕ → Regs → Memory → Outcome
+with_second (Ok second) first regs m = outcome_of (decoded_of first second) first regs m
+with_second (Err fault) first regs m = fault_outcome fault regs m
+
+-- with the first halfword: a second one is fetched before anything is decoded
+abbrev pub with_first : Result ℕ BusFault → Regs → Memory → Outcome
+with_first (Ok first) regs m =
+    if nat_le 0xe800 first then with_second (fetch m ((regs.pc + 2) % 2 ^ 32)) first regs m
+    else outcome_of (decoded_of first 0) first regs m
+with_first (Err fault) regs m = fault_outcome fault regs m
+
+-- the instruction at pc
+abbrev pub step_of : Regs → Memory → Outcome
+step_of regs m = with_first (fetch m regs.pc) regs m

@@ -1,0 +1,141 @@
+ghost use Rattle.std.specs.Prelude.{◌≡◌, ◌<◌};
+ghost use Rattle.thumb_core.specs.Branch.{passes, target_of, branch, branch_if, write_high, add_high, mov_high, call_to, bl, blx, bx, svc};
+
+use crate::data::forward;
+use crate::regs::{CoreTrap, LR, PC, Regs, Stepped, even};
+
+/// Whether a condition holds.
+fn passes(cond: u8, regs: &Regs) -> bool
+    ensures { result ≡ passes cond regs.now }
+{
+    match cond {
+        0 => regs.z,
+        1 => !regs.z,
+        2 => regs.c,
+        3 => !regs.c,
+        4 => regs.n,
+        5 => !regs.n,
+        6 => regs.v,
+        7 => !regs.v,
+        8 => regs.c && !regs.z,
+        9 => !regs.c || regs.z,
+        10 => regs.n == regs.v,
+        11 => regs.n != regs.v,
+        12 => !regs.z && regs.n == regs.v,
+        _ => regs.z || regs.n != regs.v,
+    }
+}
+
+/// Where a branch goes.
+fn target_of(off: i32, regs: &Regs) -> u32
+    ensures { result ≡ target_of off regs.now }
+{
+    forward(regs.pc_read(), off)
+}
+
+/// B.
+pub(crate) fn branch(off: i32, regs: &mut Regs)
+    ensures { regs.new ≡ branch off regs.old }
+{
+    let target = target_of(off, regs);
+    regs.go_to(target);
+}
+
+/// A branch under a condition.
+pub(crate) fn branch_if(cond: u8, off: i32, size: u32, regs: &mut Regs)
+    ensures { regs.new ≡ branch_if cond off size regs.old }
+{
+    if passes(cond, regs) {
+        branch(off, regs);
+    } else {
+        regs.advance(size);
+    }
+}
+
+/// Writes a register, low or high; a write to pc is a branch.
+fn write_high(d: u8, x: u32, size: u32, regs: &mut Regs)
+    requires { d < 16 }
+    ensures { regs.new ≡ write_high d x size regs.old }
+{
+    if d == PC {
+        regs.go_to(x);
+    } else {
+        regs.put(d, x);
+        regs.advance(size);
+    }
+}
+
+/// ADD of two registers, low or high.
+pub(crate) fn add_high(d: u8, m: u8, size: u32, regs: &mut Regs)
+    requires d_in { d < 16 }
+    requires m_in { m < 16 }
+    ensures { regs.new ≡ add_high d m size regs.old }
+{
+    let sum = regs.operand(d).wrapping_add(regs.operand(m));
+    write_high(d, sum, size, regs);
+}
+
+/// MOV of two registers, low or high.
+pub(crate) fn mov_high(d: u8, m: u8, size: u32, regs: &mut Regs)
+    requires d_in { d < 16 }
+    requires m_in { m < 16 }
+    ensures { regs.new ≡ mov_high d m size regs.old }
+{
+    let value = regs.operand(m);
+    write_high(d, value, size, regs);
+}
+
+/// A call: lr takes the next instruction's address with bit 0 set.
+fn call_to(target: u32, size: u32, regs: &mut Regs) -> Stepped
+    ensures { (result, regs.new) ≡ call_to target size regs.old }
+{
+    let ret = even(regs.pc.wrapping_add(size)) + 1;
+    regs.put(LR, ret);
+    regs.go_to(target);
+    Stepped::Call {
+        target: even(target),
+        ret,
+    }
+}
+
+/// BL.
+pub(crate) fn bl(off: i32, size: u32, regs: &mut Regs) -> Stepped
+    ensures { (result, regs.new) ≡ bl off size regs.old }
+{
+    let target = target_of(off, regs);
+    call_to(target, size, regs)
+}
+
+/// BLX.
+pub(crate) fn blx(m: u8, size: u32, regs: &mut Regs) -> Stepped
+    requires { m < 16 }
+    ensures { (result, regs.new) ≡ blx m size regs.old }
+{
+    let target = regs.operand(m);
+    if target % 2 == 0 {
+        return Stepped::Trap(CoreTrap::EvenTarget(target));
+    }
+    call_to(target, size, regs)
+}
+
+/// BX.
+pub(crate) fn bx(m: u8, regs: &mut Regs) -> Stepped
+    requires { m < 16 }
+    ensures { (result, regs.new) ≡ bx m regs.old }
+{
+    let target = regs.operand(m);
+    if target % 2 == 0 {
+        return Stepped::Trap(CoreTrap::EvenTarget(target));
+    }
+    regs.go_to(target);
+    Stepped::Return { to: target }
+}
+
+/// SVC.
+pub(crate) fn svc(number: u32, size: u32, regs: &mut Regs) -> Stepped
+    requires { number < 256 }
+    ensures { (result, regs.new) ≡ svc number size regs.old }
+{
+    regs.advance(size);
+    Stepped::Gate(number as u8)
+}

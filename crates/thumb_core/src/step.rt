@@ -1,0 +1,123 @@
+ghost use Rattle.std.specs.Prelude.{◌≡◌};
+ghost use Rattle.thumb_isa.specs.Range.{InRange};
+ghost use Rattle.thumb_core.specs.Branch.{register_effect};
+ghost use Rattle.thumb_core.specs.Data.{data_effect};
+ghost use Rattle.thumb_core.specs.Laws.{AreSound, KeepsMap, OnTrap, Stands};
+ghost use Rattle.thumb_core.specs.Step.{step_of, effect};
+
+use crate::access::{ldr_lit, mem_imm, mem_reg, mem_sp};
+use crate::alu::alu;
+use crate::branch::{add_high, bl, blx, branch, branch_if, bx, mov_high, svc};
+use crate::data::{
+    add_rd_sp, add_sp, add_sub_imm, add_sub_reg, adr, cmp_high, extend, imm8, rev, shift_imm,
+    sub_sp,
+};
+use crate::lists::{ldm, pop, push, stm};
+use crate::regs::{CoreTrap, Regs, Stepped};
+use eh_bus::bus::Bus;
+use thumb_isa::decode::{decode, is_wide};
+use thumb_isa::instr::{Decoded, Instr};
+
+/// Does the instruction at `regs.pc` (DDI 0419).
+///
+/// A first halfword that begins a wide encoding makes the second one be fetched, at pc + 2, before anything is decoded.
+/// So the traps are, in this order: the fault of the first fetch, that of the second; what the halfwords are where they
+/// are no instruction; and the instruction's own, an even target or the first fault of its loads and stores.
+pub fn step<B: Bus>(regs: &mut Regs, bus: &mut B) -> Stepped
+    ensures effect { (result, regs.new, B.memory bus.new) ≡ step_of regs.old (B.memory bus.old) }
+
+    // What follows of it for every instruction.
+    ensures trap { OnTrap result ((regs.new ≡ regs.old) × (B.memory bus.new ≡ B.memory bus.old)) }
+    ensures stands { Stands result regs.new }
+    ensures sound { AreSound regs.old.r regs.old.pc → AreSound regs.new.r regs.new.pc }
+    ensures memory { KeepsMap (B.memory bus.old) (B.memory bus.new) }
+{
+    perform(regs, bus)
+}
+
+/// Fetches, decodes and executes.
+fn perform<B: Bus>(regs: &mut Regs, bus: &mut B) -> Stepped
+    ensures { (result, regs.new, B.memory bus.new) ≡ step_of regs.old (B.memory bus.old) }
+{
+    let first = match bus.fetch16(regs.pc) {
+        Ok(half) => half,
+        Err(fault) => return Stepped::Trap(CoreTrap::Memory(fault)),
+    };
+    let second = if is_wide(first) {
+        match bus.fetch16(regs.pc.wrapping_add(2)) {
+            Ok(half) => half,
+            Err(fault) => return Stepped::Trap(CoreTrap::Memory(fault)),
+        }
+    } else {
+        0
+    };
+    match decode(first, second) {
+        Decoded::Is(i, size) => execute(i, size, regs, bus),
+        Decoded::Undefined => Stepped::Trap(CoreTrap::Undefined(u32::from(first))),
+        Decoded::Unpredictable => Stepped::Trap(CoreTrap::Unpredictable(u32::from(first))),
+        Decoded::NotInProfile => Stepped::Trap(CoreTrap::NotInProfile(u32::from(first))),
+    }
+}
+
+/// Loads and stores; the others leave the memory alone.
+fn execute<B: Bus>(i: Instr, size: u32, regs: &mut Regs, bus: &mut B) -> Stepped
+    requires { InRange i }
+    ensures { (result, regs.new, B.memory bus.new) ≡ effect i size regs.old (B.memory bus.old) }
+{
+    match i {
+        Instr::LdrLit { t, off } => ldr_lit(t, off, size, regs, bus),
+        Instr::MemReg { op, t, n, m } => mem_reg(op, t, n, m, size, regs, bus),
+        Instr::MemImm { op, t, n, off } => mem_imm(op, t, n, off, size, regs, bus),
+        Instr::MemSp { load, t, off } => mem_sp(load, t, off, size, regs, bus),
+        Instr::Push { list } => push(list, size, regs, bus),
+        Instr::Pop { list } => pop(list, size, regs, bus),
+        Instr::Stm { n, list } => stm(n, list, size, regs, bus),
+        Instr::Ldm { n, list } => ldm(n, list, size, regs, bus),
+        _ => change_registers(i, size, regs),
+    }
+}
+
+/// Branches and writes of high registers; the others go on to the next instruction.
+fn change_registers(i: Instr, size: u32, regs: &mut Regs) -> Stepped
+    requires { InRange i }
+    ensures { (result, regs.new) ≡ register_effect i size regs.old }
+{
+    match i {
+        Instr::AddHigh { d, m } => add_high(d, m, size, regs),
+        Instr::MovHigh { d, m } => mov_high(d, m, size, regs),
+        Instr::BCond { cond, off } => branch_if(cond, off, size, regs),
+        Instr::B { off } => branch(off, regs),
+        Instr::Bl { off } => return bl(off, size, regs),
+        Instr::Blx { m } => return blx(m, size, regs),
+        Instr::Bx { m } => return bx(m, regs),
+        Instr::Svc { imm } => return svc(imm, size, regs),
+        _ => {
+            compute(i, regs);
+            regs.advance(size);
+        }
+    }
+    Stepped::Done
+}
+
+/// Instructions that change registers and flags, pc apart.
+fn compute(i: Instr, regs: &mut Regs)
+    requires { InRange i }
+    ensures { regs.new ≡ data_effect i regs.old }
+{
+    match i {
+        Instr::ShiftImm { op, d, m, n } => shift_imm(op, d, m, n, regs),
+        Instr::AddSubReg { sub, d, n, m } => add_sub_reg(sub, d, n, m, regs),
+        Instr::AddSubImm3 { sub, d, n, imm } => add_sub_imm(sub, d, n, imm, regs),
+        Instr::Imm8 { op, d, imm } => imm8(op, d, imm, regs),
+        Instr::Alu { op, d, m } => alu(op, d, m, regs),
+        Instr::CmpHigh { n, m } => cmp_high(n, m, regs),
+        Instr::Adr { d, off } => adr(d, off, regs),
+        Instr::AddRdSp { d, off } => add_rd_sp(d, off, regs),
+        Instr::AddSp { off } => add_sp(off, regs),
+        Instr::SubSp { off } => sub_sp(off, regs),
+        Instr::Extend { op, d, m } => extend(op, d, m, regs),
+        Instr::Rev { op, d, m } => rev(op, d, m, regs),
+        // hints and barriers do nothing, and the others were met before
+        _ => {}
+    }
+}
