@@ -35,7 +35,13 @@ pub(crate) const USAGE: &[u8] =
 /// movs r1, #3; movs r0, #65; svc #1; subs r1, #1; bne back to the second; movs r0, #0; svc #0.
 pub(crate) const COUNT: &[u8] = b"\x03\x21\x41\x20\x01\xdf\x01\x39\xfb\xd1\x00\x20\x00\xdf";
 
-static CASES: [Case; 12] = [
+/// svc #2; svc #0.
+pub(crate) const ECHO: &[u8] = b"\x02\xdf\x00\xdf";
+
+/// svc #2; svc #1; svc #2; svc #1; svc #2; svc #0.
+pub(crate) const COPY: &[u8] = b"\x02\xdf\x01\xdf\x02\xdf\x01\xdf\x02\xdf\x00\xdf";
+
+static CASES: [Case; 17] = [
     Case {
         words: &["flat", "c.bin", "15"],
         files: &[("c.bin", COUNT)],
@@ -132,6 +138,50 @@ static CASES: [Case; 12] = [
         status: 5,
         written: b"\n-- trap UnknownGate 00000063 at 00008002\n",
         left: b"in",
+    },
+    Case {
+        // svc #2; svc #0
+        words: &["flat", "g", "9"],
+        files: &[("g", ECHO)],
+        input: b"AB",
+        status: 1,
+        written: b"\n-- exit 65\n",
+        left: b"B",
+    },
+    Case {
+        words: &["flat", "g", "9"],
+        files: &[("g", ECHO)],
+        input: b"",
+        status: 1,
+        written: b"\n-- exit 4294967295\n",
+        left: b"",
+    },
+    Case {
+        // svc #2; svc #1 twice over, and svc #2; svc #0
+        words: &["flat", "g", "9"],
+        files: &[("g", COPY)],
+        input: b"AB",
+        status: 1,
+        written: b"AB\n-- exit 4294967295\n",
+        left: b"",
+    },
+    Case {
+        // bx lr returns to the address that lr has at the start
+        words: &["flat", "r", "9"],
+        files: &[("r", b"\x07\x20\x70\x47")],
+        input: b"",
+        status: 1,
+        written: b"\n-- exit 7\n",
+        left: b"",
+    },
+    Case {
+        // bl over udf #0 to movs r0, #0; svc #0
+        words: &["flat", "b", "9"],
+        files: &[("b", b"\x00\xf0\x01\xf8\x00\xde\x00\x20\x00\xdf")],
+        input: b"",
+        status: 0,
+        written: b"\n-- exit 0\n",
+        left: b"",
     },
 ];
 

@@ -1,5 +1,5 @@
 // Calls of files, source and sink that fail, and the forms that never fail or tell nothing.
-use crate::cases::{COUNT, Case, Failing, NONE, files, run_case};
+use crate::cases::{COPY, COUNT, Case, ECHO, Failing, NONE, files, run_case};
 use eh_port::{Bytes, HostSink, HostSource, SureFiles, SureSink, SureSource};
 use ehabi_top::ehabi_main;
 use std::io::Cursor;
@@ -26,9 +26,10 @@ fn each_write_fails(rt: HostRuntime) -> Result<(), Fail> {
         };
         let outcome = run_case(rt.alloc(), &ROW, failing)?;
         let (status, faults) = if before < 5 { (8, 1) } else { (0, 0) };
-        assert_eq!(rt; outcome.status, status, "write {before}");
-        assert_eq!(rt; outcome.out.written.as_slice(), *written, "write {before}");
-        assert_eq!(rt; outcome.faults, (0, 0, faults), "write {before}");
+        let comes_out = outcome.status == status
+            && outcome.out.written.as_slice() == *written
+            && outcome.faults == (0, 0, faults);
+        assert!(rt; comes_out, "write {before}");
     }
     Ok(())
 }
@@ -42,6 +43,41 @@ fn each_file_read_fails(rt: HostRuntime) -> Result<(), Fail> {
     let second = run_case(rt.alloc(), &ROW, Failing { files: 2, ..NONE })?;
     assert_eq!(rt; second.status, 0);
     assert_eq!(rt; second.faults, (0, 0, 0));
+    Ok(())
+}
+
+const READS: Case = Case {
+    words: &["flat", "g", "9"],
+    files: &[("g", COPY)],
+    input: b"AB",
+    status: 1,
+    written: b"AB\n-- exit 4294967295\n",
+    left: b"",
+};
+
+// What stands written where the k-th read of the input fails, and what is left of the input.
+static READ: [(&[u8], &[u8]); 4] = [
+    (b"", b"AB"),
+    (b"A", b"B"),
+    (b"AB", b""),
+    (b"AB\n-- exit 4294967295\n", b""),
+];
+
+#[test]
+fn each_read_fails(rt: HostRuntime) -> Result<(), Fail> {
+    for (before, (written, left)) in READ.iter().enumerate() {
+        let failing = Failing {
+            input: before as u64 + 1,
+            ..NONE
+        };
+        let outcome = run_case(rt.alloc(), &READS, failing)?;
+        let (status, faults) = if before < 3 { (7, 1) } else { (1, 0) };
+        let comes_out = outcome.status == status
+            && outcome.out.written.as_slice() == *written
+            && outcome.input.left.as_slice() == *left
+            && outcome.faults == (0, faults, 0);
+        assert!(rt; comes_out, "read {before}");
+    }
     Ok(())
 }
 
@@ -64,19 +100,20 @@ fn forms_that_never_fail(rt: HostRuntime) -> Result<(), Fail> {
 #[test]
 fn adapters_over_memory(rt: HostRuntime) -> Result<(), Fail> {
     let alloc = rt.alloc();
+    let words = ["flat", "g", "9"];
     let mut held = SureFiles {
-        files: files(alloc, ROW.files)?,
+        files: files(alloc, &[("g", ECHO)])?,
     };
     let mut input = HostSource {
-        reader: Cursor::new(b"AB".as_slice()),
+        reader: Cursor::new(b"A".as_slice()),
         faults: 0,
     };
     let mut out = HostSink {
         writer: Vec::new(alloc),
         faults: 0,
     };
-    let status = ehabi_main(alloc, ROW.words, &mut held, &mut input, &mut out);
-    assert_eq!(rt; status, 0);
-    assert_eq!(rt; out.writer.as_slice(), b"AAA\n-- exit 0\n".as_slice());
+    let status = ehabi_main(alloc, &words, &mut held, &mut input, &mut out);
+    assert_eq!(rt; status, 1);
+    assert_eq!(rt; out.writer.as_slice(), b"\n-- exit 65\n".as_slice());
     Ok(())
 }

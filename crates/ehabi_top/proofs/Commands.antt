@@ -1,7 +1,9 @@
 -- Which status a report has, by command.
 use Rattle.std.specs.Prelude.{◌↔◌, ◌==◌, if◌then◌else◌}
-use Rattle.std.proofs.Common.{◌≡◌, ℕ, ◌<◌, ◌≤◌, List, Option, Some, None, Result, Ok, Bool, true, false, refl, sym, ap, ◌∙◌, inl, inr, arith, length}
+use Rattle.std.proofs.Common.{◌≡◌, ℕ, ◌<◌, ◌≤◌, List, Option, Some, None, Result, Ok, Err, Bool, true, false, refl, sym, ap, ◌∙◌, inl, inr, arith, length}
 use Rattle.std.proofs.lemmas.Bool.{cases_lt}
+use Rattle.elf_image.specs.Image.{Image, image_of}
+use Rattle.elf_image.specs.declared.fault.ImageFault.{ImageFault}
 use Rattle.eh_port.specs.FileList.{answer_of}
 use Rattle.eh_port.specs.declared.FileAnswer.{FileAnswer}
 use Rattle.eh_port.specs.declared.FileAnswer.TheVariants.{Found, Missing, TooLong}
@@ -13,9 +15,12 @@ use Rattle.ehabi_top.specs.FlatReport.{IsTooLarge, code_report, flat_report, fla
 use Rattle.ehabi_top.specs.Loading.{Report, file_limit, IsLacking, with_file, status_of}
 use Rattle.ehabi_top.specs.Report.{Reports, IfTold, LacksFile, IsRefused, DoesWhole, Performs}
 use Rattle.ehabi_top.specs.Text.{usage}
-use Rattle.ehabi_top.specs.Words.{Command, FlatFile}
+use Rattle.ehabi_top.specs.ImageMachine.{image_ran}
+use Rattle.ehabi_top.specs.RunReport.{IsNoImage, IsRefusedImage, bytes_report, image_report, image_start, run_report}
+use Rattle.ehabi_top.specs.Words.{Command, FlatFile, RunFile}
 use Rattle.ehabi_top.specs.Writes.{Answers}
 use Rattle.ehabi_top.proofs.FlatReports.{code_large, code_small, flat_at}
+use Rattle.ehabi_top.proofs.RunReports.{bytes_at, run_at}
 use Rattle.ehabi_top.proofs.Reporting.{performs, gives_answer}
 
 -- words that are no command
@@ -65,7 +70,32 @@ code_status name budget input TooLong r e =
 
 flat_status : (name : List ℕ) (budget : ℕ) (files : List (List ℕ × List ℕ)) (input : List ℕ) (r : Report) → r ≡ flat_report name budget files input
     → (r.status ≡ 10 ↔ IsLacking (answer_of files name file_limit)) × (r.status ≡ 3 ↔ IsTooLarge (answer_of files name file_limit))
-flat_status name budget files input r e = code_status name budget input (answer_of files name file_limit) r (e ∙ flat_at name budget files input (answer_of files name file_limit) refl)
+flat_status name budget files input r e = code_status name budget input (answer_of files name file_limit) r (e ∙ flat_at name budget files input)
+
+-- ---- 3 is of a file that is no image
+
+fine_status : (budget : ℕ) (input : List ℕ) (answer : Result Image ImageFault) (status : ℕ) → status ≡ (image_report budget input answer).status
+    → (status ≡ 10 → ⊥) × (status ≡ 3 ↔ IsRefusedImage answer)
+fine_status budget input (Ok image) status e =
+    let end = end_status (image_ran image.functions budget (image_start image) input).end in
+    ((λ h. end.0 (sym e ∙ h)), ((λ h. absurd (end.1 (sym e ∙ h))), (λ h. absurd h)))
+fine_status budget input (Err fault) status e = ((λ h. omega arith), ((λ _. tt), (λ _. e)))
+
+bytes_status : (name : List ℕ) (budget : ℕ) (input : List ℕ) (answer : FileAnswer) (r : Report) → r ≡ with_file name input (bytes_report budget input) answer
+    → (r.status ≡ 10 ↔ IsLacking answer) × (r.status ≡ 3 ↔ IsNoImage answer)
+bytes_status name budget input (Found bytes) r e =
+    let f = fine_status budget input (image_of bytes) r.status (ap (λ (q : Report). q.status) e ∙ ap (λ (q : Report). q.status) (bytes_at budget input bytes)) in
+    ((f.0, (λ h. absurd h)), f.1)
+bytes_status name budget input Missing r e =
+    let is : r.status ≡ 10 = ap (λ (q : Report). q.status) e in
+    (((λ _. tt), (λ _. is)), ((λ h. omega arith), (λ h. absurd h)))
+bytes_status name budget input TooLong r e =
+    let is : r.status ≡ 10 = ap (λ (q : Report). q.status) e in
+    (((λ _. tt), (λ _. is)), ((λ h. omega arith), (λ h. absurd h)))
+
+run_status : (name : List ℕ) (budget : ℕ) (files : List (List ℕ × List ℕ)) (input : List ℕ) (r : Report) → r ≡ run_report name budget files input
+    → (r.status ≡ 10 ↔ IsLacking (answer_of files name file_limit)) × (r.status ≡ 3 ↔ IsNoImage (answer_of files name file_limit))
+run_status name budget files input r e = bytes_status name budget input (answer_of files name file_limit) r (e ∙ run_at name budget files input)
 
 -- by command
 statuses : (command : Option Command) (files : List (List ℕ × List ℕ)) (input : List ℕ) (r : Report) → Reports command files input r
@@ -74,6 +104,7 @@ statuses None files input r e =
     let is : r.status ≡ 2 = ap (λ (q : Report). q.status) e in
     (((λ h. omega arith), (λ h. absurd h)), ((λ h. omega arith), (λ h. absurd h)))
 statuses (Some (FlatFile name budget)) files input r e = flat_status name budget files input r e
+statuses (Some (RunFile name budget)) files input r e = run_status name budget files input r e
 
 pub missing : (command : Option Command) (held : Option (List (List ℕ × List ℕ))) (left left' before now : Option (List ℕ)) (status : ℕ)
     → IfTold held left (λ h b. DoesWhole command h b status left' before now) → IfTold held left (λ h _. status ≡ 10 ↔ LacksFile command h)

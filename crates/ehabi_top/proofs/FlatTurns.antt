@@ -2,7 +2,7 @@
 use Rattle.std.proofs.Common.{◌≡◌, ◌≢◌, rules, tests, ℕ, List, [], Bool, true, false, Option, Some, None, IfSome, refl, sym, ap, ◌∙◌}
 use Rattle.std.specs.Bool.{OnFalse}
 use Rattle.std.proofs.KnownBytes.{Appends-nil}
-use Rattle.event_runs.specs.Runs.{Event, Goes, Ends, GoesOn, EndsBy}
+use Rattle.event_runs.specs.Runs.{Goes, GoesOn, EndsBy}
 use Rattle.eh_bus.specs.Memory.{Memory}
 use Rattle.thumb_core.specs.Outcome.{Outcome}
 use Rattle.thumb_core.specs.Step.{step_of}

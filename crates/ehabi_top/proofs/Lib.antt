@@ -1,7 +1,11 @@
 mod Answering
 mod Reporting
 mod StepLeaves
+mod FunctionStarts
 mod FlatTurns
 mod FlatRunning
 mod FlatReports
+mod ImageTurns
+mod ImageMemory
+mod RunReports
 mod Commands

@@ -1,6 +1,6 @@
 -- A step that returns, goes to a gate or traps leaves the memory.
-use Rattle.std.proofs.Common.{◌≡◌, ℕ, ℤ, ◌+◌, ◌-◌, ◌%◌, ◌^◌, ◌==◌, nat_le, Bool, true, false, List, cond, refl, Err, Ok, Result, Option, Some, None, subst, sym}
-use Rattle.eh_bus.specs.Memory.{Memory, load, fetch, unless_fault}
+use Rattle.std.proofs.Common.{◌≡◌, ℕ, ℤ, ◌+◌, ◌%◌, ◌^◌, ◌==◌, nat_le, Bool, true, false, List, cond, refl, Err, Ok, Result, Option, Some, None, subst, sym}
+use Rattle.eh_bus.specs.Memory.{Memory, fetch, unless_fault}
 use Rattle.eh_bus.specs.declared.fault.BusFault.{BusFault}
 use Rattle.thumb_isa.specs.declared.instr.Instr.{Instr}
 use Rattle.thumb_isa.specs.declared.instr.Instr.TheVariants.{LdrLit, MemReg, MemImm, MemSp, Push, Pop, Stm, Ldm}
@@ -10,12 +10,11 @@ use Rattle.thumb_isa.specs.Rows.{decoded_of}
 use Rattle.thumb_core.specs.declared.regs.Regs.{Regs}
 use Rattle.thumb_core.specs.declared.regs.Stepped.{Stepped}
 use Rattle.thumb_core.specs.declared.regs.Stepped.TheVariants.{Done, Call, Return, Gate, Trap}
-use Rattle.thumb_core.specs.Access.{store_end, load_end, store_reg, load_reg, load_reg_signed, mem_reg, mem_imm, mem_sp}
+use Rattle.thumb_core.specs.Access.{store_end, load_end, mem_reg, mem_imm, mem_sp}
 use Rattle.thumb_core.specs.Branch.{register_effect}
-use Rattle.thumb_core.specs.Lists.{load_list, ldm_end, pop_end, bytes_of, words_of}
+use Rattle.thumb_core.specs.Lists.{load_list, ldm_end, pop_end}
 use Rattle.thumb_core.specs.Outcome.{Outcome}
 use Rattle.thumb_core.specs.Registers.{reg}
-use Rattle.thumb_core.specs.Data.{forward}
 use Rattle.thumb_core.specs.Step.{effect, outcome_of, with_second, with_first, step_of}
 use Rattle.ehabi_top.specs.FlatMachine.{LeavesMemory}
 

@@ -1,11 +1,9 @@
 -- The report of `flat FILE N`: the file's bytes run as raw code.
-use Rattle.std.specs.Prelude.{ℕ, ◌<◌, ◌==◌, true, false, List, [], ◌∷◌, ◌++◌, length, codes, nat_lt, if◌then◌else◌}
-use Rattle.event_runs.specs.Runs.{Ran}
+use Rattle.std.specs.Prelude.{ℕ, ◌<◌, true, false, List, [], ◌∷◌, length, codes, nat_lt, if◌then◌else◌}
 use Rattle.eh_bus.specs.Segment.{Segment}
 use Rattle.eh_port.specs.FileList.{answer_of}
 use Rattle.eh_port.specs.declared.FileAnswer.{FileAnswer}
 use Rattle.eh_port.specs.declared.FileAnswer.TheVariants.{Found, Missing, TooLong}
-use Rattle.thumb_core.specs.declared.ends.End.{End}
 use Rattle.thumb_core.specs.declared.regs.Regs.{Regs}
 use Rattle.ehabi_top.specs.FlatMachine.{State, flat_ran}
 use Rattle.ehabi_top.specs.Loading.{Report, file_limit, with_file, with_host, ran_report}
@@ -40,7 +38,7 @@ flat_start code = record { regs = start_regs code_start; memory = with_host (cod
 unfoldable pub code_report : ℕ → List ℕ → List ℕ → Report
 code_report budget input code =
     if nat_lt image_limit (length code) then record { text = image_too_large; status = 3; left = input }
-    else ran_report (flat_ran budget (flat_start code) input)
+    else ran_report (codes "\n") (flat_ran budget (flat_start code) input)
 
 unfoldable pub flat_report : List ℕ → ℕ → List (List ℕ × List ℕ) → List ℕ → Report
 flat_report name budget files input = with_file name input (code_report budget input) (answer_of files name file_limit)

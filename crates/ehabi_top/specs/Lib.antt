@@ -4,5 +4,7 @@ pub mod Text
 pub mod Writes
 pub mod Loading
 pub mod FlatReport
-
+pub mod ImageMachine
+pub mod RunReport
+pub mod Placing
 pub mod Report

@@ -1,5 +1,5 @@
 -- What a report is, and the parts that the reports of several commands share.
-use Rattle.std.specs.Prelude.{ℕ, ◌==◌, List, [], ◌∷◌, ◌++◌, codes, if◌then◌else◌}
+use Rattle.std.specs.Prelude.{ℕ, ◌==◌, List, [], ◌∷◌, ◌++◌, if◌then◌else◌}
 use Rattle.event_runs.specs.Runs.{Ran}
 use Rattle.eh_bus.specs.Built.{zeros_at}
 use Rattle.eh_bus.specs.Memory.{Memory}
@@ -52,6 +52,6 @@ status_of Budget = 6
 status_of ReadFault = 7
 status_of WriteFault = 8
 
--- the guest's bytes, and the line of the end
-abbrev pub ran_report : {S : Type 0} → Ran S End → Report
-ran_report ran = record { text = ran.text ++ (codes "\n" ++ end_line ran.end); status = status_of ran.end; left = ran.left }
+-- the guest's bytes, what stands behind them, and the line of the end
+abbrev pub ran_report : {S : Type 0} → List ℕ → Ran S End → Report
+ran_report head ran = record { text = ran.text ++ (head ++ end_line ran.end); status = status_of ran.end; left = ran.left }

@@ -8,8 +8,9 @@ use Rattle.eh_port.specs.Writing.{AppendsPart}
 use Rattle.ehabi_top.specs.declared.stop.Stop.{Stop}
 use Rattle.ehabi_top.specs.Loading.{Report, file_limit, IsLacking}
 use Rattle.ehabi_top.specs.FlatReport.{flat_report, IsTooLarge}
+use Rattle.ehabi_top.specs.RunReport.{run_report, IsNoImage}
 use Rattle.ehabi_top.specs.Text.{usage}
-use Rattle.ehabi_top.specs.Words.{Command, FlatFile}
+use Rattle.ehabi_top.specs.Words.{Command, FlatFile, RunFile}
 
 -- ---- by command
 
@@ -17,16 +18,19 @@ use Rattle.ehabi_top.specs.Words.{Command, FlatFile}
 abbrev pub Reports : Option Command → List (List ℕ × List ℕ) → List ℕ → Report → Type 0
 Reports None files input r = r ≡ record { text = usage; status = 2; left = input }
 Reports (Some (FlatFile name budget)) files input r = r ≡ flat_report name budget files input
+Reports (Some (RunFile name budget)) files input r = r ≡ run_report name budget files input
 
 -- a file that the command names is missing or too long
 abbrev pub LacksFile : Option Command → List (List ℕ × List ℕ) → Type 0
 LacksFile None files = ⊥
 LacksFile (Some (FlatFile name budget)) files = IsLacking (answer_of files name file_limit)
+LacksFile (Some (RunFile name budget)) files = IsLacking (answer_of files name file_limit)
 
 -- the files are there, and what they hold is refused
 abbrev pub IsRefused : Option Command → List (List ℕ × List ℕ) → Type 0
 IsRefused None files = ⊥
 IsRefused (Some (FlatFile name budget)) files = IsTooLarge (answer_of files name file_limit)
+IsRefused (Some (RunFile name budget)) files = IsNoImage (answer_of files name file_limit)
 
 -- ---- what a call does of a report
 

@@ -1,15 +1,18 @@
 -- Which command the words ask for.
-use Rattle.std.specs.Prelude.{ℕ, ◌+◌, ◌-◌, ◌*◌, ◌&&◌, List, [], ◌∷◌, length, map, codes, nat_le, if◌then◌else◌, Option, Some, None, option_map}
+use Rattle.std.specs.Prelude.{ℕ, ◌+◌, ◌-◌, ◌*◌, not, ◌&&◌, nat_eq, Bool, List, [], ◌∷◌, length, map, codes, nat_le, if◌then◌else◌, Option, Some, None, option_map}
 use Rattle.std.specs.Borrow.{Bor}
+use Rattle.std.specs.List.{ends_with}
 use Rattle.std.specs.Str.{bytes_eq}
 use Rattle.std.specs.Char.{is_ascii_digit}
 use Rattle.ehabi_top.specs.declared.words.Form.{Form}
-use Rattle.ehabi_top.specs.declared.words.Form.TheVariants.{Flat}
+use Rattle.ehabi_top.specs.declared.words.Form.TheVariants.{Flat, Run}
 
 -- a command and what it is given
 pub data Command : Type 0 where
   -- `flat FILE N`
   FlatFile : (name : List ℕ) (budget : ℕ) → Command
+  -- `run FILE N` of one image
+  RunFile : (name : List ℕ) (budget : ℕ) → Command
 
 -- the words as texts
 abbrev pub texts : List (Bor (List ℕ)) → List (List ℕ)
@@ -18,6 +21,7 @@ texts words = map (λ (w : Bor (List ℕ)). w.now) words
 -- the command that a form stands for
 abbrev pub command : Form → Command
 command (Flat name budget) = FlatFile name.now budget
+command (Run name budget) = RunFile name.now budget
 
 -- the number that n and these digits write
 abbrev pub digits_from : ℕ → List ℕ → Option ℕ
@@ -43,6 +47,19 @@ flat_command (name ∷ []) = None
 flat_command (name ∷ number ∷ []) = if nat_le 1 (length name) then option_map (FlatFile name) (budget_of number) else None
 flat_command (name ∷ number ∷ more ∷ rest) = None
 
+-- the name of a source ends in `.s`
+abbrev pub is_source : List ℕ → Bool
+is_source name = ends_with nat_eq name (codes ".s")
+
+-- the words behind `run`: the name of an image, that is not empty and no source's, and a budget
+unfoldable pub run_command : List (List ℕ) → Option Command
+run_command [] = None
+run_command (name ∷ []) = None
+run_command (name ∷ number ∷ []) = if nat_le 1 (length name) && not (is_source name) then option_map (RunFile name) (budget_of number) else None
+run_command (name ∷ number ∷ more ∷ rest) = None
+
 unfoldable pub command_of : List (List ℕ) → Option Command
 command_of [] = None
-command_of (word ∷ rest) = if bytes_eq word (codes "flat") then flat_command rest else None
+command_of (word ∷ rest) =
+    if bytes_eq word (codes "flat") then flat_command rest
+    else (if bytes_eq word (codes "run") then run_command rest else None)

@@ -1,5 +1,5 @@
 // What the program says last.
-ghost use Rattle.std.specs.Prelude.{◌≡◌, ◌++◌, codes};
+ghost use Rattle.std.specs.Prelude.{◌≡◌, ◌++◌};
 ghost use Rattle.ehabi_top.specs.Writes.{Answers};
 ghost use Rattle.ehabi_top.specs.Text.{missing_line, too_long_line, end_line};
 
@@ -47,9 +47,14 @@ pub(crate) fn answer_too_long<O: Sink>(out: &mut O, name: &str) -> Result<u8, St
     answer_both(out, name.as_bytes(), b": too long\n", 10)
 }
 
-/// Ends with the end of a run.
-pub(crate) fn answer_end<O: Sink>(out: &mut O, end: End, status: u8) -> Result<u8, Stop>
-    ensures { Answers (codes "\n" ++ end_line end) status result (O.written out.old) (O.written out.new) (O.faults out.old) (O.faults out.new) }
+/// Ends with what stands behind the guest's bytes, and the end of the run.
+pub(crate) fn answer_end<O: Sink>(
+    out: &mut O,
+    head: &[u8],
+    end: End,
+    status: u8,
+) -> Result<u8, Stop>
+    ensures { Answers (head.now ++ end_line end) status result (O.written out.old) (O.written out.new) (O.faults out.old) (O.faults out.new) }
 {
-    answer_both(out, b"\n", end_line(end).as_slice(), status)
+    answer_both(out, head, end_line(end).as_slice(), status)
 }

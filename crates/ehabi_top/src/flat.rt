@@ -112,7 +112,7 @@ fn run_code<I: Source, O: Sink>(
     };
     let end = flat_run(&mut regs, &mut bus, budget, input, out);
     let status = status_of(end)?;
-    answer_end(out, end, status)
+    answer_end(out, b"\n", end, status)
 }
 
 /// Runs the bytes of a file as raw code.

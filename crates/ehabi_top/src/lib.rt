@@ -9,8 +9,9 @@ ghost use Rattle.ehabi_top.specs.Report.{Performs, DoesWhole, DoesPart, IfTold, 
 mod answer;
 mod flat;
 mod flat_machine;
-
+mod image_machine;
 mod line;
+mod run;
 mod stop;
 mod words;
 
@@ -19,6 +20,7 @@ use eh_port::{Files, Sink, Source};
 use flat::flat;
 pub use flat_machine::flat_run;
 pub use line::{Line, end_line};
+use run::run;
 use std::alloc::Global;
 pub use stop::Stop;
 pub use words::{Form, form_of};
@@ -45,6 +47,7 @@ fn perform<F: Files, I: Source, O: Sink>(
             2,
         ),
         Some(Form::Flat(name, budget)) => flat(alloc, name, budget, files, input, out),
+        Some(Form::Run(name, budget)) => run(alloc, name, budget, files, input, out),
     }
 }
 

@@ -1,9 +1,10 @@
 // The lines that are written, each built before it is written.
-ghost use Rattle.std.specs.Prelude.{◌≡◌, ◌<◌, ◌≤◌, ◌+◌, ◌++◌, length};
+ghost use Rattle.std.specs.Prelude.{◌≡◌, ◌<◌, ◌≤◌, ◌+◌, ◌++◌, length, codes, decimal};
 ghost use Rattle.arrayvec.specs.ArrayVec.{array_vec_len};
-ghost use Rattle.ehabi_top.specs.Text.{hex_digit, hex8, kind_name, cause_name, end_line};
+ghost use Rattle.ehabi_top.specs.Text.{hex_digit, hex8, kind_name, cause_name, end_line, image_fault_line};
 
 use arrayvec::ArrayVec;
+use elf_image::ImageFault;
 use itoa::Buffer;
 use thumb_core::ends::{Cause, End, TrapKind};
 
@@ -124,5 +125,40 @@ pub fn end_line(end: End) -> Line
         End::Budget => append(&mut line, b"-- budget\n"),
         End::ReadFault | End::WriteFault => {}
     }
+    line
+}
+
+/// The line of why a file is no image.
+pub(crate) fn image_fault_line(fault: ImageFault) -> Line
+    ensures { result.items ≡ image_fault_line fault }
+{
+    let name: &[u8] = match fault {
+        ImageFault::Truncated(need) => return truncated_line(need),
+        ImageFault::NotElf => b"image: NotElf\n",
+        ImageFault::Class => b"image: Class\n",
+        ImageFault::Machine => b"image: Machine\n",
+        ImageFault::Version => b"image: Version\n",
+        ImageFault::Type => b"image: Type\n",
+        ImageFault::EntrySize => b"image: EntrySize\n",
+        ImageFault::NoSymbols => b"image: NoSymbols\n",
+        ImageFault::SegmentRange => b"image: SegmentRange\n",
+        ImageFault::SegmentOverlap => b"image: SegmentOverlap\n",
+        ImageFault::IndexRange => b"image: IndexRange\n",
+        ImageFault::TooLarge => b"image: TooLarge\n",
+        ImageFault::Entry => b"image: Entry\n",
+        ImageFault::OutOfMemory => b"",
+    };
+    let mut line = Line::new();
+    append(&mut line, name);
+    line
+}
+
+fn truncated_line(need: u64) -> Line
+    ensures { result.items ≡ codes "image: Truncated " ++ decimal need ++ codes "\n" }
+{
+    let mut line = Line::new();
+    append(&mut line, b"image: Truncated ");
+    append(&mut line, Buffer::new().format(need).as_bytes());
+    append(&mut line, b"\n");
     line
 }

@@ -1,6 +1,6 @@
 // The forms of the words that the program is given.
 ghost use Rattle.std.specs.Prelude.{◌≡◌, option_map};
-ghost use Rattle.ehabi_top.specs.Words.{command, texts, number_of, budget_of, flat_command, command_of};
+ghost use Rattle.ehabi_top.specs.Words.{command, texts, number_of, budget_of, flat_command, run_command, command_of};
 
 /// The most instructions that a run may be allowed.
 const MOST_INSTRUCTIONS: u64 = 1_000_000_000;
@@ -10,6 +10,8 @@ const MOST_INSTRUCTIONS: u64 = 1_000_000_000;
 pub enum Form<'a> {
     /// `flat FILE N`: the name of the file, and how many instructions may run.
     Flat(&'a str, u64),
+    /// `run FILE N`: the name of an image, and how many instructions may run.
+    Run(&'a str, u64),
 }
 
 // One to ten decimal digits.
@@ -58,6 +60,22 @@ fn flat_form<'a>(words: &[&'a str]) -> Option<Form<'a>>
     }
 }
 
+// `run FILE N`, without the first word. The file is an image: a source's name ends in `.s`.
+#[tactic(auto, unfolding(crate::specs::Words::run_command))]
+fn run_form<'a>(words: &[&'a str]) -> Option<Form<'a>>
+    ensures { option_map command result ≡ run_command (texts words.now) }
+{
+    match words {
+        [name, number] => {
+            if name.is_empty() || name.as_bytes().ends_with(b".s") {
+                return None;
+            }
+            Some(Form::Run(name, budget_of(number)?))
+        }
+        _ => None,
+    }
+}
+
 /// The form of these words. None where they have none.
 #[tactic(auto, unfolding(crate::specs::Words::command_of))]
 pub fn form_of<'a>(words: &'a [&'a str]) -> Option<Form<'a>>
@@ -66,6 +84,7 @@ pub fn form_of<'a>(words: &'a [&'a str]) -> Option<Form<'a>>
     let (first, rest) = words.split_first()?;
     match *first {
         "flat" => flat_form(rest),
+        "run" => run_form(rest),
         _ => None,
     }
 }

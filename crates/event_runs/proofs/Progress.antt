@@ -1,11 +1,11 @@
 -- A loop over the events of a machine: what it keeps from turn to turn, and what it has done when it ends.
-use Rattle.std.proofs.Common.{◌≡◌, ℕ, zero, suc, ◌+◌, ◌<◌, ◌≤◌, ◌-◌, List, [], ◌++◌, Option, Some, None, IfSome, refl, sym, ap, ◌∙◌, arith, append_assoc, append-nil, length, Bool, true, false}
+use Rattle.std.proofs.Common.{◌≡◌, ℕ, suc, ◌<◌, ◌≤◌, ◌-◌, List, [], ◌++◌, Option, Some, None, IfSome, refl, sym, ap, ◌∙◌, arith, append-nil, length, Bool, true, false}
 use Rattle.std.proofs.Math.Seq.{take-append_seam}
 use Rattle.std.proofs.KnownBytes.{Appends-trans, Appends-nil}
 use Rattle.std.specs.Bool.{OnFalse, OnTrue}
 use Rattle.std.specs.Io.KnownBytes.{Appends}
 use Rattle.eh_port.specs.Writing.{AppendsPart}
-use Rattle.event_runs.specs.Runs.{Event, Goes, Ends, Ran, Reached, prepend, follow, run, reached, GoesOn, EndsBy, StopsAt, Runs}
+use Rattle.event_runs.specs.Runs.{Event, Ran, prepend, follow, run, reached, GoesOn, EndsBy, StopsAt, Runs}
 use Rattle.event_runs.proofs.RunLaws.{prepend-prepend, run-turn, run-zero, reached-zero, reached-more}
 
 on_false : (b : Bool) (P Q : Type 0) → OnFalse b P → (P → Q) → OnFalse b Q

@@ -1,6 +1,6 @@
 -- Laws of runs.
 use Rattle.std.specs.Prelude.{MatchOption, option_map}
-use Rattle.std.proofs.Common.{◌≡◌, ℕ, zero, suc, ◌+◌, ◌<◌, ◌-◌, List, [], ◌∷◌, ◌++◌, Option, Some, None, refl, sym, ap, ◌∙◌, arith, append_assoc, append-nil, zero-add}
+use Rattle.std.proofs.Common.{◌≡◌, ℕ, zero, suc, ◌+◌, ◌<◌, ◌-◌, List, [], ◌++◌, Option, Some, None, refl, sym, ap, ◌∙◌, arith, append_assoc, append-nil, zero-add}
 use Rattle.event_runs.specs.Runs.{Event, Goes, Ends, Ran, Reached, prepend, follow, run, reached, reached_after, behind}
 use Rattle.event_runs.specs.Laws.{Stops, spared}
 

@@ -1,6 +1,6 @@
 -- What runs have in common, whatever the machine.
-use Rattle.std.specs.Prelude.{ℕ, ◌≡◌, ◌+◌, ◌-◌, ◌<◌, List, Option, Some, None, MatchOption}
-use Rattle.event_runs.specs.Runs.{Event, Goes, Ends, Ran, Reached, run, reached, prepend}
+use Rattle.std.specs.Prelude.{ℕ, ◌≡◌, ◌+◌, ◌-◌, ◌<◌, List, Some, MatchOption}
+use Rattle.event_runs.specs.Runs.{Event, Ends, Ran, Reached, run, reached, prepend}
 
 abbrev pub spared : {S E : Type 0} → ℕ → Ran S E → Ran S E
 spared m ran = record { text = ran.text; end = ran.end; state = ran.state; left = ran.left; spare = ran.spare + m }

@@ -1,4 +1,4 @@
-use Rattle.std.proofs.Common.{◌∙◌}
+use Rattle.std.specs.Prelude.{codes}
 use Rattle.std.proofs.lemmas.Result.{err_from_is_err_and}
 use Rattle.ehabi_top.specs.FlatMachine.{State, flat_event}
 use Rattle.ehabi_top.specs.FlatReport.{code_report, flat_start}
@@ -14,12 +14,12 @@ returns-then-code-gt-IMAGE_LIMIT-clause-told g c =
 pub returns-in_err-status-clause-told : goal.returns-in_err-status-clause-told
 returns-in_err-status-clause-told g c =
     let p = err_from_is_err_and c.from_residual.result c.from_residual.ensures.1 in
-    rw (p.1) (told_run_fault State flat_event c.args.budget (flat_start c.args.code.now) _ (λ b. code_report c.args.budget b c.args.code.now) _ _ _ _ _ _
+    rw (p.1) (told_run_fault State flat_event c.args.budget (flat_start c.args.code.now) (codes "\n") _ (λ b. code_report c.args.budget b c.args.code.now) _ _ _ _ _ _
     (λ b. code_small c.args.budget b c.args.code.now c.if-code-gt-IMAGE_LIMIT.false)
     (rw (c.start_regs-regs.ensures, c.in-Ok.ensures) at c.flat_run-end.ensures.told))
 
 pub returns-clause-told : goal.returns-clause-told
 returns-clause-told g c =
-    told_run State flat_event c.args.budget (flat_start c.args.code.now) (λ b. code_report c.args.budget b c.args.code.now) _ c.flat_run-end.result _ _ _ _ _ _ _ _ _
+    told_run State flat_event c.args.budget (flat_start c.args.code.now) (codes "\n") (λ b. code_report c.args.budget b c.args.code.now) _ c.flat_run-end.result _ _ _ _ _ _ _ _ _
     (λ b. code_small c.args.budget b c.args.code.now c.if-code-gt-IMAGE_LIMIT.false) c.in_ok-status.ensures.ok.0 c.in_ok-status.ensures.ok.1
     (rw (c.start_regs-regs.ensures, c.in-Ok.ensures) at c.flat_run-end.ensures.told) c.answer_end.ensures

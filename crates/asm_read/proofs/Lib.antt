@@ -1,0 +1,5 @@
+pub mod Capping
+pub mod Steps
+pub mod Fitting
+pub mod Past
+pub mod Lines

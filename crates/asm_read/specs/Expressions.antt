@@ -1,0 +1,110 @@
+-- Expressions at a place of a line: a grammar by cases on tokens.
+use Rattle.std.specs.Prelude.{ℕ, zero, suc, ◌&&◌, Bool, false, if◌then◌else◌, List, [], ◌∷◌, Option, Some, None, Result, Ok, Err, pos, codes}
+use Rattle.asm_read.specs.declared.fault.SourceWhat.TheVariants.{NumberRange}
+use Rattle.asm_read.specs.declared.token.Kind.{Kind}
+use Rattle.asm_read.specs.declared.token.Kind.TheVariants.{Word, Number, Wide}
+use Rattle.asm_read.specs.declared.token.Token.{Token}
+use Rattle.asm_read.specs.declared.line.Span.{Span}
+use Rattle.asm_read.specs.declared.line.Stop.{Stop}
+use Rattle.asm_read.specs.declared.expression.Shape.{Shape}
+use Rattle.asm_read.specs.declared.expression.Shape.TheVariants.{Num, Of, Diff, Prel31, Prel31Ref, Target2, Rel}
+use Rattle.asm_read.specs.declared.expression.Shaped.{Shaped}
+use Rattle.asm_read.specs.declared.statement.Expr.{Expr}
+use Rattle.asm_read.specs.declared.statement.Expr.TheVariants.{Num as NumExpr, Of as OfExpr, Diff as DiffExpr, Prel31 as Prel31Expr, Prel31Ref as Prel31RefExpr, Target2 as Target2Expr, Rel as RelExpr}
+use Rattle.asm_read.specs.Tokens.{token_at}
+use Rattle.asm_read.specs.Operands.{◌>>=◌, span, stop, stopped, bytes_of, same, name_of, is_mark_of, mark_at, name_at, number_at}
+
+abbrev pub shaped : Shape → ℕ → Shaped
+shaped shape end = record { shape = shape; end = end }
+
+-- what a word in parentheses behind a name means
+abbrev pub relation_of : Span → List ℕ → Option Shape
+relation_of name word =
+    if same word (codes "prel31") then Some (Prel31 name)
+    else if same word (codes "prel31ref") then Some (Prel31Ref name)
+    else if same word (codes "target2") then Some (Target2 name)
+    else if same word (codes "rel") then Some (Rel name)
+    else None
+
+abbrev pub related_as : List ℕ → Token → Option Shape → Result Shaped Stop
+related_as line token None = Err (stopped token)
+related_as line token (Some shape) = mark_at 41 line token.end >>= (λ end. Ok (shaped shape end))
+
+-- behind name(
+unfoldable pub related : List ℕ → Span → ℕ → Result Shaped Stop
+related line name from =
+    let token = token_at line from in related_as line token (relation_of name (name_of line token))
+
+-- behind name-
+unfoldable pub difference : List ℕ → Span → ℕ → Result Shaped Stop
+difference line name from =
+    name_at line from >>= (λ other.
+    let token = token_at line other.end in
+    if is_mark_of 43 token.kind
+    then number_at line token.end >>= (λ n. Ok (shaped (Diff name other n.value) n.end))
+    else Ok (shaped (Diff name other (pos 0)) other.end))
+
+-- behind a name
+unfoldable pub behind_name : Bool → List ℕ → Span → Result Shaped Stop
+behind_name word line name =
+    let token = token_at line name.end in
+    if is_mark_of 43 token.kind then number_at line token.end >>= (λ n. Ok (shaped (Of name n.value) n.end))
+    else if is_mark_of 45 token.kind then difference line name token.end
+    else if word && is_mark_of 40 token.kind then related line name token.end
+    else Ok (shaped (Of name (pos 0)) name.end)
+
+abbrev pub expression_of : Bool → List ℕ → Token → Kind → Result Shaped Stop
+expression_of word line token (Number n) = Ok (shaped (Num n) token.end)
+expression_of word line token Wide = Err (stop token.start NumberRange)
+expression_of word line token Word = behind_name word line (span token.start token.end)
+expression_of word line token kind = Err (stopped token)
+
+-- a number, name, name+n, a-b, a-b+n, or in a word name(prel31), name(prel31ref), name(target2), name(rel)
+unfoldable pub expression_at : Bool → List ℕ → ℕ → Result Shaped Stop
+expression_at word line from = let token = token_at line from in expression_of word line token token.kind
+
+-- an expression of a directive's list, where a number may have a #
+unfoldable pub listed_at : Bool → List ℕ → ℕ → Result Shaped Stop
+listed_at word line from =
+    let token = token_at line from in
+    if is_mark_of 35 token.kind
+    then number_at line token.end >>= (λ n. Ok (shaped (Num n.value) n.end))
+    else expression_at word line from
+
+-- the place behind expressions between commas; at most so many
+unfoldable pub expressions_end : ℕ → Bool → List ℕ → ℕ → Result ℕ Stop
+expressions_end zero word line from = Err (stopped (token_at line from))
+expressions_end (suc n) word line from =
+    listed_at word line from >>= (λ e.
+    let token = token_at line e.end in
+    if is_mark_of 44 token.kind then expressions_end n word line token.end else Ok e.end)
+
+abbrev pub expr_of : List ℕ → Shape → Expr
+expr_of line (Num n) = NumExpr n
+expr_of line (Of a n) = OfExpr (bytes_of line a) n
+expr_of line (Diff a b n) = DiffExpr (bytes_of line a) (bytes_of line b) n
+expr_of line (Prel31 a) = Prel31Expr (bytes_of line a)
+expr_of line (Prel31Ref a) = Prel31RefExpr (bytes_of line a)
+expr_of line (Target2 a) = Target2Expr (bytes_of line a)
+expr_of line (Rel a) = RelExpr (bytes_of line a)
+
+-- the expression that stands at a place; 0 where none does
+abbrev pub expr_or_zero : List ℕ → Result Shaped Stop → Expr
+expr_or_zero line (Ok e) = expr_of line e.shape
+expr_or_zero line (Err s) = NumExpr (pos 0)
+
+unfoldable pub expr_from : List ℕ → ℕ → Expr
+expr_from line from = expr_or_zero line (expression_at false line from)
+
+-- the first expression and, behind a comma, what follows
+abbrev pub listed_with : List ℕ → Result Shaped Stop → (ℕ → List Expr) → List Expr
+listed_with line (Err s) more = []
+listed_with line (Ok e) more =
+    let token = token_at line e.end in
+    expr_of line e.shape ∷ (if is_mark_of 44 token.kind then more token.end else [])
+
+-- the expressions between commas that begin at a place; at most so many
+unfoldable pub exprs_from : ℕ → Bool → List ℕ → ℕ → List Expr
+exprs_from zero word line from = []
+exprs_from (suc n) word line from =
+    listed_with line (listed_at word line from) (λ at. exprs_from n word line at)

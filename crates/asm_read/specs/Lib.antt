@@ -1,0 +1,11 @@
+pub mod Fault
+pub mod Tokens
+pub mod Capped
+pub mod Operands
+pub mod Expressions
+pub mod Fits
+pub mod Forms
+pub mod Search
+pub mod Plans
+pub mod Statements
+pub mod Reading

@@ -1,0 +1,46 @@
+-- The first form of a word that fits; else the first token with which none goes on.
+use Rattle.std.specs.Prelude.{ℕ, ◌==◌, ◌&&◌, ◌||◌, nat_lt, Bool, true, false, if◌then◌else◌, List, [], ◌∷◌, Option, Some, None, Result, Ok, Err}
+use Rattle.std.specs.Borrow.{Bor}
+use Rattle.asm_read.specs.declared.fault.SourceWhat.{SourceWhat}
+use Rattle.asm_read.specs.declared.fault.SourceWhat.TheVariants.{BadOperand}
+use Rattle.asm_read.specs.declared.line.Stop.{Stop}
+use Rattle.asm_read.specs.declared.form.Piece.{Piece}
+use Rattle.asm_read.specs.declared.form.Operands.{Operands}
+use Rattle.asm_read.specs.declared.table.Makes.{Makes}
+use Rattle.asm_read.specs.declared.choice.Statement.{Statement}
+use Rattle.asm_read.specs.Operands.{same}
+use Rattle.asm_read.specs.Fits.{fresh, fits}
+use Rattle.asm_read.specs.Forms.{Form, form}
+
+-- a row of the code's table as a form
+abbrev pub form_of : Bor (List ℕ) × Bor (List Piece) × Makes → Form
+form_of row = form row.0.now row.1.now row.2
+
+abbrev pub is_operand : SourceWhat → Bool
+is_operand BadOperand = true
+is_operand what = false
+
+-- where reading stops of the form that goes on longest: at one token a form that only finds its number too wide goes on
+-- longer than one that has no place for it
+abbrev pub farther : Option Stop → Stop → Stop
+farther None s = s
+farther (Some best) s = if nat_lt best.at s.at || (best.at == s.at && is_operand best.what) then s else best
+
+abbrev pub tried : Makes → Option Stop → Result Operands Stop → Result Statement (Option Stop)
+tried makes best (Ok o) = Ok (record { makes = makes; operands = o })
+tried makes best (Err s) = Err (Some (farther best s))
+
+-- one form: it begins with another word, it fits, or it stops
+unfoldable pub try_form : Form → List ℕ → List ℕ → ℕ → Option Stop → Result Statement (Option Stop)
+try_form f word line from best =
+    if same f.word word then tried f.makes best (fits f.pieces line (fresh from)) else Err best
+
+abbrev pub otherwise : Result Statement (Option Stop) → (Option Stop → Result Statement (Option Stop)) → Result Statement (Option Stop)
+otherwise (Ok s) more = Ok s
+otherwise (Err best) more = more best
+
+-- the first of these forms that begins with a word and fits; else the farthest stop, where one begins with it
+unfoldable pub first_fit : List Form → List ℕ → List ℕ → ℕ → Option Stop → Result Statement (Option Stop)
+first_fit [] word line from best = Err best
+first_fit (f ∷ fs) word line from best =
+    otherwise (try_form f word line from best) (λ b. first_fit fs word line from b)

@@ -1,0 +1,182 @@
+ghost use Rattle.std.specs.Prelude.{◌≡◌, ◌<◌, ◌≤◌, ◌-ℤ◌, pos, length, false, Option, IfOk, IfErr};
+ghost use Rattle.asm_read.specs.Expressions.{relation_of, related, difference, behind_name, expression_at, listed_at, expressions_end};
+
+use crate::fault::SourceWhat;
+use crate::line::{Span, Stop, is_mark_of, mark_at, name_at, name_of, number_at, stopped};
+use crate::token::{Kind, token_at};
+
+/// An expression, with names as spans of the line.
+#[derive(Clone, Copy)]
+pub enum Shape {
+    Num(i64),
+    Of(Span, i64),
+    Diff(Span, Span, i64),
+    Prel31(Span),
+    Prel31Ref(Span),
+    Target2(Span),
+    Rel(Span),
+}
+
+/// An expression, and the offset behind it.
+#[derive(Clone, Copy)]
+pub struct Shaped {
+    pub shape: Shape,
+    pub end: usize,
+}
+
+/// What a word in parentheses behind a name means.
+fn relation_of(name: Span, word: &[u8]) -> Option<Shape>
+    ensures { result ≡ relation_of name word.now }
+{
+    if word == b"prel31".as_slice() {
+        Some(Shape::Prel31(name))
+    } else if word == b"prel31ref".as_slice() {
+        Some(Shape::Prel31Ref(name))
+    } else if word == b"target2".as_slice() {
+        Some(Shape::Target2(name))
+    } else if word == b"rel".as_slice() {
+        Some(Shape::Rel(name))
+    } else {
+        None
+    }
+}
+
+/// A name with a word in parentheses, from behind the first of them on.
+#[tactic(auto, unfolding(crate::specs::Expressions::related))]
+fn related(line: &[u8], name: Span, from: usize) -> Result<Shaped, Stop>
+    requires { from ≤ length line.now }
+    ensures shaped { result ≡ related line.now name from }
+    ensures end { IfOk result (λ e. e.end ≤ length line.now) }
+    ensures stop { IfErr result (λ s. s.at ≤ length line.now) }
+{
+    let token = token_at(line, from);
+    match relation_of(name, name_of(line, token)) {
+        None => Err(stopped(token)),
+        Some(shape) => {
+            let end = mark_at(b')', line, token.end)?;
+            Ok(Shaped { shape, end })
+        }
+    }
+}
+
+/// A difference of names, from behind its minus sign on.
+#[tactic(auto, unfolding(crate::specs::Expressions::difference))]
+fn difference(line: &[u8], name: Span, from: usize) -> Result<Shaped, Stop>
+    requires { from ≤ length line.now }
+    ensures shaped { result ≡ difference line.now name from }
+    ensures end { IfOk result (λ e. e.end ≤ length line.now) }
+    ensures stop { IfErr result (λ s. s.at ≤ length line.now) }
+{
+    let other = name_at(line, from)?;
+    let token = token_at(line, other.end);
+    if !is_mark_of(b'+', token.kind) {
+        return Ok(Shaped {
+            shape: Shape::Diff(name, other, 0),
+            end: other.end,
+        });
+    }
+    let number = number_at(line, token.end)?;
+    Ok(Shaped {
+        shape: Shape::Diff(name, other, number.value),
+        end: number.end,
+    })
+}
+
+/// An expression that begins with a name, from behind it on.
+#[tactic(auto, unfolding(crate::specs::Expressions::behind_name))]
+fn behind_name(word: bool, line: &[u8], name: Span) -> Result<Shaped, Stop>
+    requires { name.end ≤ length line.now }
+    ensures shaped { result ≡ behind_name word line.now name }
+    ensures end { IfOk result (λ e. e.end ≤ length line.now) }
+    ensures stop { IfErr result (λ s. s.at ≤ length line.now) }
+{
+    let token = token_at(line, name.end);
+    if is_mark_of(b'+', token.kind) {
+        let number = number_at(line, token.end)?;
+        return Ok(Shaped {
+            shape: Shape::Of(name, number.value),
+            end: number.end,
+        });
+    }
+    if is_mark_of(b'-', token.kind) {
+        return difference(line, name, token.end);
+    }
+    if word && is_mark_of(b'(', token.kind) {
+        return related(line, name, token.end);
+    }
+    Ok(Shaped {
+        shape: Shape::Of(name, 0),
+        end: name.end,
+    })
+}
+
+/// The expression at an offset; `word` says whether `name(prel31)` and the like may stand there.
+#[tactic(auto, unfolding(crate::specs::Expressions::expression_at))]
+pub fn expression_at(word: bool, line: &[u8], from: usize) -> Result<Shaped, Stop>
+    requires { from ≤ length line.now }
+    ensures shaped { result ≡ expression_at word line.now from }
+    ensures end { IfOk result (λ e. e.end ≤ length line.now) }
+    ensures stop { IfErr result (λ s. s.at ≤ length line.now) }
+{
+    let token = token_at(line, from);
+    match token.kind {
+        Kind::Number(value) => Ok(Shaped {
+            shape: Shape::Num(value),
+            end: token.end,
+        }),
+        Kind::Wide => Err(Stop {
+            at: token.start,
+            what: SourceWhat::NumberRange,
+        }),
+        Kind::Word => behind_name(
+            word,
+            line,
+            Span {
+                start: token.start,
+                end: token.end,
+            },
+        ),
+        _ => Err(stopped(token)),
+    }
+}
+
+/// The expression at an offset in a directive's list, where a number may have a `#`.
+#[tactic(auto, unfolding(crate::specs::Expressions::listed_at))]
+pub fn listed_at(word: bool, line: &[u8], from: usize) -> Result<Shaped, Stop>
+    requires { from ≤ length line.now }
+    ensures shaped { result ≡ listed_at word line.now from }
+    ensures end { IfOk result (λ e. e.end ≤ length line.now) }
+    ensures stop { IfErr result (λ s. s.at ≤ length line.now) }
+{
+    let token = token_at(line, from);
+    if !is_mark_of(b'#', token.kind) {
+        return expression_at(word, line, from);
+    }
+    let number = number_at(line, token.end)?;
+    Ok(Shaped {
+        shape: Shape::Num(number.value),
+        end: number.end,
+    })
+}
+
+/// The offset behind the expressions between commas that begin at an offset.
+#[tactic(auto, using(crate::proofs::Steps::expressions_step, crate::proofs::Steps::expressions_none))]
+pub fn expressions_end(word: bool, line: &[u8], from: usize) -> Result<usize, Stop>
+    requires { from ≤ length line.now }
+    ensures place { result ≡ expressions_end (length line.now) word line.now from }
+    ensures end { IfOk result (λ at. at ≤ length line.now) }
+    ensures stop { IfErr result (λ s. s.at ≤ length line.now) }
+{
+    let mut at = from;
+    let mut left = line.len();
+    while left > 0 {
+        let shaped = listed_at(word, line, at)?;
+        let token = token_at(line, shaped.end);
+        if !is_mark_of(b',', token.kind) {
+            return Ok(shaped.end);
+        }
+        at = token.end;
+        left -= 1;
+    }
+    Err(stopped(token_at(line, at)))
+}

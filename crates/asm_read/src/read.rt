@@ -1,0 +1,130 @@
+ghost use Rattle.std.specs.Prelude.{◌≡◌, ◌+◌, ◌<◌, ◌≤◌, ◌⊎◌, ◌++◌, ◌∷◌, [], length, drop, IfErr, OnOk, MatchResult, Ok, Err};
+ghost use Rattle.std.specs.List.{prefix_len};
+ghost use Rattle.asm_read.specs.Fault.{out_of_memory};
+ghost use Rattle.asm_read.specs.Plans.{not_plain};
+ghost use Rattle.asm_read.specs.Reading.{is_inside, added, stmts_of, line_of, excess, read_of};
+
+use crate::build::kind_of;
+use crate::fault::{SourceFault, SourceWhat};
+use crate::line::bytes_of;
+use crate::plan::{Plan, line_plan, not_plain};
+use crate::statement::{Stmt, StmtKind};
+use eh_word::Name;
+use std::alloc::{AllocError, Global};
+
+/// The most lines of a source.
+const MOST_LINES: u32 = 200_000;
+
+fn push(stmts: &mut Vec<Stmt>, stmt: Stmt) -> Result<(), AllocError>
+    ensures { OnOk result (stmts.new.items ≡ stmts.old.items ++ stmt ∷ []) }
+{
+    stmts.push(stmt)?;
+    Ok(())
+}
+
+/// Adds the statements of a line.
+fn push_plan(
+    alloc: Global,
+    line: &[u8],
+    number: u32,
+    plan: Plan,
+    stmts: &mut Vec<Stmt>,
+) -> Result<(), SourceFault>
+    ensures ok { OnOk result (stmts.new.items ≡ stmts.old.items ++ stmts_of number line.now plan) }
+    ensures err { IfErr result (λ f. f ≡ out_of_memory) }
+{
+    if let Some(label) = plan.label {
+        let name = Name::of(alloc, bytes_of(line, label))?;
+        let kind = StmtKind::Label(name);
+        push(stmts, Stmt { line: number, kind })?;
+    }
+    if let Some(statement) = plan.statement {
+        if let Some(kind) = kind_of(alloc, line, statement)? {
+            push(stmts, Stmt { line: number, kind })?;
+        }
+    }
+    Ok(())
+}
+
+/// Adds the statements of a line, or refuses it.
+fn read_line(
+    alloc: Global,
+    line: &[u8],
+    number: u32,
+    stmts: &mut Vec<Stmt>,
+) -> Result<(), SourceFault>
+    ensures ok { OnOk result (added stmts.old.items (line_of number line.now) ≡ Ok stmts.new.items) }
+    ensures err { IfErr result (λ f. (f ≡ out_of_memory) ⊎ (line_of number line.now ≡ Err f)) }
+{
+    match line_plan(line) {
+        Ok(plan) => push_plan(alloc, line, number, plan, stmts),
+        Err(stop) => Err(SourceFault {
+            line: number,
+            column: stop.at as u32 + 1,
+            what: stop.what,
+        }),
+    }
+}
+
+/// How many bytes stand before the first line feed.
+fn line_len(text: &[u8]) -> usize
+    ensures len { result ≡ prefix_len is_inside text.now }
+    ensures within { result ≤ length text.now }
+{
+    for (i, b) in text.iter().enumerate() {
+        if *b == b'\n' {
+            return i;
+        }
+    }
+    text.len()
+}
+
+/// The text behind a line of some bytes.
+fn behind(text: &[u8], len: usize) -> &[u8]
+    requires { len ≤ length text.now }
+    ensures { result.now ≡ drop (len + 1) text.now }
+{
+    if len < text.len() {
+        &text[len + 1..]
+    } else {
+        &[]
+    }
+}
+
+/// Why a line past the last that may stand is refused, at its first byte.
+fn excess(line: &[u8]) -> SourceWhat
+    ensures { result ≡ excess line.now }
+{
+    match line {
+        [b, ..] if not_plain(*b) => SourceWhat::NotAscii,
+        _ => SourceWhat::TooManyLines,
+    }
+}
+
+/// The statements of a source in the order of the text, or the first place at which it is refused, and there the first
+/// refusal in the order of `SourceWhat`. A label comes before the rest of its line. Want of memory may come at any time.
+#[tactic(auto, using(crate::proofs::Lines::read_start, crate::proofs::Lines::read_next, crate::proofs::Lines::read_refused, crate::proofs::Lines::read_many, crate::proofs::Lines::read_end))]
+pub fn read_source(alloc: Global, text: &[u8]) -> Result<Vec<Stmt>, SourceFault>
+    ensures { MatchResult result
+        (λ stmts. read_of text.now ≡ Ok stmts.items)
+        (λ fault. (fault ≡ out_of_memory) ⊎ (read_of text.now ≡ Err fault)) }
+{
+    let mut stmts = Vec::new(alloc);
+    let mut rest = text;
+    let mut number: u32 = 1;
+    while !rest.is_empty() {
+        let len = line_len(rest);
+        let line = &rest[..len];
+        if number > MOST_LINES {
+            return Err(SourceFault {
+                line: number,
+                column: 1,
+                what: excess(line),
+            });
+        }
+        read_line(alloc, line, number, &mut stmts)?;
+        rest = behind(rest, len);
+        number += 1;
+    }
+    Ok(stmts)
+}

@@ -1,0 +1,4 @@
+pub mod FurtherWords
+pub mod Reversed
+pub mod KeptLemmas
+pub mod Laws

@@ -1,0 +1,5 @@
+pub mod Refusals
+pub mod Codes
+pub mod Entries
+pub mod Kept
+pub mod Meaning

@@ -1,0 +1,66 @@
+use std::alloc::{AllocError, AllocFailed};
+
+/// A directive on the frame of the function that it stands in. Register lists have bit n set for register n.
+#[derive(Clone, Copy, PartialEq, Eq, Debug)]
+pub enum UnwindDirective {
+    /// `.fnstart`: the function begins.
+    FnStart,
+    /// `.fnend`: the function ends.
+    FnEnd,
+    /// `.save`: these registers stand on the stack, the lowest at the lowest address.
+    Save(u16),
+    /// `.pad`: the stack pointer went down by so many bytes.
+    Pad(u32),
+    /// `.setfp`: the register holds the stack pointer plus so many bytes.
+    SetFp(u8, u32),
+    /// `.cantunwind`: nothing unwinds through the function.
+    CantUnwind,
+    /// `.personalityindex`: the number of the personality routine.
+    PersonalityIndex(u8),
+    /// `.handlerdata`: the source gives the words behind the codes itself.
+    HandlerData,
+}
+
+/// Why a directive or the end of a function is refused, in the order of the numbers of the refusals; the lowest that
+/// holds is answered.
+#[derive(Clone, Copy, PartialEq, Eq, Debug)]
+pub enum UnwindFault {
+    /// Before `.fnstart`, after `.fnend`, or a function that isn't ended.
+    OutsideFunction,
+    /// A second `.fnstart` before `.fnend`.
+    NestedFunction,
+    /// An empty register list, one with r13 or r15, or a list behind `.setfp`.
+    SaveRange,
+    /// An offset of 0, above its limit or no multiple of 4, or a frame pointer other than r4 to r11.
+    PadRange,
+    /// A second personality index, or one above 2.
+    TwoPersonalities,
+    /// Anything but `.fnend` behind `.cantunwind`.
+    AfterCantunwind,
+    /// More bytecode than the entry has room for.
+    TooLong,
+    /// Want of memory.
+    OutOfMemory,
+}
+
+impl From<AllocError> for UnwindFault {
+    ghost use Rattle.std.specs.Prelude.{◌≡◌};
+    ghost use Rattle.asm_unwind.specs.declared.directive.UnwindFault.TheVariants.{OutOfMemory};
+
+    ghost from_gives = { λ _ e. e ≡ OutOfMemory };
+
+    fn from(_e: AllocError) -> UnwindFault {
+        UnwindFault::OutOfMemory
+    }
+}
+
+impl From<AllocFailed<UnwindDirective>> for UnwindFault {
+    ghost use Rattle.std.specs.Prelude.{◌≡◌};
+    ghost use Rattle.asm_unwind.specs.declared.directive.UnwindFault.TheVariants.{OutOfMemory};
+
+    ghost from_gives = { λ _ e. e ≡ OutOfMemory };
+
+    fn from(_e: AllocFailed<UnwindDirective>) -> UnwindFault {
+        UnwindFault::OutOfMemory
+    }
+}

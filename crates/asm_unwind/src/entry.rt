@@ -1,0 +1,174 @@
+ghost use Rattle.std.specs.Prelude.{◌≡◌, ℕ, ◌+◌, ◌*◌, ◌/◌, ◌%◌, ◌^◌, ◌<◌, ◌≤◌, ◌==◌, ◌++◌, ◌≢◌, IfOk, IfErr, MatchOption, ⊤, length};
+ghost use Rattle.asm_unwind.specs.Entries.{code_byte, word_at, word, index_of, room, further, short_entry, long_entry, entry_of, entry_of_code};
+ghost use Rattle.asm_unwind.specs.declared.directive.UnwindFault.{UnwindFault};
+
+use crate::directive::UnwindFault;
+use std::alloc::{AllocError, Global};
+use std::marker::Model;
+
+/// The words of a table, which contracts see as their list.
+#[derive(Debug, Drop)]
+pub struct TableWords {
+    words: Vec<u32>,
+}
+
+impl Model for TableWords {
+    ghost use Rattle.std.specs.Prelude.{List, ℕ};
+
+    ghost Value = { List ℕ };
+
+    ghost view = { λ t. t.words.items };
+}
+
+impl TableWords {
+    /// A table of these words.
+    pub fn of_vec(words: Vec<u32>) -> TableWords
+        ensures { result ≡ words.items }
+    {
+        TableWords { words }
+    }
+
+    /// The words of the table.
+    pub fn as_slice(&self) -> &[u32]
+        ensures { result.now ≡ self.now }
+    {
+        self.words.as_slice()
+    }
+}
+
+/// What the index says of a function (IHI 0038).
+#[derive(Debug, Drop)]
+pub enum EntryWords {
+    /// Nothing unwinds through it.
+    CantUnwind,
+    /// The entry itself, in the second word of the index row.
+    Inline(u32),
+    /// The words of its table, without those that the source gives behind `.handlerdata`.
+    Table(TableWords),
+}
+
+/// The code "finish".
+const FINISH: u8 = 0xB0;
+
+/// The byte of bytecode at a place; behind its end stands "finish".
+fn code_byte(bytes: &[u8], at: usize) -> u8
+    ensures { result ≡ code_byte bytes.now at }
+{
+    bytes.get(at).copied().unwrap_or(FINISH)
+}
+
+/// A word by its bytes, the top byte first.
+fn word(a: u8, b: u8, c: u8, d: u8) -> u32
+    ensures { result ≡ word a b c d }
+{
+    u32::from_be_bytes([a, b, c, d])
+}
+
+/// The word of the four bytes of bytecode from a place on.
+#[tactic(auto, unfolding(crate::specs::Entries::word_at))]
+fn word_at(bytes: &[u8], at: usize) -> u32
+    requires { at < 2 ^ 32 }
+    ensures { result ≡ word_at bytes.now at }
+{
+    word(
+        code_byte(bytes, at),
+        code_byte(bytes, at + 1),
+        code_byte(bytes, at + 2),
+        code_byte(bytes, at + 3),
+    )
+}
+
+/// The entry of personality 0.
+#[tactic(auto, unfolding(crate::specs::Entries::short_entry))]
+fn short_entry(bytes: &[u8]) -> u32
+    ensures { result ≡ short_entry bytes.now }
+{
+    word(
+        0x80,
+        code_byte(bytes, 0),
+        code_byte(bytes, 1),
+        code_byte(bytes, 2),
+    )
+}
+
+/// The entry of personality 1 or 2.
+#[tactic(auto, unfolding(crate::specs::Entries::long_entry))]
+fn long_entry(alloc: Global, index: u8, bytes: &[u8]) -> Result<Vec<u32>, AllocError>
+    requires index { index ≤ 2 }
+    requires room { length bytes.now ≤ 1022 }
+    ensures { IfOk result (λ words. words.items ≡ long_entry index bytes.now) }
+{
+    let further = (bytes.len() + 1) / 4;
+    let mut words = Vec::with_capacity(alloc, further + 1)?;
+    let first = word(
+        0x80 + index,
+        further as u8,
+        code_byte(bytes, 0),
+        code_byte(bytes, 1),
+    );
+    words.push(first)?;
+    for k in 0..further {
+        words.push(word_at(bytes, 2 + 4 * k))?;
+    }
+    Ok(words)
+}
+
+/// How many bytes of bytecode the entry of a personality has room for.
+fn room(index: u8) -> usize
+    ensures { result ≡ room index }
+{
+    if index == 0 { 3 } else { 1022 }
+}
+
+/// The number of the personality routine: the given one, else 0 for up to three bytes, else 1.
+fn index_of(given: Option<u8>, bytes: &[u8]) -> u8
+    ensures { result ≡ index_of given bytes.now }
+{
+    given.unwrap_or(if bytes.len() <= 3 { 0 } else { 1 })
+}
+
+/// The entry of bytecode that has room in it.
+#[tactic(auto, unfolding(crate::specs::Entries::entry_of))]
+fn entry_of(
+    alloc: Global,
+    index: u8,
+    handler_data: bool,
+    bytes: &[u8],
+) -> Result<EntryWords, AllocError>
+    requires index { index ≤ 2 }
+    requires room { length bytes.now ≤ room index }
+    ensures { IfOk result (λ entry. entry ≡ entry_of index handler_data bytes.now) }
+{
+    if index != 0 {
+        let mut words = long_entry(alloc, index, bytes)?;
+        if !handler_data {
+            words.push(0)?;
+        }
+        return Ok(EntryWords::Table(TableWords::of_vec(words)));
+    }
+    let word = short_entry(bytes);
+    if !handler_data {
+        return Ok(EntryWords::Inline(word));
+    }
+    let mut words = Vec::new(alloc);
+    words.push(word)?;
+    Ok(EntryWords::Table(TableWords::of_vec(words)))
+}
+
+/// The entry of a function's bytecode; TooLong exactly where it has no room.
+pub fn entry_of_code(
+    alloc: Global,
+    personality: Option<u8>,
+    handler_data: bool,
+    bytes: &[u8],
+) -> Result<EntryWords, UnwindFault>
+    requires { MatchOption personality ⊤ (λ index. index ≤ 2) }
+    ensures ok { IfOk result (λ entry. entry_of_code personality handler_data bytes.now ≡ Ok entry) }
+    ensures err { IfErr result (λ e. e ≢ UnwindFault.OutOfMemory → entry_of_code personality handler_data bytes.now ≡ Err e) }
+{
+    let index = index_of(personality, bytes);
+    if bytes.len() > room(index) {
+        return Err(UnwindFault::TooLong);
+    }
+    Ok(entry_of(alloc, index, handler_data, bytes)?)
+}

@@ -1,0 +1,11 @@
+pub mod Listed
+pub mod Overlaps
+pub mod Rising
+pub mod Search
+pub mod Ascending
+pub mod Names
+pub mod Lookups
+pub mod Ended
+pub mod Reading
+pub mod Building
+pub mod Outcome

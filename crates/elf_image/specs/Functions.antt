@@ -1,0 +1,63 @@
+-- The functions of an image.
+use Rattle.std.specs.Prelude.{ℕ, ◌+◌, ◌-◌, ◌%◌, ◌==◌, ◌<◌, ◌≤◌, not, ◌&&◌, nat_le, nat_lt, min, Bool, if◌then◌else◌, List, [], ◌∷◌, fold, find, Option, Some, None, is_some}
+use Rattle.std.specs.Ordering.{nat_cmp}
+use Rattle.std.specs.BTreeMap.{insert_entry, is_at}
+use Rattle.std.specs.Map.{lookup, values_of}
+use Rattle.elf_image.specs.Segments.{Segment, holds, segment_end}
+use Rattle.elf_image.specs.Symbols.{Symbol}
+
+pub record Function : Type 0 where
+  pub name : List ℕ
+  pub start : ℕ
+  -- the first address above it
+  pub end : ℕ
+
+-- a defined symbol of type STT_FUNC whose value has bit 0 set, as Thumb code's has
+abbrev pub is_thumb_function : Symbol → Bool
+is_thumb_function s = s.info % 16 == 2 && s.value % 2 == 1 && not (s.section == 0)
+
+abbrev pub segment_at : List Segment → ℕ → Option Segment
+segment_at segments a = find (holds a) segments
+
+-- the symbol's range in a segment that is read-only and may be executed; a size of 0 reaches to the segment's end
+abbrev pub function_in : Symbol → Option Segment → Option Function
+function_in s None = None
+function_in s (Some segment) =
+    if segment.exec && not segment.write
+    then Some (record { name = s.name; start = s.value - 1; end = if s.size == 0 then segment_end segment else min (segment_end segment) (s.value - 1 + s.size) })
+    else None
+
+-- what a symbol gives alone, if it is a function
+unfoldable pub function_of_symbol : List Segment → Symbol → Option Function
+function_of_symbol segments s = if is_thumb_function s then function_in s (segment_at segments (s.value - 1)) else None
+
+-- entries in rising order; the first at one start counts
+abbrev pub put_first : List (ℕ × Function) → Option Function → List (ℕ × Function)
+put_first entries None = entries
+put_first entries (Some f) = if is_some (lookup (is_at (nat_cmp f.start)) entries) then entries else insert_entry nat_cmp entries f.start f
+
+abbrev pub functions_by_start : List Segment → List Symbol → List (ℕ × Function)
+functions_by_start segments symbols = fold (λ entries s. put_first entries (function_of_symbol segments s)) [] symbols
+
+abbrev pub next_start : List Function → ℕ → ℕ
+next_start [] none = none
+next_start (f ∷ more) none = f.start
+
+-- each ends at the start of the next one at the latest
+abbrev pub ended : List Function → List Function
+ended [] = []
+ended (f ∷ more) = record f { end = min f.end (next_start more f.end) } ∷ ended more
+
+unfoldable pub functions_of : List Segment → List Symbol → List Function
+functions_of segments symbols = ended (values_of (functions_by_start segments symbols))
+
+-- ---- what holds of the functions of every image
+
+-- they rise from an address on, none reaches into the next
+abbrev pub FunctionsFrom : ℕ → List Function → Type 0
+FunctionsFrom low [] = Unit {0}
+FunctionsFrom low (f ∷ more) = (low ≤ f.start) × (f.start < f.end) × FunctionsFrom f.end more
+
+-- the function holds the address
+abbrev pub is_inside : ℕ → Function → Bool
+is_inside a f = nat_le f.start a && nat_lt a f.end

@@ -1,0 +1,10 @@
+pub mod Format
+pub mod Header
+pub mod Segments
+pub mod Sorted
+pub mod Index
+pub mod Symbols
+pub mod Functions
+pub mod Marks
+pub mod Image
+pub mod Inside

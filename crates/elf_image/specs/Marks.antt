@@ -1,0 +1,30 @@
+-- Mapping symbols ("ELF for the Arm Architecture"): where code and where data begin.
+use Rattle.std.specs.Prelude.{ℕ, ◌==◌, ◌&&◌, ◌||◌, nat_le, Bool, true, if◌then◌else◌, List, [], length, fold, slice_index}
+use Rattle.std.specs.Ordering.{nat_cmp}
+use Rattle.std.specs.BTreeMap.{insert_entry}
+use Rattle.elf_image.specs.Symbols.{Symbol}
+
+-- `$t`, `$d` or `$a`, alone or with a dot and at least one byte behind it
+abbrev pub is_mark_name : List ℕ → Bool
+is_mark_name name =
+    slice_index name 0 == 36 && (slice_index name 1 == 116 || slice_index name 1 == 100 || slice_index name 1 == 97)
+    && (length name == 2 || (slice_index name 2 == 46 && nat_le 4 (length name)))
+
+-- a local symbol of type STT_NOTYPE with such a name
+abbrev pub is_mark : Symbol → Bool
+is_mark s = s.info == 0 && is_mark_name s.name
+
+-- `$t`: Thumb code begins
+abbrev pub begins_code : Symbol → Bool
+begins_code s = slice_index s.name 1 == 116
+
+abbrev pub with_mark : List (ℕ × Bool) → Symbol → List (ℕ × Bool)
+with_mark marks s = if is_mark s then insert_entry nat_cmp marks s.value (begins_code s) else marks
+
+-- addresses in rising order, each with whether code begins there; the last at one address counts
+unfoldable pub marks_of : List Symbol → List (ℕ × Bool)
+marks_of symbols = fold with_mark [] symbols
+
+-- what the last mark at or below an address says; below every mark it is code
+abbrev pub marked : List (ℕ × Bool) → ℕ → Bool
+marked marks a = fold (λ code mark. if nat_le mark.0 a then mark.1 else code) true marks

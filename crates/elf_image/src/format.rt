@@ -1,0 +1,117 @@
+ghost use Rattle.std.specs.Prelude.{◌≡◌, ◌+◌, ◌*◌, ◌^◌, ◌<◌, ◌≤◌, length, IfOk, Some, None};
+ghost use Rattle.elf_image.specs.Format.{field, missing, program_header, section_header, program_headers, section_headers, program_offset, program_count, section_offset, section_count};
+
+use crate::fault::ImageFault;
+use byteorder::{ByteOrder, LittleEndian};
+use std::alloc::{AllocError, Global};
+
+/// A program header: what it is about, and where its bytes lie in the file and in memory.
+#[derive(Clone, Copy)]
+pub struct ProgramHeader {
+    pub kind: u32,
+    /// The offset of its bytes in the file.
+    pub offset: u32,
+    pub address: u32,
+    pub file_size: u32,
+    pub memory_size: u32,
+    pub flags: u32,
+}
+
+/// A section header, as far as it is looked at.
+#[derive(Clone, Copy)]
+pub struct SectionHeader {
+    pub kind: u32,
+    /// The offset of its bytes in the file.
+    pub offset: u32,
+    pub size: u32,
+    /// The number of another section.
+    pub link: u32,
+}
+
+/// The word at an offset.
+pub(crate) fn word(bytes: &[u8], at: usize) -> u32
+    requires { at + 4 ≤ length bytes.now }
+    ensures { result ≡ field 4 bytes.now at }
+{
+    LittleEndian::read_u32(&bytes[at..])
+}
+
+/// The halfword at an offset.
+pub(crate) fn half(bytes: &[u8], at: usize) -> u16
+    requires { at + 2 ≤ length bytes.now }
+    ensures { result ≡ field 2 bytes.now at }
+{
+    LittleEndian::read_u16(&bytes[at..])
+}
+
+/// The refusal of a file that does not hold the part at `at` of `size` bytes.
+pub(crate) fn missing(bytes: &[u8], at: u64, size: u64) -> Option<ImageFault>
+    requires at_fits { at + size < 2 ^ 64 }
+    ensures { result ≡ missing bytes.now at size }
+{
+    if size != 0 && (bytes.len() as u64) < at + size {
+        Some(ImageFault::Truncated(at + size))
+    } else {
+        None
+    }
+}
+
+#[tactic(auto, unfolding(crate::specs::Format::program_header))]
+fn program_header(bytes: &[u8], at: usize) -> ProgramHeader
+    requires { at + 32 ≤ length bytes.now }
+    ensures { result ≡ program_header bytes.now at }
+{
+    ProgramHeader {
+        kind: word(bytes, at),
+        offset: word(bytes, at + 4),
+        address: word(bytes, at + 8),
+        file_size: word(bytes, at + 16),
+        memory_size: word(bytes, at + 20),
+        flags: word(bytes, at + 24),
+    }
+}
+
+#[tactic(auto, unfolding(crate::specs::Format::section_header))]
+fn section_header(bytes: &[u8], at: usize) -> SectionHeader
+    requires { at + 40 ≤ length bytes.now }
+    ensures { result ≡ section_header bytes.now at }
+{
+    SectionHeader {
+        kind: word(bytes, at + 4),
+        offset: word(bytes, at + 16),
+        size: word(bytes, at + 20),
+        link: word(bytes, at + 24),
+    }
+}
+
+/// The program headers, of 32 bytes each.
+#[tactic(auto, using(crate::proofs::Listed::listed))]
+pub(crate) fn program_headers(alloc: Global, bytes: &[u8]) -> Result<Vec<ProgramHeader>, AllocError>
+    requires whole { 52 ≤ length bytes.now }
+    requires there { missing bytes.now (program_offset bytes.now) (32 * program_count bytes.now) ≡ None }
+    ensures { IfOk result (λ headers. headers.items ≡ program_headers bytes.now) }
+{
+    let start = word(bytes, 28) as usize;
+    let count = usize::from(half(bytes, 44));
+    let mut headers = Vec::with_capacity(alloc, count)?;
+    for i in 0..count {
+        headers.push(program_header(bytes, start + 32 * i))?;
+    }
+    Ok(headers)
+}
+
+/// The section headers, of 40 bytes each.
+#[tactic(auto, using(crate::proofs::Listed::listed))]
+pub(crate) fn section_headers(alloc: Global, bytes: &[u8]) -> Result<Vec<SectionHeader>, AllocError>
+    requires whole { 52 ≤ length bytes.now }
+    requires there { missing bytes.now (section_offset bytes.now) (40 * section_count bytes.now) ≡ None }
+    ensures { IfOk result (λ headers. headers.items ≡ section_headers bytes.now) }
+{
+    let start = word(bytes, 32) as usize;
+    let count = usize::from(half(bytes, 48));
+    let mut headers = Vec::with_capacity(alloc, count)?;
+    for i in 0..count {
+        headers.push(section_header(bytes, start + 40 * i))?;
+    }
+    Ok(headers)
+}

@@ -1,0 +1,166 @@
+ghost use Rattle.std.specs.Prelude.{◌≡◌, ◌≤◌, ◌&&◌, if◌then◌else◌, length, find, Option, Some, None, option_map};
+ghost use Rattle.std.specs.List.{list_any};
+ghost use Rattle.elf_image.specs.Segments.{RiseFrom, holds};
+ghost use Rattle.elf_image.specs.Functions.{FunctionsFrom};
+ghost use Rattle.elf_image.specs.Image.{function_at, is_code_in, symbol_in, type_symbols_of, word_of, holds_word, word_in, IsSound};
+ghost use Rattle.eh_word.specs.Names.{same_bytes};
+
+use crate::function::{Function, function_number, segment_at};
+use crate::mark::marked;
+use crate::named::Named;
+use crate::segment::Segment;
+use byteorder::{ByteOrder, LittleEndian};
+use std::marker::Model;
+
+/// An image: its segments, functions, mapping symbols, defined symbols and exception index.
+#[derive(Drop)]
+pub struct Image<'a> {
+    pub(crate) entry: u32,
+    pub(crate) segments: Vec<Segment<'a>>,
+    pub(crate) functions: Vec<Function<'a>>,
+    pub(crate) marks: Vec<(u32, bool)>,
+    pub(crate) symbols: Vec<Named<'a>>,
+    pub(crate) type_symbols: Vec<u32>,
+    pub(crate) index_start: u32,
+    pub(crate) index_bytes: &'a [u8],
+}
+
+impl<'a> Model for Image<'a> {
+    ghost use Rattle.std.specs.Prelude.{◌≡◌};
+    ghost use Rattle.elf_image.specs.Image.{Image as Parts, IsSound, type_symbols_of};
+
+    ghost Value = { Parts };
+
+    ghost use Rattle.elf_image.specs.Inside.{view_of};
+
+    ghost view = { view_of };
+
+    ghost invariant = { λ i. IsSound (view_of i) × (i.type_symbols.items ≡ type_symbols_of i.symbols.items) };
+}
+
+/// Whether the address lies in a segment that may be executed.
+#[tactic(auto, using(crate::proofs::Lookups::holders))]
+fn may_execute(segments: &[Segment], a: u32) -> bool
+    requires { RiseFrom 0 segments.now }
+    ensures { result ≡ list_any (λ s. holds a s && s.exec) segments.now }
+{
+    match segment_at(segments, a) {
+        Some(segment) => segment.exec,
+        None => false,
+    }
+}
+
+/// The word at an address of a segment, where the segment is read-only and its bytes hold all four.
+fn word_at(segment: &Segment, a: u32) -> Option<u32>
+    ensures { result ≡ (if holds_word a segment.now then Some (word_in a segment.now) else None) }
+{
+    if segment.write || a < segment.start {
+        return None;
+    }
+    let at = (a - segment.start) as usize;
+    if at + 4 <= segment.bytes.len() {
+        Some(LittleEndian::read_u32(&segment.bytes[at..]))
+    } else {
+        None
+    }
+}
+
+/// The word at an address, where the bytes of a read-only segment hold all four.
+#[tactic(auto, using(crate::proofs::Lookups::holders))]
+fn read_word(segments: &[Segment], a: u32) -> Option<u32>
+    requires { RiseFrom 0 segments.now }
+    ensures { result ≡ option_map (word_in a) (find (holds_word a) segments.now) }
+{
+    let segment = segment_at(segments, a)?;
+    word_at(segment, a)
+}
+
+/// The address of the first symbol of a name.
+fn address_of(symbols: &[Named], name: &[u8]) -> Option<u32>
+    ensures { result ≡ option_map (λ n. n.address) (find (λ n. same_bytes n.name name.now) symbols.now) }
+{
+    for n in symbols {
+        if n.name == name {
+            return Some(n.address);
+        }
+    }
+    None
+}
+
+impl<'a> Image<'a> {
+    /// The address of the first instruction, with bit 0 clear.
+    pub fn entry(&self) -> u32
+        ensures { result ≡ self.now.entry }
+    {
+        self.entry
+    }
+
+    /// The segments, in rising order of their starts. None overlap, all lie below 0x30000000, each has at least one byte
+    /// of memory and at most as many bytes of the file as of memory. They are at most 1,024, with at most 1,048,576 bytes
+    /// of memory in all.
+    pub fn segments(&self) -> &[Segment<'a>]
+        ensures segments { result.now ≡ self.now.segments }
+        ensures sound { IsSound self.now }
+    {
+        &self.segments
+    }
+
+    /// The functions, in rising order of their starts. None reaches into the next.
+    pub fn functions(&self) -> &[Function<'a>]
+        ensures functions { result.now ≡ self.now.functions }
+        ensures sound { IsSound self.now }
+    {
+        &self.functions
+    }
+
+    /// The number of the function that holds an address; None exactly where there is none.
+    pub fn function_of(&self, a: u32) -> Option<usize>
+        ensures { result ≡ function_at self.now a }
+    {
+        function_number(&self.functions, a)
+    }
+
+    /// Whether an address is even, in a segment that may be executed, and code by the mapping symbols: the last one at or
+    /// below it is `$t`, or there is none.
+    pub fn is_code(&self, a: u32) -> bool
+        ensures { result ≡ is_code_in self.now a }
+    {
+        a % 2 == 0 && may_execute(&self.segments, a) && marked(&self.marks, a)
+    }
+
+    /// The address of the first defined symbol of a name, with bit 0 clear for a function; None exactly where there is
+    /// none. Goes over all symbols.
+    pub fn symbol(&self, name: &[u8]) -> Option<u32>
+        ensures { result ≡ symbol_in self.now name.now }
+    {
+        address_of(&self.symbols, name)
+    }
+
+    /// The addresses of the defined symbols whose names begin with `_ZTI`, in the order of the table.
+    pub fn type_symbols(&self) -> &[u32]
+        ensures { result.now ≡ type_symbols_of self.now.symbols }
+    {
+        &self.type_symbols
+    }
+
+    /// The address of the exception index; 0 without one.
+    pub fn index_start(&self) -> u32
+        ensures { result ≡ self.now.index_start }
+    {
+        self.index_start
+    }
+
+    /// The bytes of the exception index; none without one.
+    pub fn index_bytes(&self) -> &'a [u8]
+        ensures { result.now ≡ self.now.index_bytes }
+    {
+        self.index_bytes
+    }
+
+    /// The word at an address; None exactly where the file's bytes of no read-only segment hold all four of its bytes.
+    pub fn read_word(&self, a: u32) -> Option<u32>
+        ensures { result ≡ word_of self.now a }
+    {
+        read_word(&self.segments, a)
+    }
+}

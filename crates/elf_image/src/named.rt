@@ -1,0 +1,78 @@
+ghost use Rattle.std.specs.Prelude.{◌≡◌, length, IfOk, codes, filter, map, nat_eq};
+ghost use Rattle.std.specs.List.{starts_with};
+ghost use Rattle.elf_image.specs.Segments.{RiseFrom};
+ghost use Rattle.elf_image.specs.Image.{Named as Address, named, named_of, type_symbols_of};
+
+use crate::function::function_of_symbol;
+use crate::segment::Segment;
+use crate::symbol::Symbol;
+use std::alloc::{AllocError, Global};
+use std::marker::Model;
+
+/// A name and the address that it stands for, with bit 0 clear for a function.
+#[derive(Drop)]
+pub struct Named<'a> {
+    pub name: &'a [u8],
+    pub address: u32,
+}
+
+impl<'a> Model for Named<'a> {
+    ghost use Rattle.elf_image.specs.Image.{Named as Address};
+
+    ghost Value = { Address };
+
+    ghost view = { λ n. record { name = n.name.now; address = n.address } };
+}
+
+#[tactic(auto, unfolding(crate::specs::Image::named))]
+fn make_named<'a>(segments: &[Segment], s: &Symbol<'a>) -> Named<'a>
+    requires { RiseFrom 0 segments.now }
+    ensures { result ≡ named segments.now s.now }
+{
+    let address = match function_of_symbol(segments, s) {
+        Some(f) => f.start,
+        None => s.value,
+    };
+    Named {
+        name: s.name,
+        address,
+    }
+}
+
+/// The names and addresses of the defined symbols, in the order of the table.
+#[tactic(auto, unfolding(crate::specs::Image::named_of))]
+pub(crate) fn read_named<'a>(
+    alloc: Global,
+    segments: &[Segment],
+    symbols: &[Symbol<'a>],
+) -> Result<Vec<Named<'a>>, AllocError>
+    requires { RiseFrom 0 segments.now }
+    ensures { IfOk result (λ v. v.items ≡ named_of segments.now symbols.now) }
+{
+    let mut all = Vec::new(alloc);
+    for s in symbols {
+        if s.section != 0 {
+            all.push(make_named(segments, s))?;
+        }
+    }
+    Ok(all)
+}
+
+fn is_type_name(name: &[u8]) -> bool
+    ensures { result ≡ starts_with nat_eq name.now (codes "_ZTI") }
+{
+    name.starts_with(b"_ZTI")
+}
+
+/// The addresses of those whose names begin with `_ZTI`.
+pub(crate) fn type_symbols(alloc: Global, symbols: &[Named]) -> Result<Vec<u32>, AllocError>
+    ensures { IfOk result (λ v. v.items ≡ type_symbols_of symbols.now) }
+{
+    let mut all = Vec::new(alloc);
+    for n in symbols {
+        if is_type_name(n.name) {
+            all.push(n.address)?;
+        }
+    }
+    Ok(all)
+}

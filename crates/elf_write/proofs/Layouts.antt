@@ -1,0 +1,109 @@
+-- The loops that lay out a file.
+use Rattle.std.proofs.Common.{◌≡◌, ℕ, ◌+◌, ◌<◌, ◌≤◌, List, [], ◌∷◌, ◌++◌, length, get_or, drop, arith, append_assoc, length-append, ◌-◌, ap, refl, sym, cond, Bool, true, false, ◌&&◌, nat_le, ◌*◌, ◌∙◌}
+use Rattle.std.proofs.lemmas.Bool.Decides.{nat_tests}
+use Rattle.std.specs.List.{flat_map}
+use Rattle.std.proofs.lemmas.List.{at_drop_more, length-replicate}
+use Rattle.elf_image.specs.Symbols.{Symbol}
+use Rattle.elf_write.specs.Layout.{word, half, zeros, aligned, padding, bit, closed, symbol_bytes, symbol_rows, contents, program_bytes, program_rows, place_of, segment_name, segment_names, section_bytes, section_rows}
+use Rattle.elf_write.specs.declared.parts.OwnSegment.{OwnSegment}
+
+-- one more name
+pub strings_more : (xs : List Symbol) (i : ℕ) (d : Symbol) → i < length xs
+    → length (flat_map (λ (s : Symbol). closed s.name) (drop i xs)) ≡ length (closed (get_or xs i d).name) + length (flat_map (λ (s : Symbol). closed s.name) (drop (i + 1) xs))
+strings_more xs i d h =
+    at_drop_more (λ (ys : List Symbol). length (flat_map (λ (s : Symbol). closed s.name) ys)) xs i d h ∙ length-append (closed (get_or xs i d).name) _
+
+-- one more row
+pub rows_more : (at : ℕ) (xs : List Symbol) (i : ℕ) (d : Symbol) → i < length xs
+    → symbol_rows at (drop i xs) ≡ symbol_bytes at (get_or xs i d) ++ symbol_rows (at + length (closed (get_or xs i d).name)) (drop (i + 1) xs)
+rows_more at xs i d h = at_drop_more (symbol_rows at) xs i d h
+
+pub length_zeros : (n : ℕ) → length (zeros n) ≡ n
+unfolding zeros
+length_zeros n = length-replicate n 0
+
+-- where the next segment's bytes may begin
+pub next_at : (base : ℕ) (out bytes : List ℕ) → base + length ((out ++ padding (base + length out)) ++ bytes) ≡ aligned (base + length out) + length bytes
+next_at base out bytes =
+    let all : length ((out ++ padding (base + length out)) ++ bytes) ≡ length out + length (padding (base + length out)) + length bytes =
+    length-append (out ++ padding (base + length out)) bytes ∙ rw (length-append out (padding (base + length out))) refl in
+    omega (arith, all, length_zeros (aligned (base + length out) - (base + length out)))
+
+pub contents_more : (at : ℕ) (xs : List OwnSegment) (i : ℕ) (d : OwnSegment) → i < length xs
+    → contents at (drop i xs) ≡ (padding at ++ (get_or xs i d).bytes) ++ contents (aligned at + length (get_or xs i d).bytes) (drop (i + 1) xs)
+contents_more at xs i d h = at_drop_more (contents at) xs i d h
+
+pub contents_length : (at : ℕ) (xs : List OwnSegment) (i : ℕ) (d : OwnSegment) → i < length xs
+    → at + length (contents at (drop i xs))
+    ≡ (aligned at + length (get_or xs i d).bytes) + length (contents (aligned at + length (get_or xs i d).bytes) (drop (i + 1) xs))
+contents_length at xs i d h =
+    let x = get_or xs i d in
+    let rest = contents (aligned at + length x.bytes) (drop (i + 1) xs) in
+    let all : length (contents at (drop i xs)) ≡ length (padding at) + length x.bytes + length rest =
+    ap length (contents_more at xs i d h) ∙ length-append (padding at ++ x.bytes) rest ∙ rw (length-append (padding at) x.bytes) refl in
+    omega (arith, all, length_zeros (aligned at - at))
+
+pub program_more : (at : ℕ) (xs : List OwnSegment) (i : ℕ) (d : OwnSegment) → i < length xs
+    → program_rows at (drop i xs)
+    ≡ program_bytes 1 (aligned at) (get_or xs i d).start (length (get_or xs i d).bytes) (get_or xs i d).size (4 + bit (get_or xs i d).write 2 + bit (get_or xs i d).exec 1)
+    ++ program_rows (aligned at + length (get_or xs i d).bytes) (drop (i + 1) xs)
+program_more at xs i d h = at_drop_more (program_rows at) xs i d h
+
+pub names_more : (n : ℕ) (xs : List OwnSegment) (i : ℕ) (d : OwnSegment) → i < length xs
+    → segment_names n (drop i xs) ≡ segment_name n ++ segment_names (n + 1) (drop (i + 1) xs)
+names_more n xs i d h = at_drop_more (segment_names n) xs i d h
+
+pub place_more : (a z at : ℕ) (xs : List OwnSegment) (i : ℕ) (d : OwnSegment) → i < length xs
+    → place_of a z at (drop i xs)
+    ≡ cond (nat_le (get_or xs i d).start a && nat_le (a + z) ((get_or xs i d).start + length (get_or xs i d).bytes)) (aligned at + (a - (get_or xs i d).start))
+    (place_of a z (aligned at + length (get_or xs i d).bytes) (drop (i + 1) xs))
+place_more a z at xs i d h = at_drop_more (place_of a z at) xs i d h
+
+pub sections_more : (n name at : ℕ) (xs : List OwnSegment) (i : ℕ) (d : OwnSegment) → i < length xs
+    → section_rows n name at (drop i xs)
+    ≡ section_bytes name 1 (2 + bit (get_or xs i d).write 1 + bit (get_or xs i d).exec 4) (get_or xs i d).start (aligned at) (length (get_or xs i d).bytes) 0 0 0
+    ++ section_rows (n + 1) (name + length (segment_name n)) (aligned at + length (get_or xs i d).bytes) (drop (i + 1) xs)
+sections_more n name at xs i d h = at_drop_more (section_rows n name at) xs i d h
+
+-- the bytes of the next segment end by the end of all
+pub next_fits : (at total : ℕ) (xs : List OwnSegment) (i : ℕ) (x : OwnSegment) → i < length xs → x ≡ get_or xs i x → at + length (contents at (drop i xs)) ≡ total
+    → aligned at + length x.bytes ≤ total
+next_fits at total xs i x h is all =
+    let same : length (get_or xs i x).bytes ≡ length x.bytes = ap (λ (y : OwnSegment). length y.bytes) (sym is) in
+    omega (arith, contents_length at xs i x h, all, same)
+
+both_true : (b c : Bool) → (b && c) ≡ true → (b ≡ true) × (c ≡ true)
+both_true true c h = (refl, h)
+both_true false c h = absurd cc
+
+pub both_le : (a b x y : ℕ) → (nat_le a b && nat_le x y) ≡ true → (a ≤ b) × (x ≤ y)
+both_le a b x y h = (grind (arith, nat_tests, both_true (nat_le a b) (nat_le x y) h), grind (arith, nat_tests, both_true (nat_le a b) (nat_le x y) h))
+
+length_row : (at : ℕ) (s : Symbol) → length (symbol_bytes at s) ≡ 16
+unfolding symbol_bytes word half
+length_row at s = refl
+
+-- 16 bytes a row
+pub length_rows : (at : ℕ) (xs : List Symbol) → length (symbol_rows at xs) ≡ 16 * length xs
+length_rows at [] = refl
+length_rows at (s ∷ xs) =
+    let rest = length_rows (at + length (closed s.name)) xs in
+    let all = length-append (symbol_bytes at s) (symbol_rows (at + length (closed s.name)) xs) in
+    omega (arith, all, rest, length_row at s)
+
+pub next_all : (at at' total : ℕ) (xs : List OwnSegment) (i : ℕ) (x : OwnSegment) (bytes : List ℕ) → i < length xs → x ≡ get_or xs i x → bytes ≡ x.bytes → at' ≡ aligned at
+    → at + length (contents at (drop i xs)) ≡ total → at' + length bytes + length (contents (at' + length bytes) (drop (i + 1) xs)) ≡ total
+next_all at at' total xs i x bytes h is b a all =
+    rw (b, a) (ap (λ (y : OwnSegment). (aligned at + length y.bytes) + length (contents (aligned at + length y.bytes) (drop (i + 1) xs))) is
+    ∙ sym (contents_length at xs i x h) ∙ all)
+
+pub place_past : (k z at at' total : ℕ) (xs : List OwnSegment) (i : ℕ) (x : OwnSegment) (bytes : List ℕ) → i < length xs → x ≡ get_or xs i x → bytes ≡ x.bytes → at' ≡ aligned at
+    → (nat_le x.start k && nat_le (k + z) (x.start + length x.bytes)) ≡ false → place_of k z at (drop i xs) ≡ total
+    → place_of k z (at' + length bytes) (drop (i + 1) xs) ≡ total
+place_past k z at at' total xs i x bytes h is b a past all =
+    let there : (nat_le (get_or xs i x).start k && nat_le (k + z) ((get_or xs i x).start + length (get_or xs i x).bytes)) ≡ false =
+    ap (λ (y : OwnSegment). nat_le y.start k && nat_le (k + z) (y.start + length y.bytes)) (sym is) ∙ past in
+    let step : place_of k z at (drop i xs) ≡ place_of k z (aligned at + length (get_or xs i x).bytes) (drop (i + 1) xs) = place_more k z at xs i x h ∙ rw there refl in
+    rw (b, a) (ap (λ (y : OwnSegment). place_of k z (aligned at + length y.bytes) (drop (i + 1) xs)) is ∙ sym step ∙ all)
+
+pub ruleset layouts = (strings_more, rows_more, next_at, contents_more, contents_length, program_more, names_more, place_more, sections_more, append_assoc)

@@ -1,0 +1,106 @@
+-- The pieces of a file, and how long they are.
+use Rattle.std.proofs.Common.{◌≡◌, ℕ, ◌+◌, ◌*◌, ◌/◌, ◌^◌, ◌<◌, ◌≤◌, Bool, true, false, ◌||◌, cond, nat_lt, nat_le, List, [], ◌∷◌, ◌++◌, length, Option, Some, None, Result, Ok, Err, refl, sym, ap, ◌∙◌, length-append, arith}
+use Rattle.std.proofs.lemmas.Bool.Decides.{nat_tests}
+use Rattle.elf_image.specs.Image.{image_of}
+use Rattle.elf_image.specs.declared.fault.ImageFault.{ImageFault}
+use Rattle.elf_image.specs.declared.fault.ImageFault.TheVariants.{TooLarge}
+use Rattle.elf_write.specs.Layout.{word, zeros, aligned, bit, contents, program_bytes, program_rows, place_of, index_row, has_index, base_of, segment_names, last_names, section_names, symbol_rows, strings_of, table_of, Plan, file_end, plan_of, layout_of, joined, is_too_long, is_read, if_read, written_of}
+use Rattle.elf_write.specs.declared.parts.OwnSegment.{OwnSegment}
+use Rattle.elf_write.specs.declared.parts.ImageParts.{ImageParts}
+use Rattle.elf_write.proofs.Layouts.{length_zeros, length_rows}
+
+length_program : (kind offset address file_size memory_size flags : ℕ) → length (program_bytes kind offset address file_size memory_size flags) ≡ 32
+unfolding program_bytes word
+length_program kind offset address file_size memory_size flags = refl
+
+length_program_rows : (at : ℕ) (xs : List OwnSegment) → length (program_rows at xs) ≡ 32 * length xs
+length_program_rows at [] = refl
+length_program_rows at (s ∷ xs) =
+    let rest = length_program_rows (aligned at + length s.bytes) xs in
+    let all = length-append (program_bytes 1 (aligned at) s.start (length s.bytes) s.size (4 + bit s.write 2 + bit s.exec 1)) (program_rows (aligned at + length s.bytes) xs) in
+    omega (arith, all, rest, length_program 1 (aligned at) s.start (length s.bytes) s.size (4 + bit s.write 2 + bit s.exec 1))
+
+index_step : (b : Bool) (row : List ℕ) → length row ≡ 32 → length (cond b row []) ≡ 32 * bit b 1
+index_step true row h = h
+index_step false row h = refl
+
+length_index : (at : ℕ) (parts : ImageParts) → length (index_row at parts) ≡ 32 * bit (has_index parts) 1
+length_index at parts = index_step (has_index parts) _ (length_program 0x70000001 (place_of parts.index.0 parts.index.1 at parts.segments) parts.index.0 parts.index.1 parts.index.1 4)
+
+pub length_programs : (at : ℕ) (parts : ImageParts) → 52 + length (program_rows at parts.segments ++ index_row at parts) ≡ base_of parts
+length_programs at parts =
+    omega (arith, length-append (program_rows at parts.segments) (index_row at parts), length_program_rows at parts.segments, length_index at parts)
+
+bit_most : (b : Bool) → bit b 1 ≤ 1
+bit_most true = omega arith
+bit_most false = omega arith
+
+pub few_programs : (at : ℕ) (parts : ImageParts) → length parts.segments ≤ 1024 → length (program_rows at parts.segments ++ index_row at parts) < 2 ^ 20
+few_programs at parts h = omega (arith, length_programs at parts, bit_most (has_index parts))
+
+length_last : length last_names ≡ 26
+unfolding last_names
+length_last = refl
+
+pub names_named : (xs : List OwnSegment) → 26 ≤ length (section_names xs)
+names_named xs = omega (arith, length-append (segment_names 0 xs) last_names, length_last)
+
+-- ---- pieces that make the file too long
+
+pub long_contents : (parts : ImageParts) → 2 ^ 32 ≤ base_of parts + length (contents (base_of parts) parts.segments) → 2 ^ 32 ≤ file_end (plan_of parts)
+unfolding plan_of
+long_contents parts h = omega (arith, length_programs (base_of parts) parts)
+
+pub long_strings : (parts : ImageParts) → 2 ^ 32 ≤ length (strings_of (table_of parts)) → 2 ^ 32 ≤ file_end (plan_of parts)
+unfolding plan_of
+long_strings parts h = omega arith
+
+pub long_table : (parts : ImageParts) → 2 ^ 28 ≤ length (table_of parts) → 2 ^ 32 ≤ file_end (plan_of parts)
+unfolding plan_of
+long_table parts h = omega (arith, length-append (zeros 16) (symbol_rows 1 (table_of parts)), length_zeros 16, length_rows 1 (table_of parts))
+
+-- ---- what is written
+
+test_gt : (x y : ℕ) → x < y → nat_lt x y ≡ true
+test_gt x y h = grind (arith, nat_tests)
+
+test_le : (x y : ℕ) → x ≤ y → nat_lt y x ≡ false
+test_le x y h = grind (arith, nat_tests)
+
+test_most : (x y : ℕ) → x ≤ y → nat_le x y ≡ true
+test_most x y h = grind (arith, nat_tests)
+
+test_less : (x y : ℕ) → y < x → nat_le x y ≡ false
+test_less x y h = grind (arith, nat_tests)
+
+pub many_segments : (parts : ImageParts) → 1024 < length parts.segments → written_of parts ≡ Err TooLarge
+unfolding written_of is_too_long
+many_segments parts h = rw (test_gt 1024 (length parts.segments) h) refl
+
+pub long_file : (parts : ImageParts) → length parts.segments ≤ 1024 → 2 ^ 32 ≤ file_end (plan_of parts) → written_of parts ≡ Err TooLarge
+unfolding written_of is_too_long
+long_file parts few h = rw (test_le (length parts.segments) 1024 few, test_most (2 ^ 32) (file_end (plan_of parts)) h) refl
+
+pub written_is : (parts : ImageParts) → length parts.segments ≤ 1024 → file_end (plan_of parts) < 2 ^ 32 → written_of parts ≡ if_read (layout_of parts) (is_read (image_of (layout_of parts)))
+unfolding written_of is_too_long
+written_is parts few h = rw (test_le (length parts.segments) 1024 few, test_less (2 ^ 32) (file_end (plan_of parts)) h) refl
+
+layout_is : (parts : ImageParts) (p : Plan) (bytes : List ℕ) → p ≡ plan_of parts → bytes ≡ joined p → bytes ≡ layout_of parts
+unfolding layout_of
+layout_is parts p bytes e h = h ∙ ap (λ (q : Plan). joined q) e
+
+pub written_bytes : (parts : ImageParts) (p : Plan) (bytes : List ℕ) → length parts.segments ≤ 1024 → p ≡ plan_of parts → file_end p < 2 ^ 32 → bytes ≡ joined p
+    → is_read (image_of bytes) ≡ None → written_of parts ≡ Ok bytes
+written_bytes parts p bytes few e short h read =
+    let whole = layout_is parts p bytes e h in
+    written_is parts few (rw e at short) ∙ rw (← whole) (rw read refl)
+
+pub written_fault : (parts : ImageParts) (p : Plan) (bytes : List ℕ) (fault : ImageFault) → length parts.segments ≤ 1024 → p ≡ plan_of parts → file_end p < 2 ^ 32 → bytes ≡ joined p
+    → is_read (image_of bytes) ≡ Some fault → written_of parts ≡ Err fault
+written_fault parts p bytes fault few e short h read =
+    let whole = layout_is parts p bytes e h in
+    written_is parts few (rw e at short) ∙ rw (← whole) (rw read refl)
+
+pub ruleset planning = (length_programs, few_programs, names_named, long_contents, long_strings, long_table)
+
+pub ruleset writing = (many_segments, long_file, written_bytes, written_fault)

@@ -1,0 +1,262 @@
+-- The file that is written for the parts of an image, as one joined list of bytes.
+use Rattle.std.specs.Prelude.{ℕ, ◌≡◌, ◌+◌, ◌-◌, ◌*◌, ◌/◌, ◌%◌, ◌^◌, ◌==◌, ◌<◌, ◌≤◌, not, ◌&&◌, ◌||◌, nat_le, nat_lt, Bool, true, false, if◌then◌else◌, List, [], ◌∷◌, ◌++◌, length, map, filter, replicate, Option, Some, None, unwrap_or, Result, Ok, Err, codes}
+use Rattle.std.specs.List.{position_from, flat_map}
+use Rattle.byteorder.specs.Endian.{little_bytes}
+use Rattle.elf_image.specs.Symbols.{Symbol}
+use Rattle.elf_image.specs.Image.{Image, image_of}
+use Rattle.elf_image.specs.declared.fault.ImageFault.{ImageFault}
+use Rattle.elf_image.specs.declared.fault.ImageFault.TheVariants.{TooLarge}
+use Rattle.elf_write.specs.declared.plan.Places.{Places}
+use Rattle.elf_write.specs.declared.parts.OwnSegment.{OwnSegment}
+use Rattle.elf_write.specs.declared.parts.OwnSymbol.{OwnSymbol}
+use Rattle.elf_write.specs.declared.parts.SymbolKind.{SymbolKind}
+use Rattle.elf_write.specs.declared.parts.SymbolKind.TheVariants as kind
+use Rattle.elf_write.specs.declared.parts.ImageParts.{ImageParts}
+
+unfoldable pub word : ℕ → List ℕ
+word x = little_bytes 4 x
+
+unfoldable pub half : ℕ → List ℕ
+half x = little_bytes 2 x
+
+-- the next multiple of 4
+abbrev pub aligned : ℕ → ℕ
+aligned n = (n + 3) / 4 * 4
+
+unfoldable pub zeros : ℕ → List ℕ
+zeros n = replicate n 0
+
+-- zeros up to the next multiple of 4
+abbrev pub padding : ℕ → List ℕ
+padding at = zeros (aligned at - at)
+
+abbrev pub bit : Bool → ℕ → ℕ
+bit b n = if b then n else 0
+
+-- ---- the symbols, and their strings
+
+abbrev pub is_mapping : SymbolKind → Bool
+is_mapping kind.Function = false
+is_mapping kind.Object = false
+is_mapping kind.Code = true
+is_mapping kind.Words = true
+
+-- the number of the first segment that the value lies in, or at the end of; SHN_ABS where there is none
+abbrev pub section_of : List OwnSegment → ℕ → ℕ
+section_of segments value = unwrap_or (position_from (λ s. nat_le s.start value && nat_le value (s.start + s.size)) 1 segments) 0xfff1
+
+-- a mapping symbol is local and of no type, without a size; a function is global with bit 0 of its value set, an object is global
+abbrev pub symbol_row_of : List OwnSegment → OwnSymbol → SymbolKind → Symbol
+symbol_row_of segments s kind.Function = record { name = s.name; value = s.value - s.value % 2 + 1; size = s.size; info = 0x12; section = section_of segments s.value }
+symbol_row_of segments s kind.Object = record { name = s.name; value = s.value; size = s.size; info = 0x11; section = section_of segments s.value }
+symbol_row_of segments s kind.Code = record { name = codes "$t"; value = s.value; size = 0; info = 0; section = section_of segments s.value }
+symbol_row_of segments s kind.Words = record { name = codes "$d"; value = s.value; size = 0; info = 0; section = section_of segments s.value }
+
+abbrev pub rows_of : List OwnSegment → List OwnSymbol → List Symbol
+rows_of segments symbols = map (λ s. symbol_row_of segments s s.kind) symbols
+
+-- the mapping symbols, or the others
+abbrev pub is_wanted : Bool → SymbolKind → Bool
+is_wanted true k = is_mapping k
+is_wanted false k = not (is_mapping k)
+
+abbrev pub wanted_rows : Bool → List OwnSegment → List OwnSymbol → List Symbol
+wanted_rows mapping segments symbols = rows_of segments (filter (λ s. is_wanted mapping s.kind) symbols)
+
+-- the symbols in the order of the table, behind the null symbol: first the mapping symbols
+abbrev pub table_of : ImageParts → List Symbol
+table_of parts = wanted_rows true parts.segments parts.symbols ++ wanted_rows false parts.segments parts.symbols
+
+-- a name closed by a zero byte; an empty one takes none
+abbrev pub closed : List ℕ → List ℕ
+closed name = if length name == 0 then [] else name ++ 0 ∷ []
+
+abbrev pub strings_of : List Symbol → List ℕ
+strings_of symbols = 0 ∷ flat_map (λ s. closed s.name) symbols
+
+-- an empty name is at offset 0
+abbrev pub name_offset : List ℕ → ℕ → ℕ
+name_offset name at = if length name == 0 then 0 else at
+
+unfoldable pub symbol_bytes : ℕ → Symbol → List ℕ
+symbol_bytes at s = word (name_offset s.name at) ++ word s.value ++ word s.size ++ (s.info ∷ 0 ∷ []) ++ half s.section
+
+-- the rows of the table, the first name at an offset
+abbrev pub symbol_rows : ℕ → List Symbol → List ℕ
+symbol_rows at [] = []
+symbol_rows at (s ∷ more) = symbol_bytes at s ++ symbol_rows (at + length (closed s.name)) more
+
+-- ---- the segments
+
+-- the bytes of each at the next multiple of 4
+abbrev pub contents : ℕ → List OwnSegment → List ℕ
+contents at [] = []
+contents at (s ∷ more) = padding at ++ s.bytes ++ contents (aligned at + length s.bytes) more
+
+unfoldable pub program_bytes : ℕ → ℕ → ℕ → ℕ → ℕ → ℕ → List ℕ
+program_bytes kind offset address file_size memory_size flags =
+    word kind ++ word offset ++ word address ++ word address ++ word file_size ++ word memory_size ++ word flags ++ word 4
+
+abbrev pub program_rows : ℕ → List OwnSegment → List ℕ
+program_rows at [] = []
+program_rows at (s ∷ more) =
+    program_bytes 1 (aligned at) s.start (length s.bytes) s.size (4 + bit s.write 2 + bit s.exec 1)
+    ++ program_rows (aligned at + length s.bytes) more
+
+-- where the bytes at an address stand in the file: in the first segment whose bytes hold them all; 0 where none does
+abbrev pub place_of : ℕ → ℕ → ℕ → List OwnSegment → ℕ
+place_of address size at [] = 0
+place_of address size at (s ∷ more) =
+    if nat_le s.start address && nat_le (address + size) (s.start + length s.bytes) then aligned at + (address - s.start)
+    else place_of address size (aligned at + length s.bytes) more
+
+abbrev pub has_index : ImageParts → Bool
+has_index parts = not (parts.index.1 == 0)
+
+abbrev pub index_row : ℕ → ImageParts → List ℕ
+index_row at parts =
+    if has_index parts then program_bytes 0x70000001 (place_of parts.index.0 parts.index.1 at parts.segments) parts.index.0 parts.index.1 parts.index.1 4 else []
+
+abbrev pub program_total : ImageParts → ℕ
+program_total parts = length parts.segments + bit (has_index parts) 1
+
+-- the end of the program headers
+abbrev pub base_of : ImageParts → ℕ
+base_of parts = 52 + 32 * program_total parts
+
+-- ---- the sections
+
+abbrev pub digit : ℕ → List ℕ
+digit n = (48 + n % 10) ∷ []
+
+-- a number below 10,000 in decimal digits
+unfoldable pub decimal : ℕ → List ℕ
+decimal n =
+    if nat_lt n 10 then digit n
+    else (if nat_lt n 100 then digit (n / 10) ++ digit n
+    else (if nat_lt n 1000 then digit (n / 100) ++ digit (n / 10) ++ digit n
+    else digit (n / 1000) ++ digit (n / 100) ++ digit (n / 10) ++ digit n))
+
+unfoldable pub segment_name : ℕ → List ℕ
+segment_name i = codes ".seg" ++ decimal i ++ 0 ∷ []
+
+abbrev pub segment_names : ℕ → List OwnSegment → List ℕ
+segment_names i [] = []
+segment_names i (s ∷ more) = segment_name i ++ segment_names (i + 1) more
+
+unfoldable pub last_names : List ℕ
+last_names = codes ".symtab" ++ 0 ∷ [] ++ codes ".strtab" ++ 0 ∷ [] ++ codes ".shstrtab" ++ 0 ∷ []
+
+abbrev pub section_names : List OwnSegment → List ℕ
+section_names segments = 0 ∷ segment_names 0 segments ++ last_names
+
+unfoldable pub section_bytes : ℕ → ℕ → ℕ → ℕ → ℕ → ℕ → ℕ → ℕ → ℕ → List ℕ
+section_bytes name kind flags address offset size link info entry_size =
+    word name ++ word kind ++ word flags ++ word address ++ word offset ++ word size ++ word link ++ word info ++ word 4 ++ word entry_size
+
+-- the sections of the segments: the number of the first, the offset of its name, and where its bytes may begin
+abbrev pub section_rows : ℕ → ℕ → ℕ → List OwnSegment → List ℕ
+section_rows i name at [] = []
+section_rows i name at (s ∷ more) =
+    section_bytes name 1 (2 + bit s.write 1 + bit s.exec 4) s.start (aligned at) (length s.bytes) 0 0 0
+    ++ section_rows (i + 1) (name + length (segment_name i)) (aligned at + length s.bytes) more
+
+-- ---- the file
+
+-- the pieces that the file joins
+pub record Plan : Type 0 where
+  pub entry : ℕ
+  pub programs : List ℕ
+  pub contents : List ℕ
+  pub table : List ℕ
+  pub locals : ℕ
+  pub strings : List ℕ
+  pub names : List ℕ
+  pub segment_rows : List ℕ
+  pub segment_total : ℕ
+
+-- where the pieces stand
+abbrev pub contents_end : Plan → ℕ
+contents_end p = 52 + length p.programs + length p.contents
+
+abbrev pub table_at : Plan → ℕ
+table_at p = aligned (contents_end p)
+
+abbrev pub strings_at : Plan → ℕ
+strings_at p = table_at p + length p.table
+
+abbrev pub names_at : Plan → ℕ
+names_at p = strings_at p + length p.strings
+
+abbrev pub names_end : Plan → ℕ
+names_end p = names_at p + length p.names
+
+abbrev pub sections_at : Plan → ℕ
+sections_at p = aligned (names_end p)
+
+-- the numbers say where the pieces stand
+pub record ArePlaces (p : Plan) (at : Places) : Type 0 where
+  pub table : at.table ≡ table_at p
+  pub strings : at.strings ≡ strings_at p
+  pub names : at.names ≡ names_at p
+  pub sections : at.sections ≡ sections_at p
+
+abbrev pub file_end : Plan → ℕ
+file_end p = sections_at p + 40 * (p.segment_total + 4)
+
+-- the identification, and the type, the machine and the version
+unfoldable pub identity : List ℕ
+identity = (0x7f ∷ 0x45 ∷ 0x4c ∷ 0x46 ∷ 1 ∷ 1 ∷ 1 ∷ []) ++ zeros 9 ++ half 2 ++ half 40 ++ word 1
+
+-- the sizes and numbers of headers
+unfoldable pub header_sizes : Plan → List ℕ
+header_sizes p = half 52 ++ half 32 ++ half (length p.programs / 32) ++ half 40 ++ half (p.segment_total + 4) ++ half (p.segment_total + 3)
+
+unfoldable pub file_header : Plan → List ℕ
+file_header p = identity ++ word (p.entry - p.entry % 2 + 1) ++ word 52 ++ word (sections_at p) ++ word 0x05000000 ++ header_sizes p
+
+-- the null section, those of the segments, `.symtab`, `.strtab` and `.shstrtab`, whose names are the last 26 bytes of the names
+unfoldable pub sections_of : Plan → List ℕ
+sections_of p =
+    zeros 40 ++ p.segment_rows
+    ++ section_bytes (length p.names - 26) 2 0 0 (table_at p) (length p.table) (p.segment_total + 2) p.locals 16
+    ++ section_bytes (length p.names - 18) 3 0 0 (strings_at p) (length p.strings) 0 0 0
+    ++ section_bytes (length p.names - 10) 3 0 0 (names_at p) (length p.names) 0 0 0
+
+unfoldable pub joined : Plan → List ℕ
+joined p =
+    file_header p ++ p.programs ++ p.contents ++ padding (contents_end p) ++ p.table ++ p.strings ++ p.names ++ padding (names_end p) ++ sections_of p
+
+unfoldable pub plan_of : ImageParts → Plan
+plan_of parts = record {
+  entry = parts.entry;
+  programs = program_rows (base_of parts) parts.segments ++ index_row (base_of parts) parts;
+  contents = contents (base_of parts) parts.segments;
+  table = zeros 16 ++ symbol_rows 1 (table_of parts);
+  locals = 1 + length (wanted_rows true parts.segments parts.symbols);
+  strings = strings_of (table_of parts);
+  names = section_names parts.segments;
+  segment_rows = section_rows 0 1 (base_of parts) parts.segments;
+  segment_total = length parts.segments;
+}
+
+-- the file of the parts
+unfoldable pub layout_of : ImageParts → List ℕ
+layout_of parts = joined (plan_of parts)
+
+-- more than 1,024 segments, or a file of 2 ^ 32 bytes or more
+unfoldable pub is_too_long : ImageParts → Bool
+is_too_long parts = nat_lt 1024 (length parts.segments) || nat_le (2 ^ 32) (file_end (plan_of parts))
+
+-- what a reading refuses
+abbrev pub is_read : Result Image ImageFault → Option ImageFault
+is_read (Ok image) = None
+is_read (Err fault) = Some fault
+
+abbrev pub if_read : List ℕ → Option ImageFault → Result (List ℕ) ImageFault
+if_read bytes None = Ok bytes
+if_read bytes (Some fault) = Err fault
+
+-- what is written: the layout, where it stands for an image
+unfoldable pub written_of : ImageParts → Result (List ℕ) ImageFault
+written_of parts = if is_too_long parts then Err TooLarge else if_read (layout_of parts) (is_read (image_of (layout_of parts)))

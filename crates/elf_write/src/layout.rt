@@ -1,0 +1,241 @@
+ghost use Rattle.std.specs.Prelude.{◌≡◌, ◌+◌, ◌-◌, ◌*◌, ◌^◌, ◌<◌, ◌≤◌, [], ◌∷◌, ◌++◌, length, nat_le, ◌&&◌, OnOk, IfOk};
+ghost use Rattle.elf_write.specs.Layout.{word, half, zeros, aligned, padding, bit, contents, program_bytes, program_rows, place_of, decimal, segment_name, segment_names, last_names, section_names, section_bytes, section_rows};
+
+use crate::parts::OwnSegment;
+use crate::rows::{aligned, put_padding, put_word};
+use std::alloc::{AllocError, Global};
+
+/// The bytes of the segments, each at the next multiple of 4, from the offset `base` on.
+#[tactic(auto, using(crate::proofs::Layouts::layouts))]
+pub(crate) fn contents(
+    alloc: Global,
+    base: usize,
+    segments: &[OwnSegment],
+) -> Result<Vec<u8>, AllocError>
+    requires { base < 2 ^ 32 }
+    ensures { IfOk result (λ v. v.items ≡ contents base segments.now) }
+{
+    let mut out = Vec::new(alloc);
+    for s in segments {
+        let at = base + out.len();
+        put_padding(&mut out, at)?;
+        out.extend_from_slice(s.bytes.as_slice())?;
+    }
+    Ok(out)
+}
+
+fn bit(holds: bool, n: u32) -> u32
+    ensures { result ≡ bit holds n }
+{
+    if holds { n } else { 0 }
+}
+
+/// Puts a program header at the end: its type, the offset, address and size of its bytes, its size in memory and its
+/// rights.
+#[tactic(auto, using(std::proofs::lemmas::List::append_assoc), unfolding(crate::specs::Layout::program_bytes))]
+pub(crate) fn put_program(
+    out: &mut Vec<u8>,
+    kind: u32,
+    offset: u32,
+    address: u32,
+    file_size: u32,
+    memory_size: u32,
+    flags: u32,
+) -> Result<(), AllocError>
+    ensures { OnOk result (out.new.items ≡ out.old.items ++ program_bytes kind offset address file_size memory_size flags) }
+{
+    put_word(out, kind)?;
+    put_word(out, offset)?;
+    put_word(out, address)?;
+    put_word(out, address)?;
+    put_word(out, file_size)?;
+    put_word(out, memory_size)?;
+    put_word(out, flags)?;
+    put_word(out, 4)
+}
+
+/// The program headers of the segments, whose bytes stand from `base` on.
+#[tactic(auto, using(crate::proofs::Layouts::layouts))]
+pub(crate) fn program_rows(
+    alloc: Global,
+    base: usize,
+    segments: &[OwnSegment],
+) -> Result<Vec<u8>, AllocError>
+    requires { base + length (contents base segments.now) < 2 ^ 32 }
+    ensures { IfOk result (λ v. v.items ≡ program_rows base segments.now) }
+{
+    let mut out = Vec::new(alloc);
+    let mut end = base;
+    for s in segments {
+        let at = aligned(end);
+        let size = s.bytes.as_slice().len();
+        let flags = 4 + bit(s.write, 2) + bit(s.exec, 1);
+        put_program(&mut out, 1, at as u32, s.start, size as u32, s.size, flags)?;
+        end = at + size;
+    }
+    Ok(out)
+}
+
+/// Whether the bytes of a segment hold a whole range of addresses.
+fn holds_range(s: &OwnSegment, address: u32, size: u32) -> bool
+    ensures { result ≡ (nat_le s.now.start address && nat_le (address + size) (s.now.start + length s.now.bytes)) }
+{
+    s.start <= address
+        && u64::from(address) + u64::from(size)
+            <= u64::from(s.start) + s.bytes.as_slice().len() as u64
+}
+
+/// Where the bytes of a range of addresses stand in the file: in the first segment whose bytes hold them all.
+#[tactic(auto, using(crate::proofs::Layouts::layouts))]
+pub(crate) fn place_of(address: u32, size: u32, base: usize, segments: &[OwnSegment]) -> u32
+    requires { base + length (contents base segments.now) < 2 ^ 32 }
+    ensures { result ≡ place_of address size base segments.now }
+{
+    let mut end = base;
+    for s in segments {
+        let at = aligned(end);
+        let len = s.bytes.as_slice().len();
+        if holds_range(s, address, size) {
+            return at as u32 + (address - s.start);
+        }
+        end = at + len;
+    }
+    0
+}
+
+/// The decimal digits of a number below 10,000.
+#[tactic(auto, using(std::proofs::lemmas::List::append_assoc), unfolding(crate::specs::Layout::decimal))]
+fn put_decimal(out: &mut Vec<u8>, n: u32) -> Result<(), AllocError>
+    requires { n < 10000 }
+    ensures { OnOk result (out.new.items ≡ out.old.items ++ decimal n) }
+{
+    if n >= 1000 {
+        out.push(b'0' + (n / 1000 % 10) as u8)?;
+    }
+    if n >= 100 {
+        out.push(b'0' + (n / 100 % 10) as u8)?;
+    }
+    if n >= 10 {
+        out.push(b'0' + (n / 10 % 10) as u8)?;
+    }
+    out.push(b'0' + (n % 10) as u8)?;
+    Ok(())
+}
+
+#[tactic(auto, using(std::proofs::lemmas::List::append_assoc), unfolding(crate::specs::Layout::segment_name))]
+fn put_segment_name(out: &mut Vec<u8>, i: u32) -> Result<(), AllocError>
+    requires { i < 10000 }
+    ensures { OnOk result (out.new.items ≡ out.old.items ++ segment_name i) }
+{
+    out.extend_from_slice(b".seg")?;
+    put_decimal(out, i)?;
+    out.push(0)?;
+    Ok(())
+}
+
+#[tactic(auto, unfolding(crate::specs::Layout::last_names))]
+fn put_last_names(out: &mut Vec<u8>) -> Result<(), AllocError>
+    ensures { OnOk result (out.new.items ≡ out.old.items ++ last_names) }
+{
+    out.extend_from_slice(b".symtab\0.strtab\0.shstrtab\0")
+}
+
+/// The names of the sections, each closed by a zero byte, behind a zero byte.
+#[tactic(auto, using(crate::proofs::Layouts::layouts))]
+pub(crate) fn section_names(alloc: Global, segments: &[OwnSegment]) -> Result<Vec<u8>, AllocError>
+    requires { length segments.now ≤ 1024 }
+    ensures { IfOk result (λ v. v.items ≡ section_names segments.now) }
+{
+    let mut out = Vec::new(alloc);
+    out.push(0)?;
+    let mut i = 0;
+    for _s in segments {
+        put_segment_name(&mut out, i)?;
+        i += 1;
+    }
+    put_last_names(&mut out)?;
+    Ok(out)
+}
+
+/// Puts a section header at the end: the offset of its name, its type, flags and address, the offset and the size of its
+/// bytes, its link, its info and the size of its entries.
+#[tactic(auto, using(std::proofs::lemmas::List::append_assoc), unfolding(crate::specs::Layout::section_bytes))]
+pub(crate) fn put_section(
+    out: &mut Vec<u8>,
+    name: u32,
+    kind: u32,
+    flags: u32,
+    address: u32,
+    place: (u32, u32),
+    link: u32,
+    info: u32,
+    entry_size: u32,
+) -> Result<(), AllocError>
+    ensures { OnOk result (out.new.items ≡ out.old.items ++ section_bytes name kind flags address place.0 place.1 link info entry_size) }
+{
+    put_word(out, name)?;
+    put_word(out, kind)?;
+    put_word(out, flags)?;
+    put_word(out, address)?;
+    put_word(out, place.0)?;
+    put_word(out, place.1)?;
+    put_word(out, link)?;
+    put_word(out, info)?;
+    put_word(out, 4)?;
+    put_word(out, entry_size)
+}
+
+/// How many bytes the name of a segment's section takes, with its closing zero byte.
+#[tactic(auto, unfolding(crate::specs::Layout::segment_name, crate::specs::Layout::decimal))]
+fn segment_name_len(i: u32) -> u32
+    requires { i < 10000 }
+    ensures len { result ≡ length (segment_name i) }
+    ensures short { result ≤ 9 }
+{
+    if i < 10 {
+        6
+    } else if i < 100 {
+        7
+    } else if i < 1000 {
+        8
+    } else {
+        9
+    }
+}
+
+/// The section headers of the segments, whose bytes stand from `base` on.
+#[tactic(auto, using(crate::proofs::Layouts::layouts))]
+pub(crate) fn section_rows(
+    alloc: Global,
+    base: usize,
+    segments: &[OwnSegment],
+) -> Result<Vec<u8>, AllocError>
+    requires fits { base + length (contents base segments.now) < 2 ^ 32 }
+    requires count { length segments.now ≤ 1024 }
+    ensures { IfOk result (λ v. v.items ≡ section_rows 0 1 base segments.now) }
+{
+    let mut out = Vec::new(alloc);
+    let mut end = base;
+    let mut name = 1;
+    let mut i = 0;
+    for s in segments {
+        let at = aligned(end);
+        let size = s.bytes.as_slice().len();
+        let flags = 2 + bit(s.write, 1) + bit(s.exec, 4);
+        put_section(
+            &mut out,
+            name,
+            1,
+            flags,
+            s.start,
+            (at as u32, size as u32),
+            0,
+            0,
+            0,
+        )?;
+        name += segment_name_len(i);
+        end = at + size;
+        i += 1;
+    }
+    Ok(out)
+}

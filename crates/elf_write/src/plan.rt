@@ -1,0 +1,169 @@
+ghost use Rattle.std.specs.Prelude.{◌≡◌, ◌+◌, ◌-◌, ◌*◌, ◌/◌, ◌%◌, ◌^◌, ◌<◌, ◌≤◌, [], ◌∷◌, ◌++◌, length, OnOk, IfOk, IfSome, IfNone};
+ghost use Rattle.elf_write.specs.Layout.{Plan as Pieces, ArePlaces, word, half, zeros, padding, identity, header_sizes, file_header, sections_of, joined, contents_end, table_at, strings_at, names_at, names_end, sections_at, file_end};
+
+use crate::layout::put_section;
+use crate::rows::{put_half, put_padding, put_word, put_zeros};
+use std::alloc::{AllocError, Global};
+use std::marker::Model;
+
+/// The pieces that a file joins.
+#[derive(Drop)]
+pub struct Plan {
+    pub(crate) entry: u32,
+    pub(crate) programs: Vec<u8>,
+    pub(crate) contents: Vec<u8>,
+    pub(crate) table: Vec<u8>,
+    pub(crate) locals: u32,
+    pub(crate) strings: Vec<u8>,
+    pub(crate) names: Vec<u8>,
+    pub(crate) segment_rows: Vec<u8>,
+    pub(crate) segment_total: u16,
+}
+
+impl Model for Plan {
+    ghost use Rattle.elf_write.specs.Layout.{Plan as Pieces};
+
+    ghost Value = { Pieces };
+
+    ghost view = { λ p. record {
+      entry = p.entry;
+      programs = p.programs.items;
+      contents = p.contents.items;
+      table = p.table.items;
+      locals = p.locals;
+      strings = p.strings.items;
+      names = p.names.items;
+      segment_rows = p.segment_rows.items;
+      segment_total = p.segment_total;
+    } };
+}
+
+/// Where the pieces of a file stand.
+#[derive(Clone, Copy)]
+pub struct Places {
+    pub table: u32,
+    pub strings: u32,
+    pub names: u32,
+    pub sections: u32,
+}
+
+fn aligned(n: u128) -> u128
+    requires { n < 2 ^ 100 }
+    ensures { result ≡ (n + 3) / 4 * 4 }
+{
+    (n + 3) / 4 * 4
+}
+
+/// Where the pieces stand, or None where the file has 2^32 bytes or more.
+pub(crate) fn placed(p: &Plan) -> Option<Places>
+    ensures long { IfNone result (2 ^ 32 ≤ file_end p.now) }
+    ensures fits { IfSome result (λ at. file_end p.now < 2 ^ 32) }
+    ensures places { IfSome result (ArePlaces p.now) }
+{
+    let table = aligned(52 + p.programs.len() as u128 + p.contents.len() as u128);
+    let strings = table + p.table.len() as u128;
+    let names = strings + p.strings.len() as u128;
+    let sections = aligned(names + p.names.len() as u128);
+    if sections + 40 * (u128::from(p.segment_total) + 4) >= 0x1_0000_0000 {
+        return None;
+    }
+    Some(Places {
+        table: table as u32,
+        strings: strings as u32,
+        names: names as u32,
+        sections: sections as u32,
+    })
+}
+
+#[tactic(auto, using(std::proofs::lemmas::List::append_assoc), unfolding(crate::specs::Layout::identity))]
+fn put_identity(out: &mut Vec<u8>) -> Result<(), AllocError>
+    ensures { OnOk result (out.new.items ≡ out.old.items ++ identity) }
+{
+    out.extend_from_slice(b"\x7fELF\x01\x01\x01")?;
+    put_zeros(out, 9)?;
+    put_half(out, 2)?;
+    put_half(out, 40)?;
+    put_word(out, 1)
+}
+
+#[tactic(auto, using(std::proofs::lemmas::List::append_assoc), unfolding(crate::specs::Layout::header_sizes))]
+fn put_header_sizes(out: &mut Vec<u8>, p: &Plan) -> Result<(), AllocError>
+    requires programs { length p.now.programs < 2 ^ 20 }
+    requires segments { p.now.segment_total ≤ 1024 }
+    ensures { OnOk result (out.new.items ≡ out.old.items ++ header_sizes p.now) }
+{
+    put_half(out, 52)?;
+    put_half(out, 32)?;
+    put_half(out, (p.programs.len() / 32) as u16)?;
+    put_half(out, 40)?;
+    put_half(out, p.segment_total + 4)?;
+    put_half(out, p.segment_total + 3)
+}
+
+#[tactic(auto, using(std::proofs::lemmas::List::append_assoc), unfolding(crate::specs::Layout::file_header))]
+fn put_file_header(out: &mut Vec<u8>, p: &Plan, at: Places) -> Result<(), AllocError>
+    requires programs { length p.now.programs < 2 ^ 20 }
+    requires segments { p.now.segment_total ≤ 1024 }
+    requires places { ArePlaces p.now at }
+    ensures { OnOk result (out.new.items ≡ out.old.items ++ file_header p.now) }
+{
+    put_identity(out)?;
+    put_word(out, p.entry - p.entry % 2 + 1)?;
+    put_word(out, 52)?;
+    put_word(out, at.sections)?;
+    put_word(out, 0x0500_0000)?;
+    put_header_sizes(out, p)
+}
+
+#[tactic(auto, using(std::proofs::lemmas::List::append_assoc), unfolding(crate::specs::Layout::sections_of))]
+fn put_sections(out: &mut Vec<u8>, p: &Plan, at: Places) -> Result<(), AllocError>
+    requires fits { file_end p.now < 2 ^ 32 }
+    requires named { 26 ≤ length p.now.names }
+    requires segments { p.now.segment_total ≤ 1024 }
+    requires places { ArePlaces p.now at }
+    ensures { OnOk result (out.new.items ≡ out.old.items ++ sections_of p.now) }
+{
+    let (table, strings, names) = (
+        p.table.len() as u32,
+        p.strings.len() as u32,
+        p.names.len() as u32,
+    );
+    put_zeros(out, 40)?;
+    out.extend_from_slice(&p.segment_rows)?;
+    put_section(
+        out,
+        names - 26,
+        2,
+        0,
+        0,
+        (at.table, table),
+        u32::from(p.segment_total) + 2,
+        p.locals,
+        16,
+    )?;
+    put_section(out, names - 18, 3, 0, 0, (at.strings, strings), 0, 0, 0)?;
+    put_section(out, names - 10, 3, 0, 0, (at.names, names), 0, 0, 0)
+}
+
+/// The pieces, joined to the file.
+#[tactic(auto, using(std::proofs::lemmas::List::append_assoc), unfolding(crate::specs::Layout::joined))]
+pub(crate) fn join(alloc: Global, p: &Plan, at: Places) -> Result<Vec<u8>, AllocError>
+    requires fits { file_end p.now < 2 ^ 32 }
+    requires programs { length p.now.programs < 2 ^ 20 }
+    requires named { 26 ≤ length p.now.names }
+    requires segments { p.now.segment_total ≤ 1024 }
+    requires places { ArePlaces p.now at }
+    ensures { IfOk result (λ v. v.items ≡ joined p.now) }
+{
+    let mut out = Vec::new(alloc);
+    put_file_header(&mut out, p, at)?;
+    out.extend_from_slice(&p.programs)?;
+    out.extend_from_slice(&p.contents)?;
+    put_padding(&mut out, 52 + p.programs.len() + p.contents.len())?;
+    out.extend_from_slice(&p.table)?;
+    out.extend_from_slice(&p.strings)?;
+    out.extend_from_slice(&p.names)?;
+    put_padding(&mut out, at.names as usize + p.names.len())?;
+    put_sections(&mut out, p, at)?;
+    Ok(out)
+}

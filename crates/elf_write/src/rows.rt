@@ -1,0 +1,177 @@
+ghost use Rattle.std.specs.Prelude.{◌≡◌, ◌≢◌, ◌+◌, ◌-◌, ◌*◌, ◌^◌, ◌<◌, ◌≤◌, [], ◌∷◌, ◌++◌, length, OnOk, IfOk, map, filter};
+ghost use Rattle.elf_write.specs.Layout.{word, half, zeros, aligned, padding, is_mapping, section_of, symbol_row_of, rows_of, is_wanted, wanted_rows, closed, name_offset, symbol_bytes, symbol_rows, strings_of, contents, program_bytes, program_rows, place_of};
+
+use crate::parts::{OwnSegment, OwnSymbol, SymbolKind};
+use elf_image::symbol::Symbol;
+use std::alloc::{AllocError, Global};
+
+#[tactic(auto, unfolding(crate::specs::Layout::word))]
+pub(crate) fn put_word(out: &mut Vec<u8>, x: u32) -> Result<(), AllocError>
+    ensures { OnOk result (out.new.items ≡ out.old.items ++ word x) }
+{
+    out.extend_from_slice(&x.to_le_bytes())
+}
+
+#[tactic(auto, unfolding(crate::specs::Layout::half))]
+pub(crate) fn put_half(out: &mut Vec<u8>, x: u16) -> Result<(), AllocError>
+    ensures { OnOk result (out.new.items ≡ out.old.items ++ half x) }
+{
+    out.extend_from_slice(&x.to_le_bytes())
+}
+
+/// The next multiple of 4.
+pub(crate) fn aligned(n: usize) -> usize
+    requires { n + 3 < 2 ^ 64 }
+    ensures { result ≡ aligned n }
+{
+    (n + 3) / 4 * 4
+}
+
+#[tactic(auto, unfolding(crate::specs::Layout::zeros))]
+pub(crate) fn put_zeros(out: &mut Vec<u8>, count: usize) -> Result<(), AllocError>
+    ensures { OnOk result (out.new.items ≡ out.old.items ++ zeros count) }
+{
+    for _i in 0..count {
+        out.push(0)?;
+    }
+    Ok(())
+}
+
+/// Zeros up to the next multiple of 4 behind the offset `at`.
+pub(crate) fn put_padding(out: &mut Vec<u8>, at: usize) -> Result<(), AllocError>
+    requires { at + 3 < 2 ^ 64 }
+    ensures { OnOk result (out.new.items ≡ out.old.items ++ padding at) }
+{
+    put_zeros(out, aligned(at) - at)
+}
+
+/// The number of the section of the first segment that a value lies in or at the end of.
+fn section_of(segments: &[OwnSegment], value: u32) -> u16
+    requires { length segments.now ≤ 1024 }
+    ensures { result ≡ section_of segments.now value }
+{
+    let mut number = 1;
+    for s in segments {
+        if s.start <= value && u64::from(value) <= u64::from(s.start) + u64::from(s.size) {
+            return number;
+        }
+        number += 1;
+    }
+    0xfff1
+}
+
+fn symbol_row<'a>(segments: &[OwnSegment], s: &'a OwnSymbol) -> Symbol<'a>
+    requires { length segments.now ≤ 1024 }
+    ensures { result ≡ symbol_row_of segments.now s.now s.now.kind }
+{
+    let section = section_of(segments, s.value);
+    let (name, value, size, info) = match s.kind {
+        SymbolKind::Function => (s.name.bytes(), s.value - s.value % 2 + 1, s.size, 0x12),
+        SymbolKind::Object => (s.name.bytes(), s.value, s.size, 0x11),
+        SymbolKind::Code => (b"$t".as_slice(), s.value, 0, 0),
+        SymbolKind::Words => (b"$d".as_slice(), s.value, 0, 0),
+    };
+    Symbol {
+        name,
+        value,
+        size,
+        info,
+        section,
+    }
+}
+
+/// Whether a symbol is a mapping symbol, or none, as wanted.
+fn is_wanted(mapping: bool, kind: SymbolKind) -> bool
+    ensures { result ≡ is_wanted mapping kind }
+{
+    let is_mapping = match kind {
+        SymbolKind::Function | SymbolKind::Object => false,
+        SymbolKind::Code | SymbolKind::Words => true,
+    };
+    is_mapping == mapping
+}
+
+/// Puts the rows of the mapping symbols, or of the others, at the end.
+pub(crate) fn push_rows<'a>(
+    rows: &mut Vec<Symbol<'a>>,
+    segments: &[OwnSegment],
+    symbols: &'a [OwnSymbol],
+    mapping: bool,
+) -> Result<(), AllocError>
+    requires { length segments.now ≤ 1024 }
+    ensures { OnOk result (rows.new.items ≡ rows.old.items ++ wanted_rows mapping segments.now symbols.now) }
+{
+    for s in symbols {
+        if is_wanted(mapping, s.kind) {
+            rows.push(symbol_row(segments, s))?;
+        }
+    }
+    Ok(())
+}
+
+/// Puts a name closed by a zero byte at the end; an empty one takes none.
+fn put_closed(out: &mut Vec<u8>, name: &[u8]) -> Result<(), AllocError>
+    ensures { OnOk result (out.new.items ≡ out.old.items ++ closed name.now) }
+{
+    if name.is_empty() {
+        return Ok(());
+    }
+    out.extend_from_slice(name)?;
+    out.push(b'\0')?;
+    Ok(())
+}
+
+/// The names of the rows, each closed by a zero byte, behind a zero byte.
+pub(crate) fn strings_of(alloc: Global, rows: &[Symbol]) -> Result<Vec<u8>, AllocError>
+    ensures { IfOk result (λ v. v.items ≡ strings_of rows.now) }
+{
+    let mut out = Vec::new(alloc);
+    out.push(0)?;
+    for s in rows {
+        put_closed(&mut out, s.name)?;
+    }
+    Ok(out)
+}
+
+/// The offset of a name in the strings: 0 for an empty one.
+fn name_offset(name: &[u8], at: u32) -> u32
+    ensures { result ≡ name_offset name.now at }
+{
+    if name.is_empty() { 0 } else { at }
+}
+
+/// How many bytes a name takes among the strings.
+fn closed_len(name: &[u8]) -> usize
+    requires { length name.now < 2 ^ 63 }
+    ensures { result ≡ length (closed name.now) }
+{
+    if name.is_empty() { 0 } else { name.len() + 1 }
+}
+
+#[tactic(auto, using(std::proofs::lemmas::List::append_assoc), unfolding(crate::specs::Layout::symbol_bytes))]
+fn put_symbol(out: &mut Vec<u8>, s: &Symbol, at: u32) -> Result<(), AllocError>
+    ensures { OnOk result (out.new.items ≡ out.old.items ++ symbol_bytes at s.now) }
+{
+    put_word(out, name_offset(s.name, at))?;
+    put_word(out, s.value)?;
+    put_word(out, s.size)?;
+    out.push(s.info)?;
+    out.push(0)?;
+    put_half(out, s.section)
+}
+
+/// The rows of the table behind the null symbol.
+#[tactic(auto, using(crate::proofs::Layouts::layouts))]
+pub(crate) fn table_of(alloc: Global, rows: &[Symbol]) -> Result<Vec<u8>, AllocError>
+    requires { length (strings_of rows.now) < 2 ^ 32 }
+    ensures { IfOk result (λ v. v.items ≡ zeros 16 ++ symbol_rows 1 rows.now) }
+{
+    let mut out = Vec::new(alloc);
+    put_zeros(&mut out, 16)?;
+    let mut at = 1usize;
+    for s in rows {
+        put_symbol(&mut out, s, at as u32)?;
+        at += closed_len(s.name);
+    }
+    Ok(out)
+}

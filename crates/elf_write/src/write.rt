@@ -1,0 +1,115 @@
+ghost use Rattle.std.specs.Prelude.{◌≡◌, ◌≢◌, ◌+◌, ◌*◌, ◌^◌, ◌<◌, ◌≤◌, ◌++◌, length, Option, Some, None, Ok, Err, IfOk, IfErr, IfSome, IfNone, IsOk, OnOk};
+ghost use Rattle.elf_image.specs.Image.{image_of};
+ghost use Rattle.elf_image.specs.declared.fault.ImageFault.TheVariants.{OutOfMemory};
+ghost use Rattle.elf_write.specs.Layout.{contents, program_rows, index_row, base_of, plan_of, layout_of, file_end, written_of, is_read};
+
+use crate::layout::{contents, place_of, program_rows, put_program, section_names, section_rows};
+use crate::parts::ImageParts;
+use crate::plan::{Plan, join, placed};
+use crate::rows::{push_rows, strings_of, table_of};
+use elf_image::{ImageFault, read_image};
+use std::alloc::{AllocError, Global};
+
+/// The end of the program headers.
+fn base_of(parts: &ImageParts) -> usize
+    requires { length parts.now.segments ≤ 1024 }
+    ensures { result ≡ base_of parts.now }
+{
+    let segments = parts.segments.as_slice().len();
+    if parts.index.1 == 0 {
+        52 + 32 * segments
+    } else {
+        52 + 32 * (segments + 1)
+    }
+}
+
+/// The program headers, that of the index last.
+fn programs(alloc: Global, base: usize, parts: &ImageParts) -> Result<Vec<u8>, AllocError>
+    requires { base + length (contents base parts.now.segments) < 2 ^ 32 }
+    ensures { IfOk result (λ v. v.items ≡ program_rows base parts.now.segments ++ index_row base parts.now) }
+{
+    let segments = parts.segments.as_slice();
+    let (address, size) = parts.index;
+    let mut out = program_rows(alloc, base, segments)?;
+    if size != 0 {
+        let place = place_of(address, size, base, segments);
+        put_program(&mut out, 0x7000_0001, place, address, size, size, 4)?;
+    }
+    Ok(out)
+}
+
+/// Whether the bytes stand for an image.
+fn read_back(alloc: Global, bytes: &[u8]) -> Result<(), ImageFault>
+    ensures accepted { IfOk result (λ _. is_read (image_of bytes.now) ≡ None) }
+    ensures refused { IfErr result (λ fault. fault ≢ OutOfMemory → is_read (image_of bytes.now) ≡ Some fault) }
+{
+    let _image = read_image(alloc, bytes)?;
+    Ok(())
+}
+
+/// The pieces of the file of these parts, or None where the file has 2^32 bytes or more.
+#[tactic(auto, using(crate::proofs::Planning::planning), unfolding(crate::specs::Layout::plan_of))]
+fn plan_of(alloc: Global, parts: &ImageParts) -> Result<Option<Plan>, AllocError>
+    requires { length parts.now.segments ≤ 1024 }
+    ensures found { IfOk result (λ o. IfSome o (λ p. p ≡ plan_of parts.now)) }
+    ensures programs { IfOk result (λ o. IfSome o (λ p. length p.programs < 2 ^ 20)) }
+    ensures named { IfOk result (λ o. IfSome o (λ p. 26 ≤ length p.names)) }
+    ensures segments { IfOk result (λ o. IfSome o (λ p. p.segment_total ≤ 1024)) }
+    ensures long { IfOk result (λ o. IfNone o (2 ^ 32 ≤ file_end (plan_of parts.now))) }
+{
+    let segments = parts.segments.as_slice();
+    let symbols = parts.symbols.as_slice();
+    let base = base_of(parts);
+    let contents = contents(alloc, base, segments)?;
+    if base + contents.len() >= 0x1_0000_0000 {
+        return Ok(None);
+    }
+    let mut rows = Vec::new(alloc);
+    push_rows(&mut rows, segments, symbols, true)?;
+    let locals = rows.len();
+    push_rows(&mut rows, segments, symbols, false)?;
+    if rows.len() >= 0x1000_0000 {
+        return Ok(None);
+    }
+    let strings = strings_of(alloc, &rows)?;
+    if strings.len() >= 0x1_0000_0000 {
+        return Ok(None);
+    }
+    let table = table_of(alloc, &rows)?;
+    let programs = programs(alloc, base, parts)?;
+    let names = section_names(alloc, segments)?;
+    let segment_rows = section_rows(alloc, base, segments)?;
+    Ok(Some(Plan {
+        entry: parts.entry,
+        programs,
+        contents,
+        table,
+        locals: 1 + locals as u32,
+        strings,
+        names,
+        segment_rows,
+        segment_total: segments.len() as u16,
+    }))
+}
+
+/// The ELF file of these parts (docs/elf.md has its layout). TooLarge for more than 1,024 segments or a file of 2^32 bytes
+/// or more; else what reading the file would refuse; else the file.
+#[tactic(auto, using(crate::proofs::Planning::writing))]
+pub fn write_image(alloc: Global, parts: &ImageParts) -> Result<Vec<u8>, ImageFault>
+    ensures written { IfOk result (λ bytes. written_of parts.now ≡ Ok bytes.items) }
+    // Want of memory alone is free.
+    ensures refused { IfErr result (λ fault. fault ≢ OutOfMemory → written_of parts.now ≡ Err fault) }
+{
+    if parts.segments.as_slice().len() > 1024 {
+        return Err(ImageFault::TooLarge);
+    }
+    let Some(plan) = plan_of(alloc, parts)? else {
+        return Err(ImageFault::TooLarge);
+    };
+    let Some(at) = placed(&plan) else {
+        return Err(ImageFault::TooLarge);
+    };
+    let bytes = join(alloc, &plan, at)?;
+    read_back(alloc, &bytes)?;
+    Ok(bytes)
+}

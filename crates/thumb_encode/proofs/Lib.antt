@@ -1,0 +1,3 @@
+pub mod Forms
+pub mod Long
+pub mod Inverse

@@ -1,0 +1,108 @@
+ghost use Rattle.std.specs.Prelude.{◌≡◌, ℕ, ◌*◌, ◌^◌, ◌<◌, ◌≤◌, ℤ, pos, IfOk};
+ghost use Rattle.thumb_isa.specs.Fields.{signed_half};
+ghost use Rattle.thumb_isa.specs.Rows.{decoded_of};
+ghost use Rattle.thumb_isa.specs.declared.instr.Decoded.TheVariants.{Is};
+ghost use Rattle.thumb_isa.specs.declared.instr.Instr.TheVariants.{Bx, Blx, BCond, Svc, B, Bl, Barrier};
+ghost use Rattle.thumb_encode.specs.Codes.{IsCodeOf, encoded_of, bl_code};
+
+use crate::code::{Code, EncodeFault};
+use crate::operand::target_field;
+
+/// BX.
+#[tactic(auto, using(thumb_isa::proofs::Table::table))]
+pub fn bx(m: u8) -> Result<Code, EncodeFault>
+    ensures ok { IfOk result (λ code. IsCodeOf code (Bx m)) }
+    ensures exact { result ≡ encoded_of (Bx m) }
+{
+    if m > 14 {
+        return Err(EncodeFault::RegisterRange);
+    }
+    Ok(Code::Half(0x4700 + (u16::from(m) << 3)))
+}
+
+/// BLX (register).
+#[tactic(auto, using(thumb_isa::proofs::Table::table))]
+pub fn blx(m: u8) -> Result<Code, EncodeFault>
+    ensures ok { IfOk result (λ code. IsCodeOf code (Blx m)) }
+    ensures exact { result ≡ encoded_of (Blx m) }
+{
+    if m > 14 {
+        return Err(EncodeFault::RegisterRange);
+    }
+    Ok(Code::Half(0x4780 + (u16::from(m) << 3)))
+}
+
+/// B with a condition.
+#[tactic(auto, using(thumb_isa::proofs::Table::table))]
+pub fn b_cond(cond: u8, off: i32) -> Result<Code, EncodeFault>
+    ensures ok { IfOk result (λ code. IsCodeOf code (BCond cond off)) }
+    ensures exact { result ≡ encoded_of (BCond cond off) }
+{
+    if cond > 13 {
+        return Err(EncodeFault::RegisterRange);
+    }
+    let target = target_field(off, 0x100)?;
+    Ok(Code::Half(0xd000 + (u16::from(cond) << 8) + target as u16))
+}
+
+/// SVC.
+#[tactic(auto, using(thumb_isa::proofs::Table::table))]
+pub fn svc(imm: u32) -> Result<Code, EncodeFault>
+    ensures ok { IfOk result (λ code. IsCodeOf code (Svc imm)) }
+    ensures exact { result ≡ encoded_of (Svc imm) }
+{
+    if imm > 255 {
+        return Err(EncodeFault::ImmediateRange);
+    }
+    Ok(Code::Half(0xdf00 + imm as u16))
+}
+
+/// B without a condition.
+#[tactic(auto, using(thumb_isa::proofs::Table::table))]
+pub fn b(off: i32) -> Result<Code, EncodeFault>
+    ensures ok { IfOk result (λ code. IsCodeOf code (B off)) }
+    ensures exact { result ≡ encoded_of (B off) }
+{
+    let target = target_field(off, 0x800)?;
+    Ok(Code::Half(0xe000 + target as u16))
+}
+
+/// BL.
+#[tactic(auto, using(thumb_isa::proofs::Table::table))]
+pub fn bl(off: i32) -> Result<Code, EncodeFault>
+    ensures ok { IfOk result (λ code. IsCodeOf code (Bl off)) }
+    ensures exact { result ≡ encoded_of (Bl off) }
+{
+    let target = target_field(off, 0x100_0000)?;
+    Ok(pair_of(target))
+}
+
+/// The two halfwords of a BL, by the low 24 bits of half the offset.
+#[tactic(auto, using(crate::proofs::Long::bl_code))]
+fn pair_of(target: u32) -> Code
+    requires { target < 2 ^ 24 }
+    ensures exact { result ≡ bl_code target }
+    ensures decodes { (off : ℤ) → signed_half 0x1000000 (target * 2) ≡ off → IsCodeOf result (Bl off) }
+{
+    let sign = target >> 23;
+    let j1 = u32::from((target >> 22) % 2 == sign);
+    let j2 = u32::from((target >> 21) % 2 == sign);
+    Code::Pair(
+        (0xf000 + (sign << 10) + (target >> 11) % 0x400) as u16,
+        (0xd000 + (j1 << 13) + (j2 << 11) + target % 0x800) as u16,
+    )
+}
+
+/// DSB, DMB, ISB.
+pub fn barrier(op: u8, option: u8) -> Result<Code, EncodeFault>
+    ensures ok { IfOk result (λ code. IsCodeOf code (Barrier op option)) }
+    ensures exact { result ≡ encoded_of (Barrier op option) }
+{
+    if op > 2 {
+        return Err(EncodeFault::RegisterRange);
+    }
+    if option > 15 {
+        return Err(EncodeFault::ImmediateRange);
+    }
+    Ok(Code::Pair(0xf3bf, 0x8f40 + (u16::from(op) << 4) + u16::from(option)))
+}

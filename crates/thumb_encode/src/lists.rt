@@ -1,0 +1,76 @@
+ghost use Rattle.std.specs.Prelude.{◌≡◌, ℕ, ◌*◌, ◌^◌, ◌<◌, ◌≤◌, ℤ, pos, IfOk};
+ghost use Rattle.thumb_isa.specs.Rows.{decoded_of};
+ghost use Rattle.thumb_isa.specs.declared.instr.Decoded.TheVariants.{Is};
+ghost use Rattle.thumb_isa.specs.declared.instr.Instr.TheVariants.{Push, Pop, Stm, Ldm};
+ghost use Rattle.thumb_encode.specs.Codes.{IsCodeOf, encoded_of};
+
+use crate::code::{Code, EncodeFault};
+use thumb_isa::fields::field;
+
+/// PUSH.
+#[tactic(auto, using(thumb_isa::proofs::Table::table))]
+pub fn push(list: u16) -> Result<Code, EncodeFault>
+    ensures ok { IfOk result (λ code. IsCodeOf code (Push list)) }
+    ensures exact { result ≡ encoded_of (Push list) }
+{
+    let low = list % 0x100;
+    let high = (list >> 14) % 2;
+    if list != low + (high << 14) {
+        return Err(EncodeFault::RegisterRange);
+    }
+    if list == 0 {
+        return Err(EncodeFault::ListEmpty);
+    }
+    Ok(Code::Half(0xb400 + low + (high << 8)))
+}
+
+/// POP.
+#[tactic(auto, using(thumb_isa::proofs::Table::table))]
+pub fn pop(list: u16) -> Result<Code, EncodeFault>
+    ensures ok { IfOk result (λ code. IsCodeOf code (Pop list)) }
+    ensures exact { result ≡ encoded_of (Pop list) }
+{
+    let low = list % 0x100;
+    let high = (list >> 15) % 2;
+    if list != low + (high << 15) {
+        return Err(EncodeFault::RegisterRange);
+    }
+    if list == 0 {
+        return Err(EncodeFault::ListEmpty);
+    }
+    Ok(Code::Half(0xbc00 + low + (high << 8)))
+}
+
+/// STM: the base may be in the list only as its lowest register.
+#[tactic(auto, using(crate::proofs::Forms::stm_code))]
+pub fn stm(n: u8, list: u16) -> Result<Code, EncodeFault>
+    ensures ok { IfOk result (λ code. IsCodeOf code (Stm n list)) }
+    ensures exact { result ≡ encoded_of (Stm n list) }
+{
+    if n > 7 || list > 0xff {
+        return Err(EncodeFault::RegisterRange);
+    }
+    let base = u32::from(n);
+    if field(list, base, 1) == 1 && field(list, 0, base) != 0 {
+        return Err(EncodeFault::RegisterRange);
+    }
+    if list == 0 {
+        return Err(EncodeFault::ListEmpty);
+    }
+    Ok(Code::Half(0xc000 + (u16::from(n) << 8) + list))
+}
+
+/// LDM.
+#[tactic(auto, using(thumb_isa::proofs::Table::table))]
+pub fn ldm(n: u8, list: u16) -> Result<Code, EncodeFault>
+    ensures ok { IfOk result (λ code. IsCodeOf code (Ldm n list)) }
+    ensures exact { result ≡ encoded_of (Ldm n list) }
+{
+    if n > 7 || list > 0xff {
+        return Err(EncodeFault::RegisterRange);
+    }
+    if list == 0 {
+        return Err(EncodeFault::ListEmpty);
+    }
+    Ok(Code::Half(0xc800 + (u16::from(n) << 8) + list))
+}
