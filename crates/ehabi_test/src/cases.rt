@@ -232,20 +232,23 @@ pub(crate) struct Outcome {
     pub(crate) faults: (u64, u64, u64),
 }
 
-pub(crate) fn run_case(
+/// Calls the program with these words, over files, a source and a sink in memory.
+pub(crate) fn call(
     alloc: Global,
-    case: &Case,
+    words: &[&str],
+    held: &[(&str, &[u8])],
+    input: &[u8],
     failing: Failing,
 ) -> Result<Outcome, AllocError> {
     let mut held = MemFiles {
-        files: files(alloc, case.files)?,
+        files: files(alloc, held)?,
         next: 1,
         failing: numbers(alloc, failing.files)?,
         faults: 0,
     };
-    let mut input = source(alloc, case.input, failing.input)?;
+    let mut input = source(alloc, input, failing.input)?;
     let mut out = sink(alloc, failing.out)?;
-    let status = ehabi_main(alloc, case.words, &mut held, &mut input, &mut out);
+    let status = ehabi_main(alloc, words, &mut held, &mut input, &mut out);
     let faults = (held.faults, input.faults, out.faults);
     Ok(Outcome {
         status,
@@ -253,6 +256,14 @@ pub(crate) fn run_case(
         out,
         faults,
     })
+}
+
+pub(crate) fn run_case(
+    alloc: Global,
+    case: &Case,
+    failing: Failing,
+) -> Result<Outcome, AllocError> {
+    call(alloc, case.words, case.files, case.input, failing)
 }
 
 // Whether the case comes out.

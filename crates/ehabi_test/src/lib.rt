@@ -5,3 +5,5 @@
 mod cases;
 #[cfg(test)]
 mod faults;
+#[cfg(test)]
+mod images;
