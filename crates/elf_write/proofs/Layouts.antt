@@ -79,7 +79,7 @@ both_true false c h = absurd cc
 pub both_le : (a b x y : ℕ) → (nat_le a b && nat_le x y) ≡ true → (a ≤ b) × (x ≤ y)
 both_le a b x y h = (grind (arith, nat_tests, both_true (nat_le a b) (nat_le x y) h), grind (arith, nat_tests, both_true (nat_le a b) (nat_le x y) h))
 
-length_row : (at : ℕ) (s : Symbol) → length (symbol_bytes at s) ≡ 16
+pub length_row : (at : ℕ) (s : Symbol) → length (symbol_bytes at s) ≡ 16
 unfolding symbol_bytes word half
 length_row at s = refl
 

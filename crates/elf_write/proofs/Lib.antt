@@ -1,2 +1,9 @@
 pub mod Layouts
 pub mod Planning
+pub mod Pieces
+pub mod Programs
+pub mod Sections
+pub mod Symbols
+pub mod Table
+pub mod Loads
+pub mod Standing

@@ -1,5 +1,5 @@
 -- The pieces of a file, and how long they are.
-use Rattle.std.proofs.Common.{◌≡◌, ℕ, ◌+◌, ◌*◌, ◌/◌, ◌^◌, ◌<◌, ◌≤◌, Bool, true, false, ◌||◌, cond, nat_lt, nat_le, List, [], ◌∷◌, ◌++◌, length, Option, Some, None, Result, Ok, Err, refl, sym, ap, ◌∙◌, length-append, arith}
+use Rattle.std.proofs.Common.{◌≡◌, ℕ, ◌+◌, ◌*◌, ◌^◌, ◌<◌, ◌≤◌, Bool, true, false, cond, nat_lt, nat_le, List, [], ◌∷◌, ◌++◌, length, Some, None, Ok, Err, refl, ap, ◌∙◌, length-append, arith}
 use Rattle.std.proofs.lemmas.Bool.Decides.{nat_tests}
 use Rattle.elf_image.specs.Image.{image_of}
 use Rattle.elf_image.specs.declared.fault.ImageFault.{ImageFault}
@@ -9,11 +9,11 @@ use Rattle.elf_write.specs.declared.parts.OwnSegment.{OwnSegment}
 use Rattle.elf_write.specs.declared.parts.ImageParts.{ImageParts}
 use Rattle.elf_write.proofs.Layouts.{length_zeros, length_rows}
 
-length_program : (kind offset address file_size memory_size flags : ℕ) → length (program_bytes kind offset address file_size memory_size flags) ≡ 32
+pub length_program : (kind offset address file_size memory_size flags : ℕ) → length (program_bytes kind offset address file_size memory_size flags) ≡ 32
 unfolding program_bytes word
 length_program kind offset address file_size memory_size flags = refl
 
-length_program_rows : (at : ℕ) (xs : List OwnSegment) → length (program_rows at xs) ≡ 32 * length xs
+pub length_program_rows : (at : ℕ) (xs : List OwnSegment) → length (program_rows at xs) ≡ 32 * length xs
 length_program_rows at [] = refl
 length_program_rows at (s ∷ xs) =
     let rest = length_program_rows (aligned at + length s.bytes) xs in

@@ -1,6 +1,8 @@
 // Writing Arm ELF images.
 #![tactic(auto)]
 
+ghost use Rattle.elf_write.specs.Parts.{ReadsBack, Stands};
+
 pub mod layout;
 pub mod parts;
 pub mod plan;
@@ -9,6 +11,16 @@ pub mod write;
 
 pub use parts::{ImageParts, OwnBytes, OwnSegment, OwnSegments, OwnSymbol, OwnSymbols, SymbolKind};
 pub use write::write_image;
+
+/// The file of parts that have no zero byte in a name stands for the image of these parts, wherever it is accepted.
+pub fn what_is_written_stands_for_its_parts()
+    ensures { Stands }
+{}
+
+/// Reading what `write_image` wrote for such parts gives their image.
+pub fn reading_gives_the_image_of_the_parts()
+    ensures { ReadsBack }
+{}
 
 #[cfg(test)]
 mod tests;

@@ -1,4 +1,4 @@
-use Rattle.std.proofs.Common.{◌≡◌, ◌+◌, drop, unwrap_or, nat_le, ◌&&◌}
+use Rattle.std.proofs.Common.{◌≡◌, ◌+◌, drop, nat_le, ◌&&◌}
 use Rattle.std.specs.List.{position_from}
 use Rattle.elf_write.specs.declared.parts.OwnSegment.{OwnSegment}
 use Rattle.elf_write.proofs.rows.section_of.Given as goal
