@@ -1,0 +1,66 @@
+-- The instruction of a statement (Armv6-M Architecture Reference Manual, DDI 0419).
+use Rattle.std.specs.Prelude.{ℕ, ◌^◌, ◌==◌, ◌&&◌, ℤ, pos, negsuc, Bool, false, nat_lt, if◌then◌else◌, Option, Some, None}
+use Rattle.asm_read.specs.declared.statement.StmtKind.{StmtKind}
+use Rattle.asm_read.specs.declared.statement.StmtKind.TheVariants as stmt
+use Rattle.thumb_isa.specs.declared.instr.Instr.{Instr}
+use Rattle.thumb_isa.specs.declared.instr.Instr.TheVariants.{ShiftImm, AddSubReg, AddSubImm3, Imm8, Alu, AddHigh, CmpHigh, MovHigh, Bx, Blx, MemReg, MemImm, MemSp, AddRdSp, AddSp, SubSp, Extend, Rev, Push, Pop, Hint, Stm, Ldm, Svc, Barrier}
+
+-- a number as a field without sign takes it; one too large for every field where it isn't one of 32 bits
+abbrev pub unsigned : ℤ → ℕ
+unsigned (pos n) = if nat_lt n (2 ^ 32) then n else 0xffffffff
+unsigned (negsuc n) = 0xffffffff
+
+-- a number as an offset's field takes it; one too large for every field where it isn't one of 32 bits
+abbrev pub offset : ℤ → ℤ
+offset (pos n) = if nat_lt n (2 ^ 31) then pos n else pos 0x7fffffff
+offset (negsuc n) = if nat_lt n (2 ^ 31) then negsuc n else pos 0x7fffffff
+
+-- `cmp` of two registers: the form of low registers where both are
+abbrev pub compare : ℕ → ℕ → Instr
+compare n m = if nat_lt n 8 && nat_lt m 8 then Alu 10 n m else CmpHigh n m
+
+-- `adds` and `subs` with eight bits
+abbrev pub add_eight : Bool → ℕ → ℤ → Instr
+add_eight sub d imm = Imm8 (if sub then 3 else 2) d (unsigned imm)
+
+abbrev pub is_above_seven : ℤ → Bool
+is_above_seven (pos n) = nat_lt 7 n
+is_above_seven (negsuc n) = false
+
+-- `adds` and `subs` of three operands: with three bits up to 7, and above with eight where both registers are one
+abbrev pub add_three : Bool → ℕ → ℕ → ℤ → Instr
+add_three sub d n imm = if is_above_seven imm && (d == n) then add_eight sub d imm else AddSubImm3 sub d n (unsigned imm)
+
+-- the instruction of a statement without a name
+abbrev pub plain : StmtKind → Option Instr
+plain (stmt.MovsImm d imm) = Some (Imm8 0 d (unsigned imm))
+plain (stmt.MovsReg d m) = Some (ShiftImm 0 d m 0)
+plain (stmt.Mov d m) = Some (MovHigh d m)
+plain (stmt.CmpImm n imm) = Some (Imm8 1 n (unsigned imm))
+plain (stmt.CmpReg n m) = Some (compare n m)
+plain (stmt.AddSubTwo sub d imm) = Some (add_eight sub d imm)
+plain (stmt.AddSubReg sub d n m) = Some (AddSubReg sub d n m)
+plain (stmt.AddSubThree sub d n imm) = Some (add_three sub d n imm)
+plain (stmt.AddReg d m) = Some (AddHigh d m)
+plain (stmt.AddRdSp d off) = Some (AddRdSp d (offset off))
+plain (stmt.AddSp off) = Some (AddSp (offset off))
+plain (stmt.SubSp off) = Some (SubSp (offset off))
+plain (stmt.ShiftImm op d m n) = Some (ShiftImm op d m (unsigned n))
+plain (stmt.Alu op d m) = Some (Alu op d m)
+plain (stmt.Rsbs d m) = Some (Alu 9 d m)
+plain (stmt.MemImm op t n off) = Some (MemImm op t n (offset off))
+plain (stmt.MemReg op t n m) = Some (MemReg op t n m)
+plain (stmt.MemSp load t off) = Some (MemSp load t (offset off))
+plain (stmt.Push list) = Some (Push list)
+plain (stmt.Pop list) = Some (Pop list)
+plain (stmt.Stm n list) = Some (Stm n list)
+plain (stmt.LdmBack n list) = Some (Ldm n list)
+plain (stmt.Ldm n list) = Some (Ldm n list)
+plain (stmt.Extend op d m) = Some (Extend op d m)
+plain (stmt.Rev op d m) = Some (Rev op d m)
+plain (stmt.Bx m) = Some (Bx m)
+plain (stmt.Blx m) = Some (Blx m)
+plain (stmt.Svc imm) = Some (Svc (unsigned imm))
+plain (stmt.Hint n) = Some (Hint n)
+plain (stmt.Barrier op) = Some (Barrier op 15)
+plain _ = None

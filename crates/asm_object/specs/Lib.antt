@@ -1,0 +1,5 @@
+pub mod Faults
+pub mod Words
+pub mod Sizes
+pub mod Bytes
+pub mod Instructions

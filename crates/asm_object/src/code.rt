@@ -1,0 +1,157 @@
+ghost use Rattle.std.specs.Prelude.{◌≡◌};
+ghost use Rattle.asm_object.specs.Instructions.{unsigned, offset, compare, add_eight, add_three, plain};
+
+use asm_read::StmtKind;
+use thumb_isa::instr::Instr;
+
+/// A number as a field without sign takes it; one too large for every field where it is none of 32 bits.
+fn unsigned(n: i64) -> u32
+    ensures { result ≡ unsigned n }
+{
+    u32::try_from(n).unwrap_or(u32::MAX)
+}
+
+/// A number as an offset's field takes it; one too large for every field where it is none of 32 bits.
+fn offset(n: i64) -> i32
+    ensures { result ≡ offset n }
+{
+    i32::try_from(n).unwrap_or(i32::MAX)
+}
+
+/// The instruction of a statement without a name; None for one with a name or a pool word, for `udf` and for directives.
+pub fn plain(kind: &StmtKind) -> Option<Instr>
+    ensures { result ≡ plain kind.now }
+{
+    Some(match kind {
+        StmtKind::MovsImm { d, imm } => Instr::Imm8 {
+            op: 0,
+            d: *d,
+            imm: unsigned(*imm),
+        },
+        StmtKind::MovsReg { d, m } => Instr::ShiftImm {
+            op: 0,
+            d: *d,
+            m: *m,
+            n: 0,
+        },
+        StmtKind::Mov { d, m } => Instr::MovHigh { d: *d, m: *m },
+        StmtKind::CmpImm { n, imm } => Instr::Imm8 {
+            op: 1,
+            d: *n,
+            imm: unsigned(*imm),
+        },
+        StmtKind::CmpReg { n, m } => compare(*n, *m),
+        StmtKind::AddSubTwo { sub, d, imm } => add_eight(*sub, *d, *imm),
+        StmtKind::AddSubReg { sub, d, n, m } => Instr::AddSubReg {
+            sub: *sub,
+            d: *d,
+            n: *n,
+            m: *m,
+        },
+        StmtKind::AddSubThree { sub, d, n, imm } => add_three(*sub, *d, *n, *imm),
+        StmtKind::AddReg { d, m } => Instr::AddHigh { d: *d, m: *m },
+        StmtKind::AddRdSp { d, off } => Instr::AddRdSp {
+            d: *d,
+            off: offset(*off),
+        },
+        StmtKind::AddSp { off } => Instr::AddSp { off: offset(*off) },
+        StmtKind::SubSp { off } => Instr::SubSp { off: offset(*off) },
+        StmtKind::ShiftImm { op, d, m, n } => Instr::ShiftImm {
+            op: *op,
+            d: *d,
+            m: *m,
+            n: unsigned(*n),
+        },
+        StmtKind::Alu { op, d, m } => Instr::Alu {
+            op: *op,
+            d: *d,
+            m: *m,
+        },
+        StmtKind::Rsbs { d, m } => Instr::Alu {
+            op: 9,
+            d: *d,
+            m: *m,
+        },
+        StmtKind::MemImm { op, t, n, off } => Instr::MemImm {
+            op: *op,
+            t: *t,
+            n: *n,
+            off: offset(*off),
+        },
+        StmtKind::MemReg { op, t, n, m } => Instr::MemReg {
+            op: *op,
+            t: *t,
+            n: *n,
+            m: *m,
+        },
+        StmtKind::MemSp { load, t, off } => Instr::MemSp {
+            load: *load,
+            t: *t,
+            off: offset(*off),
+        },
+        StmtKind::Push { list } => Instr::Push { list: *list },
+        StmtKind::Pop { list } => Instr::Pop { list: *list },
+        StmtKind::Stm { n, list } => Instr::Stm { n: *n, list: *list },
+        StmtKind::LdmBack { n, list } => Instr::Ldm { n: *n, list: *list },
+        StmtKind::Ldm { n, list } => Instr::Ldm { n: *n, list: *list },
+        StmtKind::Extend { op, d, m } => Instr::Extend {
+            op: *op,
+            d: *d,
+            m: *m,
+        },
+        StmtKind::Rev { op, d, m } => Instr::Rev {
+            op: *op,
+            d: *d,
+            m: *m,
+        },
+        StmtKind::Bx { m } => Instr::Bx { m: *m },
+        StmtKind::Blx { m } => Instr::Blx { m: *m },
+        StmtKind::Svc { imm } => Instr::Svc {
+            imm: unsigned(*imm),
+        },
+        StmtKind::Hint { n } => Instr::Hint { n: *n },
+        StmtKind::Barrier { op } => Instr::Barrier {
+            op: *op,
+            option: 15,
+        },
+        _ => return None,
+    })
+}
+
+/// `cmp` of two registers: the form of low registers where both are.
+fn compare(n: u8, m: u8) -> Instr
+    ensures { result ≡ compare n m }
+{
+    if n < 8 && m < 8 {
+        Instr::Alu { op: 10, d: n, m }
+    } else {
+        Instr::CmpHigh { n, m }
+    }
+}
+
+/// `adds` and `subs` with eight bits.
+fn add_eight(sub: bool, d: u8, imm: i64) -> Instr
+    ensures { result ≡ add_eight sub d imm }
+{
+    Instr::Imm8 {
+        op: if sub { 3 } else { 2 },
+        d,
+        imm: unsigned(imm),
+    }
+}
+
+/// `adds` and `subs` of three operands: with three bits up to 7, and with eight where both registers are one.
+fn add_three(sub: bool, d: u8, n: u8, imm: i64) -> Instr
+    ensures { result ≡ add_three sub d n imm }
+{
+    if imm > 7 && d == n {
+        add_eight(sub, d, imm)
+    } else {
+        Instr::AddSubImm3 {
+            sub,
+            d,
+            n,
+            imm: unsigned(imm),
+        }
+    }
+}

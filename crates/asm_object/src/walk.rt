@@ -1,0 +1,136 @@
+ghost use Rattle.std.specs.Prelude.{◌≡◌, ◌<◌};
+ghost use Rattle.asm_object.specs.Sizes.{times, filling, multiple, size, is_instruction, size_in, sizes_grown, is_too_large};
+
+use crate::object::Section;
+use asm_read::StmtKind;
+
+/// How many bytes each section has so far. Sums stop at 2^64 - 1, far above what a section may have.
+#[derive(Clone, Copy, PartialEq, Eq, Debug)]
+pub struct Sizes {
+    pub text: u64,
+    pub rodata: u64,
+    pub extab: u64,
+    pub init: u64,
+    pub bss: u64,
+}
+
+/// The most bytes of a section.
+const MOST_BYTES: u64 = 1_048_576;
+
+impl Sizes {
+    /// The size of a section.
+    pub fn of(self, section: Section) -> u64
+        ensures { result ≡ size_in self section }
+    {
+        match section {
+            Section::Text => self.text,
+            Section::Rodata => self.rodata,
+            Section::Extab => self.extab,
+            Section::Init => self.init,
+            Section::Bss => self.bss,
+        }
+    }
+
+    /// With more bytes in a section.
+    pub fn grown(mut self, section: Section, by: u64) -> Sizes
+        ensures { result ≡ sizes_grown self section by }
+    {
+        match section {
+            Section::Text => self.text = self.text.saturating_add(by),
+            Section::Rodata => self.rodata = self.rodata.saturating_add(by),
+            Section::Extab => self.extab = self.extab.saturating_add(by),
+            Section::Init => self.init = self.init.saturating_add(by),
+            Section::Bss => self.bss = self.bss.saturating_add(by),
+        }
+        self
+    }
+
+    /// Whether a section has more bytes than it may.
+    pub fn is_too_large(self) -> bool
+        ensures { result ≡ is_too_large self }
+    {
+        self.text > MOST_BYTES
+            || self.rodata > MOST_BYTES
+            || self.extab > MOST_BYTES
+            || self.init > MOST_BYTES
+            || self.bss > MOST_BYTES
+    }
+}
+
+/// How many bytes stand between a place and the next multiple.
+pub fn filling(place: u64, multiple: u64) -> u64
+    requires { 0 < multiple }
+    ensures { result ≡ filling place multiple }
+{
+    (multiple - place % multiple) % multiple
+}
+
+/// The number that `.align n` makes places a multiple of; 1 outside 0 to 3.
+pub fn multiple(n: i64) -> u64
+    ensures { result ≡ multiple n }
+{
+    match n {
+        1 => 2,
+        2 => 4,
+        3 => 8,
+        _ => 1,
+    }
+}
+
+/// A length times the size of an element, at most 2^64 - 1.
+fn times(len: usize, size: u64) -> u64
+    ensures { result ≡ times len size }
+{
+    (len as u64).saturating_mul(size)
+}
+
+/// The bytes of a statement that doesn't look at its place.
+pub fn size(kind: &StmtKind) -> u64
+    ensures { result ≡ size kind.now }
+{
+    match kind {
+        StmtKind::Words(words) => times(words.as_slice().len(), 4),
+        StmtKind::Halves(halves) => times(halves.as_slice().len(), 2),
+        StmtKind::Bytes(bytes) => times(bytes.as_slice().len(), 1),
+        StmtKind::Ascii(text) => times(text.bytes().len(), 1),
+        StmtKind::Asciz(text) => times(text.bytes().len(), 1).saturating_add(1),
+        StmtKind::Space(n) => u64::try_from(*n).unwrap_or(0),
+        StmtKind::Bl(_) | StmtKind::Barrier { .. } => 4,
+        _ if is_instruction(kind) => 2,
+        _ => 0,
+    }
+}
+
+/// Whether a statement is an instruction.
+pub fn is_instruction(kind: &StmtKind) -> bool
+    ensures { result ≡ is_instruction kind.now }
+{
+    !matches!(
+        kind,
+        StmtKind::Label(_)
+            | StmtKind::Text
+            | StmtKind::Data
+            | StmtKind::Bss
+            | StmtKind::Rodata
+            | StmtKind::Global(_)
+            | StmtKind::TypeFunction(_)
+            | StmtKind::TypeObject(_)
+            | StmtKind::Size(_)
+            | StmtKind::Words(_)
+            | StmtKind::Halves(_)
+            | StmtKind::Bytes(_)
+            | StmtKind::Ascii(_)
+            | StmtKind::Asciz(_)
+            | StmtKind::Space(_)
+            | StmtKind::Align(_)
+            | StmtKind::Pool
+            | StmtKind::FnStart
+            | StmtKind::FnEnd
+            | StmtKind::Save { .. }
+            | StmtKind::Pad(_)
+            | StmtKind::SetFp { .. }
+            | StmtKind::CantUnwind
+            | StmtKind::PersonalityIndex(_)
+            | StmtKind::HandlerData
+    )
+}
