@@ -1,9 +1,16 @@
 -- The instruction of a statement (Armv6-M Architecture Reference Manual, DDI 0419).
-use Rattle.std.specs.Prelude.{ℕ, ◌^◌, ◌==◌, ◌&&◌, ℤ, pos, negsuc, Bool, false, nat_lt, if◌then◌else◌, Option, Some, None}
+use Rattle.std.specs.Prelude.{ℕ, ◌+◌, ◌-◌, ◌*◌, ◌/◌, ◌^◌, ◌==◌, ◌&&◌, ℤ, pos, negsuc, ◌-ℤ◌, Bool, true, false, nat_lt, nat_le, if◌then◌else◌, List, Option, Some, None}
 use Rattle.asm_read.specs.declared.statement.StmtKind.{StmtKind}
 use Rattle.asm_read.specs.declared.statement.StmtKind.TheVariants as stmt
 use Rattle.thumb_isa.specs.declared.instr.Instr.{Instr}
-use Rattle.thumb_isa.specs.declared.instr.Instr.TheVariants.{ShiftImm, AddSubReg, AddSubImm3, Imm8, Alu, AddHigh, CmpHigh, MovHigh, Bx, Blx, MemReg, MemImm, MemSp, AddRdSp, AddSp, SubSp, Extend, Rev, Push, Pop, Hint, Stm, Ldm, Svc, Barrier}
+use Rattle.thumb_isa.specs.declared.instr.Instr.TheVariants.{ShiftImm, AddSubReg, AddSubImm3, Imm8, Alu, AddHigh, CmpHigh, MovHigh, Bx, Blx, LdrLit, MemReg, MemImm, MemSp, Adr, AddRdSp, AddSp, SubSp, Extend, Rev, Push, Pop, Hint, Stm, Ldm, BCond, Svc, B, Bl, Barrier}
+use Rattle.asm_object.specs.declared.object.Section.{Section}
+use Rattle.asm_object.specs.declared.object.Section.TheVariants.{Text}
+use Rattle.asm_object.specs.declared.place.Place.{Place}
+use Rattle.asm_object.specs.Sizes.{sum_64}
+use Rattle.asm_object.specs.Walks.{same_section}
+use Rattle.asm_object.specs.Labels.{Named, find}
+use Rattle.asm_object.specs.Values.{Linked, linked}
 
 -- a number as a field without sign takes it; one too large for every field where it isn't one of 32 bits
 abbrev pub unsigned : ℤ → ℕ
@@ -64,3 +71,62 @@ plain (stmt.Svc imm) = Some (Svc (unsigned imm))
 plain (stmt.Hint n) = Some (Hint n)
 plain (stmt.Barrier op) = Some (Barrier op 15)
 plain _ = None
+
+-- where an instruction finds its pc
+abbrev pub pc : ℕ → ℕ
+pc place = sum_64 place 4
+
+-- the pc rounded down to a multiple of 4
+abbrev pub base : ℕ → ℕ
+base place = pc place / 4 * 4
+
+-- the difference of two places as an offset's field takes it
+abbrev pub between : ℕ → ℕ → ℤ
+between to from = offset (pos to -ℤ pos from)
+
+abbrev pub in_text : Option Place → Option ℕ
+in_text (Some place) = if same_section place.section Text then Some place.offset else None
+in_text None = None
+
+-- the place of a label in the text
+abbrev pub text_place : List Named → List ℕ → Option ℕ
+text_place labels name = in_text (find name labels)
+
+abbrev pub branch_to : Option ℕ → ℕ → ℤ
+branch_to (Some to) place = between to (pc place)
+branch_to None place = negsuc 3
+
+-- a branch goes to a label in the text; else its offset is -4, and the linker fills it
+abbrev pub branch : List Named → List ℕ → ℕ → ℤ
+branch labels name place = branch_to (text_place labels name) place
+
+abbrev pub literal : ℕ → ℕ → ℤ
+literal to place = between to (base place)
+
+abbrev pub literal_to : Option ℕ → ℕ → ℤ
+literal_to (Some to) place = literal to place
+literal_to None place = pos 0
+
+abbrev pub label_literal : List Named → List ℕ → ℕ → ℤ
+label_literal labels name place = literal_to (text_place labels name) place
+
+-- the instruction of a statement at a place, where its pool word has a place too; none for `udf` and directives
+abbrev pub instruction : List Named → StmtKind → ℕ → ℕ → Option Instr
+instruction labels (stmt.Adr d name) place word = Some (Adr d (label_literal labels name place))
+instruction labels (stmt.LdrLabel t name) place word = Some (LdrLit t (label_literal labels name place))
+instruction labels (stmt.LdrPool t _) place word = Some (LdrLit t (literal word place))
+instruction labels (stmt.B name) place word = Some (B (branch labels name place))
+instruction labels (stmt.BCond cond name) place word = Some (BCond cond (branch labels name place))
+instruction labels (stmt.Bl name) place word = Some (Bl (branch labels name place))
+instruction labels kind place word = plain kind
+
+abbrev pub linked_unless : Option ℕ → ℕ → List ℕ → Option Linked
+linked_unless (Some _) kind name = None
+linked_unless None kind name = linked kind name (negsuc 3)
+
+-- what the linker puts into a branch: R_ARM_THM_CALL, R_ARM_THM_JUMP11, R_ARM_THM_JUMP8
+abbrev pub branch_link : List Named → StmtKind → Option Linked
+branch_link labels (stmt.Bl name) = linked_unless (text_place labels name) 10 name
+branch_link labels (stmt.B name) = linked_unless (text_place labels name) 102 name
+branch_link labels (stmt.BCond _ name) = linked_unless (text_place labels name) 103 name
+branch_link labels _ = None

@@ -1,7 +1,9 @@
 -- How many bytes statements have, and where sections end. Sums stop at 2^64 - 1, far above what a section may have.
-use Rattle.std.specs.Prelude.{ℕ, ◌+◌, ◌-◌, ◌*◌, ◌%◌, ◌^◌, ◌||◌, ℤ, pos, negsuc, Bool, true, false, nat_lt, min, if◌then◌else◌, length}
+use Rattle.std.specs.Prelude.{ℕ, ◌+◌, ◌-◌, ◌*◌, ◌%◌, ◌^◌, ◌||◌, ℤ, pos, negsuc, Bool, true, false, nat_lt, min, if◌then◌else◌, List, length, Option, Some, None}
 use Rattle.asm_read.specs.declared.statement.StmtKind.{StmtKind}
 use Rattle.asm_read.specs.declared.statement.StmtKind.TheVariants as stmt
+use Rattle.asm_unwind.specs.declared.entry.EntryWords.{EntryWords}
+use Rattle.asm_unwind.specs.declared.entry.EntryWords.TheVariants as entry
 use Rattle.asm_object.specs.declared.object.Section.{Section}
 use Rattle.asm_object.specs.declared.object.Section.TheVariants.{Text, Rodata, Extab, Init, Bss}
 use Rattle.asm_object.specs.declared.walk.Sizes.{Sizes}
@@ -66,6 +68,11 @@ size (stmt.Space n) = natural n
 size (stmt.Bl _) = 4
 size (stmt.Barrier _) = 4
 size kind = if is_instruction kind then 2 else 0
+
+-- the bytes that a function's table takes behind a place of the exception tables
+abbrev pub table_size : ℕ → Option EntryWords → ℕ
+table_size place (Some (entry.Table words)) = sum_64 (filling place 4) (times (length words) 4)
+table_size place _ = 0
 
 abbrev pub size_in : Sizes → Section → ℕ
 size_in sizes Text = sizes.text

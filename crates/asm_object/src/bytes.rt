@@ -1,6 +1,8 @@
-ghost use Rattle.std.specs.Prelude.{◌≡◌, ◌++◌, ◌∷◌, [], OnOk, replicate};
-ghost use Rattle.asm_object.specs.Bytes.{byte_bytes, half_bytes, word_bytes, code_bytes};
+ghost use Rattle.std.specs.Prelude.{◌≡◌, ◌<◌, ◌++◌, ◌∷◌, [], OnOk, replicate};
+ghost use Rattle.asm_object.specs.Sizes.{filling};
+ghost use Rattle.asm_object.specs.Bytes.{byte_bytes, half_bytes, word_bytes, code_bytes, filling_bytes};
 
+use crate::walk::filling;
 use std::alloc::AllocError;
 use thumb_encode::code::Code;
 
@@ -52,6 +54,24 @@ pub fn push_zeros(bytes: &mut Vec<u8>, count: u64) -> Result<(), AllocError>
 {
     for _i in 0..count {
         push(bytes, 0)?;
+    }
+    Ok(())
+}
+
+/// The instruction that fills the text: `mov r8, r8`.
+const FILLER: u32 = 0x46c0;
+
+/// Fills a text to the next multiple: one zero byte from an odd place on, and then instructions.
+pub fn push_filling(bytes: &mut Vec<u8>, place: u64, multiple: u64) -> Result<(), AllocError>
+    requires { 0 < multiple }
+    ensures { OnOk result (bytes.new.items ≡ bytes.old.items ++ filling_bytes (filling place multiple)) }
+{
+    let count = filling(place, multiple);
+    if count % 2 == 1 {
+        push(bytes, 0)?;
+    }
+    for _i in 0..count / 2 {
+        push_half(bytes, FILLER)?;
     }
     Ok(())
 }

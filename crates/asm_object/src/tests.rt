@@ -1,8 +1,10 @@
-use crate::bytes::{push_byte, push_code, push_half, push_word, push_zeros};
+use crate::bytes::{push_byte, push_code, push_filling, push_half, push_word, push_zeros};
 use crate::code::plain;
 use crate::fault::{AsmFault, AsmWhat, first_with};
-use crate::object::Section;
-use crate::walk::{Sizes, filling, is_instruction, multiple, size};
+use crate::object::{Reloc, Section};
+use crate::place::Place;
+use crate::symbols::relocs;
+use crate::walk::{Cursor, Sizes, filling, is_instruction, multiple, size};
 use crate::word::{Word, low_part, low_word, word_of};
 use asm_read::read_source;
 use std::process::Abort;
@@ -147,5 +149,76 @@ fn word_of_an_expression(rt: HostRuntime) -> Result<(), Fail> {
     use asm_read::Expr;
 
     assert!(rt; word_of(rt.alloc(), &Expr::Num(-2))? == Word::Num(0xffff_fffe));
+    Ok(())
+}
+
+#[test]
+fn filling_of_a_text(rt: HostRuntime) -> Result<(), Fail> {
+    let mut bytes = Vec::new(rt.alloc());
+    push_filling(&mut bytes, 5, 8)?;
+    assert_eq!(rt; bytes.as_slice(), b"\0\xc0\x46".as_slice());
+    Ok(())
+}
+
+#[test]
+fn places_behind_statements(rt: HostRuntime) -> Result<(), Fail> {
+    let sizes = Sizes {
+        text: 0,
+        rodata: 0,
+        extab: 0,
+        init: 0,
+        bss: 0,
+    };
+    let mut at = Cursor {
+        section: Section::Text,
+        left: None,
+        sizes,
+        inside: false,
+        functions: 0,
+    };
+    let text =
+        b"f: .fnstart\nbl g\n.personalityindex 0\n.handlerdata\n.word 0\n.fnend\nnop\n.data\n.byte 1\n.align 2\n";
+    if let Ok(stmts) = read_source(rt.alloc(), text) {
+        for stmt in stmts.as_slice() {
+            at = at.behind(&stmt.kind, &[]);
+        }
+    }
+    assert!(rt;
+        at.here()
+            == Place {
+                section: Section::Init,
+                offset: 4
+            }
+    );
+    assert!(rt;
+        at.sizes
+            == Sizes {
+                text: 6,
+                rodata: 0,
+                extab: 4,
+                init: 4,
+                bss: 0
+            }
+    );
+    assert!(rt; !at.inside && at.functions == 1 && at.left.is_none());
+    Ok(())
+}
+
+#[test]
+fn relocations_in_order(rt: HostRuntime) -> Result<(), Fail> {
+    let of = |offset: u32| Reloc {
+        section: Section::Text,
+        offset,
+        kind: 2,
+        name: eh_word::Name::of_vec(Vec::new(rt.alloc())),
+        addend: 0,
+    };
+    let all = relocs(
+        vec![in rt.alloc(); of(1)]?,
+        Vec::new(rt.alloc()),
+        vec![in rt.alloc(); of(2)]?,
+        vec![in rt.alloc(); of(3)]?,
+    )?;
+    assert!(rt; all.as_slice().len() == 3 && all.as_slice()[1].offset == 2);
     Ok(())
 }

@@ -1,8 +1,11 @@
-ghost use Rattle.std.specs.Prelude.{◌≡◌, ◌<◌};
-ghost use Rattle.asm_object.specs.Sizes.{times, filling, multiple, size, is_instruction, size_in, sizes_grown, is_too_large};
+ghost use Rattle.std.specs.Prelude.{◌≡◌, ◌<◌, Some, option_map};
+ghost use Rattle.asm_object.specs.Sizes.{times, filling, multiple, size, is_instruction, size_in, sizes_grown, is_too_large, table_size};
+ghost use Rattle.asm_object.specs.Walks.{entry_at, here, started, ended, handling, within, grown, cursor_behind};
 
 use crate::object::Section;
+use crate::place::Place;
 use asm_read::StmtKind;
+use asm_unwind::EntryWords;
 
 /// How many bytes each section has so far. Sums stop at 2^64 - 1, far above what a section may have.
 #[derive(Clone, Copy, PartialEq, Eq, Debug)]
@@ -133,4 +136,131 @@ pub fn is_instruction(kind: &StmtKind) -> bool
             | StmtKind::PersonalityIndex(_)
             | StmtKind::HandlerData
     )
+}
+
+/// Where the next statement stands.
+#[derive(Clone, Copy, PartialEq, Eq, Debug)]
+pub struct Cursor {
+    pub section: Section,
+    /// The section that `.handlerdata` left.
+    pub left: Option<Section>,
+    pub sizes: Sizes,
+    /// Whether a function is open.
+    pub inside: bool,
+    /// How many functions began.
+    pub functions: usize,
+}
+
+impl Cursor {
+    /// The offset of the next byte in its section.
+    fn place(self) -> u64
+        ensures { result ≡ size_in self.sizes self.section }
+    {
+        self.sizes.of(self.section)
+    }
+
+    /// The place of the next byte.
+    pub fn here(self) -> Place
+        ensures { result ≡ here self }
+    {
+        Place {
+            section: self.section,
+            offset: self.place(),
+        }
+    }
+}
+
+/// The bytes that a function's table takes in the exception tables at a place.
+fn table_size(place: u64, entry: &EntryWords) -> u64
+    ensures { result ≡ table_size place (Some entry.now) }
+{
+    match entry {
+        EntryWords::Table(words) => filling(place, 4).saturating_add(times(
+            words.as_slice().len(),
+            4,
+        )),
+        EntryWords::CantUnwind | EntryWords::Inline(_) => 0,
+    }
+}
+
+/// The entry of a function by its number.
+pub fn entry_at(entries: &[Option<EntryWords>], function: usize) -> Option<&EntryWords>
+    ensures { option_map (λ e. e.now) result ≡ entry_at entries.now function }
+{
+    match entries.get(function) {
+        Some(Some(entry)) => Some(entry),
+        _ => None,
+    }
+}
+
+impl Cursor {
+    /// Behind the start of a function: its table stands in the exception tables.
+    fn started(mut self, entries: &[Option<EntryWords>]) -> Cursor
+        ensures { result ≡ started entries.now self }
+    {
+        if !self.inside && self.functions < usize::MAX {
+            let size = match entry_at(entries, self.functions) {
+                Some(entry) => table_size(self.sizes.extab, entry),
+                None => 0,
+            };
+            self.sizes = self.sizes.grown(Section::Extab, size);
+            self.inside = true;
+            self.functions += 1;
+        }
+        self
+    }
+
+    /// Behind the end of a function.
+    fn ended(mut self) -> Cursor
+        ensures { result ≡ ended self }
+    {
+        if self.inside {
+            self.section = self.left.unwrap_or(self.section);
+            self.left = None;
+            self.inside = false;
+        }
+        self
+    }
+
+    /// In the exception tables, from another section on.
+    fn handling(mut self) -> Cursor
+        ensures { result ≡ handling self }
+    {
+        if self.section != Section::Extab {
+            self.left = Some(self.section);
+            self.section = Section::Extab;
+        }
+        self
+    }
+
+    fn within(mut self, section: Section) -> Cursor
+        ensures { result ≡ within self section }
+    {
+        self.section = section;
+        self
+    }
+
+    fn grown(mut self, by: u64) -> Cursor
+        ensures { result ≡ grown self by }
+    {
+        self.sizes = self.sizes.grown(self.section, by);
+        self
+    }
+
+    /// Behind a statement, but for what a pool adds.
+    pub fn behind(self, kind: &StmtKind, entries: &[Option<EntryWords>]) -> Cursor
+        ensures { result ≡ cursor_behind entries.now self kind.now }
+    {
+        match kind {
+            StmtKind::Text => self.within(Section::Text),
+            StmtKind::Data => self.within(Section::Init),
+            StmtKind::Bss => self.within(Section::Bss),
+            StmtKind::Rodata => self.within(Section::Rodata),
+            StmtKind::FnStart => self.started(entries),
+            StmtKind::FnEnd => self.ended(),
+            StmtKind::HandlerData => self.handling(),
+            StmtKind::Align(n) => self.grown(filling(self.place(), multiple(*n))),
+            _ => self.grown(size(kind)),
+        }
+    }
 }

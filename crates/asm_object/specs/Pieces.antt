@@ -1,0 +1,198 @@
+-- The bytes of statements, each piece at its place, and what the linker fills in them.
+use Rattle.std.specs.Prelude.{ℕ, ◌+◌, ◌*◌, ◌%◌, ◌^◌, ◌==◌, ◌&&◌, not, ℤ, pos, negsuc, Bool, true, false, nat_lt, if◌then◌else◌, List, [], ◌∷◌, ◌++◌, map, replicate, flat_map, length, Option, Some, None, unwrap_or, Result, Ok, Err}
+use Rattle.std.specs.List.{position_or_len}
+use Rattle.asm_read.specs.declared.statement.Stmt.{Stmt}
+use Rattle.asm_read.specs.declared.statement.Expr.{Expr}
+use Rattle.asm_read.specs.declared.statement.StmtKind.{StmtKind}
+use Rattle.asm_read.specs.declared.statement.StmtKind.TheVariants as stmt
+use Rattle.asm_unwind.specs.declared.entry.EntryWords.{EntryWords}
+use Rattle.asm_unwind.specs.declared.entry.EntryWords.TheVariants as entry
+use Rattle.thumb_isa.specs.declared.instr.Instr.{Instr}
+use Rattle.thumb_encode.specs.declared.code.Code.{Code}
+use Rattle.thumb_encode.specs.declared.code.EncodeFault.{EncodeFault}
+use Rattle.thumb_encode.specs.Codes.{encoded_of}
+use Rattle.asm_object.specs.declared.object.Section.{Section}
+use Rattle.asm_object.specs.declared.object.Section.TheVariants.{Text, Rodata, Extab, Init, Bss}
+use Rattle.asm_object.specs.declared.object.Reloc.{Reloc}
+use Rattle.asm_object.specs.declared.object.Mark.{Mark}
+use Rattle.asm_object.specs.declared.object.RowEntry.{RowEntry}
+use Rattle.asm_object.specs.declared.object.RowEntry.TheVariants as row
+use Rattle.asm_object.specs.declared.object.IndexRow.{IndexRow}
+use Rattle.asm_object.specs.declared.place.Place.{Place}
+use Rattle.asm_object.specs.declared.word.Word.{Word}
+use Rattle.asm_object.specs.Words.{word_of}
+use Rattle.asm_object.specs.SameWords.{same_word}
+use Rattle.asm_object.specs.Sizes.{sum_64, times, filling, multiple, natural, is_instruction}
+use Rattle.asm_object.specs.Bytes.{byte_bytes, half_bytes, word_bytes, code_bytes, filling_bytes}
+use Rattle.asm_object.specs.Walks.{Stand, next, here, entry_at, is_empty, is_in_text, pool_place, ends_pool, coming_pool, same_section}
+use Rattle.asm_object.specs.Labels.{Named}
+use Rattle.asm_object.specs.Values.{number, held, low_or_zero, Linked, link_of}
+use Rattle.asm_object.specs.Instructions.{instruction, branch_link}
+
+-- bytes at a place, code or words, with the relocations in them
+pub record Piece : Type 0 where
+  pub place : Place
+  pub code : Bool
+  pub bytes : List ℕ
+  pub relocs : List Reloc
+
+abbrev pub place_at : Section → ℕ → Place
+place_at section offset = record { section = section; offset = offset }
+
+abbrev pub relocs_of : Place → Option Linked → List Reloc
+relocs_of place None = []
+relocs_of place (Some link) = record {
+  section = place.section;
+  offset = place.offset % 2 ^ 32;
+  kind = link.kind;
+  name = link.name;
+  addend = link.addend;
+} ∷ []
+
+-- the relocations of words from a place on
+unfoldable pub word_relocs : Section → ℕ → List Word → List Reloc
+word_relocs section offset [] = []
+word_relocs section offset (word ∷ more) =
+    relocs_of (place_at section offset) (link_of word) ++ word_relocs section (sum_64 offset 4) more
+
+abbrev pub words_bytes : List Named → List Word → List ℕ
+words_bytes labels words = flat_map (λ word. word_bytes (held labels word)) words
+
+abbrev pub words_piece : List Named → Place → List Word → Piece
+words_piece labels place words = record {
+  place = place;
+  code = false;
+  bytes = words_bytes labels words;
+  relocs = word_relocs place.section place.offset words;
+}
+
+abbrev pub bytes_piece : Place → Bool → List ℕ → Piece
+bytes_piece place code bytes = record { place = place; code = code; bytes = bytes; relocs = [] }
+
+-- a text is filled with instructions, and this counts as code; another section with zeros
+abbrev pub filling_piece : Place → ℕ → Piece
+filling_piece place count =
+    bytes_piece place true (if same_section place.section Text then filling_bytes count else replicate count 0)
+
+-- the pool that ends here, at a multiple of 4; nothing without words
+abbrev pub pool_pieces : List Named → Stand → List Piece
+pool_pieces labels stand =
+    if is_empty stand.pool then []
+    else filling_piece (place_at Text stand.at.sizes.text) (filling stand.at.sizes.text 4)
+    ∷ words_piece labels (place_at Text (pool_place stand)) stand.pool ∷ []
+
+-- the words of a function's table, at a multiple of 4
+abbrev pub table_pieces : ℕ → Option EntryWords → List Piece
+table_pieces place (Some (entry.Table words)) =
+    bytes_piece (place_at Extab place) false (replicate (filling place 4) 0 ++ flat_map word_bytes words) ∷ []
+table_pieces place _ = []
+
+abbrev pub bytes_of_code : Result Code EncodeFault → List ℕ
+bytes_of_code (Ok code) = code_bytes code
+bytes_of_code (Err _) = []
+
+abbrev pub bytes_of_instruction : Option Instr → List ℕ
+bytes_of_instruction (Some i) = bytes_of_code (encoded_of i)
+bytes_of_instruction None = []
+
+abbrev pub low_byte_or_zero : ℤ → ℕ
+low_byte_or_zero (pos n) = if nat_lt n 256 then n else 0
+low_byte_or_zero (negsuc n) = 0
+
+abbrev pub instruction_bytes : List Named → StmtKind → ℕ → ℕ → List ℕ
+instruction_bytes labels (stmt.Udf imm) place word = half_bytes (0xde00 + low_byte_or_zero imm)
+instruction_bytes labels kind place word = bytes_of_instruction (instruction labels kind place word)
+
+abbrev pub instruction_piece : List Named → StmtKind → Place → ℕ → Piece
+instruction_piece labels kind place word = record {
+  place = place;
+  code = true;
+  bytes = instruction_bytes labels kind place.offset word;
+  relocs = relocs_of place (branch_link labels kind);
+}
+
+-- the piece of a statement that is data
+abbrev pub data_piece : List Named → StmtKind → Place → Piece
+data_piece labels (stmt.Words exprs) place = words_piece labels place (map word_of exprs)
+data_piece labels (stmt.Halves exprs) place =
+    bytes_piece place false (flat_map (λ expr. half_bytes (low_or_zero (number labels expr))) exprs)
+data_piece labels (stmt.Bytes exprs) place =
+    bytes_piece place false (flat_map (λ expr. byte_bytes (low_or_zero (number labels expr))) exprs)
+data_piece labels (stmt.Ascii text) place = bytes_piece place false text
+data_piece labels (stmt.Asciz text) place = bytes_piece place false (text ++ 0 ∷ [])
+data_piece labels (stmt.Space n) place = bytes_piece place false (replicate (natural n) 0)
+data_piece labels _ place = bytes_piece place false []
+
+-- the pieces of a statement where the walk stands, where its pool word has a place too
+abbrev pub pieces_at : List (Option EntryWords) → List Named → Stand → ℕ → StmtKind → List Piece
+pieces_at entries labels stand word (stmt.Align n) =
+    filling_piece (here stand.at) (filling (here stand.at).offset (multiple n)) ∷ []
+pieces_at entries labels stand word stmt.Pool = if is_in_text stand.at then pool_pieces labels stand else []
+pieces_at entries labels stand word stmt.FnStart =
+    if stand.at.inside then [] else table_pieces stand.at.sizes.extab (entry_at entries stand.at.functions)
+pieces_at entries labels stand word kind =
+    (if is_instruction kind then instruction_piece labels kind (here stand.at) word
+    else data_piece labels kind (here stand.at)) ∷ []
+
+-- the place of a statement's pool word, where its pool begins at a place; 0 without one
+abbrev pub word_place : Stand → StmtKind → ℕ → ℕ
+word_place stand (stmt.LdrPool _ value) pool =
+    if is_in_text stand.at then sum_64 pool (times (position_or_len (same_word (word_of value)) stand.pool) 4) else 0
+word_place stand _ pool = 0
+
+-- the pieces of statements in the order of the text, the pool at its end last
+unfoldable pub pieces_from : List (Option EntryWords) → List Named → Stand → List Stmt → List Piece
+pieces_from entries labels stand [] = pool_pieces labels stand
+pieces_from entries labels stand (stmt ∷ more) =
+    pieces_at entries labels stand (word_place stand stmt.kind (coming_pool entries stand (stmt ∷ more))) stmt.kind
+    ++ pieces_from entries labels (next entries stand stmt.kind) more
+
+-- a section's bytes and relocations are those of its pieces
+abbrev pub bytes_in : Section → List Piece → List ℕ
+bytes_in section pieces = flat_map (λ piece. if same_section piece.place.section section then piece.bytes else []) pieces
+
+abbrev pub relocs_in : Section → List Piece → List Reloc
+relocs_in section pieces = flat_map (λ piece. if same_section piece.place.section section then piece.relocs else []) pieces
+
+abbrev pub same_bool : Bool → Bool → Bool
+same_bool true code = code
+same_bool false code = not code
+
+abbrev pub changes_to : Option Bool → Bool → Bool
+changes_to None code = true
+changes_to (Some last) code = not (same_bool last code)
+
+-- a piece that has bytes of the text
+abbrev pub shows : Piece → Bool
+shows piece = same_section piece.place.section Text && not (length piece.bytes == 0)
+
+-- the changes between code and words in the text; its first bytes are one
+unfoldable pub marks_from : Option Bool → List Piece → List Mark
+marks_from last [] = []
+marks_from last (piece ∷ more) =
+    if shows piece
+    then (if changes_to last piece.code then record { offset = piece.place.offset % 2 ^ 32; code = piece.code } ∷ [] else [])
+    ++ marks_from (Some piece.code) more
+    else marks_from last more
+
+abbrev pub row_entry : ℕ → EntryWords → RowEntry
+row_entry table entry.CantUnwind = row.CantUnwind
+row_entry table (entry.Inline word) = row.Inline word
+row_entry table (entry.Table _) = row.Table (table % 2 ^ 32)
+
+-- a function's row: the place of its `.fnstart`, and its table at a multiple of 4
+abbrev pub row_of : Stand → Option EntryWords → List IndexRow
+row_of stand None = []
+row_of stand (Some words) = record {
+  offset = stand.at.sizes.text % 2 ^ 32;
+  entry = row_entry (sum_64 stand.at.sizes.extab (filling stand.at.sizes.extab 4)) words;
+} ∷ []
+
+abbrev pub new_rows : List (Option EntryWords) → Stand → StmtKind → List IndexRow
+new_rows entries stand stmt.FnStart = if stand.at.inside then [] else row_of stand (entry_at entries stand.at.functions)
+new_rows entries stand _ = []
+
+unfoldable pub rows_from : List (Option EntryWords) → Stand → List Stmt → List IndexRow
+rows_from entries stand [] = []
+rows_from entries stand (stmt ∷ more) =
+    new_rows entries stand stmt.kind ++ rows_from entries (next entries stand stmt.kind) more
