@@ -1,15 +1,14 @@
 -- The instruction of a statement (Armv6-M Architecture Reference Manual, DDI 0419).
-use Rattle.std.specs.Prelude.{ℕ, ◌+◌, ◌-◌, ◌*◌, ◌/◌, ◌^◌, ◌==◌, ◌&&◌, ℤ, pos, negsuc, ◌-ℤ◌, Bool, true, false, nat_lt, nat_le, if◌then◌else◌, List, Option, Some, None}
+use Rattle.std.specs.Prelude.{ℕ, ◌*◌, ◌/◌, ◌^◌, ◌==◌, ◌&&◌, ℤ, pos, negsuc, ◌-ℤ◌, Bool, false, nat_lt, if◌then◌else◌, List, Option, Some, None}
 use Rattle.asm_read.specs.declared.statement.StmtKind.{StmtKind}
 use Rattle.asm_read.specs.declared.statement.StmtKind.TheVariants as stmt
 use Rattle.thumb_isa.specs.declared.instr.Instr.{Instr}
 use Rattle.thumb_isa.specs.declared.instr.Instr.TheVariants.{ShiftImm, AddSubReg, AddSubImm3, Imm8, Alu, AddHigh, CmpHigh, MovHigh, Bx, Blx, LdrLit, MemReg, MemImm, MemSp, Adr, AddRdSp, AddSp, SubSp, Extend, Rev, Push, Pop, Hint, Stm, Ldm, BCond, Svc, B, Bl, Barrier}
-use Rattle.asm_object.specs.declared.object.Section.{Section}
-use Rattle.asm_object.specs.declared.object.Section.TheVariants.{Text}
-use Rattle.asm_object.specs.declared.place.Place.{Place}
-use Rattle.asm_object.specs.Sizes.{sum_64}
-use Rattle.asm_object.specs.Walks.{same_section}
-use Rattle.asm_object.specs.Labels.{Named, find}
+use Rattle.asm_layout.specs.declared.place.Section.TheVariants.{Text}
+use Rattle.asm_layout.specs.declared.place.Place.{Place}
+use Rattle.asm_layout.specs.Sizes.{sum_64}
+use Rattle.asm_layout.specs.Walks.{same_section}
+use Rattle.asm_layout.specs.Labels.{Named, find}
 use Rattle.asm_object.specs.Values.{Linked, linked}
 
 -- a number as a field without sign takes it; one too large for every field where it isn't one of 32 bits

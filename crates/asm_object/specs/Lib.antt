@@ -1,13 +1,8 @@
-pub mod Faults
-pub mod Words
-pub mod SameWords
-pub mod Sizes
 pub mod Bytes
-pub mod Functions
-pub mod Walks
-pub mod Labels
 pub mod Values
+pub mod Links
 pub mod Instructions
 pub mod Refusals
 pub mod Pieces
 pub mod Objects
+pub mod Built

@@ -2,28 +2,31 @@
 use Rattle.std.specs.Prelude.{ℕ, ◌%◌, ◌^◌, List, [], ◌∷◌, ◌++◌, map, Option, Some, None, Result, Ok, Err}
 use Rattle.asm_read.specs.declared.statement.Stmt.{Stmt}
 use Rattle.asm_unwind.specs.declared.entry.EntryWords.{EntryWords}
-use Rattle.asm_object.specs.declared.object.Section.TheVariants.{Text, Rodata, Extab, Init}
+use Rattle.asm_layout.specs.declared.place.Section.TheVariants.{Text, Rodata, Extab, Init}
+use Rattle.asm_object.specs.declared.object.ObjSymbol.{ObjSymbol}
 use Rattle.asm_object.specs.declared.object.Object.{Object}
-use Rattle.asm_object.specs.declared.fault.AsmFault.{AsmFault}
-use Rattle.asm_object.specs.declared.fault.AsmWhat.{AsmWhat}
-use Rattle.asm_object.specs.Faults.{fault_at, first_of_all}
-use Rattle.asm_object.specs.Functions.{entries_of, unwind_faults_of}
-use Rattle.asm_object.specs.Walks.{Stand, start, next, here, stand_behind, coming_pool}
-use Rattle.asm_object.specs.Labels.{Named, labels_of, symbol_of, duplicates_from, too_large_from}
+use Rattle.asm_layout.specs.declared.fault.AsmFault.{AsmFault}
+use Rattle.asm_layout.specs.declared.fault.AsmWhat.{AsmWhat}
+use Rattle.asm_layout.specs.Faults.{fault_at, first_of_all}
+use Rattle.asm_layout.specs.Functions.{entries_of, unwind_faults_of}
+use Rattle.asm_layout.specs.declared.walk.Walk.{Walk}
+use Rattle.asm_layout.specs.Walks.{start, next, here, walk_behind, coming_pool}
+use Rattle.asm_layout.specs.Labels.{Named, labels_of, labelled, duplicates_from, too_large_from}
+use Rattle.asm_layout.specs.declared.labels.Label.{Label}
 use Rattle.asm_object.specs.Refusals.{refusal}
-use Rattle.asm_object.specs.Pieces.{Piece, pieces_from, bytes_in, relocs_in, marks_from, rows_from, word_place}
+use Rattle.asm_object.specs.Pieces.{pieces_from, bytes_in, relocs_in, marks_from, rows_from, word_place}
 
 abbrev pub faults_at : ℕ → Option AsmWhat → List AsmFault
 faults_at line None = []
 faults_at line (Some what) = fault_at line what ∷ []
 
 -- what is refused of statements where the walk stands
-unfoldable pub refusals_from : List (Option EntryWords) → List Named → Stand → List Stmt → List AsmFault
-refusals_from entries labels stand [] = []
-refusals_from entries labels stand (stmt ∷ more) =
-    faults_at stmt.line (refusal labels stmt.kind stand.at.section (here stand.at).offset
-    (word_place stand stmt.kind (coming_pool entries stand (stmt ∷ more))))
-    ++ refusals_from entries labels (next entries stand stmt.kind) more
+unfoldable pub refusals_from : List (Option EntryWords) → List Named → Walk → List Stmt → List AsmFault
+refusals_from entries labels walk [] = []
+refusals_from entries labels walk (stmt ∷ more) =
+    faults_at stmt.line (refusal labels stmt.kind walk.at.section (here walk.at).offset
+    (word_place walk stmt.kind (coming_pool entries walk (stmt ∷ more))))
+    ++ refusals_from entries labels (next entries walk stmt.kind) more
 
 -- every refusal of a source
 unfoldable pub faults_of : List Stmt → List AsmFault
@@ -31,6 +34,17 @@ faults_of stmts =
     let entries = entries_of stmts in
     unwind_faults_of stmts ++ duplicates_from [] stmts ++ too_large_from entries start 0 stmts
     ++ refusals_from entries (labels_of entries stmts) start stmts
+
+-- a label as a symbol; offsets and sizes are words
+abbrev pub symbol_of : List ℕ × Label → ObjSymbol
+symbol_of label = record {
+  name = label.0;
+  section = label.1.place.section;
+  offset = label.1.place.offset % 2 ^ 32;
+  size = label.1.size % 2 ^ 32;
+  function = label.1.function;
+  global = label.1.global;
+}
 
 -- the object of a source that nothing is refused of
 unfoldable pub joined : List Stmt → Object
@@ -43,8 +57,8 @@ joined stmts =
       rodata = bytes_in Rodata pieces;
       extab = bytes_in Extab pieces;
       init = bytes_in Init pieces;
-      bss = (stand_behind entries start stmts).at.sizes.bss % 2 ^ 32;
-      symbols = map (symbol_of entries stmts) labels;
+      bss = (walk_behind entries start stmts).at.sizes.bss % 2 ^ 32;
+      symbols = map (λ label. symbol_of (labelled entries stmts label)) labels;
       marks = marks_from None pieces;
       rows = rows_from entries start stmts;
       relocs = relocs_in Text pieces ++ relocs_in Rodata pieces ++ relocs_in Extab pieces ++ relocs_in Init pieces;

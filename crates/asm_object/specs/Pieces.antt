@@ -1,8 +1,7 @@
 -- The bytes of statements, each piece at its place, and what the linker fills in them.
-use Rattle.std.specs.Prelude.{ℕ, ◌+◌, ◌*◌, ◌%◌, ◌^◌, ◌==◌, ◌&&◌, not, ℤ, pos, negsuc, Bool, true, false, nat_lt, if◌then◌else◌, List, [], ◌∷◌, ◌++◌, map, replicate, flat_map, length, Option, Some, None, unwrap_or, Result, Ok, Err}
+use Rattle.std.specs.Prelude.{ℕ, ◌+◌, ◌%◌, ◌^◌, ◌==◌, ◌&&◌, not, ℤ, pos, negsuc, Bool, true, false, nat_lt, if◌then◌else◌, List, [], ◌∷◌, ◌++◌, map, replicate, flat_map, length, Option, Some, None, Result, Ok, Err}
 use Rattle.std.specs.List.{position_or_len}
 use Rattle.asm_read.specs.declared.statement.Stmt.{Stmt}
-use Rattle.asm_read.specs.declared.statement.Expr.{Expr}
 use Rattle.asm_read.specs.declared.statement.StmtKind.{StmtKind}
 use Rattle.asm_read.specs.declared.statement.StmtKind.TheVariants as stmt
 use Rattle.asm_unwind.specs.declared.entry.EntryWords.{EntryWords}
@@ -11,21 +10,22 @@ use Rattle.thumb_isa.specs.declared.instr.Instr.{Instr}
 use Rattle.thumb_encode.specs.declared.code.Code.{Code}
 use Rattle.thumb_encode.specs.declared.code.EncodeFault.{EncodeFault}
 use Rattle.thumb_encode.specs.Codes.{encoded_of}
-use Rattle.asm_object.specs.declared.object.Section.{Section}
-use Rattle.asm_object.specs.declared.object.Section.TheVariants.{Text, Rodata, Extab, Init, Bss}
+use Rattle.asm_layout.specs.declared.place.Section.{Section}
+use Rattle.asm_layout.specs.declared.place.Section.TheVariants.{Text, Extab}
 use Rattle.asm_object.specs.declared.object.Reloc.{Reloc}
 use Rattle.asm_object.specs.declared.object.Mark.{Mark}
 use Rattle.asm_object.specs.declared.object.RowEntry.{RowEntry}
 use Rattle.asm_object.specs.declared.object.RowEntry.TheVariants as row
 use Rattle.asm_object.specs.declared.object.IndexRow.{IndexRow}
-use Rattle.asm_object.specs.declared.place.Place.{Place}
-use Rattle.asm_object.specs.declared.word.Word.{Word}
-use Rattle.asm_object.specs.Words.{word_of}
-use Rattle.asm_object.specs.SameWords.{same_word}
-use Rattle.asm_object.specs.Sizes.{sum_64, times, filling, multiple, natural, is_instruction}
+use Rattle.asm_layout.specs.declared.place.Place.{Place}
+use Rattle.asm_layout.specs.declared.word.Word.{Word}
+use Rattle.asm_layout.specs.Words.{word_of}
+use Rattle.asm_layout.specs.SameWords.{same_word}
+use Rattle.asm_layout.specs.Sizes.{sum_64, times, filling, multiple, natural, is_instruction}
 use Rattle.asm_object.specs.Bytes.{byte_bytes, half_bytes, word_bytes, code_bytes, filling_bytes}
-use Rattle.asm_object.specs.Walks.{Stand, next, here, entry_at, is_empty, is_in_text, pool_place, ends_pool, coming_pool, same_section}
-use Rattle.asm_object.specs.Labels.{Named}
+use Rattle.asm_layout.specs.declared.walk.Walk.{Walk}
+use Rattle.asm_layout.specs.Walks.{next, here, entry_at, is_empty, is_in_text, pool_place, coming_pool, same_section}
+use Rattle.asm_layout.specs.Labels.{Named}
 use Rattle.asm_object.specs.Values.{number, held, low_or_zero, Linked, link_of}
 use Rattle.asm_object.specs.Instructions.{instruction, branch_link}
 
@@ -75,11 +75,11 @@ filling_piece place count =
     bytes_piece place true (if same_section place.section Text then filling_bytes count else replicate count 0)
 
 -- the pool that ends here, at a multiple of 4; nothing without words
-abbrev pub pool_pieces : List Named → Stand → List Piece
-pool_pieces labels stand =
-    if is_empty stand.pool then []
-    else filling_piece (place_at Text stand.at.sizes.text) (filling stand.at.sizes.text 4)
-    ∷ words_piece labels (place_at Text (pool_place stand)) stand.pool ∷ []
+abbrev pub pool_pieces : List Named → Walk → List Piece
+pool_pieces labels walk =
+    if is_empty walk.pool then []
+    else filling_piece (place_at Text walk.at.sizes.text) (filling walk.at.sizes.text 4)
+    ∷ words_piece labels (place_at Text (pool_place walk)) walk.pool ∷ []
 
 -- the words of a function's table, at a multiple of 4
 abbrev pub table_pieces : ℕ → Option EntryWords → List Piece
@@ -99,9 +99,18 @@ abbrev pub low_byte_or_zero : ℤ → ℕ
 low_byte_or_zero (pos n) = if nat_lt n 256 then n else 0
 low_byte_or_zero (negsuc n) = 0
 
+-- the halfword of `udf`, which is no instruction of the encoder's
+abbrev pub udf_half : StmtKind → Option ℕ
+udf_half (stmt.Udf imm) = Some (0xde00 + low_byte_or_zero imm)
+udf_half _ = None
+
+abbrev pub bytes_of_half : Option ℕ → List ℕ
+bytes_of_half None = []
+bytes_of_half (Some half) = half_bytes half
+
 abbrev pub instruction_bytes : List Named → StmtKind → ℕ → ℕ → List ℕ
-instruction_bytes labels (stmt.Udf imm) place word = half_bytes (0xde00 + low_byte_or_zero imm)
-instruction_bytes labels kind place word = bytes_of_instruction (instruction labels kind place word)
+instruction_bytes labels kind place word =
+    bytes_of_half (udf_half kind) ++ bytes_of_instruction (instruction labels kind place word)
 
 abbrev pub instruction_piece : List Named → StmtKind → Place → ℕ → Piece
 instruction_piece labels kind place word = record {
@@ -111,41 +120,60 @@ instruction_piece labels kind place word = record {
   relocs = relocs_of place (branch_link labels kind);
 }
 
--- the piece of a statement that is data
-abbrev pub data_piece : List Named → StmtKind → Place → Piece
-data_piece labels (stmt.Words exprs) place = words_piece labels place (map word_of exprs)
-data_piece labels (stmt.Halves exprs) place =
-    bytes_piece place false (flat_map (λ expr. half_bytes (low_or_zero (number labels expr))) exprs)
-data_piece labels (stmt.Bytes exprs) place =
-    bytes_piece place false (flat_map (λ expr. byte_bytes (low_or_zero (number labels expr))) exprs)
-data_piece labels (stmt.Ascii text) place = bytes_piece place false text
-data_piece labels (stmt.Asciz text) place = bytes_piece place false (text ++ 0 ∷ [])
-data_piece labels (stmt.Space n) place = bytes_piece place false (replicate (natural n) 0)
-data_piece labels _ place = bytes_piece place false []
+-- the bytes of a statement that is data
+abbrev pub data_bytes : List Named → StmtKind → List ℕ
+data_bytes labels (stmt.Words exprs) = words_bytes labels (map word_of exprs)
+data_bytes labels (stmt.Halves exprs) = flat_map (λ expr. half_bytes (low_or_zero (number labels expr))) exprs
+data_bytes labels (stmt.Bytes exprs) = flat_map (λ expr. byte_bytes (low_or_zero (number labels expr))) exprs
+data_bytes labels (stmt.Ascii text) = text
+data_bytes labels (stmt.Asciz text) = text ++ 0 ∷ []
+data_bytes labels (stmt.Space n) = replicate (natural n) 0
+data_bytes labels _ = []
 
--- the pieces of a statement where the walk stands, where its pool word has a place too
-abbrev pub pieces_at : List (Option EntryWords) → List Named → Stand → ℕ → StmtKind → List Piece
-pieces_at entries labels stand word (stmt.Align n) =
-    filling_piece (here stand.at) (filling (here stand.at).offset (multiple n)) ∷ []
-pieces_at entries labels stand word stmt.Pool = if is_in_text stand.at then pool_pieces labels stand else []
-pieces_at entries labels stand word stmt.FnStart =
-    if stand.at.inside then [] else table_pieces stand.at.sizes.extab (entry_at entries stand.at.functions)
-pieces_at entries labels stand word kind =
-    (if is_instruction kind then instruction_piece labels kind (here stand.at) word
-    else data_piece labels kind (here stand.at)) ∷ []
+-- the relocations of a statement that is data: those of its words
+abbrev pub data_relocs : StmtKind → Place → List Reloc
+data_relocs (stmt.Words exprs) place = word_relocs place.section place.offset (map word_of exprs)
+data_relocs _ place = []
+
+abbrev pub data_piece : List Named → StmtKind → Place → Piece
+data_piece labels kind place = record {
+  place = place;
+  code = false;
+  bytes = data_bytes labels kind;
+  relocs = data_relocs kind place;
+}
+
+-- what a statement fills, and the pool or table that stands where it does
+abbrev pub set_pieces : List (Option EntryWords) → List Named → Walk → StmtKind → List Piece
+set_pieces entries labels walk (stmt.Align n) =
+    filling_piece (here walk.at) (filling (here walk.at).offset (multiple n)) ∷ []
+set_pieces entries labels walk stmt.Pool = if is_in_text walk.at then pool_pieces labels walk else []
+set_pieces entries labels walk stmt.FnStart =
+    if walk.at.inside then [] else table_pieces walk.at.sizes.extab (entry_at entries walk.at.functions)
+set_pieces entries labels walk _ = []
+
+-- a statement's own bytes, where its pool word has a place too
+abbrev pub own_piece : List Named → StmtKind → Place → ℕ → Piece
+own_piece labels kind place word =
+    if is_instruction kind then instruction_piece labels kind place word else data_piece labels kind place
+
+-- the pieces of a statement where the walk stands
+abbrev pub pieces_at : List (Option EntryWords) → List Named → Walk → ℕ → StmtKind → List Piece
+pieces_at entries labels walk word kind =
+    set_pieces entries labels walk kind ++ own_piece labels kind (here walk.at) word ∷ []
 
 -- the place of a statement's pool word, where its pool begins at a place; 0 without one
-abbrev pub word_place : Stand → StmtKind → ℕ → ℕ
-word_place stand (stmt.LdrPool _ value) pool =
-    if is_in_text stand.at then sum_64 pool (times (position_or_len (same_word (word_of value)) stand.pool) 4) else 0
-word_place stand _ pool = 0
+abbrev pub word_place : Walk → StmtKind → ℕ → ℕ
+word_place walk (stmt.LdrPool _ value) pool =
+    if is_in_text walk.at then sum_64 pool (times (position_or_len (same_word (word_of value)) walk.pool) 4) else 0
+word_place walk _ pool = 0
 
 -- the pieces of statements in the order of the text, the pool at its end last
-unfoldable pub pieces_from : List (Option EntryWords) → List Named → Stand → List Stmt → List Piece
-pieces_from entries labels stand [] = pool_pieces labels stand
-pieces_from entries labels stand (stmt ∷ more) =
-    pieces_at entries labels stand (word_place stand stmt.kind (coming_pool entries stand (stmt ∷ more))) stmt.kind
-    ++ pieces_from entries labels (next entries stand stmt.kind) more
+unfoldable pub pieces_from : List (Option EntryWords) → List Named → Walk → List Stmt → List Piece
+pieces_from entries labels walk [] = pool_pieces labels walk
+pieces_from entries labels walk (stmt ∷ more) =
+    pieces_at entries labels walk (word_place walk stmt.kind (coming_pool entries walk (stmt ∷ more))) stmt.kind
+    ++ pieces_from entries labels (next entries walk stmt.kind) more
 
 -- a section's bytes and relocations are those of its pieces
 abbrev pub bytes_in : Section → List Piece → List ℕ
@@ -166,13 +194,16 @@ changes_to (Some last) code = not (same_bool last code)
 abbrev pub shows : Piece → Bool
 shows piece = same_section piece.place.section Text && not (length piece.bytes == 0)
 
+-- a mark where bytes at a place of the text are of another sort than the last ones
+abbrev pub mark_of : Option Bool → ℕ → Bool → List Mark
+mark_of last place code = if changes_to last code then record { offset = place % 2 ^ 32; code = code } ∷ [] else []
+
 -- the changes between code and words in the text; its first bytes are one
 unfoldable pub marks_from : Option Bool → List Piece → List Mark
 marks_from last [] = []
 marks_from last (piece ∷ more) =
     if shows piece
-    then (if changes_to last piece.code then record { offset = piece.place.offset % 2 ^ 32; code = piece.code } ∷ [] else [])
-    ++ marks_from (Some piece.code) more
+    then mark_of last piece.place.offset piece.code ++ marks_from (Some piece.code) more
     else marks_from last more
 
 abbrev pub row_entry : ℕ → EntryWords → RowEntry
@@ -181,18 +212,18 @@ row_entry table (entry.Inline word) = row.Inline word
 row_entry table (entry.Table _) = row.Table (table % 2 ^ 32)
 
 -- a function's row: the place of its `.fnstart`, and its table at a multiple of 4
-abbrev pub row_of : Stand → Option EntryWords → List IndexRow
-row_of stand None = []
-row_of stand (Some words) = record {
-  offset = stand.at.sizes.text % 2 ^ 32;
-  entry = row_entry (sum_64 stand.at.sizes.extab (filling stand.at.sizes.extab 4)) words;
+abbrev pub row_of : Walk → Option EntryWords → List IndexRow
+row_of walk None = []
+row_of walk (Some words) = record {
+  offset = walk.at.sizes.text % 2 ^ 32;
+  entry = row_entry (sum_64 walk.at.sizes.extab (filling walk.at.sizes.extab 4)) words;
 } ∷ []
 
-abbrev pub new_rows : List (Option EntryWords) → Stand → StmtKind → List IndexRow
-new_rows entries stand stmt.FnStart = if stand.at.inside then [] else row_of stand (entry_at entries stand.at.functions)
-new_rows entries stand _ = []
+abbrev pub new_rows : List (Option EntryWords) → Walk → StmtKind → List IndexRow
+new_rows entries walk stmt.FnStart = if walk.at.inside then [] else row_of walk (entry_at entries walk.at.functions)
+new_rows entries walk _ = []
 
-unfoldable pub rows_from : List (Option EntryWords) → Stand → List Stmt → List IndexRow
-rows_from entries stand [] = []
-rows_from entries stand (stmt ∷ more) =
-    new_rows entries stand stmt.kind ++ rows_from entries (next entries stand stmt.kind) more
+unfoldable pub rows_from : List (Option EntryWords) → Walk → List Stmt → List IndexRow
+rows_from entries walk [] = []
+rows_from entries walk (stmt ∷ more) =
+    new_rows entries walk stmt.kind ++ rows_from entries (next entries walk stmt.kind) more

@@ -1,21 +1,21 @@
 -- Why a statement is refused at its place.
-use Rattle.std.specs.Prelude.{ℕ, ◌+◌, ◌-◌, ◌*◌, ◌==◌, ◌&&◌, ◌||◌, not, ℤ, pos, negsuc, Bool, true, false, nat_lt, nat_le, if◌then◌else◌, List, [], ◌∷◌, length, Option, Some, None, is_some, Result, Ok, Err}
+use Rattle.std.specs.Prelude.{ℕ, ◌-◌, ◌*◌, ◌==◌, ◌&&◌, ◌||◌, not, ℤ, pos, negsuc, Bool, true, false, nat_lt, nat_le, if◌then◌else◌, List, length, Option, Some, None, is_some}
 use Rattle.std.specs.List.{list_all}
+use Rattle.std.specs.Result.{result_err}
 use Rattle.asm_read.specs.declared.statement.Expr.{Expr}
 use Rattle.asm_read.specs.declared.statement.StmtKind.{StmtKind}
 use Rattle.asm_read.specs.declared.statement.StmtKind.TheVariants as stmt
 use Rattle.thumb_isa.specs.declared.instr.Instr.{Instr}
-use Rattle.thumb_encode.specs.declared.code.Code.{Code}
 use Rattle.thumb_encode.specs.declared.code.EncodeFault.{EncodeFault}
 use Rattle.thumb_encode.specs.declared.code.EncodeFault.TheVariants.{RegisterRange, ImmediateRange}
 use Rattle.thumb_encode.specs.Codes.{encoded_of}
-use Rattle.asm_object.specs.declared.object.Section.{Section}
-use Rattle.asm_object.specs.declared.object.Section.TheVariants.{Text, Bss}
-use Rattle.asm_object.specs.declared.fault.AsmWhat.{AsmWhat}
-use Rattle.asm_object.specs.declared.fault.AsmWhat.TheVariants.{UndefinedLocal, Encode, PoolTooFar, Placement}
-use Rattle.asm_object.specs.Sizes.{is_instruction}
-use Rattle.asm_object.specs.Walks.{same_section}
-use Rattle.asm_object.specs.Labels.{Named}
+use Rattle.asm_layout.specs.declared.place.Section.{Section}
+use Rattle.asm_layout.specs.declared.place.Section.TheVariants.{Text, Bss}
+use Rattle.asm_layout.specs.declared.fault.AsmWhat.{AsmWhat}
+use Rattle.asm_layout.specs.declared.fault.AsmWhat.TheVariants.{UndefinedLocal, Encode, PoolTooFar, Placement}
+use Rattle.asm_layout.specs.Sizes.{is_instruction}
+use Rattle.asm_layout.specs.Walks.{same_section}
+use Rattle.asm_layout.specs.Labels.{Named}
 use Rattle.asm_object.specs.Values.{is_known, is_word_known, number}
 use Rattle.asm_object.specs.Instructions.{text_place, base, instruction}
 
@@ -45,13 +45,9 @@ fits half None = true
 abbrev pub fault_unless : Bool → EncodeFault → Option EncodeFault
 fault_unless holds fault = if holds then None else Some fault
 
-abbrev pub fault_in : Result Code EncodeFault → Option EncodeFault
-fault_in (Ok _) = None
-fault_in (Err fault) = Some fault
-
 abbrev pub instruction_fault : Option Instr → Option EncodeFault
 instruction_fault None = None
-instruction_fault (Some i) = fault_in (encoded_of i)
+instruction_fault (Some i) = result_err (encoded_of i)
 
 abbrev pub is_from_zero_to : ℕ → ℤ → Bool
 is_from_zero_to most (pos n) = nat_le n most

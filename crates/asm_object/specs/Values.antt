@@ -1,13 +1,13 @@
 -- What names, words and numbers stand for.
-use Rattle.std.specs.Prelude.{ℕ, ◌+◌, ◌-◌, ◌^◌, ℤ, pos, negsuc, ◌+ℤ◌, ◌-ℤ◌, ◌==◌, ◌&&◌, slice_index_or, not, Bool, true, false, nat_lt, if◌then◌else◌, List, [], ◌∷◌, Option, Some, None, is_some}
+use Rattle.std.specs.Prelude.{ℕ, ◌-◌, ◌^◌, ℤ, pos, negsuc, ◌+ℤ◌, ◌-ℤ◌, ◌==◌, ◌&&◌, slice_index_or, Bool, true, nat_lt, if◌then◌else◌, List, Option, Some, None, is_some}
 use Rattle.asm_read.specs.declared.statement.Expr.{Expr}
 use Rattle.asm_read.specs.declared.statement.Expr.TheVariants as expr
-use Rattle.asm_object.specs.declared.place.Place.{Place}
-use Rattle.asm_object.specs.declared.word.Word.{Word}
-use Rattle.asm_object.specs.declared.word.Word.TheVariants as word
-use Rattle.asm_object.specs.Words.{low_word}
-use Rattle.asm_object.specs.Walks.{same_section}
-use Rattle.asm_object.specs.Labels.{Named, find}
+use Rattle.asm_layout.specs.declared.place.Place.{Place}
+use Rattle.asm_layout.specs.declared.word.Word.{Word}
+use Rattle.asm_layout.specs.declared.word.Word.TheVariants as word
+use Rattle.asm_layout.specs.Words.{low_word}
+use Rattle.asm_layout.specs.Walks.{same_section}
+use Rattle.asm_layout.specs.Labels.{Named, find}
 
 -- a name that begins with `.L`
 abbrev pub is_local : List ℕ → Bool

@@ -1,43 +1,38 @@
-ghost use Rattle.std.specs.Prelude.{◌≡◌, ◌<◌, ◌++◌, ◌∷◌, [], OnOk, replicate};
-ghost use Rattle.asm_object.specs.Sizes.{filling};
+ghost use Rattle.std.specs.Prelude.{◌≡◌, ◌<◌, ◌++◌, OnOk, replicate};
+ghost use Rattle.asm_layout.specs.Sizes.{filling};
 ghost use Rattle.asm_object.specs.Bytes.{byte_bytes, half_bytes, word_bytes, code_bytes, filling_bytes};
 
-use crate::walk::filling;
+use crate::object::Octets;
+use asm_layout::walk::filling;
 use std::alloc::AllocError;
 use thumb_encode::code::Code;
 
-fn push(bytes: &mut Vec<u8>, byte: u8) -> Result<(), AllocError>
-    ensures { OnOk result (bytes.new.items ≡ bytes.old.items ++ byte ∷ []) }
-{
-    bytes.push(byte).map_err(AllocError::from)
-}
-
 /// Adds a byte by its number modulo 256.
-pub fn push_byte(bytes: &mut Vec<u8>, n: u32) -> Result<(), AllocError>
-    ensures { OnOk result (bytes.new.items ≡ bytes.old.items ++ byte_bytes n) }
+pub fn push_byte(bytes: &mut Octets, n: u32) -> Result<(), AllocError>
+    ensures { OnOk result (bytes.new ≡ bytes.old ++ byte_bytes n) }
 {
-    push(bytes, (n % 256) as u8)
+    bytes.push((n % 256) as u8)
 }
 
 /// Adds the low two bytes of a number, the lowest first.
-pub fn push_half(bytes: &mut Vec<u8>, n: u32) -> Result<(), AllocError>
-    ensures { OnOk result (bytes.new.items ≡ bytes.old.items ++ half_bytes n) }
+pub fn push_half(bytes: &mut Octets, n: u32) -> Result<(), AllocError>
+    ensures { OnOk result (bytes.new ≡ bytes.old ++ half_bytes n) }
 {
-    push(bytes, (n % 256) as u8)?;
-    push(bytes, (n / 256 % 256) as u8)
+    bytes.push((n % 256) as u8)?;
+    bytes.push((n / 256 % 256) as u8)
 }
 
 /// Adds the bytes of a word, the lowest first.
-pub fn push_word(bytes: &mut Vec<u8>, n: u32) -> Result<(), AllocError>
-    ensures { OnOk result (bytes.new.items ≡ bytes.old.items ++ word_bytes n) }
+pub fn push_word(bytes: &mut Octets, n: u32) -> Result<(), AllocError>
+    ensures { OnOk result (bytes.new ≡ bytes.old ++ word_bytes n) }
 {
     push_half(bytes, n)?;
     push_half(bytes, n / 65536)
 }
 
 /// Adds the halfwords of an instruction.
-pub fn push_code(bytes: &mut Vec<u8>, code: Code) -> Result<(), AllocError>
-    ensures { OnOk result (bytes.new.items ≡ bytes.old.items ++ code_bytes code) }
+pub fn push_code(bytes: &mut Octets, code: Code) -> Result<(), AllocError>
+    ensures { OnOk result (bytes.new ≡ bytes.old ++ code_bytes code) }
 {
     match code {
         Code::Half(half) => push_half(bytes, u32::from(half)),
@@ -49,11 +44,11 @@ pub fn push_code(bytes: &mut Vec<u8>, code: Code) -> Result<(), AllocError>
 }
 
 /// Adds zeros.
-pub fn push_zeros(bytes: &mut Vec<u8>, count: u64) -> Result<(), AllocError>
-    ensures { OnOk result (bytes.new.items ≡ bytes.old.items ++ replicate count 0) }
+pub fn push_zeros(bytes: &mut Octets, count: u64) -> Result<(), AllocError>
+    ensures { OnOk result (bytes.new ≡ bytes.old ++ replicate count 0) }
 {
     for _i in 0..count {
-        push(bytes, 0)?;
+        bytes.push(0)?;
     }
     Ok(())
 }
@@ -62,13 +57,13 @@ pub fn push_zeros(bytes: &mut Vec<u8>, count: u64) -> Result<(), AllocError>
 const FILLER: u32 = 0x46c0;
 
 /// Fills a text to the next multiple: one zero byte from an odd place on, and then instructions.
-pub fn push_filling(bytes: &mut Vec<u8>, place: u64, multiple: u64) -> Result<(), AllocError>
+pub fn push_filling(bytes: &mut Octets, place: u64, multiple: u64) -> Result<(), AllocError>
     requires { 0 < multiple }
-    ensures { OnOk result (bytes.new.items ≡ bytes.old.items ++ filling_bytes (filling place multiple)) }
+    ensures { OnOk result (bytes.new ≡ bytes.old ++ filling_bytes (filling place multiple)) }
 {
     let count = filling(place, multiple);
     if count % 2 == 1 {
-        push(bytes, 0)?;
+        bytes.push(0)?;
     }
     for _i in 0..count / 2 {
         push_half(bytes, FILLER)?;

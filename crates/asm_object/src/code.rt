@@ -1,7 +1,13 @@
 ghost use Rattle.std.specs.Prelude.{◌≡◌};
-ghost use Rattle.asm_object.specs.Instructions.{unsigned, offset, compare, add_eight, add_three, plain};
+ghost use Rattle.asm_layout.specs.Labels.{named_in};
+ghost use Rattle.asm_object.specs.Links.{linked_now};
+ghost use Rattle.asm_object.specs.Instructions.{unsigned, offset, compare, add_eight, add_three, plain, pc, base, between, text_place, branch, literal, label_literal, instruction, branch_link};
 
+use crate::value::Link;
+use asm_layout::labels::Labels;
+use asm_layout::place::{Place, Section};
 use asm_read::StmtKind;
+use eh_word::Name;
 use thumb_isa::instr::Instr;
 
 /// A number as a field without sign takes it; one too large for every field where it is none of 32 bits.
@@ -154,4 +160,118 @@ fn add_three(sub: bool, d: u8, n: u8, imm: i64) -> Instr
             imm: unsigned(imm),
         }
     }
+}
+
+/// The difference of two places as an offset's field takes it.
+fn between(to: u64, from: u64) -> i32
+    ensures { result ≡ between to from }
+{
+    i32::try_from(i128::from(to) - i128::from(from)).unwrap_or(i32::MAX)
+}
+
+/// Where an instruction at a place finds its pc.
+fn pc(place: u64) -> u64
+    ensures { result ≡ pc place }
+{
+    place.saturating_add(4)
+}
+
+/// The pc rounded down to a multiple of 4.
+pub fn base(place: u64) -> u64
+    ensures { result ≡ base place }
+{
+    pc(place) / 4 * 4
+}
+
+/// The place of a label in the text.
+pub fn text_place(labels: &Labels, name: &Name) -> Option<u64>
+    ensures { result ≡ text_place (named_in labels.now) name.now }
+{
+    match labels.place_of(name) {
+        Some(
+            Place {
+                section: Section::Text,
+                offset,
+            },
+        ) => Some(offset),
+        _ => None,
+    }
+}
+
+/// The offset of a branch at a place: to a label in the text, else -4, which the linker fills.
+fn branch(labels: &Labels, name: &Name, place: u64) -> i32
+    ensures { result ≡ branch (named_in labels.now) name.now place }
+{
+    match text_place(labels, name) {
+        Some(to) => between(to, pc(place)),
+        None => -4,
+    }
+}
+
+/// The offset of a literal at a place.
+pub fn literal(to: u64, place: u64) -> i32
+    ensures { result ≡ literal to place }
+{
+    between(to, base(place))
+}
+
+/// The offset of a label in the text from the base of a place; 0 without one.
+fn label_literal(labels: &Labels, name: &Name, place: u64) -> i32
+    ensures { result ≡ label_literal (named_in labels.now) name.now place }
+{
+    match text_place(labels, name) {
+        Some(to) => literal(to, place),
+        None => 0,
+    }
+}
+
+/// The instruction of a statement at a place, where `word` is the place of its pool word; None for `udf` and directives.
+pub fn instruction(labels: &Labels, kind: &StmtKind, place: u64, word: u64) -> Option<Instr>
+    ensures { result ≡ instruction (named_in labels.now) kind.now place word }
+{
+    match kind {
+        StmtKind::Adr { d, name } => Some(Instr::Adr {
+            d: *d,
+            off: label_literal(labels, name, place),
+        }),
+        StmtKind::LdrLabel { t, name } => Some(Instr::LdrLit {
+            t: *t,
+            off: label_literal(labels, name, place),
+        }),
+        StmtKind::LdrPool { t, .. } => Some(Instr::LdrLit {
+            t: *t,
+            off: literal(word, place),
+        }),
+        StmtKind::B(name) => Some(Instr::B {
+            off: branch(labels, name, place),
+        }),
+        StmtKind::BCond { cond, name } => Some(Instr::BCond {
+            cond: *cond,
+            off: branch(labels, name, place),
+        }),
+        StmtKind::Bl(name) => Some(Instr::Bl {
+            off: branch(labels, name, place),
+        }),
+        _ => plain(kind),
+    }
+}
+
+/// What the linker puts into a branch, if anything: the kinds of `bl`, `b` and `b` with a condition (Arm ELF, IHI 0044).
+pub fn branch_link<'a>(labels: &Labels, kind: &'a StmtKind) -> Option<Link<'a>>
+    ensures { linked_now result ≡ branch_link (named_in labels.now) kind.now }
+{
+    let (kind, name) = match kind {
+        StmtKind::Bl(name) => (10, name),
+        StmtKind::B(name) => (102, name),
+        StmtKind::BCond { name, .. } => (103, name),
+        _ => return None,
+    };
+    if text_place(labels, name).is_some() {
+        return None;
+    }
+    Some(Link {
+        kind,
+        name,
+        addend: -4,
+    })
 }

@@ -1,20 +1,22 @@
-//! Pieces of an assembler: what an object holds, the order of its refusals, sizes, places and bytes, and the instruction
-//! of a statement without a name. The definitions of the object of a whole source stand beside them.
+//! Objects of statements: the assembler of the source language, without its reader.
 #![tactic(auto)]
 
-pub mod bytes;
-pub mod code;
-pub mod fault;
+pub mod assembly;
+mod bytes;
+mod code;
 pub mod object;
-pub mod place;
-pub mod symbols;
+mod part;
+mod parts;
+mod refusal;
+mod symbols;
 #[cfg(test)]
 mod tests;
-pub mod walk;
-pub mod word;
+mod value;
 
-pub use fault::{AsmFault, AsmWhat};
+pub use asm_layout::fault::{AsmFault, AsmWhat};
+pub use asm_layout::place::Section;
+pub use assembly::assemble;
 pub use object::{
     IndexRow, IndexRows, Mark, Marks, ObjSymbol, ObjSymbols, Object, Octets, Reloc, Relocs,
-    RowEntry, Section,
+    RowEntry,
 };

@@ -1,18 +1,7 @@
+use asm_layout::place::Section;
 use eh_word::Name;
+use std::alloc::{AllocError, Global};
 use std::marker::Model;
-
-/// A section of an object.
-#[derive(Clone, Copy, PartialEq, Eq, Debug)]
-pub enum Section {
-    Text,
-    Rodata,
-    /// The exception tables.
-    Extab,
-    /// The data with given bytes.
-    Init,
-    /// The data that begins as zeros.
-    Bss,
-}
 
 /// A label of the source. Offsets and sizes are in bytes, offsets from the start of the section.
 #[derive(Debug, Drop)]
@@ -77,7 +66,38 @@ impl Model for Octets {
 }
 
 impl Octets {
-    ghost use Rattle.std.specs.Prelude.{◌≡◌};
+    ghost use Rattle.std.specs.Prelude.{◌≡◌, ◌++◌, ◌∷◌, [], length, OnOk};
+
+    /// No bytes.
+    pub(crate) fn new(alloc: Global) -> Octets
+        ensures { result ≡ [] }
+    {
+        Octets {
+            octets: Vec::new(alloc),
+        }
+    }
+
+    /// Adds a byte at the end.
+    pub(crate) fn push(&mut self, octet: u8) -> Result<(), AllocError>
+        ensures { OnOk result (self.new ≡ self.old ++ octet ∷ []) }
+    {
+        self.octets.push(octet)?;
+        Ok(())
+    }
+
+    /// Adds bytes at the end.
+    pub(crate) fn extend_from_slice(&mut self, octets: &[u8]) -> Result<(), AllocError>
+        ensures { OnOk result (self.new ≡ self.old ++ octets.now) }
+    {
+        self.octets.extend_from_slice(octets)
+    }
+
+    /// How many bytes there are.
+    pub(crate) fn len(&self) -> usize
+        ensures { result ≡ length self.now }
+    {
+        self.octets.len()
+    }
 
     /// The elements of a vector, which is kept.
     pub fn of_vec(octets: Vec<u8>) -> Octets
@@ -143,7 +163,24 @@ impl Model for Marks {
 }
 
 impl Marks {
-    ghost use Rattle.std.specs.Prelude.{◌≡◌};
+    ghost use Rattle.std.specs.Prelude.{◌≡◌, ◌++◌, ◌∷◌, [], OnOk};
+
+    /// No marks.
+    pub(crate) fn new(alloc: Global) -> Marks
+        ensures { result ≡ [] }
+    {
+        Marks {
+            marks: Vec::new(alloc),
+        }
+    }
+
+    /// Adds a mark at the end.
+    pub(crate) fn push(&mut self, mark: Mark) -> Result<(), AllocError>
+        ensures { OnOk result (self.new ≡ self.old ++ mark ∷ []) }
+    {
+        self.marks.push(mark)?;
+        Ok(())
+    }
 
     /// The elements of a vector, which is kept.
     pub fn of_vec(marks: Vec<Mark>) -> Marks
@@ -176,7 +213,24 @@ impl Model for IndexRows {
 }
 
 impl IndexRows {
-    ghost use Rattle.std.specs.Prelude.{◌≡◌};
+    ghost use Rattle.std.specs.Prelude.{◌≡◌, ◌++◌, ◌∷◌, [], OnOk};
+
+    /// No rows.
+    pub(crate) fn new(alloc: Global) -> IndexRows
+        ensures { result ≡ [] }
+    {
+        IndexRows {
+            rows: Vec::new(alloc),
+        }
+    }
+
+    /// Adds a row at the end.
+    pub(crate) fn push(&mut self, row: IndexRow) -> Result<(), AllocError>
+        ensures { OnOk result (self.new ≡ self.old ++ row ∷ []) }
+    {
+        self.rows.push(row)?;
+        Ok(())
+    }
 
     /// The elements of a vector, which is kept.
     pub fn of_vec(rows: Vec<IndexRow>) -> IndexRows
@@ -209,7 +263,34 @@ impl Model for Relocs {
 }
 
 impl Relocs {
-    ghost use Rattle.std.specs.Prelude.{◌≡◌};
+    ghost use Rattle.std.specs.Prelude.{◌≡◌, ◌++◌, ◌∷◌, [], OnOk};
+
+    /// No relocations.
+    pub(crate) fn new(alloc: Global) -> Relocs
+        ensures { result ≡ [] }
+    {
+        Relocs {
+            relocs: Vec::new(alloc),
+        }
+    }
+
+    /// Adds a relocation at the end.
+    pub(crate) fn push(&mut self, reloc: Reloc) -> Result<(), AllocError>
+        ensures { OnOk result (self.new ≡ self.old ++ reloc ∷ []) }
+    {
+        self.relocs.push(reloc)?;
+        Ok(())
+    }
+
+    /// Adds relocations behind these.
+    pub(crate) fn append(&mut self, more: Relocs) -> Result<(), AllocError>
+        ensures { OnOk result (self.new ≡ self.old ++ more) }
+    {
+        for reloc in more.relocs {
+            self.push(reloc)?;
+        }
+        Ok(())
+    }
 
     /// The elements of a vector, which is kept.
     pub fn of_vec(relocs: Vec<Reloc>) -> Relocs

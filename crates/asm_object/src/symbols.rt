@@ -1,30 +1,49 @@
-ghost use Rattle.std.specs.Prelude.{◌≡◌, ◌++◌, OnOk, IfOk};
+ghost use Rattle.std.specs.Prelude.{◌≡◌, ◌++◌, map, IfOk};
+ghost use Rattle.asm_object.specs.Objects.{symbol_of};
 
-use crate::object::{Reloc, Relocs};
-use std::alloc::AllocError;
+use crate::object::{ObjSymbol, ObjSymbols, Relocs};
+use asm_layout::labels::{Label, Labels};
+use asm_layout::word::low_part;
+use eh_word::Name;
+use std::alloc::{AllocError, Global};
 
-/// Adds relocations behind others.
-fn extend(relocs: &mut Vec<Reloc>, more: Vec<Reloc>) -> Result<(), AllocError>
-    ensures { OnOk result (relocs.new.items ≡ relocs.old.items ++ more.items) }
+/// A label as a symbol.
+fn symbol(name: Name, label: Label) -> ObjSymbol
+    ensures { result ≡ symbol_of (name, label) }
 {
-    for reloc in more {
-        relocs.push(reloc)?;
+    ObjSymbol {
+        name,
+        section: label.place.section,
+        offset: low_part(label.place.offset),
+        size: low_part(label.size),
+        function: label.function,
+        global: label.global,
     }
-    Ok(())
+}
+
+/// The symbols of labels, in their order.
+pub fn symbols(alloc: Global, labels: Labels) -> Result<ObjSymbols, AllocError>
+    ensures { IfOk result (λ symbols. symbols ≡ map symbol_of labels) }
+{
+    let mut symbols = Vec::new(alloc);
+    for (name, label) in labels.into_map() {
+        symbols.push(symbol(name, label))?;
+    }
+    Ok(ObjSymbols::of_vec(symbols))
 }
 
 /// The relocations of four sections, in their order.
 pub fn relocs(
-    text: Vec<Reloc>,
-    rodata: Vec<Reloc>,
-    extab: Vec<Reloc>,
-    init: Vec<Reloc>,
+    text: Relocs,
+    rodata: Relocs,
+    extab: Relocs,
+    init: Relocs,
 ) -> Result<Relocs, AllocError>
-    ensures { IfOk result (λ r. r ≡ text.items ++ rodata.items ++ extab.items ++ init.items) }
+    ensures { IfOk result (λ relocs. relocs ≡ text ++ rodata ++ extab ++ init) }
 {
     let mut relocs = text;
-    extend(&mut relocs, rodata)?;
-    extend(&mut relocs, extab)?;
-    extend(&mut relocs, init)?;
-    Ok(Relocs::of_vec(relocs))
+    relocs.append(rodata)?;
+    relocs.append(extab)?;
+    relocs.append(init)?;
+    Ok(relocs)
 }

@@ -266,8 +266,8 @@ pub(crate) fn run_case(
     call(alloc, case.words, case.files, case.input, failing)
 }
 
-// Whether the case comes out.
-fn comes_out(alloc: Global, case: &Case) -> Result<bool, AllocError> {
+/// Whether the case comes out.
+pub(crate) fn comes_out(alloc: Global, case: &Case) -> Result<bool, AllocError> {
     let outcome = run_case(alloc, case, NONE)?;
     Ok(
         outcome.status == case.status

@@ -7,3 +7,5 @@ mod cases;
 mod faults;
 #[cfg(test)]
 mod images;
+#[cfg(test)]
+mod sources;

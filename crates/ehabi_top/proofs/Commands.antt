@@ -1,5 +1,5 @@
 -- Which status a report has, by command.
-use Rattle.std.specs.Prelude.{◌↔◌, ◌==◌, if◌then◌else◌}
+use Rattle.std.specs.Prelude.{◌↔◌, ◌==◌, if◌then◌else◌, IsErr}
 use Rattle.std.proofs.Common.{◌≡◌, ℕ, ◌<◌, ◌≤◌, List, Option, Some, None, Result, Ok, Err, Bool, true, false, refl, sym, ap, ◌∙◌, inl, inr, arith, length}
 use Rattle.std.proofs.lemmas.Bool.{cases_lt}
 use Rattle.elf_image.specs.Image.{Image, image_of}
@@ -10,6 +10,8 @@ use Rattle.eh_port.specs.declared.FileAnswer.TheVariants.{Found, Missing, TooLon
 use Rattle.thumb_core.specs.declared.ends.End.{End}
 use Rattle.thumb_core.specs.declared.ends.End.TheVariants.{Exit, Terminate, Trap, Budget, ReadFault, WriteFault}
 use Rattle.ehabi_top.specs.declared.stop.Stop.{Stop}
+use Rattle.ehabi_top.specs.BuildReport.{IsUnbuilt, IsNoBuiltImage, IsNotRun, built_report, plain_report, sources_report, with_files}
+use Rattle.ehabi_top.specs.Building.{built, files_of}
 use Rattle.ehabi_top.specs.FlatMachine.{flat_ran}
 use Rattle.ehabi_top.specs.FlatReport.{IsTooLarge, code_report, flat_report, flat_start}
 use Rattle.ehabi_top.specs.Loading.{Report, file_limit, IsLacking, with_file, status_of}
@@ -17,8 +19,10 @@ use Rattle.ehabi_top.specs.Report.{Reports, IfTold, LacksFile, IsRefused, DoesWh
 use Rattle.ehabi_top.specs.Text.{usage}
 use Rattle.ehabi_top.specs.ImageMachine.{image_ran}
 use Rattle.ehabi_top.specs.RunReport.{IsNoImage, IsRefusedImage, bytes_report, image_report, image_start, run_report}
-use Rattle.ehabi_top.specs.Words.{Command, FlatFile, RunFile}
+use Rattle.ehabi_top.specs.Sources.{NamedText}
+use Rattle.ehabi_top.specs.Words.{Command, FlatFile, BuildSources, RunFile, RunSources}
 use Rattle.ehabi_top.specs.Writes.{Answers}
+use Rattle.ehabi_top.proofs.BuildReports.{build_at, run_sources_at}
 use Rattle.ehabi_top.proofs.FlatReports.{code_large, code_small, flat_at}
 use Rattle.ehabi_top.proofs.RunReports.{bytes_at, run_at}
 use Rattle.ehabi_top.proofs.Reporting.{performs, gives_answer}
@@ -97,6 +101,36 @@ run_status : (name : List ℕ) (budget : ℕ) (files : List (List ℕ × List �
     → (r.status ≡ 10 ↔ IsLacking (answer_of files name file_limit)) × (r.status ≡ 3 ↔ IsNoImage (answer_of files name file_limit))
 run_status name budget files input r e = bytes_status name budget input (answer_of files name file_limit) r (e ∙ run_at name budget files input)
 
+-- ---- 3 is of sources of which no image is built
+
+built_status : (input : List ℕ) (answer : Result (List ℕ) (List ℕ)) (status : ℕ) → status ≡ (built_report input (plain_report input) answer).status
+    → (status ≡ 10 → ⊥) × (status ≡ 3 ↔ IsErr answer)
+built_status input (Ok bytes) status e = ((λ h. omega arith), ((λ h. absurd (omega arith)), (λ h. cc)))
+built_status input (Err line) status e = ((λ h. omega arith), ((λ _. refl), (λ _. e)))
+
+run_built_status : (budget : ℕ) (input : List ℕ) (answer : Result (List ℕ) (List ℕ)) (status : ℕ) → status ≡ (built_report input (bytes_report budget input) answer).status
+    → (status ≡ 10 → ⊥) × (status ≡ 3 ↔ IsNoBuiltImage answer)
+run_built_status budget input (Ok bytes) status e = fine_status budget input (image_of bytes) status (e ∙ ap (λ (q : Report). q.status) (bytes_at budget input bytes))
+run_built_status budget input (Err line) status e = ((λ h. omega arith), ((λ _. tt), (λ _. e)))
+
+build_found : (input : List ℕ) (found : Result (List NamedText) (List ℕ)) (r : Report) → r ≡ with_files input (sources_report input (plain_report input)) found
+    → (r.status ≡ 10 ↔ IsErr found) × (r.status ≡ 3 ↔ IsUnbuilt found)
+build_found input (Ok sources) r e =
+    let f = built_status input (built sources) r.status (ap (λ (q : Report). q.status) e) in
+    (((λ h. absurd (f.0 h)), (λ h. cc)), f.1)
+build_found input (Err line) r e =
+    let is : r.status ≡ 10 = ap (λ (q : Report). q.status) e in
+    (((λ _. refl), (λ _. is)), ((λ h. omega arith), (λ h. absurd h)))
+
+run_found : (budget : ℕ) (input : List ℕ) (found : Result (List NamedText) (List ℕ)) (r : Report) → r ≡ with_files input (sources_report input (bytes_report budget input)) found
+    → (r.status ≡ 10 ↔ IsErr found) × (r.status ≡ 3 ↔ IsNotRun found)
+run_found budget input (Ok sources) r e =
+    let f = run_built_status budget input (built sources) r.status (ap (λ (q : Report). q.status) e) in
+    (((λ h. absurd (f.0 h)), (λ h. cc)), f.1)
+run_found budget input (Err line) r e =
+    let is : r.status ≡ 10 = ap (λ (q : Report). q.status) e in
+    (((λ _. refl), (λ _. is)), ((λ h. omega arith), (λ h. absurd h)))
+
 -- by command
 statuses : (command : Option Command) (files : List (List ℕ × List ℕ)) (input : List ℕ) (r : Report) → Reports command files input r
     → (r.status ≡ 10 ↔ LacksFile command files) × (r.status ≡ 3 ↔ IsRefused command files)
@@ -104,7 +138,9 @@ statuses None files input r e =
     let is : r.status ≡ 2 = ap (λ (q : Report). q.status) e in
     (((λ h. omega arith), (λ h. absurd h)), ((λ h. omega arith), (λ h. absurd h)))
 statuses (Some (FlatFile name budget)) files input r e = flat_status name budget files input r e
+statuses (Some (BuildSources names)) files input r e = build_found input (files_of files names) r (e ∙ build_at names files input)
 statuses (Some (RunFile name budget)) files input r e = run_status name budget files input r e
+statuses (Some (RunSources names budget)) files input r e = run_found budget input (files_of files names) r (e ∙ run_sources_at names budget files input)
 
 pub missing : (command : Option Command) (held : Option (List (List ℕ × List ℕ))) (left left' before now : Option (List ℕ)) (status : ℕ)
     → IfTold held left (λ h b. DoesWhole command h b status left' before now) → IfTold held left (λ h _. status ≡ 10 ↔ LacksFile command h)

@@ -1,4 +1,8 @@
 mod Answering
+mod AllAnswers
+mod FileLoads
+mod Buildings
+mod BuildReports
 mod Reporting
 mod StepLeaves
 mod FunctionStarts

@@ -7,4 +7,8 @@ pub mod FlatReport
 pub mod ImageMachine
 pub mod RunReport
 pub mod Placing
+pub mod Sources
+pub mod RefusalText
+pub mod Building
+pub mod BuildReport
 pub mod Report

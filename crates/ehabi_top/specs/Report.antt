@@ -1,16 +1,18 @@
 -- What the program writes, answers and leaves of the input, by its words, its files and its input.
 --
 -- A command joins by a case of `Reports`, of `LacksFile` and of `IsRefused`; nothing below them changes.
-use Rattle.std.specs.Prelude.{ℕ, ◌≡◌, ◌==◌, ◌||◌, ◌⊎◌, not, Bool, List, Option, Some, None, IfOk, IfSome, Result}
+use Rattle.std.specs.Prelude.{ℕ, ◌≡◌, ◌==◌, ◌||◌, ◌⊎◌, not, Bool, List, Option, Some, None, IfOk, IfSome, IsErr, Result}
 use Rattle.std.specs.Io.KnownBytes.{Appends, Keeps}
 use Rattle.eh_port.specs.FileList.{answer_of}
 use Rattle.eh_port.specs.Writing.{AppendsPart}
 use Rattle.ehabi_top.specs.declared.stop.Stop.{Stop}
 use Rattle.ehabi_top.specs.Loading.{Report, file_limit, IsLacking}
+use Rattle.ehabi_top.specs.BuildReport.{build_report, run_sources_report, IsUnbuilt, IsNotRun}
+use Rattle.ehabi_top.specs.Building.{files_of}
 use Rattle.ehabi_top.specs.FlatReport.{flat_report, IsTooLarge}
 use Rattle.ehabi_top.specs.RunReport.{run_report, IsNoImage}
 use Rattle.ehabi_top.specs.Text.{usage}
-use Rattle.ehabi_top.specs.Words.{Command, FlatFile, RunFile}
+use Rattle.ehabi_top.specs.Words.{Command, FlatFile, BuildSources, RunFile, RunSources}
 
 -- ---- by command
 
@@ -18,19 +20,25 @@ use Rattle.ehabi_top.specs.Words.{Command, FlatFile, RunFile}
 abbrev pub Reports : Option Command → List (List ℕ × List ℕ) → List ℕ → Report → Type 0
 Reports None files input r = r ≡ record { text = usage; status = 2; left = input }
 Reports (Some (FlatFile name budget)) files input r = r ≡ flat_report name budget files input
+Reports (Some (BuildSources names)) files input r = r ≡ build_report names files input
 Reports (Some (RunFile name budget)) files input r = r ≡ run_report name budget files input
+Reports (Some (RunSources names budget)) files input r = r ≡ run_sources_report names budget files input
 
 -- a file that the command names is missing or too long
 abbrev pub LacksFile : Option Command → List (List ℕ × List ℕ) → Type 0
 LacksFile None files = ⊥
 LacksFile (Some (FlatFile name budget)) files = IsLacking (answer_of files name file_limit)
+LacksFile (Some (BuildSources names)) files = IsErr (files_of files names)
 LacksFile (Some (RunFile name budget)) files = IsLacking (answer_of files name file_limit)
+LacksFile (Some (RunSources names budget)) files = IsErr (files_of files names)
 
 -- the files are there, and what they hold is refused
 abbrev pub IsRefused : Option Command → List (List ℕ × List ℕ) → Type 0
 IsRefused None files = ⊥
 IsRefused (Some (FlatFile name budget)) files = IsTooLarge (answer_of files name file_limit)
+IsRefused (Some (BuildSources names)) files = IsUnbuilt (files_of files names)
 IsRefused (Some (RunFile name budget)) files = IsNoImage (answer_of files name file_limit)
+IsRefused (Some (RunSources names budget)) files = IsNotRun (files_of files names)
 
 -- ---- what a call does of a report
 

@@ -1,18 +1,22 @@
 -- Which command the words ask for.
-use Rattle.std.specs.Prelude.{ℕ, ◌+◌, ◌-◌, ◌*◌, not, ◌&&◌, nat_eq, Bool, List, [], ◌∷◌, length, map, codes, nat_le, if◌then◌else◌, Option, Some, None, option_map}
+use Rattle.std.specs.Prelude.{ℕ, ◌+◌, ◌-◌, ◌*◌, ◌&&◌, nat_eq, Bool, List, [], ◌∷◌, length, map, take, slice_index_or, codes, nat_le, if◌then◌else◌, Option, Some, None, option_map}
 use Rattle.std.specs.Borrow.{Bor}
-use Rattle.std.specs.List.{ends_with}
+use Rattle.std.specs.List.{ends_with, list_all}
 use Rattle.std.specs.Str.{bytes_eq}
 use Rattle.std.specs.Char.{is_ascii_digit}
 use Rattle.ehabi_top.specs.declared.words.Form.{Form}
-use Rattle.ehabi_top.specs.declared.words.Form.TheVariants.{Flat, Run}
+use Rattle.ehabi_top.specs.declared.words.Form.TheVariants.{Flat, Build, Run, RunSources as RunOfSources}
 
 -- a command and what it is given
 pub data Command : Type 0 where
   -- `flat FILE N`
   FlatFile : (name : List ℕ) (budget : ℕ) → Command
+  -- `build FILE..` of sources
+  BuildSources : (names : List (List ℕ)) → Command
   -- `run FILE N` of one image
   RunFile : (name : List ℕ) (budget : ℕ) → Command
+  -- `run FILE.. N` of sources
+  RunSources : (names : List (List ℕ)) (budget : ℕ) → Command
 
 -- the words as texts
 abbrev pub texts : List (Bor (List ℕ)) → List (List ℕ)
@@ -21,7 +25,9 @@ texts words = map (λ (w : Bor (List ℕ)). w.now) words
 -- the command that a form stands for
 abbrev pub command : Form → Command
 command (Flat name budget) = FlatFile name.now budget
+command (Build names) = BuildSources (texts names.now)
 command (Run name budget) = RunFile name.now budget
+command (RunOfSources names budget) = RunSources (texts names.now) budget
 
 -- the number that n and these digits write
 abbrev pub digits_from : ℕ → List ℕ → Option ℕ
@@ -51,15 +57,36 @@ flat_command (name ∷ number ∷ more ∷ rest) = None
 abbrev pub is_source : List ℕ → Bool
 is_source name = ends_with nat_eq name (codes ".s")
 
--- the words behind `run`: the name of an image, that is not empty and no source's, and a budget
+-- 1 to 16 names of sources
+unfoldable pub are_sources : List (List ℕ) → Bool
+are_sources names = nat_le 1 (length names) && nat_le (length names) 16 && list_all is_source names
+
+-- the words behind `build`: names of sources
+unfoldable pub build_command : List (List ℕ) → Option Command
+build_command names = if are_sources names then Some (BuildSources names) else None
+
+-- one name that is not empty; where it is a source's, it does not come here
+abbrev pub image_command : List (List ℕ) → ℕ → Option Command
+image_command [] budget = None
+image_command (name ∷ []) budget = if nat_le 1 (length name) then Some (RunFile name budget) else None
+image_command (name ∷ more ∷ names) budget = None
+
+-- names of sources, or the name of an image
+unfoldable pub files_command : List (List ℕ) → ℕ → Option Command
+files_command names budget = if are_sources names then Some (RunSources names budget) else image_command names budget
+
+abbrev pub with_budget : List (List ℕ) → Option ℕ → Option Command
+with_budget names None = None
+with_budget names (Some budget) = files_command names budget
+
+-- the words behind `run`: names, and a budget as the last word
 unfoldable pub run_command : List (List ℕ) → Option Command
-run_command [] = None
-run_command (name ∷ []) = None
-run_command (name ∷ number ∷ []) = if nat_le 1 (length name) && not (is_source name) then option_map (RunFile name) (budget_of number) else None
-run_command (name ∷ number ∷ more ∷ rest) = None
+run_command words =
+    if nat_le 1 (length words) then with_budget (take (length words - 1) words) (budget_of (slice_index_or words (length words - 1) [])) else None
 
 unfoldable pub command_of : List (List ℕ) → Option Command
 command_of [] = None
 command_of (word ∷ rest) =
     if bytes_eq word (codes "flat") then flat_command rest
-    else (if bytes_eq word (codes "run") then run_command rest else None)
+    else (if bytes_eq word (codes "build") then build_command rest
+    else (if bytes_eq word (codes "run") then run_command rest else None))

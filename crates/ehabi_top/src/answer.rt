@@ -33,6 +33,22 @@ pub(crate) fn answer_both<O: Sink>(
     }
 }
 
+/// Ends with these three texts and this status.
+pub(crate) fn answer_three<O: Sink>(
+    out: &mut O,
+    first: &[u8],
+    second: &[u8],
+    third: &[u8],
+    status: u8,
+) -> Result<u8, Stop>
+    ensures { Answers (first.now ++ (second.now ++ third.now)) status result (O.written out.old) (O.written out.new) (O.faults out.old) (O.faults out.new) }
+{
+    match put_all(out, first) {
+        Ok(()) => answer_both(out, second, third, status),
+        Err(_) => Err(Stop::Write),
+    }
+}
+
 /// Ends with the line of a file that is missing.
 pub(crate) fn answer_missing<O: Sink>(out: &mut O, name: &str) -> Result<u8, Stop>
     ensures { Answers (missing_line name.now) 10 result (O.written out.old) (O.written out.new) (O.faults out.old) (O.faults out.new) }

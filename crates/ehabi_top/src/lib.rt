@@ -7,20 +7,25 @@ ghost use Rattle.ehabi_top.specs.Words.{texts, command_of};
 ghost use Rattle.ehabi_top.specs.Report.{Performs, DoesWhole, DoesPart, IfTold, LacksFile, IsRefused, is_settled};
 
 mod answer;
+mod build;
 mod flat;
 mod flat_machine;
 mod image_machine;
 mod line;
+mod named;
+mod refusal;
 mod run;
+mod sources;
 mod stop;
 mod words;
 
 use answer::answer_text;
+use build::build;
 use eh_port::{Files, Sink, Source};
 use flat::flat;
 pub use flat_machine::flat_run;
 pub use line::{Line, end_line};
-use run::run;
+use run::{run, run_sources};
 use std::alloc::Global;
 pub use stop::Stop;
 pub use words::{Form, form_of};
@@ -47,7 +52,11 @@ fn perform<F: Files, I: Source, O: Sink>(
             2,
         ),
         Some(Form::Flat(name, budget)) => flat(alloc, name, budget, files, input, out),
+        Some(Form::Build(names)) => build(alloc, names, files, out),
         Some(Form::Run(name, budget)) => run(alloc, name, budget, files, input, out),
+        Some(Form::RunSources(names, budget)) => {
+            run_sources(alloc, names, budget, files, input, out)
+        }
     }
 }
 

@@ -26,7 +26,7 @@ fn nibble(n: u32) -> u8
 }
 
 /// Eight upper-case hexadecimal digits.
-fn hex8(n: u32) -> [u8; 8]
+pub(crate) fn hex8(n: u32) -> [u8; 8]
     ensures { result ≡ hex8 n }
 {
     [
@@ -89,7 +89,8 @@ fn cause_name(cause: Cause) -> &'static [u8]
     }
 }
 
-fn append(line: &mut Line, text: &[u8])
+/// Puts a text behind a line that has room for it.
+pub(crate) fn append(line: &mut Line, text: &[u8])
     requires { array_vec_len line.old + length text.now ≤ 80 }
     ensures items { line.new.items ≡ line.old.items ++ text.now }
     ensures len { array_vec_len line.new ≡ array_vec_len line.old + length text.now }

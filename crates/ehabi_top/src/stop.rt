@@ -3,7 +3,7 @@ ghost use Rattle.ehabi_top.specs.Writes.{stop_of, stop_status};
 
 use eh_bus::fault::BusMemory;
 use eh_port::FileFault;
-use std::alloc::{AllocError, AllocFailed};
+use std::alloc::AllocFailed;
 
 /// Why the program stops early.
 #[derive(Clone, Copy, Debug, PartialEq, Eq)]
@@ -46,6 +46,16 @@ impl From<BusMemory> for Stop {
     ghost from_gives = { λ _ stop. stop ≡ Memory };
 
     fn from(_: BusMemory) -> Self {
+        Stop::Memory
+    }
+}
+
+impl<T: Drop> From<AllocFailed<T>> for Stop {
+    ghost use Rattle.ehabi_top.specs.declared.stop.Stop.TheVariants.{Memory};
+
+    ghost from_gives = { λ _ stop. stop ≡ Memory };
+
+    fn from(_: AllocFailed<T>) -> Self {
         Stop::Memory
     }
 }

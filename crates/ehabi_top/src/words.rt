@@ -1,17 +1,24 @@
 // The forms of the words that the program is given.
 ghost use Rattle.std.specs.Prelude.{◌≡◌, option_map};
-ghost use Rattle.ehabi_top.specs.Words.{command, texts, number_of, budget_of, flat_command, run_command, command_of};
+ghost use Rattle.ehabi_top.specs.Words.{command, texts, number_of, budget_of, is_source, are_sources, flat_command, build_command, files_command, run_command, command_of};
 
 /// The most instructions that a run may be allowed.
 const MOST_INSTRUCTIONS: u64 = 1_000_000_000;
+
+/// The most sources of a command.
+const MOST_SOURCES: usize = 16;
 
 /// What the words ask for.
 #[derive(Clone, Copy)]
 pub enum Form<'a> {
     /// `flat FILE N`: the name of the file, and how many instructions may run.
     Flat(&'a str, u64),
+    /// `build FILE..`: the names of sources.
+    Build(&'a [&'a str]),
     /// `run FILE N`: the name of an image, and how many instructions may run.
     Run(&'a str, u64),
+    /// `run FILE.. N`: the names of sources, and how many instructions may run.
+    RunSources(&'a [&'a str], u64),
 }
 
 // One to ten decimal digits.
@@ -60,20 +67,67 @@ fn flat_form<'a>(words: &[&'a str]) -> Option<Form<'a>>
     }
 }
 
-// `run FILE N`, without the first word. The file is an image: a source's name ends in `.s`.
-#[tactic(auto, unfolding(crate::specs::Words::run_command))]
-fn run_form<'a>(words: &[&'a str]) -> Option<Form<'a>>
-    ensures { option_map command result ≡ run_command (texts words.now) }
+// The name of a source ends in `.s`.
+fn is_source(name: &str) -> bool
+    ensures { result ≡ is_source name.now }
 {
-    match words {
-        [name, number] => {
-            if name.is_empty() || name.as_bytes().ends_with(b".s") {
+    name.as_bytes().ends_with(b".s")
+}
+
+// 1 to 16 names of sources.
+#[tactic(auto, unfolding(crate::specs::Words::are_sources))]
+fn are_sources(names: &[&str]) -> bool
+    ensures { result ≡ are_sources (texts names.now) }
+{
+    if names.is_empty() || names.len() > MOST_SOURCES {
+        return false;
+    }
+    for name in names {
+        if !is_source(name) {
+            return false;
+        }
+    }
+    true
+}
+
+// `build FILE..`, without the first word.
+#[tactic(auto, unfolding(crate::specs::Words::build_command))]
+fn build_form<'a>(words: &'a [&'a str]) -> Option<Form<'a>>
+    ensures { option_map command result ≡ build_command (texts words.now) }
+{
+    if !are_sources(words) {
+        return None;
+    }
+    Some(Form::Build(words))
+}
+
+// The files of `run`: sources, or one image.
+#[tactic(auto, unfolding(crate::specs::Words::files_command))]
+fn files_form<'a>(names: &'a [&'a str], budget: u64) -> Option<Form<'a>>
+    ensures { option_map command result ≡ files_command (texts names.now) budget }
+{
+    if are_sources(names) {
+        return Some(Form::RunSources(names, budget));
+    }
+    match names {
+        [name] => {
+            if name.is_empty() {
                 return None;
             }
-            Some(Form::Run(name, budget_of(number)?))
+            Some(Form::Run(name, budget))
         }
         _ => None,
     }
+}
+
+// `run FILE.. N`, without the first word.
+#[tactic(auto, unfolding(crate::specs::Words::run_command))]
+fn run_form<'a>(words: &'a [&'a str]) -> Option<Form<'a>>
+    ensures { option_map command result ≡ run_command (texts words.now) }
+{
+    let (number, names) = words.split_last()?;
+    let budget = budget_of(number)?;
+    files_form(names, budget)
 }
 
 /// The form of these words. None where they have none.
@@ -84,6 +138,7 @@ pub fn form_of<'a>(words: &'a [&'a str]) -> Option<Form<'a>>
     let (first, rest) = words.split_first()?;
     match *first {
         "flat" => flat_form(rest),
+        "build" => build_form(rest),
         "run" => run_form(rest),
         _ => None,
     }

@@ -1,0 +1,5 @@
+pub mod FaultLaws
+pub mod FrameSteps
+pub mod LayoutLaws
+pub mod NamedLaws
+pub mod WordLemmas

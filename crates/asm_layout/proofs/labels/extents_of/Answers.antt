@@ -1,0 +1,61 @@
+use Rattle.std.proofs.Common.{◌+◌, ◌++◌, drop, sym, ap, ◌∙◌, append_assoc, nat_lt, length, arith}
+use Rattle.std.proofs.lemmas.List.{at_drop_all}
+use Rattle.asm_layout.specs.Faults.{first_of_all}
+use Rattle.asm_layout.specs.Sizes.{is_too_large}
+use Rattle.asm_layout.specs.Walks.{next, pools_if, pools_from, walk_behind, ends_pool}
+use Rattle.asm_layout.specs.Labels.{size_faults, too_large_from}
+use Rattle.asm_layout.proofs.LayoutLaws.{above-zero, drop-next}
+use Rattle.asm_layout.proofs.FaultLaws.{first_behind}
+use Rattle.asm_layout.proofs.labels.extents_of.Goals as goal
+
+pub loop-stmt-preserved : goal.loop-stmt-preserved
+unfolding pools_from walk_behind too_large_from
+loop-stmt-preserved c =
+    let i = c.loop-stmt.stmt-index in
+    let stmts = c.args.stmts.now in
+    let entries = c.args.entries.now in
+    let walk = c.loop-stmt.walk in
+    let rest = drop (i + 1) stmts in
+    let stmt = c.stmt-item.result in
+    let onward = next entries walk stmt.kind in
+    let so_far = c.loop-stmt.too_large in
+    let whole = drop-next stmts i stmt (omega arith) c.stmt-item.is in
+    record {
+      pools =
+          (λ j. (c.in_ok-push_if.ensures ∙ ap (λ b. c.loop-stmt.pools ++ pools_if b walk) c.ends_pool.ensures) j ++ pools_from entries (c.in_ok-advance.ensures j) rest)
+          ∙ append_assoc c.loop-stmt.pools (pools_if (ends_pool walk stmt.kind) walk) (pools_from entries onward rest)
+          ∙ ap (λ l. c.loop-stmt.pools ++ pools_from entries walk l) whole
+          ∙ c.loop-stmt.invariant.pools;
+      walk =
+          (λ j. walk_behind entries (c.in_ok-advance.ensures j) rest)
+          ∙ ap (walk_behind entries walk) whole
+          ∙ c.loop-stmt.invariant.walk;
+      too_large =
+          (λ j. first_of_all ((c.with_sizes-too_large.ensures ∙ ap (λ w. first_of_all so_far (size_faults (is_too_large w.at.sizes) stmt.line)) c.in_ok-advance.ensures) j) (too_large_from entries (c.in_ok-advance.ensures j) stmt.line rest))
+          ∙ sym (first_behind so_far (size_faults (is_too_large onward.at.sizes) stmt.line) (too_large_from entries onward stmt.line rest))
+          ∙ ap (λ l. first_of_all so_far (too_large_from entries walk c.loop-stmt.last l)) whole
+          ∙ c.loop-stmt.invariant.too_large;
+    }
+
+pub returns-clause-pools : goal.returns-clause-pools
+unfolding pools_from
+returns-clause-pools c =
+    c.in_ok-push_if-2.ensures
+    ∙ ap (λ b. c.loop-stmt.pools ++ pools_if b c.loop-stmt.walk) (ap (nat_lt 0) c.len.ensures ∙ above-zero (length c.loop-stmt.walk.pool))
+    ∙ sym (at_drop_all (λ l. c.loop-stmt.pools ++ pools_from c.args.entries.now c.loop-stmt.walk l) c.args.stmts.now c.loop-stmt.stmt-index (omega arith))
+    ∙ c.loop-stmt.invariant.pools
+
+pub returns-clause-bss : goal.returns-clause-bss
+unfolding walk_behind
+returns-clause-bss c =
+    ap (λ w. w.at.sizes.bss)
+    (sym (at_drop_all (walk_behind c.args.entries.now c.loop-stmt.walk) c.args.stmts.now c.loop-stmt.stmt-index (omega arith))
+    ∙ c.loop-stmt.invariant.walk)
+
+pub returns-clause-too_large : goal.returns-clause-too_large
+unfolding too_large_from
+returns-clause-too_large c =
+    c.with_sizes.ensures
+    ∙ ap (λ s. first_of_all c.loop-stmt.too_large (size_faults (is_too_large s) c.loop-stmt.last)) c.sizes_with_pool.ensures
+    ∙ sym (at_drop_all (λ l. first_of_all c.loop-stmt.too_large (too_large_from c.args.entries.now c.loop-stmt.walk c.loop-stmt.last l)) c.args.stmts.now c.loop-stmt.stmt-index (omega arith))
+    ∙ c.loop-stmt.invariant.too_large

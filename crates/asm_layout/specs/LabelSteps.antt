@@ -1,0 +1,75 @@
+-- What one statement says of the labels so far.
+use Rattle.std.specs.Prelude.{ℕ, Bool, false, ◌||◌, if◌then◌else◌, List, [], ◌∷◌, ◌++◌, map, Option}
+use Rattle.std.specs.List.{list_any}
+use Rattle.eh_word.specs.Names.{same_bytes}
+use Rattle.asm_read.specs.declared.statement.Stmt.{Stmt}
+use Rattle.asm_read.specs.declared.statement.StmtKind.{StmtKind}
+use Rattle.asm_read.specs.declared.statement.StmtKind.TheVariants as stmt
+use Rattle.asm_unwind.specs.declared.entry.EntryWords.{EntryWords}
+use Rattle.asm_layout.specs.declared.place.Place.{Place}
+use Rattle.asm_layout.specs.declared.labels.Label.{Label}
+use Rattle.asm_layout.specs.declared.fault.AsmFault.{AsmFault}
+use Rattle.asm_layout.specs.declared.fault.AsmWhat.TheVariants.{DuplicateLabel}
+use Rattle.asm_layout.specs.Faults.{fault_at}
+use Rattle.asm_layout.specs.Walks.{start}
+use Rattle.asm_layout.specs.Labels.{Named, is_among, new_labels, named_in, size_by, size_from, typed_by, function_from, global_by}
+
+-- a label of which directives say nothing
+abbrev pub fresh : Named → List ℕ × Label
+fresh label = (label.name, record { place = label.place; size = 0; function = false; global = false })
+
+-- a label with its size
+abbrev pub sized : List (Option EntryWords) → List Stmt → Named → List ℕ × Label
+sized entries stmts label = (
+  label.name,
+  record {
+    place = label.place;
+    size = size_from label.name entries [] 0 start stmts;
+    function = false;
+    global = false;
+  },
+)
+
+-- a label behind a statement, which may be its `.size`
+abbrev pub entry_behind : List Named → StmtKind → Place → List ℕ × Label → List ℕ × Label
+entry_behind labels kind place entry =
+    (entry.0, record entry.1 { size = size_by entry.0 labels entry.1.size kind place })
+
+-- the labels behind a statement, which may define one
+abbrev pub labels_behind : List (List ℕ × Label) → StmtKind → Place → List (List ℕ × Label)
+labels_behind so_far kind place =
+    map (entry_behind (named_in so_far) kind place) so_far ++ map fresh (new_labels (named_in so_far) kind place)
+
+abbrev pub defines_again : List Named → StmtKind → Bool
+defines_again labels (stmt.Label name) = is_among name labels
+defines_again labels _ = false
+
+abbrev pub duplicate_if : Bool → ℕ → List AsmFault
+duplicate_if again line = if again then fault_at line DuplicateLabel ∷ [] else []
+
+abbrev pub entry_typed : List ℕ → Bool → List ℕ × Label → List ℕ × Label
+entry_typed name function entry =
+    (entry.0, record entry.1 { function = if same_bytes entry.0 name then function else entry.1.function })
+
+abbrev pub entry_global : List ℕ → List ℕ × Label → List ℕ × Label
+entry_global name entry = (entry.0, record entry.1 { global = same_bytes entry.0 name || entry.1.global })
+
+-- a label with what a directive says
+abbrev pub described_by : StmtKind → List ℕ × Label → List ℕ × Label
+described_by kind entry = (
+  entry.0,
+  record entry.1 {
+    function = typed_by entry.0 entry.1.function kind;
+    global = global_by entry.0 kind || entry.1.global;
+  },
+)
+
+-- a label with what the directives of statements say
+abbrev pub described : List Stmt → List ℕ × Label → List ℕ × Label
+described stmts entry = (
+  entry.0,
+  record entry.1 {
+    function = function_from entry.0 entry.1.function stmts;
+    global = list_any (λ s. global_by entry.0 s.kind) stmts || entry.1.global;
+  },
+)

@@ -1,0 +1,124 @@
+-- The labels of a source, and what its directives say of them.
+use Rattle.std.specs.Prelude.{ℕ, ◌-◌, Bool, true, false, if◌then◌else◌, List, [], ◌∷◌, ◌++◌, map, Option, Some, None}
+use Rattle.std.specs.List.{list_any}
+use Rattle.eh_word.specs.Names.{same_bytes}
+use Rattle.asm_read.specs.declared.statement.Stmt.{Stmt}
+use Rattle.asm_read.specs.declared.statement.StmtKind.{StmtKind}
+use Rattle.asm_read.specs.declared.statement.StmtKind.TheVariants as stmt
+use Rattle.asm_unwind.specs.declared.entry.EntryWords.{EntryWords}
+use Rattle.asm_layout.specs.declared.place.Place.{Place}
+use Rattle.asm_layout.specs.declared.labels.Label.{Label}
+use Rattle.asm_layout.specs.declared.fault.AsmFault.{AsmFault}
+use Rattle.asm_layout.specs.declared.fault.AsmWhat.TheVariants.{DuplicateLabel, SectionTooLarge}
+use Rattle.asm_layout.specs.Faults.{fault_at}
+use Rattle.asm_layout.specs.Sizes.{is_too_large}
+use Rattle.asm_layout.specs.declared.walk.Walk.{Walk}
+use Rattle.asm_layout.specs.Walks.{start, next, here, same_section, sizes_with_pool}
+
+-- a name at its place
+pub record Named : Type 0 where
+  pub name : List ℕ
+  pub place : Place
+
+abbrev pub named : List ℕ → Place → Named
+named name place = record { name = name; place = place }
+
+-- the first of some labels that has a name
+unfoldable pub find : List ℕ → List Named → Option Place
+find name [] = None
+find name (label ∷ more) = if same_bytes name label.name then Some label.place else find name more
+
+abbrev pub is_among : List ℕ → List Named → Bool
+is_among name labels = list_any (same_bytes name) (map (λ label. label.name) labels)
+
+abbrev pub label_unless : Bool → List ℕ → Place → List Named
+label_unless there name place = if there then [] else named name place ∷ []
+
+-- the label that a statement defines behind some labels; a name that is there already defines nothing
+abbrev pub new_labels : List Named → StmtKind → Place → List Named
+new_labels labels (stmt.Label name) place = label_unless (is_among name labels) name place
+new_labels labels _ place = []
+
+-- the labels that statements define behind some labels, in the order of the text, each where the statement behind it
+-- stands
+unfoldable pub labels_from : List (Option EntryWords) → List Named → Walk → List Stmt → List Named
+labels_from entries labels walk [] = []
+labels_from entries labels walk (stmt ∷ more) =
+    new_labels labels stmt.kind (here walk.at)
+    ++ labels_from entries (labels ++ new_labels labels stmt.kind (here walk.at)) (next entries walk stmt.kind) more
+
+abbrev pub labels_of : List (Option EntryWords) → List Stmt → List Named
+labels_of entries stmts = labels_from entries [] start stmts
+
+-- a `.size` behind its label in the section gives the bytes between; else none
+abbrev pub size_between : Option Place → Place → ℕ
+size_between None end = 0
+size_between (Some label) end = if same_section label.section end.section then end.offset - label.offset else 0
+
+abbrev pub size_by : List ℕ → List Named → ℕ → StmtKind → Place → ℕ
+size_by name labels so_far (stmt.Size other) place =
+    if same_bytes name other then size_between (find name labels) place else so_far
+size_by name labels so_far _ place = so_far
+
+-- the size of a name's label: the last `.size` of the name says it, by the labels before that
+unfoldable pub size_from : List ℕ → List (Option EntryWords) → List Named → ℕ → Walk → List Stmt → ℕ
+size_from name entries labels so_far walk [] = so_far
+size_from name entries labels so_far walk (stmt ∷ more) =
+    size_from name entries (labels ++ new_labels labels stmt.kind (here walk.at))
+    (size_by name labels so_far stmt.kind (here walk.at)) (next entries walk stmt.kind) more
+
+abbrev pub typed_by : List ℕ → Bool → StmtKind → Bool
+typed_by name so_far (stmt.TypeFunction other) = if same_bytes name other then true else so_far
+typed_by name so_far (stmt.TypeObject other) = if same_bytes name other then false else so_far
+typed_by name so_far _ = so_far
+
+-- the last `.type` of a name says whether it is a function
+unfoldable pub function_from : List ℕ → Bool → List Stmt → Bool
+function_from name so_far [] = so_far
+function_from name so_far (stmt ∷ more) = function_from name (typed_by name so_far stmt.kind) more
+
+abbrev pub global_by : List ℕ → StmtKind → Bool
+global_by name (stmt.Global other) = same_bytes name other
+global_by name _ = false
+
+-- what the directives say of a label
+abbrev pub label_of : List (Option EntryWords) → List Stmt → Named → Label
+label_of entries stmts label = record {
+  place = label.place;
+  size = size_from label.name entries [] 0 start stmts;
+  function = function_from label.name false stmts;
+  global = list_any (λ s. global_by label.name s.kind) stmts;
+}
+
+abbrev pub labelled : List (Option EntryWords) → List Stmt → Named → List ℕ × Label
+labelled entries stmts label = (label.name, label_of entries stmts label)
+
+-- labels without what directives say
+abbrev pub named_in : List (List ℕ × Label) → List Named
+named_in labels = map (λ label. named label.0 label.1.place) labels
+
+-- a label whose name an earlier one has
+abbrev pub label_faults : List (List ℕ) → ℕ → StmtKind → List AsmFault
+label_faults names line (stmt.Label name) =
+    if list_any (same_bytes name) names then fault_at line DuplicateLabel ∷ [] else []
+label_faults names line _ = []
+
+-- the names behind a statement, each once
+abbrev pub names_behind : List (List ℕ) → StmtKind → List (List ℕ)
+names_behind names (stmt.Label name) = if list_any (same_bytes name) names then names else names ++ name ∷ []
+names_behind names _ = names
+
+unfoldable pub duplicates_from : List (List ℕ) → List Stmt → List AsmFault
+duplicates_from names [] = []
+duplicates_from names (stmt ∷ more) =
+    label_faults names stmt.line stmt.kind ++ duplicates_from (names_behind names stmt.kind) more
+
+abbrev pub size_faults : Bool → ℕ → List AsmFault
+size_faults too_large line = if too_large then fault_at line SectionTooLarge ∷ [] else []
+
+-- a line behind which a section is too large; behind the last one the pool at the end of the text counts too
+unfoldable pub too_large_from : List (Option EntryWords) → Walk → ℕ → List Stmt → List AsmFault
+too_large_from entries walk last [] = size_faults (is_too_large (sizes_with_pool walk)) last
+too_large_from entries walk last (stmt ∷ more) =
+    size_faults (is_too_large (next entries walk stmt.kind).at.sizes) stmt.line
+    ++ too_large_from entries (next entries walk stmt.kind) stmt.line more

@@ -1,0 +1,136 @@
+-- Where each statement stands.
+use Rattle.std.specs.Prelude.{ℕ, ◌+◌, ◌-◌, ◌^◌, ◌==◌, ◌&&◌, ◌||◌, not, Bool, true, false, nat_lt, if◌then◌else◌, List, [], ◌∷◌, ◌++◌, length, Option, Some, None, unwrap_or, slice_get}
+use Rattle.asm_read.specs.declared.statement.Stmt.{Stmt}
+use Rattle.asm_read.specs.declared.statement.StmtKind.{StmtKind}
+use Rattle.asm_read.specs.declared.statement.StmtKind.TheVariants as stmt
+use Rattle.asm_unwind.specs.declared.entry.EntryWords.{EntryWords}
+use Rattle.indexmap.specs.IndexSet.{insert_key}
+use Rattle.asm_layout.specs.declared.place.Section.{Section}
+use Rattle.asm_layout.specs.declared.place.Section.TheVariants.{Text, Rodata, Extab, Init, Bss}
+use Rattle.asm_layout.specs.declared.place.Place.{Place}
+use Rattle.asm_layout.specs.declared.word.Word.{Word}
+use Rattle.asm_layout.specs.declared.walk.Sizes.{Sizes}
+use Rattle.asm_layout.specs.declared.walk.Cursor.{Cursor}
+use Rattle.asm_layout.specs.declared.walk.Walk.{Walk}
+use Rattle.asm_layout.specs.Words.{word_of}
+use Rattle.asm_layout.specs.SameWords.{same_word}
+use Rattle.asm_layout.specs.Sizes.{sum_64, times, filling, multiple, size, table_size, size_in, sizes_grown}
+
+abbrev pub same_section : Section → Section → Bool
+same_section Text Text = true
+same_section Rodata Rodata = true
+same_section Extab Extab = true
+same_section Init Init = true
+same_section Bss Bss = true
+same_section _ _ = false
+
+abbrev pub no_bytes : Sizes
+no_bytes = record { text = 0; rodata = 0; extab = 0; init = 0; bss = 0 }
+
+-- a source begins in the text
+abbrev pub start : Walk
+start = record {
+  at = record { section = Text; left = None; sizes = no_bytes; inside = false; functions = 0 };
+  pool = [];
+}
+
+-- the place of the next byte
+abbrev pub here : Cursor → Place
+here at = record { section = at.section; offset = size_in at.sizes at.section }
+
+-- the entry of a function by its number in the order of the text
+abbrev pub entry_at : List (Option EntryWords) → ℕ → Option EntryWords
+entry_at entries function = unwrap_or (slice_get entries function) None
+
+-- behind `.fnstart`: the function's table stands in the exception tables. A second `.fnstart` is nothing
+abbrev pub started : List (Option EntryWords) → Cursor → Cursor
+started entries at =
+    if at.inside || not (nat_lt at.functions (2 ^ 64 - 1)) then at
+    else record at {
+      sizes = sizes_grown at.sizes Extab (table_size at.sizes.extab (entry_at entries at.functions));
+      inside = true;
+      functions = at.functions + 1;
+    }
+
+-- behind `.fnend`: back in the section that `.handlerdata` left
+abbrev pub ended : Cursor → Cursor
+ended at =
+    if at.inside then record at { section = unwrap_or at.left at.section; left = None; inside = false } else at
+
+-- behind `.handlerdata`: in the exception tables
+abbrev pub handling : Cursor → Cursor
+handling at =
+    if same_section at.section Extab then at else record at { section = Extab; left = Some at.section }
+
+abbrev pub within : Cursor → Section → Cursor
+within at section = record at { section = section }
+
+abbrev pub grown : Cursor → ℕ → Cursor
+grown at by = record at { sizes = sizes_grown at.sizes at.section by }
+
+-- behind a statement, but for what a pool adds
+abbrev pub cursor_behind : List (Option EntryWords) → Cursor → StmtKind → Cursor
+cursor_behind entries at stmt.Text = within at Text
+cursor_behind entries at stmt.Data = within at Init
+cursor_behind entries at stmt.Bss = within at Bss
+cursor_behind entries at stmt.Rodata = within at Rodata
+cursor_behind entries at stmt.FnStart = started entries at
+cursor_behind entries at stmt.FnEnd = ended at
+cursor_behind entries at stmt.HandlerData = handling at
+cursor_behind entries at (stmt.Align n) = grown at (filling (size_in at.sizes at.section) (multiple n))
+cursor_behind entries at kind = grown at (size kind)
+
+abbrev pub is_empty : List Word → Bool
+is_empty words = length words == 0
+
+-- where a pool that ends here begins: at the next multiple of 4
+abbrev pub pool_place : Walk → ℕ
+pool_place walk = sum_64 walk.at.sizes.text (filling walk.at.sizes.text 4)
+
+-- the sizes with the pool that ends here; a pool without words is nothing
+abbrev pub sizes_with_pool : Walk → Sizes
+sizes_with_pool walk =
+    if is_empty walk.pool then walk.at.sizes
+    else sizes_grown walk.at.sizes Text (sum_64 (filling walk.at.sizes.text 4) (times (length walk.pool) 4))
+
+abbrev pub is_in_text : Cursor → Bool
+is_in_text at = same_section at.section Text
+
+-- `.pool` in the text, with words
+abbrev pub ends_pool : Walk → StmtKind → Bool
+ends_pool walk stmt.Pool = is_in_text walk.at && not (is_empty walk.pool)
+ends_pool walk _ = false
+
+-- the pool behind a word: it goes last where it isn't there
+abbrev pub pool_with : List Word → Word → List Word
+pool_with pool word = insert_key same_word pool word
+
+-- behind a statement
+abbrev pub next : List (Option EntryWords) → Walk → StmtKind → Walk
+next entries walk stmt.Pool =
+    if is_in_text walk.at then record { at = record walk.at { sizes = sizes_with_pool walk }; pool = [] } else walk
+next entries walk (stmt.LdrPool t value) = record {
+  at = cursor_behind entries walk.at (stmt.LdrPool t value);
+  pool = if is_in_text walk.at then pool_with walk.pool (word_of value) else walk.pool;
+}
+next entries walk kind = record walk { at = cursor_behind entries walk.at kind }
+
+-- where the walk stands behind statements
+unfoldable pub walk_behind : List (Option EntryWords) → Walk → List Stmt → Walk
+walk_behind entries walk [] = walk
+walk_behind entries walk (stmt ∷ more) = walk_behind entries (next entries walk stmt.kind) more
+
+-- where the pools that have words begin, in the order of the text
+abbrev pub pools_if : Bool → Walk → List ℕ
+pools_if ends walk = if ends then pool_place walk ∷ [] else []
+
+unfoldable pub pools_from : List (Option EntryWords) → Walk → List Stmt → List ℕ
+pools_from entries walk [] = pools_if (not (is_empty walk.pool)) walk
+pools_from entries walk (stmt ∷ more) =
+    pools_if (ends_pool walk stmt.kind) walk ++ pools_from entries (next entries walk stmt.kind) more
+
+-- where the pool begins whose words come next: at the first `.pool` in the text, or at the end of the text
+unfoldable pub coming_pool : List (Option EntryWords) → Walk → List Stmt → ℕ
+coming_pool entries walk [] = pool_place walk
+coming_pool entries walk (stmt ∷ more) =
+    if ends_pool walk stmt.kind then pool_place walk else coming_pool entries (next entries walk stmt.kind) more

@@ -1,0 +1,93 @@
+ghost use Rattle.std.specs.Prelude.{◌≡◌};
+ghost use Rattle.asm_layout.specs.Faults.{number_of, is_before, first_with, first_of};
+
+use asm_unwind::UnwindFault;
+use std::alloc::AllocError;
+use thumb_encode::code::EncodeFault;
+
+/// Why statements have no object, and at which line; for want of memory the line is 0.
+#[derive(Clone, Copy, PartialEq, Eq, Debug)]
+pub struct AsmFault {
+    pub line: u32,
+    pub what: AsmWhat,
+}
+
+/// What is refused. The lowest line is answered, and at one line the first of this order.
+#[derive(Clone, Copy, PartialEq, Eq, Debug)]
+pub enum AsmWhat {
+    /// A label whose name an earlier label has.
+    DuplicateLabel,
+    /// A name that begins with `.L` and has no label; a name in `adr` or `ldr rt, name` without a label in the text; names
+    /// in `a-b+n` that aren't two labels of one section; a name in `.half` or `.byte` outside `a-b+n`.
+    UndefinedLocal,
+    /// An instruction without a code, or a number that its field doesn't hold.
+    Encode(EncodeFault),
+    /// The pool word of a `ldr rt, =value` is more than 1,020 bytes away.
+    PoolTooFar,
+    /// A section has more than 1,048,576 bytes behind this line.
+    SectionTooLarge,
+    /// An unwind directive, or what the directives of a function say together, at `.fnend`; or at its `.fnstart` a
+    /// function that isn't ended.
+    Unwind(UnwindFault),
+    /// An instruction or a `.fnstart` outside the text, bytes in bss.
+    Placement,
+    /// Want of memory.
+    OutOfMemory,
+}
+
+impl From<AllocError> for AsmFault {
+    ghost use Rattle.std.specs.Prelude.{◌≡◌};
+    ghost use Rattle.asm_layout.specs.Faults.{out_of_memory};
+
+    ghost from_gives = { λ _ e. e ≡ out_of_memory };
+
+    fn from(_e: AllocError) -> AsmFault {
+        AsmFault {
+            line: 0,
+            what: AsmWhat::OutOfMemory,
+        }
+    }
+}
+
+/// The place of a refusal in the order of `AsmWhat`.
+fn number(what: AsmWhat) -> u8
+    ensures { result ≡ number_of what }
+{
+    match what {
+        AsmWhat::DuplicateLabel => 1,
+        AsmWhat::UndefinedLocal => 2,
+        AsmWhat::Encode(_) => 3,
+        AsmWhat::PoolTooFar => 4,
+        AsmWhat::SectionTooLarge => 5,
+        AsmWhat::Unwind(_) => 6,
+        AsmWhat::Placement => 7,
+        AsmWhat::OutOfMemory => 8,
+    }
+}
+
+/// Whether a refusal comes before another: at a lower line, or at the same line with a lower number.
+fn is_before(fault: AsmFault, other: AsmFault) -> bool
+    ensures { result ≡ is_before fault other }
+{
+    fault.line < other.line || (fault.line == other.line && number(fault.what) < number(other.what))
+}
+
+/// The first of the refusals so far and one more; of equal ones the one so far.
+pub fn first_with(so_far: Option<AsmFault>, fault: AsmFault) -> Option<AsmFault>
+    ensures { result ≡ first_with so_far fault }
+{
+    match so_far {
+        Some(first) if !is_before(fault, first) => Some(first),
+        _ => Some(fault),
+    }
+}
+
+/// The first of the refusals so far and one that may be.
+pub fn first_of(so_far: Option<AsmFault>, fault: Option<AsmFault>) -> Option<AsmFault>
+    ensures { result ≡ first_of so_far fault }
+{
+    match fault {
+        Some(fault) => first_with(so_far, fault),
+        None => so_far,
+    }
+}

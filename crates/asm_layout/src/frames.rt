@@ -1,0 +1,182 @@
+ghost use Rattle.std.specs.Prelude.{◌≡◌, ◌++◌, [], ◌∷◌, Some, None, IfOk, OnOk};
+ghost use Rattle.asm_unwind.specs.Entries.{entry_words_of};
+ghost use Rattle.asm_layout.specs.declared.fault.AsmWhat.TheVariants as AsmWhat;
+ghost use Rattle.asm_layout.specs.Faults.{fault_at, first_with, first_of_all};
+ghost use Rattle.asm_layout.specs.Functions.{field_of, directive_of, no_frame, next_frame, entry_or_none, new_entries, entry_faults, new_faults, open_faults, entries_of, unwind_faults_of};
+
+use crate::fault::{AsmFault, AsmWhat, first_with};
+use asm_read::{Stmt, StmtKind};
+use asm_unwind::{EntryWords, FrameText, UnwindDirective, UnwindFault, new_frame};
+use std::alloc::{AllocError, Global};
+use std::marker::Model;
+use std::mem;
+
+/// A number as an unwind directive's field holds it; its greatest value for every other number.
+fn field_32(n: i64) -> u32
+    ensures { result ≡ field_of 0xffffffff n }
+{
+    u32::try_from(n).unwrap_or(u32::MAX)
+}
+
+/// A number as an unwind directive's field holds it; its greatest value for every other number.
+fn field_8(n: i64) -> u8
+    ensures { result ≡ field_of 255 n }
+{
+    u8::try_from(n).unwrap_or(u8::MAX)
+}
+
+/// The unwind directive of a statement.
+fn directive_of(kind: &StmtKind) -> Option<UnwindDirective>
+    ensures { result ≡ directive_of kind.now }
+{
+    match kind {
+        StmtKind::FnStart => Some(UnwindDirective::FnStart),
+        StmtKind::FnEnd => Some(UnwindDirective::FnEnd),
+        StmtKind::Save { list } => Some(UnwindDirective::Save(*list)),
+        StmtKind::Pad(n) => Some(UnwindDirective::Pad(field_32(*n))),
+        StmtKind::SetFp { r, off } => Some(UnwindDirective::SetFp(*r, field_32(*off))),
+        StmtKind::CantUnwind => Some(UnwindDirective::CantUnwind),
+        StmtKind::PersonalityIndex(n) => Some(UnwindDirective::PersonalityIndex(field_8(*n))),
+        StmtKind::HandlerData => Some(UnwindDirective::HandlerData),
+        _ => None,
+    }
+}
+
+/// The entries of functions, each None where the directives say none; contracts see their list.
+#[derive(Drop)]
+pub struct Entries {
+    entries: Vec<Option<EntryWords>>,
+}
+
+impl Model for Entries {
+    ghost use Rattle.std.specs.Prelude.{List, Option};
+    ghost use Rattle.asm_unwind.specs.declared.entry.EntryWords.{EntryWords};
+
+    ghost Value = { List (Option EntryWords) };
+
+    ghost view = { λ entries. entries.entries.items };
+}
+
+impl Entries {
+    ghost use Rattle.std.specs.Prelude.{◌≡◌};
+
+    /// The entries in order.
+    pub fn as_slice(&self) -> &[Option<EntryWords>]
+        ensures { result.now ≡ self.now }
+    {
+        self.entries.as_slice()
+    }
+}
+
+/// The functions of a source: the entry of each in the order of the text, and the first refusal among their directives.
+#[derive(Drop)]
+pub struct Functions {
+    pub entries: Entries,
+    pub first: Option<AsmFault>,
+}
+
+/// The function that is open, and the line of its start; contracts see its directives so far.
+#[derive(Drop)]
+struct Open {
+    frame: FrameText,
+    start: Option<u32>,
+}
+
+impl Model for Open {
+    ghost use Rattle.asm_layout.specs.Functions.{Frame};
+
+    ghost Value = { Frame };
+
+    ghost view = { λ opened. record { directives = opened.frame; start = opened.start } };
+}
+
+impl Functions {
+    /// Takes a refusal at a line.
+    fn refuse(&mut self, line: u32, fault: UnwindFault)
+        ensures first { self.new.first ≡ first_with self.old.first (fault_at line (AsmWhat.Unwind fault)) }
+        ensures entries { self.new.entries ≡ self.old.entries }
+    {
+        let what = AsmWhat::Unwind(fault);
+        self.first = first_with(self.first, AsmFault { line, what });
+    }
+
+    /// Ends the function that is open, at a line.
+    #[tactic(auto, unfolding(crate::specs::Faults::first_of_all))]
+    fn end(&mut self, alloc: Global, opened: &mut Open, line: u32) -> Result<(), AllocError>
+        ensures entries { OnOk result (self.new.entries ≡ self.old.entries ++ entry_or_none (entry_words_of opened.old.directives) ∷ []) }
+        ensures first { OnOk result (self.new.first ≡ first_of_all self.old.first (entry_faults line (entry_words_of opened.old.directives))) }
+        ensures closed { OnOk result (opened.new ≡ no_frame) }
+    {
+        let ended = mem::replace(&mut opened.frame, new_frame(alloc));
+        opened.start = None;
+        match ended.finish() {
+            Ok(entry) => self.entries.entries.push(Some(entry))?,
+            Err((UnwindFault::OutOfMemory, _frame)) => return Err(AllocError),
+            Err((fault, _frame)) => {
+                self.refuse(line, fault);
+                self.entries.entries.push(None)?;
+            }
+        }
+        Ok(())
+    }
+
+    /// Takes the directive of a statement, which may have none.
+    #[tactic(auto, unfolding(crate::specs::Faults::first_of_all))]
+    fn take(&mut self, alloc: Global, opened: &mut Open, stmt: &Stmt) -> Result<(), AllocError>
+        ensures entries { OnOk result (self.new.entries ≡ self.old.entries ++ new_entries opened.old (directive_of stmt.now.kind)) }
+        ensures first { OnOk result (self.new.first ≡ first_of_all self.old.first (new_faults opened.old stmt.now.line (directive_of stmt.now.kind))) }
+        ensures opened { OnOk result (opened.new ≡ next_frame opened.old stmt.now.line (directive_of stmt.now.kind)) }
+    {
+        let Some(directive) = directive_of(&stmt.kind) else {
+            return Ok(());
+        };
+        match opened.frame.directive(directive) {
+            Ok(()) => match directive {
+                UnwindDirective::FnStart => {
+                    opened.start = Some(stmt.line);
+                    Ok(())
+                }
+                UnwindDirective::FnEnd => self.end(alloc, opened, stmt.line),
+                _ => Ok(()),
+            },
+            Err(UnwindFault::OutOfMemory) => Err(AllocError),
+            Err(fault) => {
+                self.refuse(stmt.line, fault);
+                Ok(())
+            }
+        }
+    }
+
+    /// Refuses a function that the end of the source leaves open, at its start.
+    #[tactic(auto, unfolding(crate::specs::Faults::first_of_all))]
+    fn close(&mut self, opened: &Open)
+        ensures entries { self.new.entries ≡ self.old.entries }
+        ensures first { self.new.first ≡ first_of_all self.old.first (open_faults opened.now.start) }
+    {
+        if let Some(line) = opened.start {
+            self.refuse(line, UnwindFault::OutsideFunction);
+        }
+    }
+}
+
+/// The functions of statements.
+pub fn functions_of(alloc: Global, stmts: &[Stmt]) -> Result<Functions, AllocError>
+    ensures entries { IfOk result (λ functions. functions.entries ≡ entries_of stmts.now) }
+    ensures first { IfOk result (λ functions. functions.first ≡ first_of_all None (unwind_faults_of stmts.now)) }
+{
+    let mut functions = Functions {
+        entries: Entries {
+            entries: Vec::new(alloc),
+        },
+        first: None,
+    };
+    let mut opened = Open {
+        frame: new_frame(alloc),
+        start: None,
+    };
+    for stmt in stmts {
+        functions.take(alloc, &mut opened, stmt)?;
+    }
+    functions.close(&opened);
+    Ok(functions)
+}

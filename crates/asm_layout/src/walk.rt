@@ -1,0 +1,410 @@
+ghost use Rattle.std.specs.Prelude.{◌≡◌, ◌<◌, Some, option_map, length, slice_get, not, IfOk, OnOk};
+ghost use Rattle.std.specs.List.{position_or_len};
+ghost use Rattle.asm_layout.specs.Sizes.{times, filling, multiple, size, is_instruction, size_in, sizes_grown, is_too_large, table_size};
+ghost use Rattle.asm_layout.specs.SameWords.{same_word};
+ghost use Rattle.asm_layout.specs.Walks.{entry_at, here, start, started, ended, handling, within, grown, cursor_behind, pool_with, ends_pool, pool_place, sizes_with_pool, next};
+
+use crate::place::{Place, Section};
+use crate::word::{Word, word_of};
+use asm_read::{Stmt, StmtKind};
+use asm_unwind::EntryWords;
+use indexmap::IndexSet;
+use std::alloc::{AllocError, Global};
+use std::marker::Model;
+
+/// How many bytes each section has so far. Sums stop at 2^64 - 1, far above what a section may have.
+#[derive(Clone, Copy, PartialEq, Eq, Debug)]
+pub struct Sizes {
+    pub text: u64,
+    pub rodata: u64,
+    pub extab: u64,
+    pub init: u64,
+    pub bss: u64,
+}
+
+/// The most bytes of a section.
+const MOST_BYTES: u64 = 1_048_576;
+
+impl Sizes {
+    const NONE: Sizes = Sizes {
+        text: 0,
+        rodata: 0,
+        extab: 0,
+        init: 0,
+        bss: 0,
+    };
+
+    /// The size of a section.
+    pub fn of(self, section: Section) -> u64
+        ensures { result ≡ size_in self section }
+    {
+        match section {
+            Section::Text => self.text,
+            Section::Rodata => self.rodata,
+            Section::Extab => self.extab,
+            Section::Init => self.init,
+            Section::Bss => self.bss,
+        }
+    }
+
+    /// With more bytes in a section.
+    pub fn grown(mut self, section: Section, by: u64) -> Sizes
+        ensures { result ≡ sizes_grown self section by }
+    {
+        match section {
+            Section::Text => self.text = self.text.saturating_add(by),
+            Section::Rodata => self.rodata = self.rodata.saturating_add(by),
+            Section::Extab => self.extab = self.extab.saturating_add(by),
+            Section::Init => self.init = self.init.saturating_add(by),
+            Section::Bss => self.bss = self.bss.saturating_add(by),
+        }
+        self
+    }
+
+    /// Whether a section has more bytes than it may.
+    pub fn is_too_large(self) -> bool
+        ensures { result ≡ is_too_large self }
+    {
+        self.text > MOST_BYTES
+            || self.rodata > MOST_BYTES
+            || self.extab > MOST_BYTES
+            || self.init > MOST_BYTES
+            || self.bss > MOST_BYTES
+    }
+}
+
+/// How many bytes stand between a place and the next multiple.
+pub fn filling(place: u64, multiple: u64) -> u64
+    requires { 0 < multiple }
+    ensures { result ≡ filling place multiple }
+{
+    (multiple - place % multiple) % multiple
+}
+
+/// The number that `.align n` makes places a multiple of; 1 outside 0 to 3.
+pub fn multiple(n: i64) -> u64
+    ensures { result ≡ multiple n }
+{
+    match n {
+        1 => 2,
+        2 => 4,
+        3 => 8,
+        _ => 1,
+    }
+}
+
+/// A length times the size of an element, at most 2^64 - 1.
+fn times(len: usize, size: u64) -> u64
+    ensures { result ≡ times len size }
+{
+    (len as u64).saturating_mul(size)
+}
+
+/// The bytes of a statement that doesn't look at its place.
+pub fn size(kind: &StmtKind) -> u64
+    ensures { result ≡ size kind.now }
+{
+    match kind {
+        StmtKind::Words(words) => times(words.as_slice().len(), 4),
+        StmtKind::Halves(halves) => times(halves.as_slice().len(), 2),
+        StmtKind::Bytes(bytes) => times(bytes.as_slice().len(), 1),
+        StmtKind::Ascii(text) => times(text.bytes().len(), 1),
+        StmtKind::Asciz(text) => times(text.bytes().len(), 1).saturating_add(1),
+        StmtKind::Space(n) => u64::try_from(*n).unwrap_or(0),
+        StmtKind::Bl(_) | StmtKind::Barrier { .. } => 4,
+        _ if is_instruction(kind) => 2,
+        _ => 0,
+    }
+}
+
+/// Whether a statement is an instruction.
+pub fn is_instruction(kind: &StmtKind) -> bool
+    ensures { result ≡ is_instruction kind.now }
+{
+    !matches!(
+        kind,
+        StmtKind::Label(_)
+            | StmtKind::Text
+            | StmtKind::Data
+            | StmtKind::Bss
+            | StmtKind::Rodata
+            | StmtKind::Global(_)
+            | StmtKind::TypeFunction(_)
+            | StmtKind::TypeObject(_)
+            | StmtKind::Size(_)
+            | StmtKind::Words(_)
+            | StmtKind::Halves(_)
+            | StmtKind::Bytes(_)
+            | StmtKind::Ascii(_)
+            | StmtKind::Asciz(_)
+            | StmtKind::Space(_)
+            | StmtKind::Align(_)
+            | StmtKind::Pool
+            | StmtKind::FnStart
+            | StmtKind::FnEnd
+            | StmtKind::Save { .. }
+            | StmtKind::Pad(_)
+            | StmtKind::SetFp { .. }
+            | StmtKind::CantUnwind
+            | StmtKind::PersonalityIndex(_)
+            | StmtKind::HandlerData
+    )
+}
+
+/// Where the next statement stands.
+#[derive(Clone, Copy, PartialEq, Eq, Debug)]
+pub struct Cursor {
+    pub section: Section,
+    /// The section that `.handlerdata` left.
+    pub left: Option<Section>,
+    pub sizes: Sizes,
+    /// Whether a function is open.
+    pub inside: bool,
+    /// How many functions began.
+    pub functions: usize,
+}
+
+impl Cursor {
+    const START: Cursor = Cursor {
+        section: Section::Text,
+        left: None,
+        sizes: Sizes::NONE,
+        inside: false,
+        functions: 0,
+    };
+
+    /// The offset of the next byte in its section.
+    fn place(self) -> u64
+        ensures { result ≡ size_in self.sizes self.section }
+    {
+        self.sizes.of(self.section)
+    }
+
+    /// The place of the next byte.
+    pub fn here(self) -> Place
+        ensures { result ≡ here self }
+    {
+        Place {
+            section: self.section,
+            offset: self.place(),
+        }
+    }
+}
+
+/// The bytes that a function's table takes in the exception tables at a place.
+fn table_size(place: u64, entry: &EntryWords) -> u64
+    ensures { result ≡ table_size place (Some entry.now) }
+{
+    match entry {
+        EntryWords::Table(words) => filling(place, 4).saturating_add(times(
+            words.as_slice().len(),
+            4,
+        )),
+        EntryWords::CantUnwind | EntryWords::Inline(_) => 0,
+    }
+}
+
+/// The entry of a function by its number.
+pub fn entry_at(entries: &[Option<EntryWords>], function: usize) -> Option<&EntryWords>
+    ensures { option_map (λ e. e.now) result ≡ entry_at entries.now function }
+{
+    match entries.get(function) {
+        Some(Some(entry)) => Some(entry),
+        _ => None,
+    }
+}
+
+impl Cursor {
+    /// Behind the start of a function: its table stands in the exception tables.
+    fn started(mut self, entries: &[Option<EntryWords>]) -> Cursor
+        ensures { result ≡ started entries.now self }
+    {
+        if !self.inside && self.functions < usize::MAX {
+            let size = match entry_at(entries, self.functions) {
+                Some(entry) => table_size(self.sizes.extab, entry),
+                None => 0,
+            };
+            self.sizes = self.sizes.grown(Section::Extab, size);
+            self.inside = true;
+            self.functions += 1;
+        }
+        self
+    }
+
+    /// Behind the end of a function.
+    fn ended(mut self) -> Cursor
+        ensures { result ≡ ended self }
+    {
+        if self.inside {
+            self.section = self.left.unwrap_or(self.section);
+            self.left = None;
+            self.inside = false;
+        }
+        self
+    }
+
+    /// In the exception tables, from another section on.
+    fn handling(mut self) -> Cursor
+        ensures { result ≡ handling self }
+    {
+        if self.section != Section::Extab {
+            self.left = Some(self.section);
+            self.section = Section::Extab;
+        }
+        self
+    }
+
+    fn within(mut self, section: Section) -> Cursor
+        ensures { result ≡ within self section }
+    {
+        self.section = section;
+        self
+    }
+
+    fn grown(mut self, by: u64) -> Cursor
+        ensures { result ≡ grown self by }
+    {
+        self.sizes = self.sizes.grown(self.section, by);
+        self
+    }
+
+    /// Behind a statement, but for what a pool adds.
+    pub fn behind(self, kind: &StmtKind, entries: &[Option<EntryWords>]) -> Cursor
+        ensures { result ≡ cursor_behind entries.now self kind.now }
+    {
+        match kind {
+            StmtKind::Text => self.within(Section::Text),
+            StmtKind::Data => self.within(Section::Init),
+            StmtKind::Bss => self.within(Section::Bss),
+            StmtKind::Rodata => self.within(Section::Rodata),
+            StmtKind::FnStart => self.started(entries),
+            StmtKind::FnEnd => self.ended(),
+            StmtKind::HandlerData => self.handling(),
+            StmtKind::Align(n) => self.grown(filling(self.place(), multiple(*n))),
+            _ => self.grown(size(kind)),
+        }
+    }
+}
+
+/// The words of the next pool, each once, in the order in which they came; contracts see their list.
+#[derive(Drop)]
+pub struct Pool {
+    words: IndexSet<Word>,
+}
+
+impl Model for Pool {
+    ghost use Rattle.std.specs.Prelude.{List};
+    ghost use Rattle.asm_layout.specs.declared.word.Word.{Word};
+
+    ghost Value = { List Word };
+
+    ghost view = { λ pool. pool.words.keys };
+}
+
+impl Pool {
+    /// A pool without words.
+    pub fn new(alloc: Global) -> Pool
+        ensures { length result ≡ 0 }
+    {
+        Pool {
+            words: IndexSet::new(alloc),
+        }
+    }
+
+    /// The place of a word in the pool; it goes last where it isn't there.
+    pub fn put(&mut self, word: Word) -> Result<usize, AllocError>
+        ensures index { IfOk result (λ index. index ≡ position_or_len (same_word word) self.old) }
+        ensures pool { OnOk result (self.new ≡ pool_with self.old word) }
+    {
+        let (index, _) = self.words.insert_full(word)?;
+        Ok(index)
+    }
+
+    /// How many words the pool has.
+    pub fn len(&self) -> usize
+        ensures { result ≡ length self.now }
+    {
+        self.words.len()
+    }
+
+    /// A word by its number.
+    pub fn get(&self, index: usize) -> Option<&Word>
+        ensures { option_map (λ word. word.now) result ≡ slice_get self.now index }
+    {
+        self.words.get_index(index)
+    }
+}
+
+/// A walk over the statements: where the next one stands, and the words that the next pool has so far.
+#[derive(Drop)]
+pub struct Walk {
+    pub at: Cursor,
+    pub pool: Pool,
+}
+
+impl Walk {
+    /// Before the first statement.
+    pub fn new(alloc: Global) -> Walk
+        ensures { result ≡ start }
+    {
+        Walk {
+            at: Cursor::START,
+            pool: Pool::new(alloc),
+        }
+    }
+
+    /// Whether a statement ends a pool that has words.
+    pub fn ends_pool(&self, kind: &StmtKind) -> bool
+        ensures { result ≡ ends_pool self.now kind.now }
+    {
+        matches!(kind, StmtKind::Pool) && self.at.section == Section::Text && self.pool.len() > 0
+    }
+
+    /// Where a pool that ends here begins.
+    pub fn pool_place(&self) -> u64
+        ensures { result ≡ pool_place self.now }
+    {
+        self.at
+            .sizes
+            .text
+            .saturating_add(filling(self.at.sizes.text, 4))
+    }
+
+    /// The sizes with the pool that ends here, which is nothing where it has no words.
+    pub fn sizes_with_pool(&self) -> Sizes
+        ensures { result ≡ sizes_with_pool self.now }
+    {
+        if self.pool.len() == 0 {
+            return self.at.sizes;
+        }
+        let by = filling(self.at.sizes.text, 4).saturating_add(times(self.pool.len(), 4));
+        self.at.sizes.grown(Section::Text, by)
+    }
+
+    /// Goes behind a statement.
+    pub fn advance(
+        &mut self,
+        alloc: Global,
+        stmt: &Stmt,
+        entries: &[Option<EntryWords>],
+    ) -> Result<(), AllocError>
+        ensures { OnOk result (self.new ≡ next entries.now self.old stmt.now.kind) }
+    {
+        match &stmt.kind {
+            StmtKind::Pool => {
+                if self.at.section == Section::Text {
+                    self.at.sizes = self.sizes_with_pool();
+                    self.pool = Pool::new(alloc);
+                }
+            }
+            StmtKind::LdrPool { value, .. } => {
+                if self.at.section == Section::Text {
+                    self.pool.put(word_of(alloc, value)?)?;
+                }
+                self.at = self.at.behind(&stmt.kind, entries);
+            }
+            kind => self.at = self.at.behind(kind, entries),
+        }
+        Ok(())
+    }
+}

@@ -1,0 +1,58 @@
+ghost use Rattle.std.specs.Prelude.{◌≡◌, ◌%◌, ◌^◌, IfOk};
+ghost use Rattle.asm_layout.specs.Words.{low_word, word_of};
+
+use asm_read::Expr;
+use eh_word::Name;
+use std::alloc::{AllocError, Global};
+
+/// What a word stands for, with its numbers modulo 2^32. Words are equal where they are equal as values of this type.
+#[derive(PartialEq, Eq, Hash, Debug, Drop)]
+pub enum Word {
+    Num(u32),
+    Of(Name, u32),
+    Diff(Name, Name, u32),
+    Prel31(Name),
+    Prel31Ref(Name),
+    Target2(Name),
+    Rel(Name),
+}
+
+/// A number modulo 2^32.
+pub fn low_word(n: i64) -> u32
+    ensures { result ≡ low_word n }
+{
+    if n >= 0 {
+        (n as u64 % 0x1_0000_0000) as u32
+    } else {
+        0xffff_ffff - ((-1 - n) as u64 % 0x1_0000_0000) as u32
+    }
+}
+
+/// A place or size modulo 2^32.
+pub fn low_part(n: u64) -> u32
+    ensures { result ≡ n % 2 ^ 32 }
+{
+    (n % 0x1_0000_0000) as u32
+}
+
+/// A copy of a name.
+pub fn copied(alloc: Global, name: &Name) -> Result<Name, AllocError>
+    ensures { IfOk result (λ n. n ≡ name.now) }
+{
+    Ok(Name::of_vec(Vec::from_slice(alloc, name.bytes())?))
+}
+
+/// The word that an expression gives.
+pub fn word_of(alloc: Global, expr: &Expr) -> Result<Word, AllocError>
+    ensures { IfOk result (λ word. word ≡ word_of expr.now) }
+{
+    Ok(match expr {
+        Expr::Num(n) => Word::Num(low_word(*n)),
+        Expr::Of(name, n) => Word::Of(copied(alloc, name)?, low_word(*n)),
+        Expr::Diff(a, b, n) => Word::Diff(copied(alloc, a)?, copied(alloc, b)?, low_word(*n)),
+        Expr::Prel31(name) => Word::Prel31(copied(alloc, name)?),
+        Expr::Prel31Ref(name) => Word::Prel31Ref(copied(alloc, name)?),
+        Expr::Target2(name) => Word::Target2(copied(alloc, name)?),
+        Expr::Rel(name) => Word::Rel(copied(alloc, name)?),
+    })
+}

@@ -1,0 +1,7 @@
+pub mod ListLemmas
+pub mod WalkLemmas
+pub mod FirstOf
+pub mod BuiltLemmas
+pub mod StepLemmas
+pub mod ObjectLemmas
+mod Unnamed

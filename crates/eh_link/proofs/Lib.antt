@@ -1,0 +1,5 @@
+pub mod Changes
+pub mod Holding
+pub mod Layouts
+pub mod Sorting
+pub mod Steps

@@ -1,0 +1,189 @@
+-- The stable sort of rows by their starts is the one that puts each row behind those with the same start.
+use Rattle.std.proofs.Common.{◌≡◌, ℕ, suc, ◌<◌, ◌≤◌, Bool, true, false, cond, not, ◌&&◌, ◌⊎◌, inl, inr, nat_lt, nat_eq, List, [], ◌∷◌, ◌++◌, filter, fold, refl, sym, ap, ◌∙◌, arith, append_assoc}
+use Rattle.std.proofs.Math.Path.{fun_ext}
+use Rattle.std.proofs.lemmas.List.{append-nil}
+use Rattle.std.specs.Ordering.{nat_cmp, is_lt}
+use Rattle.std.specs.declared.cmp.Ordering.TheVariants.{Less, Equal, Greater}
+use Rattle.std.specs.List.Sorted.{ties, IsNonDecreasingBy, IsStableByKey}
+use Rattle.std.proofs.lemmas.Bool.Decides.{nat_tests}
+use Rattle.eh_link.specs.declared.index.Row.{Row}
+use Rattle.eh_link.specs.Index.{row_among, in_order}
+
+-- the starts don't fall, from `low` on
+abbrev Ascending : ℕ → List Row → Type 0
+Ascending low [] = Unit {0}
+Ascending low (r ∷ rows) = (low ≤ r.start) × Ascending r.start rows
+
+-- whether two rows have the same start
+abbrev tie : Row → Row → Bool
+tie x y = not (nat_lt x.start y.start) && not (nat_lt y.start x.start)
+
+same_test : (p q : Bool) → p ≡ false → q ≡ false → (not p && not q) ≡ true
+same_test true q e f = absurd cc
+same_test false true e f = absurd cc
+same_test false false e f = refl
+
+first_test : (p q : Bool) → p ≡ true → (not p && not q) ≡ false
+first_test true q e = refl
+first_test false q e = absurd cc
+
+second_test : (p q : Bool) → q ≡ true → (not p && not q) ≡ false
+second_test true q e = refl
+second_test false true e = refl
+second_test false false e = absurd cc
+
+is_below : (m n : ℕ) (b : Bool) → b ≡ nat_lt m n → m < n → b ≡ true
+is_below m n true e h = refl
+is_below m n false e h = absurd (grind (arith, nat_tests))
+
+isnt_below : (m n : ℕ) (b : Bool) → b ≡ nat_lt m n → n ≤ m → b ≡ false
+isnt_below m n true e h = absurd (grind (arith, nat_tests))
+isnt_below m n false e h = refl
+
+tie_same : (x y : Row) → x.start ≡ y.start → tie x y ≡ true
+tie_same x y e = same_test _ _ (isnt_below x.start y.start _ refl (omega arith)) (isnt_below y.start x.start _ refl (omega arith))
+
+tie_below : (x y : Row) → x.start < y.start → tie x y ≡ false
+tie_below x y h = first_test _ _ (is_below x.start y.start _ refl h)
+
+tie_above : (x y : Row) → y.start < x.start → tie x y ≡ false
+tie_above x y h = second_test _ _ (is_below y.start x.start _ refl h)
+
+-- ---- rows that ascend
+
+-- a row below them has the start of none
+none_ties : (k : Row) (low : ℕ) (rows : List Row) → Ascending low rows → k.start < low → filter (tie k) rows ≡ []
+none_ties k low [] a h = refl
+none_ties k low (r ∷ rows) a h = rw (tie_below k r (omega (arith, a.0))) (none_ties k r.start rows a.1 (omega (arith, a.0)))
+
+among_ascends_at : (low : ℕ) (r : Row) (rows : List Row) (row : Row) (b : Bool) → b ≡ nat_lt row.start r.start → low ≤ row.start → low ≤ r.start
+    → Ascending r.start rows → (r.start ≤ row.start → Ascending r.start (row_among rows row)) → Ascending low (cond b (row ∷ r ∷ rows) (r ∷ row_among rows row))
+among_ascends_at low r rows row true e h k a next = let lt : row.start < r.start = grind (arith, nat_tests) in (h, (omega arith, a))
+among_ascends_at low r rows row false e h k a next = let ge : r.start ≤ row.start = grind (arith, nat_tests) in (k, next ge)
+
+among_ascends : (low : ℕ) (rows : List Row) (row : Row) → Ascending low rows → low ≤ row.start → Ascending low (row_among rows row)
+among_ascends low [] row a h = (h, tt)
+among_ascends low (r ∷ rows) row a h =
+    among_ascends_at low r rows row (nat_lt row.start r.start) refl h a.0 a.1 (λ ge. among_ascends r.start rows row a.1 ge)
+
+-- ---- the rows of one start keep their order
+
+kept_tail : (b : Bool) (r : Row) (xs ys zs : List Row) → xs ≡ ys ++ zs → cond b (r ∷ xs) xs ≡ cond b (r ∷ ys) ys ++ zs
+kept_tail true r xs ys zs e = ap (λ rest. r ∷ rest) e
+kept_tail false r xs ys zs e = e
+
+put_first : (b : Bool) (row : Row) (xs : List Row) → (b ≡ true → xs ≡ []) → cond b (row ∷ xs) xs ≡ xs ++ cond b (row ∷ []) []
+put_first true row xs h = rw (h refl) refl
+put_first false row xs h = sym (append-nil xs)
+
+tied_start : (k row : Row) → tie k row ≡ true → k.start ≡ row.start
+tied_start k row h = grind (arith, nat_tests, tie_below k row, tie_above k row)
+
+among_keeps_at : (k r : Row) (rows : List Row) (row : Row) (b : Bool) → b ≡ nat_lt row.start r.start → Ascending r.start rows
+    → filter (tie k) (row_among rows row) ≡ filter (tie k) rows ++ filter (tie k) (row ∷ [])
+    → filter (tie k) (cond b (row ∷ r ∷ rows) (r ∷ row_among rows row)) ≡ filter (tie k) (r ∷ rows) ++ filter (tie k) (row ∷ [])
+among_keeps_at k r rows row true e a next =
+    put_first (tie k row) row (filter (tie k) (r ∷ rows)) (λ t.
+    let same = tied_start k row t in
+    let lt : row.start < r.start = grind (arith, nat_tests) in
+    none_ties k r.start (r ∷ rows) (omega arith, a) (omega arith))
+among_keeps_at k r rows row false e a next = kept_tail (tie k r) r _ _ _ next
+
+among_keeps : (k : Row) (low : ℕ) (rows : List Row) (row : Row) → Ascending low rows
+    → filter (tie k) (row_among rows row) ≡ filter (tie k) rows ++ filter (tie k) (row ∷ [])
+among_keeps k low [] row a = refl
+among_keeps k low (r ∷ rows) row a =
+    among_keeps_at k r rows row (nat_lt row.start r.start) refl a.1 (among_keeps k r.start rows row a.1)
+
+fold_ascends : (sorted rows : List Row) → Ascending 0 sorted → Ascending 0 (fold row_among sorted rows)
+fold_ascends sorted [] a = a
+fold_ascends sorted (row ∷ rows) a = fold_ascends (row_among sorted row) rows (among_ascends 0 sorted row a (omega arith))
+
+filter_cons : (k row : Row) (rows : List Row) → filter (tie k) (row ∷ rows) ≡ filter (tie k) (row ∷ []) ++ filter (tie k) rows
+filter_cons k row rows = cases (tie k row)
+  where
+    cases : (b : Bool) → cond b (row ∷ filter (tie k) rows) (filter (tie k) rows) ≡ cond b (row ∷ []) [] ++ filter (tie k) rows
+    cases true = refl
+    cases false = refl
+
+fold_keeps : (k : Row) (sorted rows : List Row) → Ascending 0 sorted → filter (tie k) (fold row_among sorted rows) ≡ filter (tie k) sorted ++ filter (tie k) rows
+fold_keeps k sorted [] a = sym (append-nil (filter (tie k) sorted))
+fold_keeps k sorted (row ∷ rows) a =
+    fold_keeps k (row_among sorted row) rows (among_ascends 0 sorted row a (omega arith))
+    ∙ rw (among_keeps k 0 sorted row a, filter_cons k row rows, append_assoc) refl
+
+order_ascends : (rows : List Row) → Ascending 0 (in_order rows)
+unfolding in_order
+order_ascends rows = fold_ascends [] rows tt
+
+order_keeps : (k : Row) (rows : List Row) → filter (tie k) (in_order rows) ≡ filter (tie k) rows
+unfolding in_order
+order_keeps k rows = fold_keeps k [] rows tt
+
+-- ---- rows in rising order are told by the rows of each start
+
+head_of : (x y : Row) (xs ys : List Row) → x ∷ xs ≡ y ∷ ys → x ≡ y
+head_of x y xs ys e = cc
+
+tail_of : (x : Row) (b : Bool) (xs ys : List Row) → cond b (x ∷ xs) xs ≡ cond b (x ∷ ys) ys → xs ≡ ys
+tail_of x true xs ys e = cc
+tail_of x false xs ys e = e
+
+first_kept : (x : Row) (xs : List Row) → filter (tie x) (x ∷ xs) ≡ x ∷ filter (tie x) xs
+first_kept x xs = rw (tie_same x x refl) refl
+
+order_at : (m n : ℕ) (b c : Bool) → b ≡ nat_lt m n → c ≡ nat_lt n m → (m < n) ⊎ ((n < m) ⊎ (m ≡ n))
+order_at m n true c e f = inl (grind (arith, nat_tests))
+order_at m n false true e f = inr (inl (grind (arith, nat_tests)))
+order_at m n false false e f =
+    let up : n ≤ m = grind (arith, nat_tests) in
+    let down : m ≤ n = grind (arith, nat_tests) in
+    inr (inr (omega arith))
+
+order_of : (m n : ℕ) → (m < n) ⊎ ((n < m) ⊎ (m ≡ n))
+order_of m n = order_at m n (nat_lt m n) (nat_lt n m) refl refl
+
+unique : (low : ℕ) (xs ys : List Row) → Ascending low xs → Ascending low ys → ((k : Row) → filter (tie k) xs ≡ filter (tie k) ys) → xs ≡ ys
+unique low [] [] a b same = refl
+unique low [] (y ∷ ys) a b same = let e : [] ≡ y ∷ filter (tie y) ys = same y ∙ first_kept y ys in absurd cc
+unique low (x ∷ xs) [] a b same = let e : [] ≡ x ∷ filter (tie x) xs = sym (same x) ∙ first_kept x xs in absurd cc
+unique low (x ∷ xs) (y ∷ ys) a b same =
+    elim (order_of x.start y.start) [
+      | inl lt ↦ let e : [] ≡ x ∷ filter (tie x) xs = sym (none_ties x y.start (y ∷ ys) (omega arith, b.1) lt) ∙ sym (same x) ∙ first_kept x xs in absurd cc
+      | inr (inl gt) ↦ let e : [] ≡ y ∷ filter (tie y) ys = sym (none_ties y x.start (x ∷ xs) (omega arith, a.1) gt) ∙ same y ∙ first_kept y ys in absurd cc
+      | inr (inr eq) ↦
+          let heads : x ∷ filter (tie x) xs ≡ y ∷ filter (tie x) ys = sym (first_kept x xs) ∙ same x ∙ rw (tie_same x y eq) refl in
+          let head : x ≡ y = head_of x y _ _ heads in
+          let above : Ascending x.start ys = rw head b.1 in
+          let rest : xs ≡ ys = unique x.start xs ys a.1 above (λ k. tail_of x (tie k x) _ _ (same k ∙ rw (← head) refl)) in
+          rw (head, rest) refl
+    ]
+
+-- ---- what the sort gives
+
+from_order : (x : Row) (xs : List Row) → IsNonDecreasingBy (λ (r : Row). r.start) (x ∷ xs) → Ascending x.start xs
+from_order x [] up = tt
+from_order x (y ∷ ys) up = (up 0 1 x (omega arith) (omega arith), from_order y ys (λ i j d le lt. up (suc i) (suc j) d (omega arith) (omega arith)))
+
+ascends : (xs : List Row) → IsNonDecreasingBy (λ (r : Row). r.start) xs → Ascending 0 xs
+ascends [] up = tt
+ascends (x ∷ xs) up = (omega arith, from_order x xs up)
+
+less_by : (b c : Bool) → is_lt (cond b Less (cond c Equal Greater)) ≡ b
+less_by true c = refl
+less_by false true = refl
+less_by false false = refl
+
+less_is : (m n : ℕ) → is_lt (nat_cmp m n) ≡ nat_lt m n
+less_is m n = less_by (nat_lt m n) (nat_eq m n)
+
+same_tie : (k r : Row) → ties (λ (x y : Row). is_lt (nat_cmp x.start y.start)) k r ≡ tie k r
+same_tie k r = rw (less_is k.start r.start, less_is r.start k.start) refl
+
+same_filter : (k : Row) (rows : List Row) → filter (ties (λ (x y : Row). is_lt (nat_cmp x.start y.start)) k) rows ≡ filter (tie k) rows
+same_filter k rows = ap (λ (p : Row → Bool). filter p rows) (fun_ext (same_tie k))
+
+pub sorted_is : (xs ys : List Row) → IsNonDecreasingBy (λ (r : Row). r.start) ys → IsStableByKey (λ (r : Row). r.start) nat_cmp xs ys → ys ≡ in_order xs
+sorted_is xs ys up stable =
+    unique 0 ys (in_order xs) (ascends ys up) (order_ascends xs)
+    (λ k. sym (same_filter k ys) ∙ stable k ∙ same_filter k xs ∙ sym (order_keeps k xs))

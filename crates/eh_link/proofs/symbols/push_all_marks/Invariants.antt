@@ -1,0 +1,7 @@
+use Rattle.std.proofs.Common.{◌≡◌, ◌++◌, drop}
+use Rattle.std.specs.List.{flat_map}
+use Rattle.eh_link.specs.Symbols.{mark_symbols}
+use Rattle.eh_link.proofs.symbols.push_all_marks.Given as goal
+
+abbrev pub invariant-loop-placed : goal.invariant-loop-placed
+invariant-loop-placed l = l.out.items ++ flat_map mark_symbols (drop l.placed-index l.all) ≡ l.initial.out.items ++ flat_map mark_symbols l.all

@@ -1,0 +1,41 @@
+-- What the bytes of a section are behind its relocations: a byte in no field is the object's, and a field that shares no byte
+-- with another one holds what its own relocation writes into the object's bytes.
+use Rattle.std.specs.Prelude.{◌≡◌, ℕ, ◌+◌, ◌<◌, ◌≤◌, true, List, [], ◌∷◌, ◌++◌, slice_index, Option}
+use Rattle.std.specs.Option.{option_map_or}
+use Rattle.asm_layout.specs.declared.place.Section.{Section}
+use Rattle.asm_object.specs.declared.object.Reloc.{Reloc}
+use Rattle.eh_link.specs.declared.names.Meaning.{Meaning}
+use Rattle.eh_link.specs.Fields.{kind_of, width, same_section, change_of, changed, filled}
+
+-- how many bytes the field of a relocation has; none where its kind changes nothing
+abbrev pub field_size : Reloc → ℕ
+field_size reloc = option_map_or width (kind_of reloc.kind) 0
+
+-- the byte at an offset of a section lies in the field of a relocation
+pub record IsInField (section : Section) (offset : ℕ) (reloc : Reloc) : Type 0 where
+  pub here : same_section reloc.section section ≡ true
+  pub from : reloc.offset ≤ offset
+  pub below : offset < reloc.offset + field_size reloc
+
+-- in the field of none
+abbrev pub IsInNoField : Section → ℕ → List Reloc → Type 0
+IsInNoField section offset [] = Unit {0}
+IsInNoField section offset (reloc ∷ more) = (IsInField section offset reloc → ⊥) × IsInNoField section offset more
+
+-- the field of a relocation shares no byte with those of others
+abbrev pub StandsAlone : Section → Reloc → List Reloc → Type 0
+StandsAlone section reloc others = (offset : ℕ) → IsInField section offset reloc → IsInNoField section offset others
+
+-- a byte in no field stays
+abbrev pub OtherBytesStay : Type 0
+OtherBytesStay =
+    (means : List ℕ → Option Meaning) (section : Section) (start : ℕ) (bytes : List ℕ) (relocs : List Reloc) (offset : ℕ)
+    → IsInNoField section offset relocs → slice_index (filled means section start bytes relocs) offset ≡ slice_index bytes offset
+
+-- a field alone in its place holds what its relocation alone writes into these bytes
+abbrev pub FieldsHold : Type 0
+FieldsHold =
+    (means : List ℕ → Option Meaning) (section : Section) (start : ℕ) (bytes : List ℕ) (before : List Reloc) (reloc : Reloc) (after : List Reloc) (offset : ℕ)
+    → StandsAlone section reloc (before ++ after) → IsInField section offset reloc
+    → slice_index (filled means section start bytes (before ++ reloc ∷ after)) offset
+    ≡ slice_index (changed (change_of means section start bytes reloc) reloc.offset bytes) offset

@@ -1,0 +1,172 @@
+-- What the linker writes into the fields of the objects (IHI 0044). Words S, A and P of the standard: the address that the
+-- name means, the addend, the address of the field; T is 1 where the name means a function.
+use Rattle.std.specs.Prelude.{ℕ, ◌+◌, ◌-◌, ◌*◌, ◌/◌, ◌%◌, ◌^◌, ◌==◌, ◌||◌, Bool, true, false, nat_le, min, if◌then◌else◌, List, [], ◌∷◌, ◌++◌, length, take, drop, bit_or, Option, Some, None, Result, Ok, Err, ℤ, pos, ◌+ℤ◌, ◌-ℤ◌}
+use Rattle.std.specs.Int.{from_bool}
+use Rattle.byteorder.specs.Endian.{little_number}
+use Rattle.eh_word.specs.Words.{moved}
+use Rattle.thumb_isa.specs.declared.instr.Instr.TheVariants.{BCond, B, Bl}
+use Rattle.thumb_encode.specs.Codes.{encoded_of}
+use Rattle.thumb_encode.specs.declared.code.Code.{Code}
+use Rattle.thumb_encode.specs.declared.code.Code.TheVariants as code
+use Rattle.thumb_encode.specs.declared.code.EncodeFault.{EncodeFault}
+use Rattle.asm_layout.specs.declared.place.Section.{Section}
+use Rattle.asm_layout.specs.declared.place.Section.TheVariants.{Text, Rodata, Extab, Init, Bss}
+use Rattle.asm_object.specs.declared.object.Reloc.{Reloc}
+use Rattle.elf_write.specs.Layout.{word, half}
+use Rattle.eh_link.specs.declared.names.Meaning.{Meaning}
+use Rattle.eh_link.specs.declared.field.FieldKind.{FieldKind}
+use Rattle.eh_link.specs.declared.field.FieldKind.TheVariants.{Absolute, Relative, Prel31, Call, Jump, CondJump}
+use Rattle.eh_link.specs.declared.field.Change.{Change}
+use Rattle.eh_link.specs.declared.field.Change.TheVariants.{Keep, Half, Word, Unreachable}
+use Rattle.eh_link.specs.declared.fill.Filled.{Filled}
+use Rattle.eh_link.specs.Placed.{Placed}
+use Rattle.eh_link.specs.Layout.{bytes_in, address_in, address_at}
+use Rattle.eh_link.specs.Symbols.{meaning_of}
+
+-- ---- one field
+
+-- by the numbers of the standard; others change nothing
+abbrev pub kind_of : ℕ → Option FieldKind
+kind_of number =
+    if number == 2 || number == 38 then Some Absolute
+    else (if number == 3 || number == 41 then Some Relative
+    else (if number == 42 then Some Prel31
+    else (if number == 10 then Some Call
+    else (if number == 102 then Some Jump
+    else (if number == 103 then Some CondJump else None)))))
+
+-- how many bytes the field has
+abbrev pub width : FieldKind → ℕ
+width Jump = 2
+width CondJump = 2
+width _ = 4
+
+-- (S + A) | T
+abbrev pub absolute : Meaning → ℤ → ℕ
+absolute meaning addend = bit_or (moved meaning.address addend) (from_bool meaning.function)
+
+-- ((S + A) | T) - P
+abbrev pub relative : Meaning → ℤ → ℕ → ℕ
+relative meaning addend place = (absolute meaning addend + (2 ^ 32 - place)) % 2 ^ 32
+
+-- S + A - P, a whole number
+abbrev pub distance : Meaning → ℤ → ℕ → ℤ
+distance meaning addend place = (pos meaning.address +ℤ addend) -ℤ pos place
+
+-- how many bytes it writes
+abbrev pub size_of : Change → ℕ
+size_of (Half _) = 2
+size_of (Word _) = 4
+size_of _ = 0
+
+-- a branch is its code, where it has one
+abbrev pub branch : Result Code EncodeFault → Change
+branch (Ok (code.Half first)) = Half first
+branch (Ok (code.Pair first second)) = Word (first + second * 2 ^ 16)
+branch (Err _) = Unreachable
+
+-- what is written into a field at a place, where these bytes stand: PREL31 keeps bit 31, and JUMP8 the condition in bits 11
+-- to 8
+abbrev pub filling : FieldKind → Meaning → ℤ → ℕ → List ℕ → Change
+filling Absolute meaning addend place there = Word (absolute meaning addend)
+filling Relative meaning addend place there = Word (relative meaning addend place)
+filling Prel31 meaning addend place there = Word (relative meaning addend place % 2 ^ 31 + little_number 4 there / 2 ^ 31 * 2 ^ 31)
+filling Call meaning addend place there = branch (encoded_of (Bl (distance meaning addend place)))
+filling Jump meaning addend place there = branch (encoded_of (B (distance meaning addend place)))
+filling CondJump meaning addend place there = branch (encoded_of (BCond (little_number 2 there / 2 ^ 8 % 2 ^ 4) (distance meaning addend place)))
+
+-- nothing where the bytes end within the field
+abbrev pub change_by : Option FieldKind → Option Meaning → ℤ → ℕ → List ℕ → Change
+change_by (Some kind) (Some meaning) addend place there =
+    if nat_le (width kind) (length there) then filling kind meaning addend place there else Keep
+change_by _ _ addend place there = Keep
+
+-- ---- the fields of a section
+
+abbrev pub same_section : Section → Section → Bool
+same_section Text Text = true
+same_section Rodata Rodata = true
+same_section Extab Extab = true
+same_section Init Init = true
+same_section Bss Bss = true
+same_section _ _ = false
+
+-- what a relocation does to the bytes of a section that begins at an address
+unfoldable pub change_of : (List ℕ → Option Meaning) → Section → ℕ → List ℕ → Reloc → Change
+change_of means section start bytes reloc =
+    if same_section reloc.section section
+    then change_by (kind_of reloc.kind) (means reloc.name) reloc.addend (address_at start reloc.offset) (drop reloc.offset bytes)
+    else Keep
+
+-- bytes with others written over them at an offset
+unfoldable pub written_at : ℕ → List ℕ → List ℕ → List ℕ
+written_at offset new bytes = take offset bytes ++ (new ++ drop (length new) (drop offset bytes))
+
+abbrev pub changed : Change → ℕ → List ℕ → List ℕ
+changed Keep offset bytes = bytes
+changed (Half value) offset bytes = written_at offset (half value) bytes
+changed (Word value) offset bytes = written_at offset (word value) bytes
+changed Unreachable offset bytes = bytes
+
+-- the bytes of a section behind its relocations, one after the other
+abbrev pub filled : (List ℕ → Option Meaning) → Section → ℕ → List ℕ → List Reloc → List ℕ
+filled means section start bytes [] = bytes
+filled means section start bytes (reloc ∷ more) =
+    filled means section start (changed (change_of means section start bytes reloc) reloc.offset bytes) more
+
+-- the lower of two addresses, where there are any
+abbrev pub lower : Option ℕ → Option ℕ → Option ℕ
+lower None b = b
+lower (Some a) None = Some a
+lower (Some a) (Some b) = Some (min a b)
+
+abbrev pub unreachable_at : Change → ℕ → Option ℕ
+unreachable_at Unreachable place = Some place
+unreachable_at _ place = None
+
+-- the lowest address of a branch that can't be encoded
+abbrev pub unreachable_in : (List ℕ → Option Meaning) → Section → ℕ → List ℕ → List Reloc → Option ℕ
+unreachable_in means section start bytes [] = None
+unreachable_in means section start bytes (reloc ∷ more) =
+    lower (unreachable_at (change_of means section start bytes reloc) (address_at start reloc.offset))
+    (unreachable_in means section start (changed (change_of means section start bytes reloc) reloc.offset bytes) more)
+
+-- ---- the fields of an object
+
+-- the part of a section
+abbrev pub part_in : Section → Filled → List ℕ
+part_in Text parts = parts.text
+part_in Rodata parts = parts.rodata
+part_in Extab parts = parts.extab
+part_in Init parts = parts.init
+part_in Bss parts = []
+
+abbrev pub filled_in : (List ℕ → Option Meaning) → Placed → Section → List ℕ
+filled_in means placed section =
+    filled means section (address_in section placed.at) (bytes_in section placed.object) placed.object.relocs
+
+-- its parts, where its names have these meanings
+abbrev pub filled_by : (List ℕ → Option Meaning) → Placed → Filled
+filled_by means placed = record {
+  text = filled_in means placed Text;
+  rodata = filled_in means placed Rodata;
+  extab = filled_in means placed Extab;
+  init = filled_in means placed Init;
+}
+
+abbrev pub filled_of : List Placed → Placed → Filled
+filled_of all placed = filled_by (meaning_of all placed) placed
+
+abbrev pub unreachable_for : (List ℕ → Option Meaning) → Placed → Section → Option ℕ
+unreachable_for means placed section =
+    unreachable_in means section (address_in section placed.at) (bytes_in section placed.object) placed.object.relocs
+
+abbrev pub unreachable_by : (List ℕ → Option Meaning) → Placed → Option ℕ
+unreachable_by means placed =
+    lower (lower (unreachable_for means placed Text) (unreachable_for means placed Rodata))
+    (lower (unreachable_for means placed Extab) (unreachable_for means placed Init))
+
+-- the lowest of all
+abbrev pub lowest_unreachable : List Placed → List Placed → Option ℕ
+lowest_unreachable all [] = None
+lowest_unreachable all (placed ∷ more) = lower (unreachable_by (meaning_of all placed) placed) (lowest_unreachable all more)

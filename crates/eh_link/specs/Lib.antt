@@ -1,0 +1,7 @@
+pub mod Placed
+pub mod Layout
+pub mod Symbols
+pub mod Fields
+pub mod FieldLaw
+pub mod Index
+pub mod Linked

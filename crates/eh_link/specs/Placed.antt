@@ -1,0 +1,7 @@
+-- An object, and where its parts begin.
+use Rattle.asm_object.specs.declared.object.Object.{Object}
+use Rattle.eh_link.specs.declared.places.Addresses.{Addresses}
+
+pub record Placed : Type 0 where
+  pub object : Object
+  pub at : Addresses

@@ -1,0 +1,222 @@
+ghost use Rattle.std.specs.Prelude.{◌≡◌, ◌+◌, ◌≤◌, length, drop, map, IfOk};
+ghost use Rattle.eh_link.specs.Layout.{bytes_in};
+ghost use Rattle.eh_link.specs.Symbols.{looked_up, meaning_by};
+ghost use Rattle.eh_link.specs.Fields.{same_section, size_of, change_of, written_at, changed, unreachable_at, filled, lower, unreachable_in, part_in, filled_in, filled_by, filled_of, unreachable_for, unreachable_by, lowest_unreachable};
+
+use crate::field::{Change, change_by};
+use crate::names::{Meanings, global_meanings, looked_up, own_meanings};
+use crate::places::{Placed, address_at, address_in};
+use asm_layout::place::Section;
+use asm_object::object::{Object, Reloc};
+use elf_write::parts::OwnBytes;
+use std::alloc::{AllocError, Global};
+
+/// The parts of an object with their fields filled.
+#[derive(Drop)]
+pub struct Filled {
+    pub text: OwnBytes,
+    pub rodata: OwnBytes,
+    pub extab: OwnBytes,
+    pub init: OwnBytes,
+}
+
+/// The bytes of an object's part of a section.
+fn bytes_in(section: Section, object: &Object) -> &[u8]
+    ensures { result.now ≡ bytes_in section object.now }
+{
+    match section {
+        Section::Text => object.text.as_slice(),
+        Section::Rodata => object.rodata.as_slice(),
+        Section::Extab => object.extab.as_slice(),
+        Section::Init => object.init.as_slice(),
+        Section::Bss => &[],
+    }
+}
+
+/// The part of a section.
+pub(crate) fn part_in(section: Section, parts: &Filled) -> &[u8]
+    ensures { result.now ≡ part_in section parts.now }
+{
+    match section {
+        Section::Text => parts.text.as_slice(),
+        Section::Rodata => parts.rodata.as_slice(),
+        Section::Extab => parts.extab.as_slice(),
+        Section::Init => parts.init.as_slice(),
+        Section::Bss => &[],
+    }
+}
+
+/// The lower of two addresses, where there are any.
+fn lower(a: Option<u32>, b: Option<u32>) -> Option<u32>
+    ensures { result ≡ lower a b }
+{
+    match (a, b) {
+        (None, b) => b,
+        (Some(a), None) => Some(a),
+        (Some(a), Some(b)) => Some(a.min(b)),
+    }
+}
+
+/// Writes bytes over others at an offset.
+#[tactic(auto, unfolding(crate::specs::Fields::written_at))]
+fn write_at(bytes: &mut [u8], offset: usize, new: &[u8])
+    requires { offset + length new.now ≤ length bytes.old }
+    ensures { bytes.new ≡ written_at offset new.now bytes.old }
+{
+    bytes[offset..offset + new.len()].copy_from_slice(new);
+}
+
+/// Writes what a relocation writes at an offset.
+#[tactic(auto, unfolding(elf_write::specs::Layout::half, elf_write::specs::Layout::word))]
+fn apply(bytes: &mut [u8], offset: usize, change: Change)
+    requires { size_of change ≤ length (drop offset bytes.old) }
+    ensures { bytes.new ≡ changed change offset bytes.old }
+{
+    match change {
+        Change::Keep | Change::Unreachable => {}
+        Change::Half(value) => write_at(bytes, offset, &value.to_le_bytes()),
+        Change::Word(value) => write_at(bytes, offset, &value.to_le_bytes()),
+    }
+}
+
+/// The address of a branch that can't be encoded.
+fn unreachable_at(change: Change, place: u32) -> Option<u32>
+    ensures { result ≡ unreachable_at change place }
+{
+    match change {
+        Change::Unreachable => Some(place),
+        Change::Keep | Change::Half(_) | Change::Word(_) => None,
+    }
+}
+
+/// The bytes from an offset on.
+fn bytes_from(bytes: &[u8], offset: usize) -> &[u8]
+    ensures { result.now ≡ drop offset bytes.now }
+{
+    if offset <= bytes.len() {
+        &bytes[offset..]
+    } else {
+        &[]
+    }
+}
+
+fn same_section(a: Section, b: Section) -> bool
+    ensures { result ≡ same_section a b }
+{
+    a == b
+}
+
+/// What a relocation does to the bytes of a section that begins at an address.
+#[tactic(auto, using(crate::proofs::Changes::change_fits), unfolding(crate::specs::Fields::change_of))]
+fn change_of(
+    own: &Meanings,
+    global: &Meanings,
+    section: Section,
+    start: u32,
+    bytes: &[u8],
+    reloc: &Reloc,
+) -> Change
+    ensures is { result ≡ change_of (looked_up own.now global.now) section start bytes.now reloc.now }
+    ensures fits { size_of result ≤ length (drop reloc.now.offset bytes.now) }
+{
+    if !same_section(reloc.section, section) {
+        return Change::Keep;
+    }
+    let there = bytes_from(bytes, reloc.offset as usize);
+    let meaning = looked_up(own, global, &reloc.name);
+    let place = address_at(start, reloc.offset);
+    change_by(reloc.kind, meaning, reloc.addend, place, there)
+}
+
+/// Fills the fields of a section that begins at an address, one after the other. The lowest address of a branch that can't
+/// be encoded, where there is one.
+#[tactic(auto, using(crate::proofs::Changes::fills))]
+fn fill(
+    bytes: &mut [u8],
+    own: &Meanings,
+    global: &Meanings,
+    section: Section,
+    start: u32,
+    relocs: &[Reloc],
+) -> Option<u32>
+    ensures bytes { bytes.new ≡ filled (looked_up own.now global.now) section start bytes.old relocs.now }
+    ensures lowest { result ≡ unreachable_in (looked_up own.now global.now) section start bytes.old relocs.now }
+{
+    let mut lowest = None;
+    for reloc in relocs {
+        let change = change_of(own, global, section, start, bytes, reloc);
+        let here = unreachable_at(change, address_at(start, reloc.offset));
+        apply(bytes, reloc.offset as usize, change);
+        lowest = lower(lowest, here);
+    }
+    lowest
+}
+
+/// An object's part of a section with its fields filled, and the lowest address of a branch that can't be encoded.
+fn filled_part(
+    alloc: Global,
+    placed: &Placed,
+    own: &Meanings,
+    global: &Meanings,
+    section: Section,
+) -> Result<(OwnBytes, Option<u32>), AllocError>
+    ensures bytes { IfOk result (λ part. part.0 ≡ filled_in (looked_up own.now global.now) placed.now section) }
+    ensures lowest { IfOk result (λ part. part.1 ≡ unreachable_for (looked_up own.now global.now) placed.now section) }
+{
+    let mut bytes = Vec::from_slice(alloc, bytes_in(section, placed.object))?;
+    let start = address_in(section, placed.at);
+    let lowest = fill(
+        &mut bytes,
+        own,
+        global,
+        section,
+        start,
+        placed.object.relocs.as_slice(),
+    );
+    Ok((OwnBytes::of_vec(bytes), lowest))
+}
+
+/// The parts of an object with their fields filled, and the lowest address of a branch that can't be encoded.
+#[tactic(auto, using(crate::proofs::Steps::same_meanings))]
+fn filled_object(
+    alloc: Global,
+    placed: &Placed,
+    global: &Meanings,
+) -> Result<(Filled, Option<u32>), AllocError>
+    ensures parts { IfOk result (λ r. r.0 ≡ filled_by (meaning_by global.now placed.now) placed.now) }
+    ensures lowest { IfOk result (λ r. r.1 ≡ unreachable_by (meaning_by global.now placed.now) placed.now) }
+{
+    let own = own_meanings(alloc, placed)?;
+    let (text, in_text) = filled_part(alloc, placed, &own, global, Section::Text)?;
+    let (rodata, in_rodata) = filled_part(alloc, placed, &own, global, Section::Rodata)?;
+    let (extab, in_extab) = filled_part(alloc, placed, &own, global, Section::Extab)?;
+    let (init, in_init) = filled_part(alloc, placed, &own, global, Section::Init)?;
+    let lowest = lower(lower(in_text, in_rodata), lower(in_extab, in_init));
+    let parts = Filled {
+        text,
+        rodata,
+        extab,
+        init,
+    };
+    Ok((parts, lowest))
+}
+
+/// The objects with their fields filled, and the lowest address of a branch that can't be encoded.
+#[tactic(auto, using(crate::proofs::Changes::fills, crate::proofs::Steps::totals))]
+pub(crate) fn fill_all(
+    alloc: Global,
+    all: &[Placed],
+) -> Result<(Vec<Filled>, Option<u32>), AllocError>
+    ensures parts { IfOk result (λ r. r.0.items ≡ map (filled_of all.now) all.now) }
+    ensures lowest { IfOk result (λ r. r.1 ≡ lowest_unreachable all.now all.now) }
+{
+    let global = global_meanings(alloc, all)?;
+    let mut parts = Vec::new(alloc);
+    let mut lowest = None;
+    for placed in all {
+        let (filled, here) = filled_object(alloc, placed, &global)?;
+        parts.push(filled)?;
+        lowest = lower(lowest, here);
+    }
+    Ok((parts, lowest))
+}

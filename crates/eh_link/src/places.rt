@@ -1,0 +1,232 @@
+ghost use Rattle.std.specs.Prelude.{◌≡◌, ◌+◌, ◌*◌, ◌^◌, ◌<◌, ◌≤◌, Bool, false, None, Some, if◌then◌else◌, length, IfOk, IfSome, IfNone};
+ghost use Rattle.elf_write.specs.Layout.{aligned};
+ghost use Rattle.eh_link.specs.Layout.{size_in, address_in, end_of, index_size, page_behind, Rises, layout_of, is_too_large, firsts, all_aligned, ends, placed_of, address_at};
+
+use asm_layout::place::Section;
+use asm_object::object::Object;
+use std::alloc::{AllocError, Global};
+use std::marker::Model;
+
+/// The highest address that is looked at, far above what the segments may take.
+const REACH: u32 = 0x40_0000;
+
+/// An address for each section.
+#[derive(Clone, Copy, PartialEq, Eq, Debug)]
+pub struct Addresses {
+    pub text: u32,
+    pub rodata: u32,
+    pub extab: u32,
+    pub init: u32,
+    pub bss: u32,
+}
+
+/// Where the sections of an image end, and where its index and its data begin.
+#[derive(Clone, Copy, PartialEq, Eq, Debug)]
+pub struct Layout {
+    pub text_end: u32,
+    pub rodata_end: u32,
+    pub extab_end: u32,
+    pub index_start: u32,
+    pub code_end: u32,
+    pub data_start: u32,
+    pub init_end: u32,
+    pub bss_end: u32,
+}
+
+/// An object, and where its parts begin.
+#[derive(Drop)]
+pub struct Placed<'a> {
+    pub object: &'a Object,
+    pub at: Addresses,
+}
+
+impl<'a> Model for Placed<'a> {
+    ghost use Rattle.eh_link.specs.Placed.{Placed as Fields};
+
+    ghost Value = { Fields };
+
+    ghost view = { λ p. record { object = p.object.now; at = p.at } };
+}
+
+/// How many bytes of memory an object's part of a section takes.
+fn size_in(section: Section, object: &Object) -> u64
+    ensures { result ≡ size_in section object.now }
+{
+    match section {
+        Section::Text => object.text.as_slice().len() as u64,
+        Section::Rodata => object.rodata.as_slice().len() as u64,
+        Section::Extab => object.extab.as_slice().len() as u64,
+        Section::Init => object.init.as_slice().len() as u64,
+        Section::Bss => u64::from(object.bss),
+    }
+}
+
+/// The next multiple of 4.
+pub(crate) fn aligned(at: u32) -> u32
+    requires { at + 3 < 2 ^ 32 }
+    ensures { result ≡ aligned at }
+{
+    (at + 3) / 4 * 4
+}
+
+/// The next multiple of 4,096.
+fn page_behind(at: u32) -> u32
+    requires { at + 4095 < 2 ^ 32 }
+    ensures { result ≡ page_behind at }
+{
+    (at + 4095) / 4096 * 4096
+}
+
+/// The address in a section.
+pub(crate) fn address_in(section: Section, at: Addresses) -> u32
+    ensures { result ≡ address_in section at }
+{
+    match section {
+        Section::Text => at.text,
+        Section::Rodata => at.rodata,
+        Section::Extab => at.extab,
+        Section::Init => at.init,
+        Section::Bss => at.bss,
+    }
+}
+
+/// The address behind so many bytes.
+pub(crate) fn address_at(start: u32, offset: u32) -> u32
+    ensures { result ≡ address_at start offset }
+{
+    start.wrapping_add(offset)
+}
+
+/// The end of the objects' parts of a section that begins behind an address. None above `REACH`.
+fn end_of(section: Section, start: u32, objects: &[Object]) -> Option<u32>
+    requires { start ≤ 0x400000 }
+    ensures some { IfSome result (λ end. (end ≡ end_of section start objects.now) × (end ≤ 0x400000)) }
+    ensures none { IfNone result (0x400000 < end_of section start objects.now) }
+{
+    let mut at = start;
+    for object in objects {
+        let begin = aligned(at);
+        let size = size_in(section, object);
+        if size > u64::from(REACH - begin) {
+            return None;
+        }
+        at = begin + size as u32;
+    }
+    Some(at)
+}
+
+/// The end of the index that begins at an address. None above `REACH`.
+fn index_end(start: u32, objects: &[Object]) -> Option<u32>
+    requires { start ≤ 0x400000 }
+    ensures some { IfSome result (λ end. (end ≡ start + index_size objects.now) × (end ≤ 0x400000)) }
+    ensures none { IfNone result (0x400000 < start + index_size objects.now) }
+{
+    if start > REACH - 8 {
+        return None;
+    }
+    let mut at = start + 8;
+    for object in objects {
+        let rows = object.rows.as_slice().len();
+        if rows > ((REACH - at) / 8) as usize {
+            return None;
+        }
+        at += 8 * rows as u32;
+    }
+    Some(at)
+}
+
+/// Where everything stands. None where the segments have more than 1,048,576 bytes of memory together.
+pub(crate) fn lay_out(objects: &[Object]) -> Option<Layout>
+    ensures found { result ≡ (if is_too_large (layout_of objects.now) then None else Some (layout_of objects.now)) }
+    ensures rises { IfSome result (λ layout. Rises layout) }
+{
+    let text_end = end_of(Section::Text, 0x8000, objects)?;
+    let rodata_end = end_of(Section::Rodata, text_end, objects)?;
+    let extab_end = end_of(Section::Extab, rodata_end, objects)?;
+    let index_start = aligned(extab_end);
+    let code_end = index_end(index_start, objects)?;
+    let data_start = page_behind(code_end);
+    let init_end = end_of(Section::Init, data_start, objects)?;
+    let bss_end = end_of(Section::Bss, init_end, objects)?;
+    if code_end - 0x8000 + (bss_end - data_start) > 1_048_576 {
+        return None;
+    }
+    Some(Layout {
+        text_end,
+        rodata_end,
+        extab_end,
+        index_start,
+        code_end,
+        data_start,
+        init_end,
+        bss_end,
+    })
+}
+
+/// Where the first part of each section may begin.
+fn firsts(layout: Layout) -> Addresses
+    ensures { result ≡ firsts layout }
+{
+    Addresses {
+        text: 0x8000,
+        rodata: layout.text_end,
+        extab: layout.rodata_end,
+        init: layout.data_start,
+        bss: layout.init_end,
+    }
+}
+
+fn all_aligned(at: Addresses) -> Addresses
+    requires text { at.text ≤ 0x400000 }
+    requires rodata { at.rodata ≤ 0x400000 }
+    requires extab { at.extab ≤ 0x400000 }
+    requires init { at.init ≤ 0x400000 }
+    requires bss { at.bss ≤ 0x400000 }
+    ensures { result ≡ all_aligned at }
+{
+    Addresses {
+        text: aligned(at.text),
+        rodata: aligned(at.rodata),
+        extab: aligned(at.extab),
+        init: aligned(at.init),
+        bss: aligned(at.bss),
+    }
+}
+
+/// The ends of an object's parts that begin at these addresses.
+fn ends(at: Addresses, object: &Object) -> Addresses
+    requires text { at.text + length object.now.text ≤ 0x400000 }
+    requires rodata { at.rodata + length object.now.rodata ≤ 0x400000 }
+    requires extab { at.extab + length object.now.extab ≤ 0x400000 }
+    requires init { at.init + length object.now.init ≤ 0x400000 }
+    requires bss { at.bss + object.now.bss ≤ 0x400000 }
+    ensures { result ≡ ends at object.now }
+{
+    Addresses {
+        text: at.text + object.text.as_slice().len() as u32,
+        rodata: at.rodata + object.rodata.as_slice().len() as u32,
+        extab: at.extab + object.extab.as_slice().len() as u32,
+        init: at.init + object.init.as_slice().len() as u32,
+        bss: at.bss + object.bss,
+    }
+}
+
+/// The objects, each with the addresses of its parts.
+pub(crate) fn place<'a>(
+    alloc: Global,
+    layout: Layout,
+    objects: &'a [Object],
+) -> Result<Vec<Placed<'a>>, AllocError>
+    requires is { layout ≡ layout_of objects.now }
+    requires rises { Rises layout }
+    ensures { IfOk result (λ v. v.items ≡ placed_of objects.now) }
+{
+    let mut all = Vec::new(alloc);
+    let mut next = firsts(layout);
+    for object in objects {
+        let at = all_aligned(next);
+        next = ends(at, object);
+        all.push(Placed { object, at })?;
+    }
+    Ok(all)
+}

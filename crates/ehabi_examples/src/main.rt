@@ -1,0 +1,139 @@
+//! Runs the examples of data/, each by the command in its own head comment, and compares what it writes with that comment;
+//! and builds them, and compares the image that is read of what was written with the parts that the sources link to.
+#![tactic(auto)]
+
+mod image;
+
+use eh_port::{Bytes, CallNumbers, HostFiles, MemSink, SureSource};
+use ehabi_top::ehabi_main;
+use image::{is_image_of, parts_of};
+use std::alloc::{AllocError, Global};
+use std::fs;
+use std::io::Error;
+
+/// The examples that have a command.
+const EXAMPLES: [&str; 6] = [
+    "hello.s",
+    "shout.s",
+    "counter.s",
+    "two_main.s",
+    "frame.s",
+    "table.s",
+];
+
+/// What the head comment of an example says: the words of its command behind the program's name, its input, and what
+/// it writes.
+#[derive(Drop)]
+struct Head<'a> {
+    words: Vec<&'a str>,
+    input: Vec<u8>,
+    wrote: Vec<u8>,
+}
+
+impl<'a> Head<'a> {
+    fn new(alloc: Global) -> Head<'a> {
+        Head {
+            words: Vec::new(alloc),
+            input: Vec::new(alloc),
+            wrote: Vec::new(alloc),
+        }
+    }
+
+    /// Takes a command. Files are named as the reader of the repository names them.
+    fn take_command(&mut self, command: &'a str) -> Result<(), AllocError> {
+        for word in command.split(' ') {
+            self.words
+                .push(word.strip_prefix("examples/").unwrap_or(word))?;
+        }
+        Ok(())
+    }
+
+    /// Takes a line of the example.
+    fn take(&mut self, line: &'a str) -> Result<(), AllocError> {
+        if let Some(text) = line.strip_prefix("@ < ") {
+            self.input.extend_from_slice(text.as_bytes())?;
+            self.input.push(b'\n')?;
+        } else if let Some(command) = line.strip_prefix("@ $ ./ehabi_run ") {
+            self.take_command(command)?;
+        } else if let Some(text) = line.strip_prefix("@ >") {
+            self.wrote
+                .extend_from_slice(text.strip_prefix(" ").unwrap_or(text).as_bytes())?;
+            self.wrote.push(b'\n')?;
+        }
+        Ok(())
+    }
+}
+
+fn head_of(alloc: Global, text: &str) -> Result<Head<'_>, AllocError> {
+    let mut head = Head::new(alloc);
+    for line in text.lines() {
+        head.take(line)?;
+    }
+    Ok(head)
+}
+
+fn sink(alloc: Global) -> MemSink {
+    MemSink {
+        written: Bytes::of_vec(Vec::new(alloc)),
+        next: 1,
+        failing: CallNumbers::of_vec(Vec::new(alloc)),
+        faults: 0,
+    }
+}
+
+/// What the program writes for some words and an input.
+fn written(host: &HostRuntime, words: &[&str], input: Vec<u8>) -> MemSink {
+    let mut files = HostFiles { host, faults: 0 };
+    let mut input = SureSource {
+        left: Bytes::of_vec(input),
+    };
+    let mut out = sink(host.alloc());
+    ehabi_main(host.alloc(), words, &mut files, &mut input, &mut out);
+    out
+}
+
+/// Whether what is built of sources is read as the image of the parts that they link to.
+fn is_built(host: &HostRuntime, sources: &[&str]) -> Result<bool, Error> {
+    let alloc = host.alloc();
+    let mut words = Vec::new(alloc);
+    words.push("build")?;
+    let mut texts = Vec::new(alloc);
+    for name in sources {
+        words.push(*name)?;
+        texts.push(fs::read_to_string(host, *name)?)?;
+    }
+    let out = written(host, words.as_slice(), Vec::new(alloc));
+    Ok(match parts_of(alloc, texts.as_slice()) {
+        Some(parts) => is_image_of(alloc, out.written.as_slice(), &parts),
+        None => false,
+    })
+}
+
+/// What comes of an example.
+fn verdict(host: &HostRuntime, name: &str) -> Result<&'static str, Error> {
+    let text = fs::read_to_string(host, name)?;
+    let Head {
+        words,
+        input,
+        wrote,
+    } = head_of(host.alloc(), text.as_str())?;
+    let [_run, sources @ .., _budget] = words.as_slice() else {
+        return Ok("no command");
+    };
+    if !is_built(host, sources)? {
+        return Ok("another image than its parts'");
+    }
+    let out = written(host, words.as_slice(), input);
+    if out.written.as_slice() != wrote.as_slice() {
+        return Ok("not what its head says");
+    }
+    Ok("as its head says")
+}
+
+fn main(host: HostRuntime) -> Result<(), Error> {
+    for name in EXAMPLES {
+        let verdict = verdict(&host, name)?;
+        println!(host; "{name}: {verdict}")?;
+    }
+    Ok(())
+}

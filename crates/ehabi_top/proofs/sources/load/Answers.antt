@@ -1,0 +1,41 @@
+use Rattle.std.proofs.Common.{◌+◌, ◌∙◌, [], Bor, List, ℕ, drop, refl, arith, slice_index_or}
+use Rattle.std.proofs.lemmas.List.{drop_all, drop_more}
+use Rattle.eh_port.specs.declared.FileAnswer.TheVariants.{Missing, TooLong}
+use Rattle.ehabi_top.specs.Text.{missing_line, too_long_line}
+use Rattle.ehabi_top.proofs.FileLoads.{next_found, next_lacks, all_found}
+use Rattle.ehabi_top.proofs.sources.load.Goals as goal
+
+pub returns-in-Missing-clause-told : goal.returns-in-Missing-clause-told
+returns-in-Missing-clause-told g c =
+    let xs = c.args.names.now in
+    let i = c.loop-name.name-index in
+    let n : Bor (List ℕ) = slice_index_or xs i (record { ref_ptr = (0, 0); now = [] }) in
+    next_lacks xs (drop i xs) (drop (i + 1) xs) n c.loop-name.all.items Missing (missing_line n.now) _ _
+    (drop_more xs i _ c.loop-name-test.true) c.loop-name.invariant.same refl c.loop-name.invariant.told (rw c.in-Missing.is at c.in_ok-bytes.ensures.answer)
+
+pub returns-in-TooLong-clause-told : goal.returns-in-TooLong-clause-told
+returns-in-TooLong-clause-told g c =
+    let xs = c.args.names.now in
+    let i = c.loop-name.name-index in
+    let n : Bor (List ℕ) = slice_index_or xs i (record { ref_ptr = (0, 0); now = [] }) in
+    next_lacks xs (drop i xs) (drop (i + 1) xs) n c.loop-name.all.items TooLong (too_long_line n.now) _ _
+    (drop_more xs i _ c.loop-name-test.true) c.loop-name.invariant.same refl c.loop-name.invariant.told (rw c.in-TooLong.is at c.in_ok-bytes.ensures.answer)
+
+pub loop-name-preserved : goal.loop-name-preserved
+loop-name-preserved g c =
+    let xs = c.args.names.now in
+    let i = c.loop-name.name-index in
+    let n : Bor (List ℕ) = slice_index_or xs i (record { ref_ptr = (0, 0); now = [] }) in
+    record {
+      told = next_found xs (drop i xs) (drop (i + 1) xs) n c.loop-name.all.items _ c.in-Found.bytes _ _
+          (drop_more xs i _ c.loop-name-test.true) c.loop-name.invariant.same c.loop-name.invariant.told (rw c.in-Found.is at c.in_ok-bytes.ensures.answer)
+          (rw c.new.ensures at c.in_ok-push-in-Found.ensures.items);
+      same = c.in_ok-bytes.ensures.same ∙ c.loop-name.invariant.same;
+      later = omega (arith, c.in_ok-bytes.ensures.cause.later, c.loop-name.invariant.later);
+    }
+
+pub returns-clause-told : goal.returns-clause-told
+returns-clause-told g c =
+    let xs = c.args.names.now in
+    let i = c.loop-name.name-index in
+    all_found xs (drop i xs) c.loop-name.all.items _ (drop_all i xs c.loop-name-test.false) c.loop-name.invariant.told

@@ -1,0 +1,152 @@
+// `build FILE..`: sources to the bytes of an image.
+ghost use Rattle.std.specs.Prelude.{◌≡◌, ◌≢◌, ◌≤◌, ◌++◌, [], ◌∷◌, ℕ, List, Some, Ok, Err, IfOk, IfSome, IsErrOf, MatchResult, true, false};
+ghost use Rattle.eh_port.specs.Causes.{Rose};
+ghost use Rattle.ehabi_top.specs.Words.{texts};
+ghost use Rattle.ehabi_top.specs.Sources.{NamedText, all_answers};
+ghost use Rattle.ehabi_top.specs.Building.{statements_of, assembled, linked_parts, written_bytes, stubs, built, is_memory, fault_line};
+ghost use Rattle.ehabi_top.specs.BuildReport.{build_report, sources_report, plain_report};
+ghost use Rattle.ehabi_top.specs.Report.{Gives, is_settled};
+
+use crate::answer::{answer_missing, answer_text, answer_too_long};
+use crate::named::{SourceStmts, SourceText};
+use crate::refusal::{BuildFault, answer_fault, is_memory};
+use crate::sources::{Loaded, load};
+use crate::stop::Stop;
+use asm_object::{Object, assemble};
+use asm_read::read_source;
+use eh_kit::stubs;
+use eh_link::link::link;
+use eh_port::{Files, Sink};
+use elf_write::{ImageParts, write_image};
+use std::alloc::Global;
+
+// The statements of a source.
+fn statements_of<'a>(
+    alloc: Global,
+    name: &'a str,
+    text: &[u8],
+) -> Result<SourceStmts<'a>, BuildFault<'a>>
+    ensures { let source : NamedText = record { name = name.now; text = text.now } in
+        MatchResult result (λ read. statements_of source ≡ Ok read) (λ fault. is_memory fault ≡ false → statements_of source ≡ Err (fault_line fault)) }
+{
+    match read_source(alloc, text) {
+        Ok(stmts) => Ok(SourceStmts::new(name, stmts)),
+        Err(fault) => Err(BuildFault::InSource(name, fault)),
+    }
+}
+
+// The statements of all sources and, last, of the stubs.
+fn all_statements<'a>(
+    alloc: Global,
+    sources: &[SourceText<'a>],
+) -> Result<Vec<SourceStmts<'a>>, BuildFault<'a>>
+    ensures { let answer = all_answers statements_of (sources.now ++ stubs ∷ []) in
+        MatchResult result (λ all. answer ≡ Ok all.items) (λ fault. is_memory fault ≡ false → answer ≡ Err (fault_line fault)) }
+{
+    let mut all = Vec::new(alloc);
+    for source in sources {
+        all.push(statements_of(alloc, source.name(), source.text())?)?;
+    }
+    all.push(statements_of(alloc, "stubs", stubs())?)?;
+    Ok(all)
+}
+
+// The object of a source.
+fn assembled<'a>(alloc: Global, source: &SourceStmts<'a>) -> Result<Object, BuildFault<'a>>
+    ensures { MatchResult result (λ object. assembled source.now ≡ Ok object)
+        (λ fault. is_memory fault ≡ false → assembled source.now ≡ Err (fault_line fault)) }
+{
+    match assemble(alloc, source.stmts()) {
+        Ok(object) => Ok(object),
+        Err(fault) => Err(BuildFault::InObject(source.name(), fault)),
+    }
+}
+
+// The objects of all sources.
+fn all_objects<'a>(
+    alloc: Global,
+    sources: &[SourceStmts<'a>],
+) -> Result<Vec<Object>, BuildFault<'a>>
+    ensures { let answer = all_answers assembled sources.now in
+        MatchResult result (λ all. answer ≡ Ok all.items) (λ fault. is_memory fault ≡ false → answer ≡ Err (fault_line fault)) }
+{
+    let mut all = Vec::new(alloc);
+    for source in sources {
+        all.push(assembled(alloc, source)?)?;
+    }
+    Ok(all)
+}
+
+// The parts of the image of objects.
+fn linked_parts<'a>(alloc: Global, objects: &[Object]) -> Result<ImageParts, BuildFault<'a>>
+    ensures { MatchResult result (λ parts. linked_parts objects.now ≡ Ok parts)
+        (λ fault. is_memory fault ≡ false → linked_parts objects.now ≡ Err (fault_line fault)) }
+{
+    match link(alloc, objects, b"_start") {
+        Ok(parts) => Ok(parts),
+        Err(fault) => Err(BuildFault::InLink(fault)),
+    }
+}
+
+// The bytes of the image of parts.
+fn written_bytes<'a>(alloc: Global, parts: &ImageParts) -> Result<Vec<u8>, BuildFault<'a>>
+    ensures { MatchResult result (λ bytes. written_bytes parts.now ≡ Ok bytes.items)
+        (λ fault. is_memory fault ≡ false → written_bytes parts.now ≡ Err (fault_line fault)) }
+{
+    match write_image(alloc, parts) {
+        Ok(bytes) => Ok(bytes),
+        Err(fault) => Err(BuildFault::InImage(fault)),
+    }
+}
+
+/// The bytes of the image that sources and the stubs are built to.
+pub(crate) fn built<'a>(
+    alloc: Global,
+    sources: &[SourceText<'a>],
+) -> Result<Vec<u8>, BuildFault<'a>>
+    ensures { MatchResult result (λ bytes. built sources.now ≡ Ok bytes.items)
+        (λ fault. is_memory fault ≡ false → built sources.now ≡ Err (fault_line fault)) }
+{
+    let read = all_statements(alloc, sources)?;
+    let objects = all_objects(alloc, read.as_slice())?;
+    let parts = linked_parts(alloc, objects.as_slice())?;
+    written_bytes(alloc, &parts)
+}
+
+// Writes the image of sources.
+fn build_sources<O: Sink>(alloc: Global, sources: &[SourceText], out: &mut O) -> Result<u8, Stop>
+    ensures told { (input : List ℕ) → Gives (sources_report input (plain_report input) sources.now) result (Some input) (O.written out.old) (O.written out.new) }
+    ensures read { IsErrOf result Stop.Read → ⊥ }
+    ensures write { IsErrOf result Stop.Write → Rose (O.faults out.old) (O.faults out.new) }
+    ensures status { IfOk result (λ status. (is_settled status ≡ true) × (status ≤ 10) × (status ≢ 2)) }
+{
+    match built(alloc, sources) {
+        Ok(bytes) => answer_text(out, bytes.as_slice(), 0),
+        Err(fault) => {
+            if is_memory(&fault) {
+                return Err(Stop::Memory);
+            }
+            answer_fault(out, &fault)
+        }
+    }
+}
+
+/// Writes the image that the sources of these names are built to.
+pub(crate) fn build<F: Files, O: Sink>(
+    alloc: Global,
+    names: &[&str],
+    files: &mut F,
+    out: &mut O,
+) -> Result<u8, Stop>
+    ensures told { (input : List ℕ) → IfSome (F.held files.old) (λ held. Gives (build_report (texts names.now) held input) result
+        (Some input) (O.written out.old) (O.written out.new)) }
+    ensures read { IsErrOf result Stop.Read → Rose (F.faults files.old) (F.faults files.new) }
+    ensures write { IsErrOf result Stop.Write → Rose (O.faults out.old) (O.faults out.new) }
+    ensures status { IfOk result (λ status. (is_settled status ≡ true) × (status ≤ 10) × (status ≢ 2)) }
+{
+    match load(alloc, names, files)? {
+        Loaded::All(sources) => build_sources(alloc, sources.as_slice(), out),
+        Loaded::Lacks(name) => answer_missing(out, name),
+        Loaded::Exceeds(name) => answer_too_long(out, name),
+    }
+}

@@ -1,0 +1,200 @@
+// Why sources give no image, and the lines that say so.
+ghost use Rattle.std.specs.Prelude.{◌≡◌, ◌≤◌, ◌++◌, length, codes};
+ghost use Rattle.ehabi_top.specs.Building.{is_memory, fault_line};
+ghost use Rattle.ehabi_top.specs.RefusalText.{source_what, source_place, encode_what, unwind_what, asm_what, asm_place, range_line, link_line};
+ghost use Rattle.ehabi_top.specs.Writes.{Answers};
+
+use crate::answer::{answer_both, answer_text, answer_three};
+use crate::line::{Line, append, hex8, image_fault_line};
+use crate::stop::Stop;
+use asm_layout::{AsmFault, AsmWhat};
+use asm_read::{SourceFault, SourceWhat};
+use asm_unwind::UnwindFault;
+use eh_link::LinkFault;
+use eh_port::Sink;
+use elf_image::ImageFault;
+use itoa::Buffer;
+use std::alloc::AllocFailed;
+use thumb_encode::code::EncodeFault;
+
+/// Why sources give no image.
+#[derive(Drop)]
+pub(crate) enum BuildFault<'a> {
+    /// The source of this name is none.
+    InSource(&'a str, SourceFault),
+    /// The source of this name has no object.
+    InObject(&'a str, AsmFault),
+    /// The objects can't be linked.
+    InLink(LinkFault),
+    /// The linked parts have no image.
+    InImage(ImageFault),
+    /// Want of memory.
+    OutOfMemory,
+}
+
+impl<T: Drop> From<AllocFailed<T>> for BuildFault<'_> {
+    ghost use Rattle.std.specs.Prelude.{◌≡◌};
+    ghost use Rattle.ehabi_top.specs.declared.refusal.BuildFault.TheVariants.{OutOfMemory};
+
+    ghost from_gives = { λ _ fault. fault ≡ OutOfMemory };
+
+    fn from(_: AllocFailed<T>) -> Self {
+        BuildFault::OutOfMemory
+    }
+}
+
+/// Whether it is want of memory.
+pub(crate) fn is_memory(fault: &BuildFault) -> bool
+    ensures { result ≡ is_memory fault.now }
+{
+    match fault {
+        BuildFault::InSource(_, fault) => matches!(fault.what, SourceWhat::OutOfMemory),
+        BuildFault::InObject(_, fault) => matches!(fault.what, AsmWhat::OutOfMemory),
+        BuildFault::InLink(fault) => matches!(fault, LinkFault::OutOfMemory),
+        BuildFault::InImage(fault) => matches!(fault, ImageFault::OutOfMemory),
+        BuildFault::OutOfMemory => true,
+    }
+}
+
+fn source_what(what: SourceWhat) -> &'static [u8]
+    ensures name { result.now ≡ source_what what }
+    ensures short { length result.now ≤ 16 }
+{
+    match what {
+        SourceWhat::NotAscii => b"NotAscii",
+        SourceWhat::LineTooLong => b"LineTooLong",
+        SourceWhat::TooManyLines => b"TooManyLines",
+        SourceWhat::BadToken => b"BadToken",
+        SourceWhat::UnknownMnemonic => b"UnknownMnemonic",
+        SourceWhat::UnknownDirective => b"UnknownDirective",
+        SourceWhat::BadOperand => b"BadOperand",
+        SourceWhat::NumberRange => b"NumberRange",
+        SourceWhat::OutOfMemory => b"OutOfMemory",
+    }
+}
+
+fn encode_what(fault: EncodeFault) -> &'static [u8]
+    ensures name { result.now ≡ encode_what fault }
+    ensures short { length result.now ≤ 16 }
+{
+    match fault {
+        EncodeFault::RegisterRange => b"RegisterRange",
+        EncodeFault::ListEmpty => b"ListEmpty",
+        EncodeFault::ImmediateRange => b"ImmediateRange",
+        EncodeFault::ImmediateAlign => b"ImmediateAlign",
+        EncodeFault::TargetRange => b"TargetRange",
+    }
+}
+
+fn unwind_what(fault: UnwindFault) -> &'static [u8]
+    ensures name { result.now ≡ unwind_what fault }
+    ensures short { length result.now ≤ 16 }
+{
+    match fault {
+        UnwindFault::OutsideFunction => b"OutsideFunction",
+        UnwindFault::NestedFunction => b"NestedFunction",
+        UnwindFault::SaveRange => b"SaveRange",
+        UnwindFault::PadRange => b"PadRange",
+        UnwindFault::TwoPersonalities => b"TwoPersonalities",
+        UnwindFault::AfterCantunwind => b"AfterCantunwind",
+        UnwindFault::TooLong => b"TooLong",
+        UnwindFault::OutOfMemory => b"OutOfMemory",
+    }
+}
+
+fn asm_what(what: AsmWhat) -> &'static [u8]
+    ensures name { result.now ≡ asm_what what }
+    ensures short { length result.now ≤ 16 }
+{
+    match what {
+        AsmWhat::DuplicateLabel => b"DuplicateLabel",
+        AsmWhat::UndefinedLocal => b"UndefinedLocal",
+        AsmWhat::Encode(fault) => encode_what(fault),
+        AsmWhat::PoolTooFar => b"PoolTooFar",
+        AsmWhat::SectionTooLarge => b"SectionTooLarge",
+        AsmWhat::Unwind(fault) => unwind_what(fault),
+        AsmWhat::Placement => b"Placement",
+        AsmWhat::OutOfMemory => b"OutOfMemory",
+    }
+}
+
+/// What stands behind the name of a source that is refused.
+fn source_place(fault: SourceFault) -> Line
+    ensures { result.items ≡ source_place fault }
+{
+    let mut line = Line::new();
+    append(&mut line, b":");
+    append(&mut line, Buffer::new().format(fault.line).as_bytes());
+    append(&mut line, b":");
+    append(&mut line, Buffer::new().format(fault.column).as_bytes());
+    append(&mut line, b": ");
+    append(&mut line, source_what(fault.what));
+    append(&mut line, b"\n");
+    line
+}
+
+/// What stands behind the name of a source that has no object.
+fn asm_place(fault: AsmFault) -> Line
+    ensures { result.items ≡ asm_place fault }
+{
+    let mut line = Line::new();
+    append(&mut line, b":");
+    append(&mut line, Buffer::new().format(fault.line).as_bytes());
+    append(&mut line, b": ");
+    append(&mut line, asm_what(fault.what));
+    append(&mut line, b"\n");
+    line
+}
+
+fn range_line(place: u32) -> Line
+    ensures { result.items ≡ range_line place }
+{
+    let mut line = Line::new();
+    append(&mut line, b"link: RelocationRange ");
+    append(&mut line, &hex8(place));
+    append(&mut line, b"\n");
+    line
+}
+
+/// Ends with the line of objects that can't be linked.
+fn answer_link<O: Sink>(out: &mut O, fault: &LinkFault) -> Result<u8, Stop>
+    ensures { Answers (link_line fault.now) 3 result (O.written out.old) (O.written out.new) (O.faults out.old) (O.faults out.new) }
+{
+    match fault {
+        LinkFault::Duplicate(name) => answer_three(
+            out,
+            b"link: Duplicate ",
+            name.bytes(),
+            b"\n",
+            3,
+        ),
+        LinkFault::Undefined(name) => answer_three(
+            out,
+            b"link: Undefined ",
+            name.bytes(),
+            b"\n",
+            3,
+        ),
+        LinkFault::NoEntry => answer_text(out, b"link: NoEntry\n", 3),
+        LinkFault::TooLarge => answer_text(out, b"link: TooLarge\n", 3),
+        LinkFault::RelocationRange(place) => answer_text(out, range_line(*place).as_slice(), 3),
+        LinkFault::OutOfMemory => answer_text(out, b"link: OutOfMemory\n", 3),
+    }
+}
+
+/// Ends with the line of a refusal.
+pub(crate) fn answer_fault<O: Sink>(out: &mut O, fault: &BuildFault) -> Result<u8, Stop>
+    ensures { Answers (fault_line fault.now) 3 result (O.written out.old) (O.written out.new) (O.faults out.old) (O.faults out.new) }
+{
+    match fault {
+        BuildFault::InSource(name, fault) => {
+            answer_both(out, name.as_bytes(), source_place(*fault).as_slice(), 3)
+        }
+        BuildFault::InObject(name, fault) => {
+            answer_both(out, name.as_bytes(), asm_place(*fault).as_slice(), 3)
+        }
+        BuildFault::InLink(fault) => answer_link(out, fault),
+        BuildFault::InImage(fault) => answer_text(out, image_fault_line(*fault).as_slice(), 3),
+        BuildFault::OutOfMemory => answer_text(out, b"", 3),
+    }
+}
