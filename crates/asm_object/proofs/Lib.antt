@@ -4,4 +4,5 @@ pub mod FirstOf
 pub mod BuiltLemmas
 pub mod StepLemmas
 pub mod ObjectLemmas
+pub mod PlaceLaws
 mod Unnamed

@@ -6,3 +6,4 @@ pub mod Refusals
 pub mod Pieces
 pub mod Objects
 pub mod Built
+pub mod PlaceLaw

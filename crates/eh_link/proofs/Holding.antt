@@ -67,7 +67,7 @@ half_length : (v : ℕ) → length (half v) ≡ 2
 unfolding half
 half_length v = refl
 
-word_length : (v : ℕ) → length (word v) ≡ 4
+pub word_length : (v : ℕ) → length (word v) ≡ 4
 unfolding word
 word_length v = refl
 
@@ -169,7 +169,7 @@ stay means section start bytes (r ∷ relocs) j out =
     stay means section start (changed (change_of means section start bytes r) r.offset bytes) relocs j out.1
     ∙ step_keeps means section start bytes r j out.0
 
-filled_length : (means : List ℕ → Option Meaning) (section : Section) (start : ℕ) (bytes : List ℕ) (relocs : List Reloc) → length (filled means section start bytes relocs) ≡ length bytes
+pub filled_length : (means : List ℕ → Option Meaning) (section : Section) (start : ℕ) (bytes : List ℕ) (relocs : List Reloc) → length (filled means section start bytes relocs) ≡ length bytes
 filled_length means section start bytes [] = refl
 filled_length means section start bytes (r ∷ relocs) =
     filled_length means section start (changed (change_of means section start bytes r) r.offset bytes) relocs

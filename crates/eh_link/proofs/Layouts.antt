@@ -32,7 +32,7 @@ pub record Ends (objects : List Object) : Type 0 where
   pub init : (layout_of objects).init_end ≡ end_of Init (layout_of objects).data_start objects
   pub bss : (layout_of objects).bss_end ≡ end_of Bss (layout_of objects).init_end objects
 
-ends_of : (objects : List Object) → Ends objects
+pub ends_of : (objects : List Object) → Ends objects
 unfolding layout_of
 ends_of objects = record { text = refl; rodata = refl; extab = refl; index = refl; code = refl; start = refl; init = refl; bss = refl }
 

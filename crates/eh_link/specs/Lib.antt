@@ -5,3 +5,4 @@ pub mod Fields
 pub mod FieldLaw
 pub mod Index
 pub mod Linked
+pub mod LayoutLaw

@@ -1,0 +1,42 @@
+-- Where a statement stands is the number of bytes of its section before it. The walk counts sizes, the pieces have bytes:
+-- where nothing is refused and no section is too large, both agree. Of entries there are fewer than 2^64.
+use Rattle.std.specs.Prelude.{◌≡◌, ◌+◌, ◌^◌, ◌<◌, false, List, [], ◌++◌, drop, length, Option}
+use Rattle.asm_read.specs.declared.statement.Stmt.{Stmt}
+use Rattle.asm_unwind.specs.declared.entry.EntryWords.{EntryWords}
+use Rattle.asm_layout.specs.declared.place.Section.{Section}
+use Rattle.asm_layout.specs.declared.walk.Walk.{Walk}
+use Rattle.asm_layout.specs.Sizes.{size_in, is_too_large}
+use Rattle.asm_layout.specs.Walks.{start, walk_behind, sizes_with_pool}
+use Rattle.asm_layout.specs.Labels.{Named}
+use Rattle.asm_object.specs.Pieces.{pieces_from, bytes_in}
+use Rattle.asm_object.specs.Objects.{refusals_from}
+
+-- from the start or from any other place of the walk: a section ends as many bytes behind the place as the statements
+-- from there on have in it, the last pool with them
+abbrev pub SectionsEndBehindTheirBytes : Type 0
+SectionsEndBehindTheirBytes =
+    (entries : List (Option EntryWords)) (labels : List Named) (walk : Walk) (stmts : List Stmt) (section : Section)
+    → length entries < 2 ^ 64 → refusals_from entries labels walk stmts ≡ []
+    → is_too_large (sizes_with_pool (walk_behind entries walk stmts)) ≡ false
+    → size_in walk.at.sizes section + length (bytes_in section (pieces_from entries labels walk stmts))
+    ≡ size_in (sizes_with_pool (walk_behind entries walk stmts)) section
+
+-- the place behind some statements of a source is the number of bytes of a section without those from there on
+abbrev pub PlacesCountTheBytesBefore : Type 0
+PlacesCountTheBytesBefore =
+    (entries : List (Option EntryWords)) (labels : List Named) (before more : List Stmt) (section : Section)
+    → length entries < 2 ^ 64 → refusals_from entries labels start (before ++ more) ≡ []
+    → is_too_large (sizes_with_pool (walk_behind entries start (before ++ more))) ≡ false
+    → length (bytes_in section (pieces_from entries labels start (before ++ more)))
+    ≡ size_in (walk_behind entries start before).at.sizes section
+    + length (bytes_in section (pieces_from entries labels (walk_behind entries start before) more))
+
+-- and the bytes of the section from that place on are those of the statements from there on
+abbrev pub BytesStandAtTheirPlaces : Type 0
+BytesStandAtTheirPlaces =
+    (entries : List (Option EntryWords)) (labels : List Named) (before more : List Stmt) (section : Section)
+    → length entries < 2 ^ 64 → refusals_from entries labels start (before ++ more) ≡ []
+    → is_too_large (sizes_with_pool (walk_behind entries start (before ++ more))) ≡ false
+    → drop (size_in (walk_behind entries start before).at.sizes section)
+    (bytes_in section (pieces_from entries labels start (before ++ more)))
+    ≡ bytes_in section (pieces_from entries labels (walk_behind entries start before) more)
