@@ -1,5 +1,5 @@
 #!/usr/bin/env bash
-# How long `build` takes to read, assemble and link a source of 47,000 lines (about one megabyte) with 4,000 functions, and
+# How long `build` takes to read, assemble and link a source of 47,000 lines (1.3 megabytes) with 4,000 functions, and
 # one of half of each. Every function has an unwind entry, a call, a pool and two labels. Prints a line each. Needs perl.
 set -eu
 top=$(cd "$(dirname "$0")/.." && pwd)
@@ -7,7 +7,7 @@ work=$(mktemp -d)
 trap 'rm -rf "$work"' EXIT
 "$top/ehabi_run" >/dev/null || true
 
-# source LINES FUNCTIONS: a source whose functions call one another in a row
+# source_text LINES FUNCTIONS: a source whose functions call one another in a row
 source_text() {
     perl -e '
         my ($lines, $functions) = @ARGV;
