@@ -43,7 +43,7 @@ first_index [] i h = refl
 first_index (PersonalityIndex j ∷ xs) i h = cc
 first_index (_ ∷ xs) i h = first_index xs i h
 
-or_no : (a b : Bool) → (a || b) ≡ false → (a ≡ false) × (b ≡ false)
+pub or_no : (a b : Bool) → (a || b) ≡ false → (a ≡ false) × (b ≡ false)
 or_no true b h = cc
 or_no false b h = (refl, h)
 
@@ -63,17 +63,17 @@ all_clear false false false false false true h = cc
 all_clear false false false false false false h = (refl, refl, refl, refl, refl, refl)
 
 -- no condition of a refusal holds where there is none
-clear : (seen : Seen) (d : UnwindDirective) → refusal_of seen d ≡ None → (is_bad_pad d ≡ false) × (is_bad_personality seen d ≡ false)
+pub clear : (seen : Seen) (d : UnwindDirective) → refusal_of seen d ≡ None → (is_bad_pad d ≡ false) × (is_bad_personality seen d ≡ false) × (is_bad_save seen d ≡ false)
 unfolding refusal_of
 clear seen d h =
     let all = all_clear (is_outside seen d) (is_nested seen d) (is_bad_save seen d) (is_bad_pad d) (is_bad_personality seen d) (is_after_cant_unwind seen d) h in
-    (all.3, all.4)
+    (all.3, all.4, all.2)
 
 no_personality : (xs : List UnwindDirective) (i : ℕ) → refusal_of (seen_in xs) (PersonalityIndex i) ≡ None → personality_in xs ≡ None
 unfolding seen_in
 no_personality xs i h = no_value (personality_in xs) (or_no (is_some (personality_in xs)) (nat_lt 2 i) (clear (seen_in xs) (PersonalityIndex i) h).1).0
 
-seen_more : (xs : List UnwindDirective) (d : UnwindDirective) → refusal_of (seen_in xs) d ≡ None → seen_in (xs ++ d ∷ []) ≡ with_next (seen_in xs) d
+pub seen_more : (xs : List UnwindDirective) (d : UnwindDirective) → refusal_of (seen_in xs) d ≡ None → seen_in (xs ++ d ∷ []) ≡ with_next (seen_in xs) d
 unfolding seen_in refusal_of
 seen_more xs FnStart h = rw (now_seen is_start xs FnStart refl, not_seen is_end xs FnStart refl, not_seen is_frame_pointer xs FnStart refl, not_seen is_cant_unwind xs FnStart refl, not_seen is_handler_data xs FnStart refl, no_index xs FnStart refl) refl
 seen_more xs FnEnd h = rw (not_seen is_start xs FnEnd refl, now_seen is_end xs FnEnd refl, not_seen is_frame_pointer xs FnEnd refl, not_seen is_cant_unwind xs FnEnd refl, not_seen is_handler_data xs FnEnd refl, no_index xs FnEnd refl) refl

@@ -1,4 +1,12 @@
 pub mod FurtherWords
 pub mod Reversed
 pub mod KeptLemmas
+pub mod InAllLemmas
+pub mod RegisterLists
 pub mod Laws
+pub mod FunctionLaw
+pub mod EntryLaws
+pub mod ByteLaws
+pub mod Unwinding
+pub mod PrologueLaws
+pub mod ReadLaws

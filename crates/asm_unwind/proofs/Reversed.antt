@@ -1,6 +1,6 @@
--- The bytes of directives in reverse order.
+-- The codes and the bytes of directives in reverse order.
 use Rattle.std.proofs.Common.{◌≡◌, ℕ, ◌+◌, ◌-◌, ◌<◌, Bool, true, false, cond, List, [], ◌∷◌, ◌++◌, length, get_or, take, drop, ap, sym, ◌∙◌, refl, append_assoc, append-nil, arith}
-use Rattle.std.specs.Prelude.{not, take_while}
+use Rattle.std.specs.Prelude.{not, take_while, flat_map, reverse}
 use Rattle.std.proofs.lemmas.List.{reverse-append}
 use Rattle.std.proofs.lemmas.Grind.{flat_map-append}
 use Rattle.std.proofs.lemmas.List.{take_more}
@@ -9,7 +9,13 @@ use Rattle.std.proofs.lemmas.List.Elements.{filter-append}
 use Rattle.std.proofs.lemmas.List.Sums.{take_while-cons}
 use Rattle.asm_unwind.specs.declared.directive.UnwindDirective.{UnwindDirective}
 use Rattle.asm_unwind.specs.Refusals.{is_frame_pointer}
-use Rattle.asm_unwind.specs.Codes.{is_no_pad, kept, before_frame_pointer, from_frame_pointer, reversed_bytes, codes_of, bytecode_of}
+use Rattle.asm_unwind.specs.Codes.{is_no_pad, kept, before_frame_pointer, from_frame_pointer, directive_codes, reversed_codes, reversed_bytes, codes_of, bytecode_of}
+
+-- the codes of a directive stand behind those of the ones that follow it in the text
+pub reversed_codes-cons : (d : UnwindDirective) (xs : List UnwindDirective) → reversed_codes (d ∷ xs) ≡ reversed_codes xs ++ directive_codes d
+reversed_codes-cons d xs =
+    let turned : reverse (d ∷ xs) ≡ reverse xs ++ d ∷ [] = reverse-append (d ∷ []) xs in
+    ap (flat_map directive_codes) turned ∙ flat_map-append directive_codes (reverse xs) (d ∷ []) ∙ ap (λ l. reversed_codes xs ++ l) (append-nil (directive_codes d))
 
 -- the bytes of two lists, one behind the other
 pub reversed_bytes-append : (xs ys : List UnwindDirective) → reversed_bytes (xs ++ ys) ≡ reversed_bytes ys ++ reversed_bytes xs

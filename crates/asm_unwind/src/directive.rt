@@ -31,13 +31,14 @@ pub enum UnwindFault {
     NestedFunction,
     /// An empty register list, one with r13 or r15, or a list behind `.setfp`.
     SaveRange,
-    /// An offset of 0, above its limit or no multiple of 4, or a frame pointer other than r4 to r11.
+    /// A pad of 0, above 65,536 or no multiple of 4; for a frame pointer an offset above 1,020 or no multiple of 4, or a
+    /// register other than r4 to r11.
     PadRange,
     /// A second personality index, or one above 2.
     TwoPersonalities,
     /// Anything but `.fnend` behind `.cantunwind`.
     AfterCantunwind,
-    /// More bytecode than the entry has room for.
+    /// More bytecode than the entry has room for: above 3 bytes with personality 0, above 1,022 with 1 and 2.
     TooLong,
     /// Want of memory.
     OutOfMemory,

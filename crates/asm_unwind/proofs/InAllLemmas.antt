@@ -1,0 +1,31 @@
+-- What codes do in all, put together.
+use Rattle.std.proofs.Common.{◌≡◌, ℕ, ◌+◌, false, List, [], ◌∷◌, ◌++◌, ◌∙◌, refl, arith, append-nil}
+use Rattle.std.proofs.lemmas.Grind.{flat_map-append}
+use Rattle.std.proofs.lemmas.List.Folds.{list_any-append}
+use Rattle.std.proofs.lemmas.List.Sums.{sum_by-append}
+use Rattle.asm_unwind.specs.declared.code.Code.{Code}
+use Rattle.asm_unwind.specs.Meaning.{raised, lowered, popped, is_restore, registers_in, InAll}
+
+-- what codes do in all, for none, for one, and for two lists one behind the other
+pub in_all_none : InAll [] 0 0 []
+in_all_none = record { raise = refl; lower = refl; pop = refl; keep = refl }
+
+pub in_all_one : (code : Code) → is_restore code ≡ false → InAll (code ∷ []) (raised code) (lowered code) (registers_in (popped code))
+in_all_one code other = record {
+  raise = omega arith;
+  lower = omega arith;
+  pop = append-nil (registers_in (popped code));
+  keep = rw other refl;
+}
+
+pub in_all-append : (xs ys : List Code) (up down up' down' : ℕ) (registers registers' : List ℕ) →
+    InAll xs up down registers → InAll ys up' down' registers' → InAll (xs ++ ys) (up + up') (down + down') (registers ++ registers')
+in_all-append xs ys up down up' down' registers registers' a b = record {
+  raise = rw (sum_by-append raised xs ys, a.raise, b.raise) refl;
+  lower = rw (sum_by-append lowered xs ys, a.lower, b.lower) refl;
+  pop = rw (flat_map-append (λ (code : Code). registers_in (popped code)) xs ys, a.pop, b.pop) refl;
+  keep = rw (list_any-append is_restore xs ys, a.keep, b.keep) refl;
+}
+
+pub in_all_as : (codes : List Code) (up down up' down' : ℕ) (registers : List ℕ) → up ≡ up' → down ≡ down' → InAll codes up down registers → InAll codes up' down' registers
+in_all_as codes up down up' down' registers ups downs a = record { raise = a.raise ∙ ups; lower = a.lower ∙ downs; pop = a.pop; keep = a.keep }
