@@ -2,7 +2,7 @@
 use Rattle.std.proofs.lemmas.List.{drop_all}
 use Rattle.std.proofs.Common.{◌<◌, ◌≤◌, ◌+◌, suc, length, drop, map, get_or, drop-cons, arith, ◌≡◌, ℕ, List, [], ◌∷◌, ◌++◌, Option, Ok, Err, refl, ap, sym, ◌∙◌}
 use Rattle.std.specs.Borrow.{Bor}
-use Rattle.asm_read.specs.declared.table.Makes.{Makes}
+use Rattle.asm_read.specs.declared.makes.Makes.{Makes}
 use Rattle.asm_read.specs.declared.choice.Statement.{Statement}
 use Rattle.asm_read.specs.declared.line.Stop.{Stop}
 use Rattle.asm_read.specs.Forms.{Form}

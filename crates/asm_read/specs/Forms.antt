@@ -4,8 +4,13 @@
 use Rattle.std.specs.Prelude.{ℕ, true, false, List, [], ◌∷◌, ◌++◌, codes}
 use Rattle.asm_read.specs.declared.form.Piece.{Piece}
 use Rattle.asm_read.specs.declared.form.Piece.TheVariants.{Dot, Expression, Expressions, First, Function, Registers, RegistersWithFirst, Mark, MaybeHash, Name, Number, Object, Rodata, SameName, Second, Sp, Text, Third, UpToThree, WordExpressions, Zero}
-use Rattle.asm_read.specs.declared.table.Makes.{Makes}
-use Rattle.asm_read.specs.declared.table.Makes.TheVariants.{AddRdSp, AddReg, AddSp, AddSubReg, AddSubThree, AddSubTwo, Adr, Align, Alu, Ascii, Asciz, B, BCond, Barrier, Bl, Blx, Bss, Bx, Bytes, CantUnwind, CmpImm, CmpReg, Data, Extend, FnEnd, FnStart, Global, Halves, HandlerData, Hint, Ldm, LdmBack, LdrLabel, LdrPool, MemImm, MemReg, MemSp, Mov, MovsImm, MovsReg, Pad, PersonalityIndex, Pool, Pop, Push, Rev, Rodata as RodataKind, Rsbs, Save, SetFp, ShiftImm, Size, Space, Stm, SubSp, Svc, Text as TextKind, TypeFunction, TypeObject, Udf, Words}
+use Rattle.asm_read.specs.declared.makes.Makes.{Makes}
+use Rattle.asm_read.specs.declared.makes.Makes.TheVariants.{Computes, Transfers, Controls, Directs, Names}
+use Rattle.asm_read.specs.declared.makes.Computation.TheVariants.{AddRdSp, AddReg, AddSp, AddSubReg, AddSubThree, AddSubTwo, Alu, CmpImm, CmpReg, Extend, Mov, MovsImm, MovsReg, Rev, Rsbs, ShiftImm, SubSp}
+use Rattle.asm_read.specs.declared.makes.Transfer.TheVariants.{Ldm, LdmBack, MemImm, MemReg, MemSp, Pop, Push, Stm}
+use Rattle.asm_read.specs.declared.makes.Control.TheVariants.{Barrier, Blx, Bx, Hint, Svc, Udf}
+use Rattle.asm_read.specs.declared.makes.Directive.TheVariants.{Align, Bss, CantUnwind, Data, FnEnd, FnStart, HandlerData, Pad, PersonalityIndex, Pool, Rodata as RodataKind, Save, SetFp, Space, Text as TextKind}
+use Rattle.asm_read.specs.declared.makes.Named.TheVariants.{Adr, Ascii, Asciz, B, BCond, Bl, Bytes, Global, Halves, LdrLabel, LdrPool, Size, TypeFunction, TypeObject, Words}
 
 pub record Form : Type 0 where
   pub word : List ℕ
@@ -142,180 +147,180 @@ register_sp_count = First ∷ Mark 44 ∷ Sp ∷ Mark 44 ∷ MaybeHash ∷ Numbe
 -- moves, comparisons, sums and differences
 unfoldable pub sums : List Form
 sums =
-    form (codes "movs") register_number MovsImm ∷
-    form (codes "movs") two_registers MovsReg ∷
-    form (codes "mov") two_registers Mov ∷
-    form (codes "cmp") register_number CmpImm ∷
-    form (codes "cmp") two_registers CmpReg ∷
-    form (codes "adds") register_number (AddSubTwo false) ∷
-    form (codes "adds") three_registers (AddSubReg false) ∷
-    form (codes "adds") two_registers_number (AddSubThree false) ∷
-    form (codes "subs") register_number (AddSubTwo true) ∷
-    form (codes "subs") three_registers (AddSubReg true) ∷
-    form (codes "subs") two_registers_number (AddSubThree true) ∷
-    form (codes "add") register_sp_number AddRdSp ∷
-    form (codes "add") sp_number AddSp ∷
-    form (codes "add") two_registers AddReg ∷
-    form (codes "sub") sp_number SubSp ∷
-    form (codes "rsbs") two_registers_zero Rsbs ∷
+    form (codes "movs") register_number (Computes MovsImm) ∷
+    form (codes "movs") two_registers (Computes MovsReg) ∷
+    form (codes "mov") two_registers (Computes Mov) ∷
+    form (codes "cmp") register_number (Computes CmpImm) ∷
+    form (codes "cmp") two_registers (Computes CmpReg) ∷
+    form (codes "adds") register_number (Computes (AddSubTwo false)) ∷
+    form (codes "adds") three_registers (Computes (AddSubReg false)) ∷
+    form (codes "adds") two_registers_number (Computes (AddSubThree false)) ∷
+    form (codes "subs") register_number (Computes (AddSubTwo true)) ∷
+    form (codes "subs") three_registers (Computes (AddSubReg true)) ∷
+    form (codes "subs") two_registers_number (Computes (AddSubThree true)) ∷
+    form (codes "add") register_sp_number (Computes AddRdSp) ∷
+    form (codes "add") sp_number (Computes AddSp) ∷
+    form (codes "add") two_registers (Computes AddReg) ∷
+    form (codes "sub") sp_number (Computes SubSp) ∷
+    form (codes "rsbs") two_registers_zero (Computes Rsbs) ∷
     []
 
 -- shifts and the forms of two registers
 unfoldable pub logic : List Form
 logic =
-    form (codes "lsls") two_registers_number (ShiftImm 0) ∷
-    form (codes "lsrs") two_registers_number (ShiftImm 1) ∷
-    form (codes "asrs") two_registers_number (ShiftImm 2) ∷
-    form (codes "ands") two_registers (Alu 0) ∷
-    form (codes "eors") two_registers (Alu 1) ∷
-    form (codes "lsls") two_registers (Alu 2) ∷
-    form (codes "lsrs") two_registers (Alu 3) ∷
-    form (codes "asrs") two_registers (Alu 4) ∷
-    form (codes "adcs") two_registers (Alu 5) ∷
-    form (codes "sbcs") two_registers (Alu 6) ∷
-    form (codes "rors") two_registers (Alu 7) ∷
-    form (codes "tst") two_registers (Alu 8) ∷
-    form (codes "cmn") two_registers (Alu 11) ∷
-    form (codes "orrs") two_registers (Alu 12) ∷
-    form (codes "muls") two_registers (Alu 13) ∷
-    form (codes "bics") two_registers (Alu 14) ∷
-    form (codes "mvns") two_registers (Alu 15) ∷
+    form (codes "lsls") two_registers_number (Computes (ShiftImm 0)) ∷
+    form (codes "lsrs") two_registers_number (Computes (ShiftImm 1)) ∷
+    form (codes "asrs") two_registers_number (Computes (ShiftImm 2)) ∷
+    form (codes "ands") two_registers (Computes (Alu 0)) ∷
+    form (codes "eors") two_registers (Computes (Alu 1)) ∷
+    form (codes "lsls") two_registers (Computes (Alu 2)) ∷
+    form (codes "lsrs") two_registers (Computes (Alu 3)) ∷
+    form (codes "asrs") two_registers (Computes (Alu 4)) ∷
+    form (codes "adcs") two_registers (Computes (Alu 5)) ∷
+    form (codes "sbcs") two_registers (Computes (Alu 6)) ∷
+    form (codes "rors") two_registers (Computes (Alu 7)) ∷
+    form (codes "tst") two_registers (Computes (Alu 8)) ∷
+    form (codes "cmn") two_registers (Computes (Alu 11)) ∷
+    form (codes "orrs") two_registers (Computes (Alu 12)) ∷
+    form (codes "muls") two_registers (Computes (Alu 13)) ∷
+    form (codes "bics") two_registers (Computes (Alu 14)) ∷
+    form (codes "mvns") two_registers (Computes (Alu 15)) ∷
     []
 
 -- addresses, loads and stores of words and bytes
 unfoldable pub accesses : List Form
 accesses =
-    form (codes "adr") register_name Adr ∷
-    form (codes "ldr") register_name LdrLabel ∷
-    form (codes "ldr") register_value LdrPool ∷
-    form (codes "ldr") sp_offset (MemSp true) ∷
-    form (codes "ldr") sp_alone (MemSp true) ∷
-    form (codes "str") sp_offset (MemSp false) ∷
-    form (codes "str") sp_alone (MemSp false) ∷
-    form (codes "str") base_offset (MemImm 0) ∷
-    form (codes "str") base_alone (MemImm 0) ∷
-    form (codes "ldr") base_offset (MemImm 1) ∷
-    form (codes "ldr") base_alone (MemImm 1) ∷
-    form (codes "strb") base_offset (MemImm 2) ∷
-    form (codes "strb") base_alone (MemImm 2) ∷
-    form (codes "ldrb") base_offset (MemImm 3) ∷
-    form (codes "ldrb") base_alone (MemImm 3) ∷
-    form (codes "str") base_index (MemReg 0) ∷
-    form (codes "strb") base_index (MemReg 2) ∷
-    form (codes "ldr") base_index (MemReg 4) ∷
-    form (codes "ldrb") base_index (MemReg 6) ∷
+    form (codes "adr") register_name (Names Adr) ∷
+    form (codes "ldr") register_name (Names LdrLabel) ∷
+    form (codes "ldr") register_value (Names LdrPool) ∷
+    form (codes "ldr") sp_offset (Transfers (MemSp true)) ∷
+    form (codes "ldr") sp_alone (Transfers (MemSp true)) ∷
+    form (codes "str") sp_offset (Transfers (MemSp false)) ∷
+    form (codes "str") sp_alone (Transfers (MemSp false)) ∷
+    form (codes "str") base_offset (Transfers (MemImm 0)) ∷
+    form (codes "str") base_alone (Transfers (MemImm 0)) ∷
+    form (codes "ldr") base_offset (Transfers (MemImm 1)) ∷
+    form (codes "ldr") base_alone (Transfers (MemImm 1)) ∷
+    form (codes "strb") base_offset (Transfers (MemImm 2)) ∷
+    form (codes "strb") base_alone (Transfers (MemImm 2)) ∷
+    form (codes "ldrb") base_offset (Transfers (MemImm 3)) ∷
+    form (codes "ldrb") base_alone (Transfers (MemImm 3)) ∷
+    form (codes "str") base_index (Transfers (MemReg 0)) ∷
+    form (codes "strb") base_index (Transfers (MemReg 2)) ∷
+    form (codes "ldr") base_index (Transfers (MemReg 4)) ∷
+    form (codes "ldrb") base_index (Transfers (MemReg 6)) ∷
     []
 
 -- loads and stores of halfwords, signed loads, and register lists
 unfoldable pub halves : List Form
 halves =
-    form (codes "strh") base_offset (MemImm 4) ∷
-    form (codes "strh") base_alone (MemImm 4) ∷
-    form (codes "ldrh") base_offset (MemImm 5) ∷
-    form (codes "ldrh") base_alone (MemImm 5) ∷
-    form (codes "strh") base_index (MemReg 1) ∷
-    form (codes "ldrsb") base_index (MemReg 3) ∷
-    form (codes "ldrh") base_index (MemReg 5) ∷
-    form (codes "ldrsh") base_index (MemReg 7) ∷
-    form (codes "push") list Push ∷
-    form (codes "pop") list Pop ∷
-    form (codes "stm") base_back_list Stm ∷
-    form (codes "ldm") base_back_list LdmBack ∷
-    form (codes "ldm") base_list Ldm ∷
+    form (codes "strh") base_offset (Transfers (MemImm 4)) ∷
+    form (codes "strh") base_alone (Transfers (MemImm 4)) ∷
+    form (codes "ldrh") base_offset (Transfers (MemImm 5)) ∷
+    form (codes "ldrh") base_alone (Transfers (MemImm 5)) ∷
+    form (codes "strh") base_index (Transfers (MemReg 1)) ∷
+    form (codes "ldrsb") base_index (Transfers (MemReg 3)) ∷
+    form (codes "ldrh") base_index (Transfers (MemReg 5)) ∷
+    form (codes "ldrsh") base_index (Transfers (MemReg 7)) ∷
+    form (codes "push") list (Transfers Push) ∷
+    form (codes "pop") list (Transfers Pop) ∷
+    form (codes "stm") base_back_list (Transfers Stm) ∷
+    form (codes "ldm") base_back_list (Transfers LdmBack) ∷
+    form (codes "ldm") base_list (Transfers Ldm) ∷
     []
 
 -- extensions, reversals, returns, gates, hints and barriers
 unfoldable pub others : List Form
 others =
-    form (codes "sxth") two_registers (Extend 0) ∷
-    form (codes "sxtb") two_registers (Extend 1) ∷
-    form (codes "uxth") two_registers (Extend 2) ∷
-    form (codes "uxtb") two_registers (Extend 3) ∷
-    form (codes "rev") two_registers (Rev 0) ∷
-    form (codes "rev16") two_registers (Rev 1) ∷
-    form (codes "revsh") two_registers (Rev 3) ∷
-    form (codes "bx") register Bx ∷
-    form (codes "blx") register Blx ∷
-    form (codes "svc") number Svc ∷
-    form (codes "udf") number Udf ∷
-    form (codes "nop") nothing (Hint 0) ∷
-    form (codes "yield") nothing (Hint 1) ∷
-    form (codes "wfe") nothing (Hint 2) ∷
-    form (codes "wfi") nothing (Hint 3) ∷
-    form (codes "sev") nothing (Hint 4) ∷
-    form (codes "dsb") nothing (Barrier 0) ∷
-    form (codes "dmb") nothing (Barrier 1) ∷
-    form (codes "isb") nothing (Barrier 2) ∷
+    form (codes "sxth") two_registers (Computes (Extend 0)) ∷
+    form (codes "sxtb") two_registers (Computes (Extend 1)) ∷
+    form (codes "uxth") two_registers (Computes (Extend 2)) ∷
+    form (codes "uxtb") two_registers (Computes (Extend 3)) ∷
+    form (codes "rev") two_registers (Computes (Rev 0)) ∷
+    form (codes "rev16") two_registers (Computes (Rev 1)) ∷
+    form (codes "revsh") two_registers (Computes (Rev 3)) ∷
+    form (codes "bx") register (Controls Bx) ∷
+    form (codes "blx") register (Controls Blx) ∷
+    form (codes "svc") number (Controls Svc) ∷
+    form (codes "udf") number (Controls Udf) ∷
+    form (codes "nop") nothing (Controls (Hint 0)) ∷
+    form (codes "yield") nothing (Controls (Hint 1)) ∷
+    form (codes "wfe") nothing (Controls (Hint 2)) ∷
+    form (codes "wfi") nothing (Controls (Hint 3)) ∷
+    form (codes "sev") nothing (Controls (Hint 4)) ∷
+    form (codes "dsb") nothing (Controls (Barrier 0)) ∷
+    form (codes "dmb") nothing (Controls (Barrier 1)) ∷
+    form (codes "isb") nothing (Controls (Barrier 2)) ∷
     []
 
 -- branches
 unfoldable pub branches : List Form
 branches =
-    form (codes "b") name B ∷
-    form (codes "beq") name (BCond 0) ∷
-    form (codes "bne") name (BCond 1) ∷
-    form (codes "bcs") name (BCond 2) ∷
-    form (codes "bcc") name (BCond 3) ∷
-    form (codes "bmi") name (BCond 4) ∷
-    form (codes "bpl") name (BCond 5) ∷
-    form (codes "bvs") name (BCond 6) ∷
-    form (codes "bvc") name (BCond 7) ∷
-    form (codes "bhi") name (BCond 8) ∷
-    form (codes "bls") name (BCond 9) ∷
-    form (codes "bge") name (BCond 10) ∷
-    form (codes "blt") name (BCond 11) ∷
-    form (codes "bgt") name (BCond 12) ∷
-    form (codes "ble") name (BCond 13) ∷
-    form (codes "bhs") name (BCond 2) ∷
-    form (codes "blo") name (BCond 3) ∷
-    form (codes "bl") name Bl ∷
+    form (codes "b") name (Names B) ∷
+    form (codes "beq") name (Names (BCond 0)) ∷
+    form (codes "bne") name (Names (BCond 1)) ∷
+    form (codes "bcs") name (Names (BCond 2)) ∷
+    form (codes "bcc") name (Names (BCond 3)) ∷
+    form (codes "bmi") name (Names (BCond 4)) ∷
+    form (codes "bpl") name (Names (BCond 5)) ∷
+    form (codes "bvs") name (Names (BCond 6)) ∷
+    form (codes "bvc") name (Names (BCond 7)) ∷
+    form (codes "bhi") name (Names (BCond 8)) ∷
+    form (codes "bls") name (Names (BCond 9)) ∷
+    form (codes "bge") name (Names (BCond 10)) ∷
+    form (codes "blt") name (Names (BCond 11)) ∷
+    form (codes "bgt") name (Names (BCond 12)) ∷
+    form (codes "ble") name (Names (BCond 13)) ∷
+    form (codes "bhs") name (Names (BCond 2)) ∷
+    form (codes "blo") name (Names (BCond 3)) ∷
+    form (codes "bl") name (Names Bl) ∷
     []
 
 -- sections, symbols and pools
 unfoldable pub sections : List Form
 sections =
-    form (codes ".text") nothing TextKind ∷
-    form (codes ".data") nothing Data ∷
-    form (codes ".bss") nothing Bss ∷
-    form (codes ".section") rodata RodataKind ∷
-    form (codes ".global") name Global ∷
-    form (codes ".globl") name Global ∷
-    form (codes ".type") name_function TypeFunction ∷
-    form (codes ".type") name_object TypeObject ∷
-    form (codes ".size") name_size Size ∷
-    form (codes ".pool") nothing Pool ∷
-    form (codes ".ltorg") nothing Pool ∷
+    form (codes ".text") nothing (Directs TextKind) ∷
+    form (codes ".data") nothing (Directs Data) ∷
+    form (codes ".bss") nothing (Directs Bss) ∷
+    form (codes ".section") rodata (Directs RodataKind) ∷
+    form (codes ".global") name (Names Global) ∷
+    form (codes ".globl") name (Names Global) ∷
+    form (codes ".type") name_function (Names TypeFunction) ∷
+    form (codes ".type") name_object (Names TypeObject) ∷
+    form (codes ".size") name_size (Names Size) ∷
+    form (codes ".pool") nothing (Directs Pool) ∷
+    form (codes ".ltorg") nothing (Directs Pool) ∷
     []
 
 -- bytes and filling
 unfoldable pub contents : List Form
 contents =
-    form (codes ".word") word_expressions Words ∷
-    form (codes ".long") word_expressions Words ∷
-    form (codes ".4byte") word_expressions Words ∷
-    form (codes ".half") expressions Halves ∷
-    form (codes ".short") expressions Halves ∷
-    form (codes ".2byte") expressions Halves ∷
-    form (codes ".byte") expressions Bytes ∷
-    form (codes ".ascii") text Ascii ∷
-    form (codes ".asciz") text Asciz ∷
-    form (codes ".space") count Space ∷
-    form (codes ".zero") count Space ∷
-    form (codes ".align") power Align ∷
-    form (codes ".p2align") power Align ∷
+    form (codes ".word") word_expressions (Names Words) ∷
+    form (codes ".long") word_expressions (Names Words) ∷
+    form (codes ".4byte") word_expressions (Names Words) ∷
+    form (codes ".half") expressions (Names Halves) ∷
+    form (codes ".short") expressions (Names Halves) ∷
+    form (codes ".2byte") expressions (Names Halves) ∷
+    form (codes ".byte") expressions (Names Bytes) ∷
+    form (codes ".ascii") text (Names Ascii) ∷
+    form (codes ".asciz") text (Names Asciz) ∷
+    form (codes ".space") count (Directs Space) ∷
+    form (codes ".zero") count (Directs Space) ∷
+    form (codes ".align") power (Directs Align) ∷
+    form (codes ".p2align") power (Directs Align) ∷
     []
 
 -- unwinding
 unfoldable pub unwinding : List Form
 unwinding =
-    form (codes ".fnstart") nothing FnStart ∷
-    form (codes ".fnend") nothing FnEnd ∷
-    form (codes ".save") list Save ∷
-    form (codes ".pad") count Pad ∷
-    form (codes ".setfp") register_sp_count SetFp ∷
-    form (codes ".cantunwind") nothing CantUnwind ∷
-    form (codes ".personalityindex") count PersonalityIndex ∷
-    form (codes ".handlerdata") nothing HandlerData ∷
+    form (codes ".fnstart") nothing (Directs FnStart) ∷
+    form (codes ".fnend") nothing (Directs FnEnd) ∷
+    form (codes ".save") list (Directs Save) ∷
+    form (codes ".pad") count (Directs Pad) ∷
+    form (codes ".setfp") register_sp_count (Directs SetFp) ∷
+    form (codes ".cantunwind") nothing (Directs CantUnwind) ∷
+    form (codes ".personalityindex") count (Directs PersonalityIndex) ∷
+    form (codes ".handlerdata") nothing (Directs HandlerData) ∷
     []
 
 unfoldable pub instructions : List Form

@@ -36,13 +36,9 @@ abbrev pub label_stmts : ℕ → List ℕ → Option Span → List Stmt
 label_stmts number line None = []
 label_stmts number line (Some s) = stmt number (Label (bytes_of line s)) ∷ []
 
-abbrev pub kind_stmts : ℕ → Option StmtKind → List Stmt
-kind_stmts number None = []
-kind_stmts number (Some kind) = stmt number kind ∷ []
-
 abbrev pub statement_stmts : ℕ → List ℕ → Option Statement → List Stmt
 statement_stmts number line None = []
-statement_stmts number line (Some s) = kind_stmts number (kind_of line s)
+statement_stmts number line (Some s) = stmt number (kind_of line s) ∷ []
 
 -- a line's statements: the label comes before the rest
 abbrev pub stmts_of : ℕ → List ℕ → Plan → List Stmt

@@ -6,7 +6,7 @@ use Rattle.asm_read.specs.declared.fault.SourceWhat.TheVariants.{BadOperand}
 use Rattle.asm_read.specs.declared.line.Stop.{Stop}
 use Rattle.asm_read.specs.declared.form.Piece.{Piece}
 use Rattle.asm_read.specs.declared.form.Operands.{Operands}
-use Rattle.asm_read.specs.declared.table.Makes.{Makes}
+use Rattle.asm_read.specs.declared.makes.Makes.{Makes}
 use Rattle.asm_read.specs.declared.choice.Statement.{Statement}
 use Rattle.asm_read.specs.Operands.{same}
 use Rattle.asm_read.specs.Fits.{fresh, fits}

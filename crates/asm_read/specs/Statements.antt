@@ -1,9 +1,19 @@
 -- The statement that a form makes of its operands.
-use Rattle.std.specs.Prelude.{ℕ, ◌-◌, false, true, List, length, slice_range, Option, Some, None}
+use Rattle.std.specs.Prelude.{ℕ, ◌-◌, false, true, List, length, slice_range}
 use Rattle.asm_read.specs.declared.line.Span.{Span}
 use Rattle.asm_read.specs.declared.form.Operands.{Operands}
-use Rattle.asm_read.specs.declared.table.Makes.{Makes}
-use Rattle.asm_read.specs.declared.table.Makes.TheVariants.{MovsImm as MakesMovsImm, MovsReg as MakesMovsReg, Mov as MakesMov, CmpImm as MakesCmpImm, CmpReg as MakesCmpReg, AddSubTwo as MakesAddSubTwo, AddSubReg as MakesAddSubReg, AddSubThree as MakesAddSubThree, AddReg as MakesAddReg, AddRdSp as MakesAddRdSp, AddSp as MakesAddSp, SubSp as MakesSubSp, ShiftImm as MakesShiftImm, Alu as MakesAlu, Rsbs as MakesRsbs, Adr as MakesAdr, LdrLabel as MakesLdrLabel, LdrPool as MakesLdrPool, MemImm as MakesMemImm, MemReg as MakesMemReg, MemSp as MakesMemSp, Push as MakesPush, Pop as MakesPop, Stm as MakesStm, LdmBack as MakesLdmBack, Ldm as MakesLdm, Extend as MakesExtend, Rev as MakesRev, B as MakesB, BCond as MakesBCond, Bl as MakesBl, Bx as MakesBx, Blx as MakesBlx, Svc as MakesSvc, Udf as MakesUdf, Hint as MakesHint, Barrier as MakesBarrier, Text as MakesText, Data as MakesData, Bss as MakesBss, Rodata as MakesRodata, Global as MakesGlobal, TypeFunction as MakesTypeFunction, TypeObject as MakesTypeObject, Size as MakesSize, Words as MakesWords, Halves as MakesHalves, Bytes as MakesBytes, Ascii as MakesAscii, Asciz as MakesAsciz, Space as MakesSpace, Align as MakesAlign, Pool as MakesPool, FnStart as MakesFnStart, FnEnd as MakesFnEnd, Save as MakesSave, Pad as MakesPad, SetFp as MakesSetFp, CantUnwind as MakesCantUnwind, PersonalityIndex as MakesPersonalityIndex, HandlerData as MakesHandlerData}
+use Rattle.asm_read.specs.declared.makes.Makes.{Makes}
+use Rattle.asm_read.specs.declared.makes.Makes.TheVariants as makes
+use Rattle.asm_read.specs.declared.makes.Computation.{Computation}
+use Rattle.asm_read.specs.declared.makes.Computation.TheVariants as computation
+use Rattle.asm_read.specs.declared.makes.Transfer.{Transfer}
+use Rattle.asm_read.specs.declared.makes.Transfer.TheVariants as transfer
+use Rattle.asm_read.specs.declared.makes.Control.{Control}
+use Rattle.asm_read.specs.declared.makes.Control.TheVariants as control
+use Rattle.asm_read.specs.declared.makes.Directive.{Directive}
+use Rattle.asm_read.specs.declared.makes.Directive.TheVariants as directive
+use Rattle.asm_read.specs.declared.makes.Named.{Named}
+use Rattle.asm_read.specs.declared.makes.Named.TheVariants as named
 use Rattle.asm_read.specs.declared.choice.Statement.{Statement}
 use Rattle.asm_read.specs.declared.statement.StmtKind.{StmtKind}
 use Rattle.asm_read.specs.declared.statement.StmtKind.TheVariants.{MovsImm, MovsReg, Mov, CmpImm, CmpReg, AddSubTwo, AddSubReg, AddSubThree, AddReg, AddRdSp, AddSp, SubSp, ShiftImm, Alu, Rsbs, Adr, LdrLabel, LdrPool, MemImm, MemReg, MemSp, Push, Pop, Stm, LdmBack, Ldm, Extend, Rev, B, BCond, Bl, Bx, Blx, Svc, Udf, Hint, Barrier, Text, Data, Bss, Rodata, Global, TypeFunction, TypeObject, Size, Words, Halves, Bytes, Ascii, Asciz, Space, Align, Pool, FnStart, FnEnd, Save, Pad, SetFp, CantUnwind, PersonalityIndex, HandlerData}
@@ -19,95 +29,89 @@ inside quoted = slice_range quoted 1 (length quoted - 1)
 abbrev pub text_of : List ℕ → Span → List ℕ
 text_of line s = unescaped false (inside (bytes_of line s))
 
--- the forms of a register and a register or number
-abbrev pub moves : Makes → Operands → Option StmtKind
-moves MakesMovsImm o = Some (MovsImm o.first o.number)
-moves MakesMovsReg o = Some (MovsReg o.first o.second)
-moves MakesMov o = Some (Mov o.first o.second)
-moves (MakesAddSubTwo sub) o = Some (AddSubTwo sub o.first o.number)
-moves MakesAddReg o = Some (AddReg o.first o.second)
-moves (MakesAlu op) o = Some (Alu op o.first o.second)
-moves MakesRsbs o = Some (Rsbs o.first o.second)
-moves (MakesExtend op) o = Some (Extend op o.first o.second)
-moves (MakesRev op) o = Some (Rev op o.first o.second)
-moves makes o = None
+-- moves, comparisons, sums, shifts and extensions of registers
+abbrev pub computation_of : Computation → Operands → StmtKind
+computation_of computation.MovsImm o = MovsImm o.first o.number
+computation_of computation.MovsReg o = MovsReg o.first o.second
+computation_of computation.Mov o = Mov o.first o.second
+computation_of computation.CmpImm o = CmpImm o.first o.number
+computation_of computation.CmpReg o = CmpReg o.first o.second
+computation_of (computation.AddSubTwo sub) o = AddSubTwo sub o.first o.number
+computation_of (computation.AddSubReg sub) o = AddSubReg sub o.first o.second o.third
+computation_of (computation.AddSubThree sub) o = AddSubThree sub o.first o.second o.number
+computation_of computation.AddRdSp o = AddRdSp o.first o.number
+computation_of computation.AddSp o = AddSp o.number
+computation_of computation.AddReg o = AddReg o.first o.second
+computation_of computation.SubSp o = SubSp o.number
+computation_of (computation.ShiftImm op) o = ShiftImm op o.first o.second o.number
+computation_of (computation.Alu op) o = Alu op o.first o.second
+computation_of computation.Rsbs o = Rsbs o.first o.second
+computation_of (computation.Extend op) o = Extend op o.first o.second
+computation_of (computation.Rev op) o = Rev op o.first o.second
 
--- the forms of more operands, or fewer
-abbrev pub operations : Makes → Operands → Option StmtKind
-operations MakesCmpImm o = Some (CmpImm o.first o.number)
-operations MakesCmpReg o = Some (CmpReg o.first o.second)
-operations (MakesAddSubReg sub) o = Some (AddSubReg sub o.first o.second o.third)
-operations (MakesAddSubThree sub) o = Some (AddSubThree sub o.first o.second o.number)
-operations MakesAddRdSp o = Some (AddRdSp o.first o.number)
-operations MakesAddSp o = Some (AddSp o.number)
-operations MakesSubSp o = Some (SubSp o.number)
-operations (MakesShiftImm op) o = Some (ShiftImm op o.first o.second o.number)
-operations MakesBx o = Some (Bx o.first)
-operations MakesBlx o = Some (Blx o.first)
-operations MakesSvc o = Some (Svc o.number)
-operations MakesUdf o = Some (Udf o.number)
-operations (MakesHint n) o = Some (Hint n)
-operations (MakesBarrier op) o = Some (Barrier op)
-operations makes o = None
+-- loads, stores and register lists
+abbrev pub transfer_of : Transfer → Operands → StmtKind
+transfer_of (transfer.MemSp load) o = MemSp load o.first o.number
+transfer_of (transfer.MemImm op) o = MemImm op o.first o.second o.number
+transfer_of (transfer.MemReg op) o = MemReg op o.first o.second o.third
+transfer_of transfer.Push o = Push o.list
+transfer_of transfer.Pop o = Pop o.list
+transfer_of transfer.Stm o = Stm o.first o.list
+transfer_of transfer.LdmBack o = LdmBack o.first o.list
+transfer_of transfer.Ldm o = Ldm o.first o.list
 
--- the forms of loads, stores and register lists
-abbrev pub transfers : Makes → Operands → Option StmtKind
-transfers (MakesMemImm op) o = Some (MemImm op o.first o.second o.number)
-transfers (MakesMemReg op) o = Some (MemReg op o.first o.second o.third)
-transfers (MakesMemSp load) o = Some (MemSp load o.first o.number)
-transfers MakesPush o = Some (Push o.list)
-transfers MakesPop o = Some (Pop o.list)
-transfers MakesStm o = Some (Stm o.first o.list)
-transfers MakesLdmBack o = Some (LdmBack o.first o.list)
-transfers MakesLdm o = Some (Ldm o.first o.list)
-transfers MakesSave o = Some (Save o.list)
-transfers MakesSetFp o = Some (SetFp o.first o.number)
-transfers makes o = None
+-- returns, calls of registers, gates, hints and barriers
+abbrev pub control_of : Control → Operands → StmtKind
+control_of control.Bx o = Bx o.first
+control_of control.Blx o = Blx o.first
+control_of control.Svc o = Svc o.number
+control_of control.Udf o = Udf o.number
+control_of (control.Hint n) o = Hint n
+control_of (control.Barrier op) o = Barrier op
 
--- the directives without names
-abbrev pub directives : Makes → Operands → Option StmtKind
-directives MakesText o = Some Text
-directives MakesData o = Some Data
-directives MakesBss o = Some Bss
-directives MakesRodata o = Some Rodata
-directives MakesSpace o = Some (Space o.number)
-directives MakesAlign o = Some (Align o.number)
-directives MakesPool o = Some Pool
-directives MakesFnStart o = Some FnStart
-directives MakesFnEnd o = Some FnEnd
-directives MakesPad o = Some (Pad o.number)
-directives MakesCantUnwind o = Some CantUnwind
-directives MakesPersonalityIndex o = Some (PersonalityIndex o.number)
-directives MakesHandlerData o = Some HandlerData
-directives makes o = None
+-- directives without names, texts and expressions
+abbrev pub directive_of : Directive → Operands → StmtKind
+directive_of directive.Text o = Text
+directive_of directive.Data o = Data
+directive_of directive.Bss o = Bss
+directive_of directive.Rodata o = Rodata
+directive_of directive.Space o = Space o.number
+directive_of directive.Align o = Align o.number
+directive_of directive.Pool o = Pool
+directive_of directive.FnStart o = FnStart
+directive_of directive.FnEnd o = FnEnd
+directive_of directive.Save o = Save o.list
+directive_of directive.Pad o = Pad o.number
+directive_of directive.SetFp o = SetFp o.first o.number
+directive_of directive.CantUnwind o = CantUnwind
+directive_of directive.PersonalityIndex o = PersonalityIndex o.number
+directive_of directive.HandlerData o = HandlerData
 
--- the forms with names, texts and expressions
-abbrev pub named : List ℕ → Makes → Operands → Option StmtKind
-named line MakesAdr o = Some (Adr o.first (bytes_of line o.name))
-named line MakesLdrLabel o = Some (LdrLabel o.first (bytes_of line o.name))
-named line MakesLdrPool o = Some (LdrPool o.first (expr_from line o.from))
-named line MakesB o = Some (B (bytes_of line o.name))
-named line (MakesBCond cond) o = Some (BCond cond (bytes_of line o.name))
-named line MakesBl o = Some (Bl (bytes_of line o.name))
-named line MakesGlobal o = Some (Global (bytes_of line o.name))
-named line MakesTypeFunction o = Some (TypeFunction (bytes_of line o.name))
-named line MakesTypeObject o = Some (TypeObject (bytes_of line o.name))
-named line MakesSize o = Some (Size (bytes_of line o.name))
-named line MakesWords o = Some (Words (exprs_from (length line) true line o.from))
-named line MakesHalves o = Some (Halves (exprs_from (length line) false line o.from))
-named line MakesBytes o = Some (Bytes (exprs_from (length line) false line o.from))
-named line MakesAscii o = Some (Ascii (text_of line o.name))
-named line MakesAsciz o = Some (Asciz (text_of line o.name))
-named line makes o = None
+-- forms with names, texts and expressions
+abbrev pub named_of : List ℕ → Named → Operands → StmtKind
+named_of line named.Adr o = Adr o.first (bytes_of line o.name)
+named_of line named.LdrLabel o = LdrLabel o.first (bytes_of line o.name)
+named_of line named.LdrPool o = LdrPool o.first (expr_from line o.from)
+named_of line named.B o = B (bytes_of line o.name)
+named_of line (named.BCond cond) o = BCond cond (bytes_of line o.name)
+named_of line named.Bl o = Bl (bytes_of line o.name)
+named_of line named.Global o = Global (bytes_of line o.name)
+named_of line named.TypeFunction o = TypeFunction (bytes_of line o.name)
+named_of line named.TypeObject o = TypeObject (bytes_of line o.name)
+named_of line named.Size o = Size (bytes_of line o.name)
+named_of line named.Words o = Words (exprs_from (length line) true line o.from)
+named_of line named.Halves o = Halves (exprs_from (length line) false line o.from)
+named_of line named.Bytes o = Bytes (exprs_from (length line) false line o.from)
+named_of line named.Ascii o = Ascii (text_of line o.name)
+named_of line named.Asciz o = Asciz (text_of line o.name)
 
-abbrev pub or_else : Option StmtKind → Option StmtKind → Option StmtKind
-or_else None other = other
-or_else (Some kind) other = Some kind
+abbrev pub made_of : List ℕ → Makes → Operands → StmtKind
+made_of line (makes.Computes c) o = computation_of c o
+made_of line (makes.Transfers t) o = transfer_of t o
+made_of line (makes.Controls c) o = control_of c o
+made_of line (makes.Directs d) o = directive_of d o
+made_of line (makes.Names n) o = named_of line n o
 
--- the statement without names, texts and expressions that a form makes
-abbrev pub plain : Makes → Operands → Option StmtKind
-plain makes o = or_else (moves makes o) (or_else (operations makes o) (or_else (transfers makes o) (directives makes o)))
-
--- the statement that a form makes: each makes one
-unfoldable pub kind_of : List ℕ → Statement → Option StmtKind
-kind_of line s = or_else (plain s.makes s.operands) (named line s.makes s.operands)
+-- the statement that a form makes
+unfoldable pub kind_of : List ℕ → Statement → StmtKind
+kind_of line s = made_of line s.makes s.operands

@@ -75,10 +75,6 @@ run_front negative rest =
     let len = prefix_len is_name_byte rest in
     front (kind_of_number negative (number_of (take len rest))) len
 
--- one byte more in front
-abbrev pub longer : Front → Front
-longer f = front f.kind (f.len + 1)
-
 abbrev pub one_more : Option ℕ → Option ℕ
 one_more None = None
 one_more (Some n) = Some (n + 1)
@@ -93,10 +89,16 @@ abbrev pub quoted_front : Option ℕ → Front
 quoted_front None = front Bad 0
 quoted_front (Some n) = front Quoted (n + 1)
 
--- behind a minus sign that a number or a character follows at once both are one token; else the sign is one alone
+-- a number or a character with the minus sign before it; where there is none, the sign alone
+abbrev pub signed : ℕ → Kind → Front
+signed len Bad = front (Mark 45) 1
+signed len kind = front kind (len + 1)
+
+-- a minus sign belongs to the number or the character that follows at once; before what is none it is a mark
 abbrev pub minus_front : List ℕ → Front
 minus_front bs =
-    longer (if slice_index bs 0 == 39 then character_front true bs else if is_digit (slice_index bs 0) then run_front true bs else front (Mark 45) 0)
+    let f = if slice_index bs 0 == 39 then character_front true bs else if is_digit (slice_index bs 0) then run_front true bs else front Bad 0 in
+    signed f.len f.kind
 
 -- the token at the front of bytes that begin with no blank
 unfoldable pub front_of : List ℕ → Front

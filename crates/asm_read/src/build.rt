@@ -2,14 +2,14 @@ ghost use Rattle.std.specs.Prelude.{◌≡◌, ◌+◌, ◌<◌, ◌≤◌, ◌+
 ghost use Rattle.asm_read.specs.Tokens.{unescaped};
 ghost use Rattle.asm_read.specs.Operands.{bytes_of};
 ghost use Rattle.asm_read.specs.Expressions.{expr_of, expr_from, exprs_from};
-ghost use Rattle.asm_read.specs.Statements.{text_of, moves, operations, transfers, directives, plain, named, kind_of};
+ghost use Rattle.asm_read.specs.Statements.{text_of, computation_of, transfer_of, control_of, directive_of, named_of, kind_of};
 
 use crate::choice::Statement;
 use crate::expression::{Shape, expression_at, listed_at};
 use crate::form::Operands;
 use crate::line::{Span, bytes_of, is_mark_of};
+use crate::makes::{Computation, Control, Directive, Makes, Named, Transfer};
 use crate::statement::{Expr, Exprs, StmtKind};
-use crate::table::Makes;
 use crate::token::{escape, token_at};
 use eh_word::{Name, NameMemory};
 use std::alloc::{AllocError, Global};
@@ -121,176 +121,151 @@ fn exprs_from(alloc: Global, word: bool, line: &[u8], from: usize) -> Result<Vec
     Ok(exprs)
 }
 
-/// The forms of a register and a register or number.
-fn moves(makes: Makes, operands: Operands) -> Option<StmtKind>
-    ensures { result ≡ moves makes operands }
-{
-    let d = operands.first;
-    let m = operands.second;
-    let imm = operands.number;
-    Some(match makes {
-        Makes::MovsImm => StmtKind::MovsImm { d, imm },
-        Makes::MovsReg => StmtKind::MovsReg { d, m },
-        Makes::Mov => StmtKind::Mov { d, m },
-        Makes::AddSubTwo(sub) => StmtKind::AddSubTwo { sub, d, imm },
-        Makes::AddReg => StmtKind::AddReg { d, m },
-        Makes::Alu(op) => StmtKind::Alu { op, d, m },
-        Makes::Rsbs => StmtKind::Rsbs { d, m },
-        Makes::Extend(op) => StmtKind::Extend { op, d, m },
-        Makes::Rev(op) => StmtKind::Rev { op, d, m },
-        _ => return None,
-    })
-}
-
-/// The forms of more operands, or fewer.
-fn operations(makes: Makes, operands: Operands) -> Option<StmtKind>
-    ensures { result ≡ operations makes operands }
+/// Moves, comparisons, sums, shifts and extensions of registers.
+fn computation_of(computation: Computation, operands: Operands) -> StmtKind
+    ensures { result ≡ computation_of computation operands }
 {
     let d = operands.first;
     let n = operands.second;
-    let m = operands.third;
+    let m = operands.second;
     let imm = operands.number;
     let off = operands.number;
-    Some(match makes {
-        Makes::CmpImm => StmtKind::CmpImm { n: d, imm },
-        Makes::CmpReg => StmtKind::CmpReg { n: d, m: n },
-        Makes::AddSubReg(sub) => StmtKind::AddSubReg { sub, d, n, m },
-        Makes::AddSubThree(sub) => StmtKind::AddSubThree { sub, d, n, imm },
-        Makes::AddRdSp => StmtKind::AddRdSp { d, off },
-        Makes::AddSp => StmtKind::AddSp { off },
-        Makes::SubSp => StmtKind::SubSp { off },
-        Makes::ShiftImm(op) => StmtKind::ShiftImm {
-            op,
+    match computation {
+        Computation::MovsImm => StmtKind::MovsImm { d, imm },
+        Computation::MovsReg => StmtKind::MovsReg { d, m },
+        Computation::Mov => StmtKind::Mov { d, m },
+        Computation::CmpImm => StmtKind::CmpImm { n: d, imm },
+        Computation::CmpReg => StmtKind::CmpReg { n: d, m },
+        Computation::AddSubTwo(sub) => StmtKind::AddSubTwo { sub, d, imm },
+        Computation::AddSubReg(sub) => StmtKind::AddSubReg {
+            sub,
             d,
-            m: n,
-            n: imm,
+            n,
+            m: operands.third,
         },
-        Makes::Bx => StmtKind::Bx { m: d },
-        Makes::Blx => StmtKind::Blx { m: d },
-        Makes::Svc => StmtKind::Svc { imm },
-        Makes::Udf => StmtKind::Udf { imm },
-        Makes::Hint(n) => StmtKind::Hint { n },
-        Makes::Barrier(op) => StmtKind::Barrier { op },
-        _ => return None,
-    })
+        Computation::AddSubThree(sub) => StmtKind::AddSubThree { sub, d, n, imm },
+        Computation::AddRdSp => StmtKind::AddRdSp { d, off },
+        Computation::AddSp => StmtKind::AddSp { off },
+        Computation::AddReg => StmtKind::AddReg { d, m },
+        Computation::SubSp => StmtKind::SubSp { off },
+        Computation::ShiftImm(op) => StmtKind::ShiftImm { op, d, m, n: imm },
+        Computation::Alu(op) => StmtKind::Alu { op, d, m },
+        Computation::Rsbs => StmtKind::Rsbs { d, m },
+        Computation::Extend(op) => StmtKind::Extend { op, d, m },
+        Computation::Rev(op) => StmtKind::Rev { op, d, m },
+    }
 }
 
-/// The forms of loads, stores and register lists.
-fn transfers(makes: Makes, operands: Operands) -> Option<StmtKind>
-    ensures { result ≡ transfers makes operands }
+/// Loads, stores and register lists.
+fn transfer_of(transfer: Transfer, operands: Operands) -> StmtKind
+    ensures { result ≡ transfer_of transfer operands }
 {
     let t = operands.first;
     let n = operands.second;
     let m = operands.third;
     let off = operands.number;
     let list = operands.list;
-    Some(match makes {
-        Makes::MemImm(op) => StmtKind::MemImm { op, t, n, off },
-        Makes::MemReg(op) => StmtKind::MemReg { op, t, n, m },
-        Makes::MemSp(load) => StmtKind::MemSp { load, t, off },
-        Makes::Push => StmtKind::Push { list },
-        Makes::Pop => StmtKind::Pop { list },
-        Makes::Stm => StmtKind::Stm { n: t, list },
-        Makes::LdmBack => StmtKind::LdmBack { n: t, list },
-        Makes::Ldm => StmtKind::Ldm { n: t, list },
-        Makes::Save => StmtKind::Save { list },
-        Makes::SetFp => StmtKind::SetFp { r: t, off },
-        _ => return None,
-    })
+    match transfer {
+        Transfer::MemSp(load) => StmtKind::MemSp { load, t, off },
+        Transfer::MemImm(op) => StmtKind::MemImm { op, t, n, off },
+        Transfer::MemReg(op) => StmtKind::MemReg { op, t, n, m },
+        Transfer::Push => StmtKind::Push { list },
+        Transfer::Pop => StmtKind::Pop { list },
+        Transfer::Stm => StmtKind::Stm { n: t, list },
+        Transfer::LdmBack => StmtKind::LdmBack { n: t, list },
+        Transfer::Ldm => StmtKind::Ldm { n: t, list },
+    }
 }
 
-/// The directives without names.
-fn directives(makes: Makes, operands: Operands) -> Option<StmtKind>
-    ensures { result ≡ directives makes operands }
+/// Returns, calls of registers, gates, hints and barriers.
+fn control_of(control: Control, operands: Operands) -> StmtKind
+    ensures { result ≡ control_of control operands }
 {
+    let m = operands.first;
+    let imm = operands.number;
+    match control {
+        Control::Bx => StmtKind::Bx { m },
+        Control::Blx => StmtKind::Blx { m },
+        Control::Svc => StmtKind::Svc { imm },
+        Control::Udf => StmtKind::Udf { imm },
+        Control::Hint(n) => StmtKind::Hint { n },
+        Control::Barrier(op) => StmtKind::Barrier { op },
+    }
+}
+
+/// Directives without names, texts and expressions.
+fn directive_of(directive: Directive, operands: Operands) -> StmtKind
+    ensures { result ≡ directive_of directive operands }
+{
+    let r = operands.first;
     let n = operands.number;
-    Some(match makes {
-        Makes::Text => StmtKind::Text,
-        Makes::Data => StmtKind::Data,
-        Makes::Bss => StmtKind::Bss,
-        Makes::Rodata => StmtKind::Rodata,
-        Makes::Space => StmtKind::Space(n),
-        Makes::Align => StmtKind::Align(n),
-        Makes::Pool => StmtKind::Pool,
-        Makes::FnStart => StmtKind::FnStart,
-        Makes::FnEnd => StmtKind::FnEnd,
-        Makes::Pad => StmtKind::Pad(n),
-        Makes::CantUnwind => StmtKind::CantUnwind,
-        Makes::PersonalityIndex => StmtKind::PersonalityIndex(n),
-        Makes::HandlerData => StmtKind::HandlerData,
-        _ => return None,
-    })
+    let list = operands.list;
+    match directive {
+        Directive::Text => StmtKind::Text,
+        Directive::Data => StmtKind::Data,
+        Directive::Bss => StmtKind::Bss,
+        Directive::Rodata => StmtKind::Rodata,
+        Directive::Space => StmtKind::Space(n),
+        Directive::Align => StmtKind::Align(n),
+        Directive::Pool => StmtKind::Pool,
+        Directive::FnStart => StmtKind::FnStart,
+        Directive::FnEnd => StmtKind::FnEnd,
+        Directive::Save => StmtKind::Save { list },
+        Directive::Pad => StmtKind::Pad(n),
+        Directive::SetFp => StmtKind::SetFp { r, off: n },
+        Directive::CantUnwind => StmtKind::CantUnwind,
+        Directive::PersonalityIndex => StmtKind::PersonalityIndex(n),
+        Directive::HandlerData => StmtKind::HandlerData,
+    }
 }
 
-/// The statement without names, texts and expressions that a form makes.
-fn plain(makes: Makes, operands: Operands) -> Option<StmtKind>
-    ensures { result ≡ plain makes operands }
-{
-    if let Some(kind) = moves(makes, operands) {
-        return Some(kind);
-    }
-    if let Some(kind) = operations(makes, operands) {
-        return Some(kind);
-    }
-    if let Some(kind) = transfers(makes, operands) {
-        return Some(kind);
-    }
-    directives(makes, operands)
-}
-
-/// The forms with names, texts and expressions.
-fn named(
-    alloc: Global,
-    line: &[u8],
-    makes: Makes,
-    o: Operands,
-) -> Result<Option<StmtKind>, NameMemory>
-    ensures { IfOk result (λ k. k ≡ named line.now makes o) }
+/// Forms with names, texts and expressions.
+fn named_of(alloc: Global, line: &[u8], named: Named, o: Operands) -> Result<StmtKind, NameMemory>
+    ensures { IfOk result (λ k. k ≡ named_of line.now named o) }
 {
     let d = o.first;
-    Ok(Some(match makes {
-        Makes::Adr => StmtKind::Adr {
+    Ok(match named {
+        Named::Adr => StmtKind::Adr {
             d,
             name: name(alloc, line, o.name)?,
         },
-        Makes::LdrLabel => StmtKind::LdrLabel {
+        Named::LdrLabel => StmtKind::LdrLabel {
             t: d,
             name: name(alloc, line, o.name)?,
         },
-        Makes::LdrPool => StmtKind::LdrPool {
+        Named::LdrPool => StmtKind::LdrPool {
             t: d,
             value: expr_from(alloc, line, o.from)?,
         },
-        Makes::B => StmtKind::B(name(alloc, line, o.name)?),
-        Makes::BCond(cond) => StmtKind::BCond {
+        Named::B => StmtKind::B(name(alloc, line, o.name)?),
+        Named::BCond(cond) => StmtKind::BCond {
             cond,
             name: name(alloc, line, o.name)?,
         },
-        Makes::Bl => StmtKind::Bl(name(alloc, line, o.name)?),
-        Makes::Global => StmtKind::Global(name(alloc, line, o.name)?),
-        Makes::TypeFunction => StmtKind::TypeFunction(name(alloc, line, o.name)?),
-        Makes::TypeObject => StmtKind::TypeObject(name(alloc, line, o.name)?),
-        Makes::Size => StmtKind::Size(name(alloc, line, o.name)?),
-        Makes::Words => StmtKind::Words(exprs(alloc, true, line, o.from)?),
-        Makes::Halves => StmtKind::Halves(exprs(alloc, false, line, o.from)?),
-        Makes::Bytes => StmtKind::Bytes(exprs(alloc, false, line, o.from)?),
-        Makes::Ascii => StmtKind::Ascii(text(alloc, line, o.name)?),
-        Makes::Asciz => StmtKind::Asciz(text(alloc, line, o.name)?),
-        _ => return Ok(None),
-    }))
+        Named::Bl => StmtKind::Bl(name(alloc, line, o.name)?),
+        Named::Global => StmtKind::Global(name(alloc, line, o.name)?),
+        Named::TypeFunction => StmtKind::TypeFunction(name(alloc, line, o.name)?),
+        Named::TypeObject => StmtKind::TypeObject(name(alloc, line, o.name)?),
+        Named::Size => StmtKind::Size(name(alloc, line, o.name)?),
+        Named::Words => StmtKind::Words(exprs(alloc, true, line, o.from)?),
+        Named::Halves => StmtKind::Halves(exprs(alloc, false, line, o.from)?),
+        Named::Bytes => StmtKind::Bytes(exprs(alloc, false, line, o.from)?),
+        Named::Ascii => StmtKind::Ascii(text(alloc, line, o.name)?),
+        Named::Asciz => StmtKind::Asciz(text(alloc, line, o.name)?),
+    })
 }
 
 /// The statement that a form makes.
 #[tactic(auto, unfolding(crate::specs::Statements::kind_of))]
-pub fn kind_of(
-    alloc: Global,
-    line: &[u8],
-    statement: Statement,
-) -> Result<Option<StmtKind>, NameMemory>
+pub fn kind_of(alloc: Global, line: &[u8], statement: Statement) -> Result<StmtKind, NameMemory>
     ensures { IfOk result (λ k. k ≡ kind_of line.now statement) }
 {
-    match plain(statement.makes, statement.operands) {
-        Some(kind) => Ok(Some(kind)),
-        None => named(alloc, line, statement.makes, statement.operands),
-    }
+    let operands = statement.operands;
+    Ok(match statement.makes {
+        Makes::Computes(computation) => computation_of(computation, operands),
+        Makes::Transfers(transfer) => transfer_of(transfer, operands),
+        Makes::Controls(control) => control_of(control, operands),
+        Makes::Directs(directive) => directive_of(directive, operands),
+        Makes::Names(named) => named_of(alloc, line, named, operands)?,
+    })
 }

@@ -5,8 +5,9 @@ ghost use Rattle.asm_read.specs.Search.{form_of, farther, is_operand, try_form, 
 use crate::fault::SourceWhat;
 use crate::form::{Operands, fits, fresh};
 use crate::line::Stop;
+use crate::makes::Makes;
 use crate::table::{
-    ACCESSES, BRANCHES, CONTENTS, HALVES, LOGIC, Makes, OTHERS, Row, SECTIONS, SUMS, UNWINDING,
+    ACCESSES, BRANCHES, CONTENTS, HALVES, LOGIC, OTHERS, Row, SECTIONS, SUMS, UNWINDING,
 };
 
 /// A statement: what its form makes, and its operands.

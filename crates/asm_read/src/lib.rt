@@ -7,6 +7,7 @@ mod expression;
 pub mod fault;
 mod form;
 mod line;
+mod makes;
 mod plan;
 pub mod read;
 pub mod statement;

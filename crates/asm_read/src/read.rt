@@ -39,9 +39,8 @@ fn push_plan(
         push(stmts, Stmt { line: number, kind })?;
     }
     if let Some(statement) = plan.statement {
-        if let Some(kind) = kind_of(alloc, line, statement)? {
-            push(stmts, Stmt { line: number, kind })?;
-        }
+        let kind = kind_of(alloc, line, statement)?;
+        push(stmts, Stmt { line: number, kind })?;
     }
     Ok(())
 }

@@ -42,6 +42,12 @@ const NO_TOKEN: Front = Front {
     len: 0,
 };
 
+/// A minus sign before what is no number.
+const MINUS_ALONE: Front = Front {
+    kind: Kind::Mark(b'-'),
+    len: 1,
+};
+
 /// The greatest number that digits are counted to: any from here on is as far outside 32 bits.
 const MANY: u64 = 0x2_0000_0000;
 
@@ -269,7 +275,7 @@ fn run(bytes: &[u8], negative: bool) -> Front
     }
 }
 
-/// The token behind a minus sign: a number with that sign, or the sign alone.
+/// The token of a minus sign and the bytes behind it: a number with that sign, or the sign alone.
 fn minus(bytes: &[u8]) -> Front
     ensures front { result ≡ minus_front bytes.now }
     ensures within { result.len ≤ length bytes.now + 1 }
@@ -277,14 +283,14 @@ fn minus(bytes: &[u8]) -> Front
     let number = match bytes {
         [b'\'', ..] => character(bytes, true),
         [b'0'..=b'9', ..] => run(bytes, true),
-        _ => Front {
-            kind: Kind::Mark(b'-'),
-            len: 0,
-        },
+        _ => NO_TOKEN,
     };
-    Front {
-        kind: number.kind,
-        len: number.len + 1,
+    match number.kind {
+        Kind::Bad => MINUS_ALONE,
+        kind => Front {
+            kind,
+            len: number.len + 1,
+        },
     }
 }
 

@@ -12,6 +12,7 @@ pub enum WordFault {
 /// Want of memory for a name.
 #[derive(Clone, Copy, PartialEq, Eq, Debug)]
 pub enum NameMemory {
+    /// No memory is left for the bytes.
     OutOfMemory,
 }
 

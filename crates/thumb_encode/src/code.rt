@@ -1,7 +1,9 @@
 /// The code of one instruction: its halfwords in the order of their addresses.
 #[derive(Clone, Copy, PartialEq, Eq, Debug)]
 pub enum Code {
+    /// The halfword of an instruction of 16 bits.
     Half(u16),
+    /// The halfwords of an instruction of 32 bits.
     Pair(u16, u16),
 }
 
@@ -13,7 +15,9 @@ pub enum EncodeFault {
     RegisterRange,
     /// A list of no register.
     ListEmpty,
-    /// An immediate, an amount or an offset from a register that is too large or negative.
+    /// A number that its field does not hold: an immediate that is too large; a shift by more than 31 of LSL, by 0 or more
+    /// than 32 of LSR and ASR; a hint or the option of a barrier above 15; an offset from a register that is too large or
+    /// negative.
     ImmediateRange,
     /// An offset from a register that is no multiple of what its field counts in.
     ImmediateAlign,

@@ -8,3 +8,5 @@ mod lists;
 mod memory;
 mod operand;
 mod registers;
+
+pub use code::{Code, EncodeFault};

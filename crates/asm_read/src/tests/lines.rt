@@ -2,25 +2,26 @@ use crate::read::read_source;
 use std::alloc::{AllocError, Global};
 use std::test::Fail;
 
-/// How a text of one statement is read: its statement, or column and refusal.
-fn shown(alloc: Global, text: &str) -> Result<String, AllocError> {
+/// How a line is read that stands second in a text: all statements of the text, or the place and the refusal.
+fn shown(alloc: Global, line: &str) -> Result<String, AllocError> {
+    let text = format!(in alloc; "\n{line}")?;
     match read_source(alloc, text.as_bytes()) {
-        Ok(stmts) => match stmts.last() {
-            Some(stmt) => {
-                let kind = &stmt.kind;
-                format!(in alloc; "{kind:?}")
-            }
-            None => format!(in alloc; "nothing"),
-        },
+        Ok(stmts) => format!(in alloc; "{stmts:?}"),
         Err(fault) => {
+            let row = fault.line;
             let column = fault.column;
             let what = fault.what;
-            format!(in alloc; "{column} {what:?}")
+            format!(in alloc; "{row}:{column} {what:?}")
         }
     }
 }
 
-static REFUSED: [(&str, &str); 87] = [
+/// How a line of this one statement is shown.
+fn one(alloc: Global, kind: &str) -> Result<String, AllocError> {
+    format!(in alloc; "[Stmt {{ line: 2, kind: {kind} }}]")
+}
+
+static REFUSED: [(&str, &str); 101] = [
     ("frob r0", "1 UnknownMnemonic"),
     ("  .frob", "3 UnknownDirective"),
     ("movs r0 r1", "9 BadOperand"),
@@ -91,6 +92,10 @@ static REFUSED: [(&str, &str); 87] = [
     (".word a(rel", "12 BadOperand"),
     (".word 1,", "9 BadOperand"),
     (".word #x", "8 BadOperand"),
+    (".word a+#5", "9 BadOperand"),
+    (".word #5+1", "9 BadOperand"),
+    (".space ##1", "9 BadOperand"),
+    (".pad #x", "7 BadOperand"),
     (".word a+b", "9 BadOperand"),
     (".word a+4294967296", "9 NumberRange"),
     (".ascii \"a", "8 BadToken"),
@@ -104,13 +109,23 @@ static REFUSED: [(&str, &str); 87] = [
     ("~", "1 BadToken"),
     ("1f:", "1 BadToken"),
     ("x: y: nop", "4 UnknownMnemonic"),
-    ("movs r0, #-5x", "11 BadToken"),
+    ("movs r0, #-5x", "11 BadOperand"),
     ("movs r0, #- 5", "11 BadOperand"),
+    ("movs r0, #-'ab'", "11 BadOperand"),
+    ("push {r0-3x}", "10 BadToken"),
+    ("push {r0-'ab'}", "10 BadToken"),
+    (".word a-3x", "9 BadToken"),
+    (".word a-0x", "9 BadToken"),
+    (".word a-~", "9 BadToken"),
+    (".word a+-3x", "9 BadOperand"),
+    (".word -4294967296", "7 NumberRange"),
+    (".word a-4294967296", "8 BadOperand"),
+    ("-3x", "1 BadOperand"),
     (".setfp r7, r0, #0", "12 BadOperand"),
     (".save r4", "7 BadOperand"),
 ];
 
-static PLAIN: [(&str, &str); 102] = [
+static PLAIN: [(&str, &str); 116] = [
     ("movs r0, #1", "MovsImm { d: 0, imm: 1 }"),
     ("movs r9, #1", "MovsImm { d: 9, imm: 1 }"),
     ("  movs  r0 , # 0x1F @ comment", "MovsImm { d: 0, imm: 31 }"),
@@ -174,12 +189,21 @@ static PLAIN: [(&str, &str); 102] = [
     ("mvns r0, r1", "Alu { op: 15, d: 0, m: 1 }"),
     ("rsbs r0, r1, #0", "Rsbs { d: 0, m: 1 }"),
     ("ldr r0, [r1]", "MemImm { op: 1, t: 0, n: 1, off: 0 }"),
+    ("ldr r0, [r1, #4]", "MemImm { op: 1, t: 0, n: 1, off: 4 }"),
+    ("str r0, [r1]", "MemImm { op: 0, t: 0, n: 1, off: 0 }"),
+    ("strb r0, [r1]", "MemImm { op: 2, t: 0, n: 1, off: 0 }"),
+    ("ldrb r0, [r1]", "MemImm { op: 3, t: 0, n: 1, off: 0 }"),
+    ("strh r0, [r1]", "MemImm { op: 4, t: 0, n: 1, off: 0 }"),
+    ("ldrh r0, [r1]", "MemImm { op: 5, t: 0, n: 1, off: 0 }"),
+    ("ldrh r0, [r1, #6]", "MemImm { op: 5, t: 0, n: 1, off: 6 }"),
     ("str r0, [r1, #4]", "MemImm { op: 0, t: 0, n: 1, off: 4 }"),
     ("strb r0, [r1, #5]", "MemImm { op: 2, t: 0, n: 1, off: 5 }"),
     ("ldrb r0, [r1, #5]", "MemImm { op: 3, t: 0, n: 1, off: 5 }"),
     ("strh r0, [r1, #6]", "MemImm { op: 4, t: 0, n: 1, off: 6 }"),
     ("ldrh r0, [sp, #6]", "MemImm { op: 5, t: 0, n: 13, off: 6 }"),
     ("ldr r0, [sp]", "MemSp { load: true, t: 0, off: 0 }"),
+    ("ldr r0, [sp, #4]", "MemSp { load: true, t: 0, off: 4 }"),
+    ("str r0, [sp]", "MemSp { load: false, t: 0, off: 0 }"),
     ("str r7, [sp, #12]", "MemSp { load: false, t: 7, off: 12 }"),
     ("str r0, [r1, r2]", "MemReg { op: 0, t: 0, n: 1, m: 2 }"),
     ("strh r0, [r1, r2]", "MemReg { op: 1, t: 0, n: 1, m: 2 }"),
@@ -197,6 +221,8 @@ static PLAIN: [(&str, &str); 102] = [
     ("ldm r0!, {r0, r1}", "LdmBack { n: 0, list: 3 }"),
     ("ldm r1, {r0-r2}", "Ldm { n: 1, list: 7 }"),
     ("sxth r0, r1", "Extend { op: 0, d: 0, m: 1 }"),
+    ("sxtb r0, r1", "Extend { op: 1, d: 0, m: 1 }"),
+    ("uxth r0, r1", "Extend { op: 2, d: 0, m: 1 }"),
     ("uxtb r0, r1", "Extend { op: 3, d: 0, m: 1 }"),
     ("rev r0, r1", "Rev { op: 0, d: 0, m: 1 }"),
     ("rev16 r0, r1", "Rev { op: 1, d: 0, m: 1 }"),
@@ -206,6 +232,9 @@ static PLAIN: [(&str, &str); 102] = [
     ("svc #0", "Svc { imm: 0 }"),
     ("udf #255", "Udf { imm: 255 }"),
     ("nop", "Hint { n: 0 }"),
+    ("yield", "Hint { n: 1 }"),
+    ("wfe", "Hint { n: 2 }"),
+    ("wfi", "Hint { n: 3 }"),
     ("sev", "Hint { n: 4 }"),
     ("dsb", "Barrier { op: 0 }"),
     ("dmb", "Barrier { op: 1 }"),
@@ -230,7 +259,7 @@ static PLAIN: [(&str, &str); 102] = [
     (".handlerdata", "HandlerData"),
 ];
 
-static NAMED: [(&str, &str); 23] = [
+static NAMED: [(&str, &str); 40] = [
     ("a:", "Label(Name { bytes: [97] })"),
     (".Lb: @ only a label", "Label(Name { bytes: [46, 76, 98] })"),
     (
@@ -248,11 +277,24 @@ static NAMED: [(&str, &str); 23] = [
     ),
     ("b x", "B(Name { bytes: [120] })"),
     ("beq x", "BCond { cond: 0, name: Name { bytes: [120] } }"),
+    ("bne x", "BCond { cond: 1, name: Name { bytes: [120] } }"),
+    ("bcs x", "BCond { cond: 2, name: Name { bytes: [120] } }"),
+    ("bcc x", "BCond { cond: 3, name: Name { bytes: [120] } }"),
+    ("bmi x", "BCond { cond: 4, name: Name { bytes: [120] } }"),
+    ("bpl x", "BCond { cond: 5, name: Name { bytes: [120] } }"),
+    ("bvs x", "BCond { cond: 6, name: Name { bytes: [120] } }"),
+    ("bvc x", "BCond { cond: 7, name: Name { bytes: [120] } }"),
+    ("bhi x", "BCond { cond: 8, name: Name { bytes: [120] } }"),
+    ("bls x", "BCond { cond: 9, name: Name { bytes: [120] } }"),
+    ("bge x", "BCond { cond: 10, name: Name { bytes: [120] } }"),
+    ("blt x", "BCond { cond: 11, name: Name { bytes: [120] } }"),
+    ("bgt x", "BCond { cond: 12, name: Name { bytes: [120] } }"),
     ("bhs x", "BCond { cond: 2, name: Name { bytes: [120] } }"),
     ("blo x", "BCond { cond: 3, name: Name { bytes: [120] } }"),
     ("ble x", "BCond { cond: 13, name: Name { bytes: [120] } }"),
     ("bl x", "Bl(Name { bytes: [120] })"),
     (".global x", "Global(Name { bytes: [120] })"),
+    (".globl x", "Global(Name { bytes: [120] })"),
     (".type x, %function", "TypeFunction(Name { bytes: [120] })"),
     (".type x, %object", "TypeObject(Name { bytes: [120] })"),
     (".size x, .-x", "Size(Name { bytes: [120] })"),
@@ -272,6 +314,10 @@ static NAMED: [(&str, &str); 23] = [
         ".half a-b, #-1",
         "Halves(Exprs { exprs: [Diff(Name { bytes: [97] }, Name { bytes: [98] }, 0), Num(-1)] })",
     ),
+    (".short 1", "Halves(Exprs { exprs: [Num(1)] })"),
+    (".2byte 1", "Halves(Exprs { exprs: [Num(1)] })"),
+    (".long 1", "Words(Exprs { exprs: [Num(1)] })"),
+    (".4byte 1", "Words(Exprs { exprs: [Num(1)] })"),
     (
         ".byte 'a', name+-5",
         "Bytes(Exprs { exprs: [Num(97), Of(Name { bytes: [110, 97, 109, 101] }, -5)] })",
@@ -283,29 +329,62 @@ static NAMED: [(&str, &str); 23] = [
     (".asciz \"\"", "Asciz(Name { bytes: [] })"),
 ];
 
+/// Lines with a label and a statement, or with words that are passed over: all of the text's statements.
+static SEVERAL: [(&str, &str); 5] = [
+    (
+        "x: nop",
+        "[Stmt { line: 2, kind: Label(Name { bytes: [120] }) }, Stmt { line: 2, kind: Hint { n: 0 } }]",
+    ),
+    (
+        "x : bl x @ x",
+        "[Stmt { line: 2, kind: Label(Name { bytes: [120] }) }, Stmt { line: 2, kind: Bl(Name { bytes: [120] }) }]",
+    ),
+    (
+        ".file: nop",
+        "[Stmt { line: 2, kind: Label(Name { bytes: [46, 102, 105, 108, 101] }) }, Stmt { line: 2, kind: Hint { n: 0 } }]",
+    ),
+    (
+        "x: .file nop",
+        "[Stmt { line: 2, kind: Label(Name { bytes: [120] }) }]",
+    ),
+    (".file nop", "[]"),
+];
+
 #[test]
 fn refused_lines(rt: HostRuntime) -> Result<(), Fail> {
-    for (text, want) in &REFUSED {
-        let got = shown(rt.alloc(), text)?;
-        assert_eq!(rt; got.as_str(), *want, "{text}");
+    for (line, want) in &REFUSED {
+        let got = shown(rt.alloc(), line)?;
+        let place = format!(in rt.alloc(); "2:{want}")?;
+        assert_eq!(rt; got.as_str(), place.as_str(), "{line}");
     }
     Ok(())
 }
 
 #[test]
 fn plain_lines(rt: HostRuntime) -> Result<(), Fail> {
-    for (text, want) in &PLAIN {
-        let got = shown(rt.alloc(), text)?;
-        assert_eq!(rt; got.as_str(), *want, "{text}");
+    for (line, want) in &PLAIN {
+        let got = shown(rt.alloc(), line)?;
+        let stmts = one(rt.alloc(), want)?;
+        assert_eq!(rt; got.as_str(), stmts.as_str(), "{line}");
     }
     Ok(())
 }
 
 #[test]
 fn named_lines(rt: HostRuntime) -> Result<(), Fail> {
-    for (text, want) in &NAMED {
-        let got = shown(rt.alloc(), text)?;
-        assert_eq!(rt; got.as_str(), *want, "{text}");
+    for (line, want) in &NAMED {
+        let got = shown(rt.alloc(), line)?;
+        let stmts = one(rt.alloc(), want)?;
+        assert_eq!(rt; got.as_str(), stmts.as_str(), "{line}");
+    }
+    Ok(())
+}
+
+#[test]
+fn several_statements(rt: HostRuntime) -> Result<(), Fail> {
+    for (line, want) in &SEVERAL {
+        let got = shown(rt.alloc(), line)?;
+        assert_eq!(rt; got.as_str(), *want, "{line}");
     }
     Ok(())
 }

@@ -1,0 +1,12 @@
+pub mod Texts
+pub mod Numbers
+pub mod Toks
+pub mod Fitted
+pub mod Chosen
+pub mod Standing
+pub mod Shapes
+pub mod Plain
+pub mod Accesses
+pub mod Numbered
+pub mod Naming
+pub mod Whole

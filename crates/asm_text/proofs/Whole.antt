@@ -1,0 +1,168 @@
+-- Every statement of the law.
+use Rattle.std.proofs.Common.{◌≡◌, ℕ, zero, suc, ◌<◌, true, false, List, [], ◌∷◌, Ok, ℤ, pos, negsuc, refl, arith}
+use Rattle.asm_read.specs.declared.statement.StmtKind.TheVariants.{Label, MovsImm, MovsReg, Mov, CmpImm, CmpReg, AddSubTwo, AddSubReg, AddSubThree, AddReg, AddRdSp, AddSp, SubSp, ShiftImm, Alu, Rsbs, Adr, LdrLabel, MemImm, MemReg, MemSp, Extend, Rev, B, BCond, Bl, Bx, Blx, Svc, Udf, Hint, Barrier, Text, Data, Bss, Rodata, Global, TypeFunction, TypeObject, Size, Space, Align, Pool, FnStart, FnEnd, Pad, SetFp, CantUnwind, PersonalityIndex, HandlerData}
+use Rattle.asm_read.specs.Reading.{stmt, read_of}
+use Rattle.asm_text.specs.Written.{written, IsWritable, ReadsBack}
+use Rattle.asm_text.proofs.Chosen.{label_is}
+use Rattle.asm_text.proofs.Plain.{movs_line, mov_line, cmp_line, ands_line, eors_line, lsls_line, lsrs_line, asrs_line, adcs_line, sbcs_line, rors_line, tst_line, cmn_line, orrs_line, muls_line, bics_line, mvns_line, sxth_line, sxtb_line, uxth_line, uxtb_line, rev_line, rev16_line, revsh_line, adds_line, subs_line, bx_line, blx_line, nop_line, yield_line, wfe_line, wfi_line, sev_line, dsb_line, dmb_line, isb_line, text_line, data_section_line, bss_line, pool_line, fnstart_line, fnend_line, cantunwind_line, handlerdata_line, rodata_line}
+use Rattle.asm_text.proofs.Accesses.{add_line, str_index_line, strh_index_line, strb_index_line, ldrsb_index_line, ldr_index_line, ldrh_index_line, ldrb_index_line, ldrsh_index_line, str_offset_line, ldr_offset_line, strb_offset_line, ldrb_offset_line, strh_offset_line, ldrh_offset_line, ldr_sp_line, str_sp_line}
+use Rattle.asm_text.proofs.Numbered.{movs_number_line, cmp_number_line, adds_number_line, adds_three_line, subs_number_line, subs_three_line, lsls_number_line, lsrs_number_line, asrs_number_line, add_register_sp_line, add_sp_line, sub_sp_line, svc_line, udf_line, space_line, pad_line, index_line, setfp_line, align_line, rsbs_line}
+use Rattle.asm_text.proofs.Naming.{b_line, bl_line, beq_line, bne_line, bcs_line, bcc_line, bmi_line, bpl_line, bvs_line, bvc_line, bhi_line, bls_line, bge_line, blt_line, bgt_line, ble_line, global_line, function_line, object_line, adr_line, ldr_label_line, size_line}
+
+alu_lines : (op d m : ℕ) → IsWritable (Alu op d m) → read_of (written (Alu op d m)) ≡ Ok (stmt 1 (Alu op d m) ∷ [])
+unfolding written
+alu_lines zero d m h = ands_line d m h.3 h.4
+alu_lines (suc zero) d m h = eors_line d m h.3 h.4
+alu_lines (suc (suc zero)) d m h = lsls_line d m h.3 h.4
+alu_lines (suc (suc (suc zero))) d m h = lsrs_line d m h.3 h.4
+alu_lines (suc (suc (suc (suc zero)))) d m h = asrs_line d m h.3 h.4
+alu_lines (suc (suc (suc (suc (suc zero))))) d m h = adcs_line d m h.3 h.4
+alu_lines (suc (suc (suc (suc (suc (suc zero)))))) d m h = sbcs_line d m h.3 h.4
+alu_lines (suc (suc (suc (suc (suc (suc (suc zero))))))) d m h = rors_line d m h.3 h.4
+alu_lines (suc (suc (suc (suc (suc (suc (suc (suc zero)))))))) d m h = tst_line d m h.3 h.4
+alu_lines (suc (suc (suc (suc (suc (suc (suc (suc (suc zero))))))))) d m h = absurd (h.1 refl)
+alu_lines (suc (suc (suc (suc (suc (suc (suc (suc (suc (suc zero)))))))))) d m h = absurd (h.2 refl)
+alu_lines (suc (suc (suc (suc (suc (suc (suc (suc (suc (suc (suc zero))))))))))) d m h = cmn_line d m h.3 h.4
+alu_lines (suc (suc (suc (suc (suc (suc (suc (suc (suc (suc (suc (suc zero)))))))))))) d m h = orrs_line d m h.3 h.4
+alu_lines (suc (suc (suc (suc (suc (suc (suc (suc (suc (suc (suc (suc (suc zero))))))))))))) d m h = muls_line d m h.3 h.4
+alu_lines (suc (suc (suc (suc (suc (suc (suc (suc (suc (suc (suc (suc (suc (suc zero)))))))))))))) d m h = bics_line d m h.3 h.4
+alu_lines (suc (suc (suc (suc (suc (suc (suc (suc (suc (suc (suc (suc (suc (suc (suc zero))))))))))))))) d m h = mvns_line d m h.3 h.4
+alu_lines (suc (suc (suc (suc (suc (suc (suc (suc (suc (suc (suc (suc (suc (suc (suc (suc op)))))))))))))))) d m h = absurd (let few = h.0 in omega arith)
+
+access_lines : (op t n m : ℕ) → IsWritable (MemReg op t n m) → read_of (written (MemReg op t n m)) ≡ Ok (stmt 1 (MemReg op t n m) ∷ [])
+unfolding written
+access_lines zero t n m h = str_index_line t n m h.1 h.2 h.3
+access_lines (suc zero) t n m h = strh_index_line t n m h.1 h.2 h.3
+access_lines (suc (suc zero)) t n m h = strb_index_line t n m h.1 h.2 h.3
+access_lines (suc (suc (suc zero))) t n m h = ldrsb_index_line t n m h.1 h.2 h.3
+access_lines (suc (suc (suc (suc zero)))) t n m h = ldr_index_line t n m h.1 h.2 h.3
+access_lines (suc (suc (suc (suc (suc zero))))) t n m h = ldrh_index_line t n m h.1 h.2 h.3
+access_lines (suc (suc (suc (suc (suc (suc zero)))))) t n m h = ldrb_index_line t n m h.1 h.2 h.3
+access_lines (suc (suc (suc (suc (suc (suc (suc zero))))))) t n m h = ldrsh_index_line t n m h.1 h.2 h.3
+access_lines (suc (suc (suc (suc (suc (suc (suc (suc op)))))))) t n m h = absurd (let few = h.0 in omega arith)
+
+offset_lines : (op t n : ℕ) (z : ℤ) → IsWritable (MemImm op t n z) → read_of (written (MemImm op t n z)) ≡ Ok (stmt 1 (MemImm op t n z) ∷ [])
+unfolding written
+offset_lines zero t n z h = str_offset_line t n z h.1 h.2 h.4 (h.3 (omega arith))
+offset_lines (suc zero) t n z h = ldr_offset_line t n z h.1 h.2 h.4 (h.3 (omega arith))
+offset_lines (suc (suc zero)) t n z h = strb_offset_line t n z h.1 h.2 h.4
+offset_lines (suc (suc (suc zero))) t n z h = ldrb_offset_line t n z h.1 h.2 h.4
+offset_lines (suc (suc (suc (suc zero)))) t n z h = strh_offset_line t n z h.1 h.2 h.4
+offset_lines (suc (suc (suc (suc (suc zero))))) t n z h = ldrh_offset_line t n z h.1 h.2 h.4
+offset_lines (suc (suc (suc (suc (suc (suc op)))))) t n z h = absurd (let few = h.0 in omega arith)
+
+shift_lines : (op d m : ℕ) (z : ℤ) → IsWritable (ShiftImm op d m z) → read_of (written (ShiftImm op d m z)) ≡ Ok (stmt 1 (ShiftImm op d m z) ∷ [])
+unfolding written
+shift_lines zero d m z h = lsls_number_line d m z h.1 h.2 h.3
+shift_lines (suc zero) d m z h = lsrs_number_line d m z h.1 h.2 h.3
+shift_lines (suc (suc zero)) d m z h = asrs_number_line d m z h.1 h.2 h.3
+shift_lines (suc (suc (suc op))) d m z h = absurd (let few = h.0 in omega arith)
+
+extend_lines : (op d m : ℕ) → IsWritable (Extend op d m) → read_of (written (Extend op d m)) ≡ Ok (stmt 1 (Extend op d m) ∷ [])
+unfolding written
+extend_lines zero d m h = sxth_line d m h.1 h.2
+extend_lines (suc zero) d m h = sxtb_line d m h.1 h.2
+extend_lines (suc (suc zero)) d m h = uxth_line d m h.1 h.2
+extend_lines (suc (suc (suc zero))) d m h = uxtb_line d m h.1 h.2
+extend_lines (suc (suc (suc (suc op)))) d m h = absurd (let few = h.0 in omega arith)
+
+reverse_lines : (op d m : ℕ) → IsWritable (Rev op d m) → read_of (written (Rev op d m)) ≡ Ok (stmt 1 (Rev op d m) ∷ [])
+unfolding written
+reverse_lines zero d m h = rev_line d m h.2 h.3
+reverse_lines (suc zero) d m h = rev16_line d m h.2 h.3
+reverse_lines (suc (suc zero)) d m h = absurd (h.1 refl)
+reverse_lines (suc (suc (suc zero))) d m h = revsh_line d m h.2 h.3
+reverse_lines (suc (suc (suc (suc op)))) d m h = absurd (let few = h.0 in omega arith)
+
+branch_lines : (op : ℕ) (n : List ℕ) → IsWritable (BCond op n) → read_of (written (BCond op n)) ≡ Ok (stmt 1 (BCond op n) ∷ [])
+unfolding written
+branch_lines zero n h = beq_line n h.1
+branch_lines (suc zero) n h = bne_line n h.1
+branch_lines (suc (suc zero)) n h = bcs_line n h.1
+branch_lines (suc (suc (suc zero))) n h = bcc_line n h.1
+branch_lines (suc (suc (suc (suc zero)))) n h = bmi_line n h.1
+branch_lines (suc (suc (suc (suc (suc zero))))) n h = bpl_line n h.1
+branch_lines (suc (suc (suc (suc (suc (suc zero)))))) n h = bvs_line n h.1
+branch_lines (suc (suc (suc (suc (suc (suc (suc zero))))))) n h = bvc_line n h.1
+branch_lines (suc (suc (suc (suc (suc (suc (suc (suc zero)))))))) n h = bhi_line n h.1
+branch_lines (suc (suc (suc (suc (suc (suc (suc (suc (suc zero))))))))) n h = bls_line n h.1
+branch_lines (suc (suc (suc (suc (suc (suc (suc (suc (suc (suc zero)))))))))) n h = bge_line n h.1
+branch_lines (suc (suc (suc (suc (suc (suc (suc (suc (suc (suc (suc zero))))))))))) n h = blt_line n h.1
+branch_lines (suc (suc (suc (suc (suc (suc (suc (suc (suc (suc (suc (suc zero)))))))))))) n h = bgt_line n h.1
+branch_lines (suc (suc (suc (suc (suc (suc (suc (suc (suc (suc (suc (suc (suc zero))))))))))))) n h = ble_line n h.1
+branch_lines (suc (suc (suc (suc (suc (suc (suc (suc (suc (suc (suc (suc (suc (suc op)))))))))))))) n h = absurd (let few = h.0 in omega arith)
+
+hint_lines : (op : ℕ) → op < 5 → read_of (written (Hint op)) ≡ Ok (stmt 1 (Hint op) ∷ [])
+unfolding written
+hint_lines zero h = nop_line
+hint_lines (suc zero) h = yield_line
+hint_lines (suc (suc zero)) h = wfe_line
+hint_lines (suc (suc (suc zero))) h = wfi_line
+hint_lines (suc (suc (suc (suc zero)))) h = sev_line
+hint_lines (suc (suc (suc (suc (suc op))))) h = absurd (omega arith)
+
+barrier_lines : (op : ℕ) → op < 3 → read_of (written (Barrier op)) ≡ Ok (stmt 1 (Barrier op) ∷ [])
+unfolding written
+barrier_lines zero h = dsb_line
+barrier_lines (suc zero) h = dmb_line
+barrier_lines (suc (suc zero)) h = isb_line
+barrier_lines (suc (suc (suc op))) h = absurd (omega arith)
+
+pub reads_back : ReadsBack
+unfolding written
+reads_back (Label n) h = label_is n h.0 (let few = h.1 in omega arith)
+reads_back (MovsImm d z) h = movs_number_line d z h.0 h.1
+reads_back (MovsReg d m) h = movs_line d m h.0 h.1
+reads_back (Mov d m) h = mov_line d m h.0 h.1
+reads_back (CmpImm n z) h = cmp_number_line n z h.0 h.1
+reads_back (CmpReg n m) h = cmp_line n m h.0 h.1
+reads_back (AddSubTwo false d z) h = adds_number_line d z h.0 h.1
+reads_back (AddSubTwo true d z) h = subs_number_line d z h.0 h.1
+reads_back (AddSubReg false d n m) h = adds_line d n m h.0 h.1 h.2
+reads_back (AddSubReg true d n m) h = subs_line d n m h.0 h.1 h.2
+reads_back (AddSubThree false d n z) h = adds_three_line d n z h.0 h.1 h.2
+reads_back (AddSubThree true d n z) h = subs_three_line d n z h.0 h.1 h.2
+reads_back (AddReg d m) h = add_line d m h.0 h.1
+reads_back (AddRdSp d z) h = add_register_sp_line d z h.0 h.1
+reads_back (AddSp z) h = add_sp_line z h
+reads_back (SubSp z) h = sub_sp_line z h
+reads_back (ShiftImm op d m z) h = shift_lines op d m z h
+reads_back (Alu op d m) h = alu_lines op d m h
+reads_back (Rsbs d m) h = rsbs_line d m h.0 h.1
+reads_back (Adr d n) h = adr_line d n h.0 h.1
+reads_back (LdrLabel t n) h = ldr_label_line t n h.0 h.1
+reads_back (MemImm op t n z) h = offset_lines op t n z h
+reads_back (MemReg op t n m) h = access_lines op t n m h
+reads_back (MemSp true t z) h = ldr_sp_line t z h.0 h.1
+reads_back (MemSp false t z) h = str_sp_line t z h.0 h.1
+reads_back (Extend op d m) h = extend_lines op d m h
+reads_back (Rev op d m) h = reverse_lines op d m h
+reads_back (B n) h = b_line n h
+reads_back (BCond op n) h = branch_lines op n h
+reads_back (Bl n) h = bl_line n h
+reads_back (Bx m) h = bx_line m h
+reads_back (Blx m) h = blx_line m h
+reads_back (Svc z) h = svc_line z h
+reads_back (Udf z) h = udf_line z h
+reads_back (Hint n) h = hint_lines n h
+reads_back (Barrier op) h = barrier_lines op h
+reads_back Text h = text_line
+reads_back Data h = data_section_line
+reads_back Bss h = bss_line
+reads_back Rodata h = rodata_line
+reads_back (Global n) h = global_line n h
+reads_back (TypeFunction n) h = function_line n h
+reads_back (TypeObject n) h = object_line n h
+reads_back (Size n) h = size_line n h
+reads_back (Space z) h = space_line z h
+reads_back (Align (pos n)) h = align_line n h
+reads_back (Align (negsuc n)) h = absurd h
+reads_back Pool h = pool_line
+reads_back FnStart h = fnstart_line
+reads_back FnEnd h = fnend_line
+reads_back (Pad z) h = pad_line z h
+reads_back (SetFp r z) h = setfp_line r z h.0 h.1
+reads_back CantUnwind h = cantunwind_line
+reads_back (PersonalityIndex z) h = index_line z h
+reads_back HandlerData h = handlerdata_line
+reads_back kind h = absurd h

@@ -1,0 +1,232 @@
+-- The canonical line of a statement: its mnemonic, a blank, and its operands as the manual writes them (Armv6-M
+-- Architecture Reference Manual, DDI 0419), or as the assembler does those of a directive.
+use Rattle.std.specs.Prelude.{◌≡◌, ◌≢◌, ℕ, ◌+◌, ◌<◌, ◌≤◌, ◌==◌, ◌&&◌, not, nat_lt, Bool, true, false, if◌then◌else◌, List, [], ◌∷◌, ◌++◌, length, slice_index_or, Ok, ℤ, pos, negsuc, codes}
+use Rattle.std.specs.List.{list_all}
+use Rattle.std.specs.Fmt.{signed_decimal}
+use Rattle.asm_read.specs.declared.statement.StmtKind.{StmtKind}
+use Rattle.asm_read.specs.declared.statement.StmtKind.TheVariants.{Label, MovsImm, MovsReg, Mov, CmpImm, CmpReg, AddSubTwo, AddSubReg, AddSubThree, AddReg, AddRdSp, AddSp, SubSp, ShiftImm, Alu, Rsbs, Adr, LdrLabel, MemImm, MemReg, MemSp, Extend, Rev, B, BCond, Bl, Bx, Blx, Svc, Udf, Hint, Barrier, Text, Data, Bss, Rodata, Global, TypeFunction, TypeObject, Size, Space, Align, Pool, FnStart, FnEnd, Pad, SetFp, CantUnwind, PersonalityIndex, HandlerData}
+use Rattle.asm_read.specs.Tokens.{is_digit, is_name_byte}
+use Rattle.asm_read.specs.Reading.{stmt, read_of}
+
+-- r0 to r12, sp, lr and pc
+unfoldable pub register : ℕ → List ℕ
+register r =
+    if r == 13 then codes "sp" else if r == 14 then codes "lr" else if r == 15 then codes "pc"
+    else if nat_lt r 10 then 114 ∷ (48 + r) ∷ []
+    else 114 ∷ 49 ∷ (38 + r) ∷ []
+
+-- the word of a list that stands at a place
+abbrev pub word_of : List (List ℕ) → ℕ → List ℕ
+word_of words n = slice_index_or words n []
+
+-- by the two-operand field of data processing; those of no mnemonic have none here
+abbrev pub alu_words : List (List ℕ)
+alu_words = codes "ands" ∷ codes "eors" ∷ codes "lsls" ∷ codes "lsrs" ∷ codes "asrs" ∷ codes "adcs" ∷ codes "sbcs" ∷ codes "rors" ∷ codes "tst" ∷ [] ∷ [] ∷ codes "cmn" ∷ codes "orrs" ∷ codes "muls" ∷ codes "bics" ∷ codes "mvns" ∷ []
+
+-- by the field of loads and stores with a register
+abbrev pub access_words : List (List ℕ)
+access_words = codes "str" ∷ codes "strh" ∷ codes "strb" ∷ codes "ldrsb" ∷ codes "ldr" ∷ codes "ldrh" ∷ codes "ldrb" ∷ codes "ldrsh" ∷ []
+
+abbrev pub extend_words : List (List ℕ)
+extend_words = codes "sxth" ∷ codes "sxtb" ∷ codes "uxth" ∷ codes "uxtb" ∷ []
+
+abbrev pub reverse_words : List (List ℕ)
+reverse_words = codes "rev" ∷ codes "rev16" ∷ [] ∷ codes "revsh" ∷ []
+
+abbrev pub hint_words : List (List ℕ)
+hint_words = codes "nop" ∷ codes "yield" ∷ codes "wfe" ∷ codes "wfi" ∷ codes "sev" ∷ []
+
+abbrev pub barrier_words : List (List ℕ)
+barrier_words = codes "dsb" ∷ codes "dmb" ∷ codes "isb" ∷ []
+
+-- by the field of loads and stores with a number
+abbrev pub offset_words : List (List ℕ)
+offset_words = codes "str" ∷ codes "ldr" ∷ codes "strb" ∷ codes "ldrb" ∷ codes "strh" ∷ codes "ldrh" ∷ []
+
+abbrev pub shift_words : List (List ℕ)
+shift_words = codes "lsls" ∷ codes "lsrs" ∷ codes "asrs" ∷ []
+
+-- by the condition
+abbrev pub branch_words : List (List ℕ)
+branch_words = codes "beq" ∷ codes "bne" ∷ codes "bcs" ∷ codes "bcc" ∷ codes "bmi" ∷ codes "bpl" ∷ codes "bvs" ∷ codes "bvc" ∷ codes "bhi" ∷ codes "bls" ∷ codes "bge" ∷ codes "blt" ∷ codes "bgt" ∷ codes "ble" ∷ []
+
+abbrev pub sum_word : Bool → List ℕ
+sum_word sub = if sub then codes "subs" else codes "adds"
+
+-- a word and operands
+abbrev pub line : List ℕ → List ℕ → List ℕ
+line word operands = word ++ (32 ∷ operands)
+
+-- rd, rm
+abbrev pub two : ℕ → ℕ → List ℕ
+two a b = register a ++ (codes ", " ++ register b)
+
+-- rd, rn, rm
+abbrev pub three : ℕ → ℕ → ℕ → List ℕ
+three a b c = register a ++ (codes ", " ++ two b c)
+
+-- rt, [rn, rm]
+abbrev pub indexed : ℕ → ℕ → ℕ → List ℕ
+indexed t n m = register t ++ (codes ", [" ++ (register n ++ (codes ", " ++ (register m ++ codes "]"))))
+
+-- #n
+abbrev pub hash : ℤ → List ℕ
+hash z = codes "#" ++ signed_decimal z
+
+-- rd, #n
+abbrev pub register_number : ℕ → ℤ → List ℕ
+register_number a z = register a ++ (codes ", #" ++ signed_decimal z)
+
+-- rd, rn, #n
+abbrev pub two_number : ℕ → ℕ → ℤ → List ℕ
+two_number a b z = register a ++ (codes ", " ++ register_number b z)
+
+-- rd, sp, #n
+abbrev pub sp_count : ℕ → ℤ → List ℕ
+sp_count a z = register a ++ (codes ", sp, #" ++ signed_decimal z)
+
+-- sp, #n
+abbrev pub sp_number : ℤ → List ℕ
+sp_number z = codes "sp, #" ++ signed_decimal z
+
+-- rt, [rn, #n]
+abbrev pub offset : ℕ → ℕ → ℤ → List ℕ
+offset t n z = register t ++ (codes ", [" ++ (register n ++ (codes ", #" ++ (signed_decimal z ++ codes "]"))))
+
+-- rt, [sp, #n]
+abbrev pub sp_offset : ℕ → ℤ → List ℕ
+sp_offset t z = register t ++ (codes ", [sp, #" ++ (signed_decimal z ++ codes "]"))
+
+-- rd, name
+abbrev pub register_name : ℕ → List ℕ → List ℕ
+register_name a name = register a ++ (codes ", " ++ name)
+
+-- the line of a statement; none where the law below says nothing of it
+unfoldable pub written : StmtKind → List ℕ
+written (Label name) = name ++ codes ":"
+written (MovsImm d imm) = line (codes "movs") (register_number d imm)
+written (MovsReg d m) = line (codes "movs") (two d m)
+written (Mov d m) = line (codes "mov") (two d m)
+written (CmpImm n imm) = line (codes "cmp") (register_number n imm)
+written (CmpReg n m) = line (codes "cmp") (two n m)
+written (AddSubTwo sub d imm) = line (sum_word sub) (register_number d imm)
+written (AddSubReg sub d n m) = line (sum_word sub) (three d n m)
+written (AddSubThree sub d n imm) = line (sum_word sub) (two_number d n imm)
+written (AddReg d m) = line (codes "add") (two d m)
+written (AddRdSp d off) = line (codes "add") (sp_count d off)
+written (AddSp off) = line (codes "add") (sp_number off)
+written (SubSp off) = line (codes "sub") (sp_number off)
+written (ShiftImm op d m n) = line (word_of shift_words op) (two_number d m n)
+written (Alu op d m) = line (word_of alu_words op) (two d m)
+written (Rsbs d m) = line (codes "rsbs") (register d ++ (codes ", " ++ (register m ++ codes ", #0")))
+written (Adr d name) = line (codes "adr") (register_name d name)
+written (LdrLabel t name) = line (codes "ldr") (register_name t name)
+written (MemImm op t n off) = line (word_of offset_words op) (offset t n off)
+written (MemReg op t n m) = line (word_of access_words op) (indexed t n m)
+written (MemSp load t off) = line (if load then codes "ldr" else codes "str") (sp_offset t off)
+written (Extend op d m) = line (word_of extend_words op) (two d m)
+written (Rev op d m) = line (word_of reverse_words op) (two d m)
+written (B name) = line (codes "b") name
+written (BCond cond name) = line (word_of branch_words cond) name
+written (Bl name) = line (codes "bl") name
+written (Bx m) = line (codes "bx") (register m)
+written (Blx m) = line (codes "blx") (register m)
+written (Svc imm) = line (codes "svc") (hash imm)
+written (Udf imm) = line (codes "udf") (hash imm)
+written (Hint n) = word_of hint_words n
+written (Barrier op) = word_of barrier_words op
+written Text = codes ".text"
+written Data = codes ".data"
+written Bss = codes ".bss"
+written Rodata = line (codes ".section") (codes ".rodata")
+written (Global name) = line (codes ".global") name
+written (TypeFunction name) = line (codes ".type") (name ++ codes ", %function")
+written (TypeObject name) = line (codes ".type") (name ++ codes ", %object")
+written (Size name) = line (codes ".size") (name ++ (codes ", .-" ++ name))
+written (Space n) = line (codes ".space") (signed_decimal n)
+written (Align n) = line (codes ".align") (signed_decimal n)
+written Pool = codes ".pool"
+written FnStart = codes ".fnstart"
+written FnEnd = codes ".fnend"
+written (Pad n) = line (codes ".pad") (hash n)
+written (SetFp r off) = line (codes ".setfp") (sp_count r off)
+written CantUnwind = codes ".cantunwind"
+written (PersonalityIndex n) = line (codes ".personalityindex") (signed_decimal n)
+written HandlerData = codes ".handlerdata"
+written kind = []
+
+-- from -2,147,483,648 to 4,294,967,295
+abbrev pub InRange : ℤ → Type 0
+InRange (pos n) = n ≤ 4294967295
+InRange (negsuc n) = n < 2147483648
+
+abbrev pub is_name : List ℕ → Bool
+is_name [] = false
+is_name (b ∷ bs) = not (is_digit b) && list_all is_name_byte (b ∷ bs)
+
+-- a name that is short enough for the line, of at most 256 bytes, to hold it twice
+abbrev pub IsNameText : List ℕ → Type 0
+IsNameText name = (is_name name ≡ true) × (length name ≤ 100)
+
+abbrev pub IsPower : ℤ → Type 0
+IsPower (pos n) = n < 4
+IsPower (negsuc n) = ⊥
+
+-- a statement whose fields the text has words for: registers, numbers of 32 bits, names, and fields of encodings with a
+-- mnemonic. A load or store of a word at sp is a statement of its own
+abbrev pub IsWritable : StmtKind → Type 0
+IsWritable (Label name) = IsNameText name
+IsWritable (MovsImm d imm) = (d < 16) × InRange imm
+IsWritable (MovsReg d m) = (d < 16) × (m < 16)
+IsWritable (Mov d m) = (d < 16) × (m < 16)
+IsWritable (CmpImm n imm) = (n < 16) × InRange imm
+IsWritable (CmpReg n m) = (n < 16) × (m < 16)
+IsWritable (AddSubTwo sub d imm) = (d < 16) × InRange imm
+IsWritable (AddSubReg sub d n m) = (d < 16) × (n < 16) × (m < 16)
+IsWritable (AddSubThree sub d n imm) = (d < 16) × (n < 16) × InRange imm
+IsWritable (AddReg d m) = (d < 16) × (m < 16)
+IsWritable (AddRdSp d off) = (d < 16) × InRange off
+IsWritable (AddSp off) = InRange off
+IsWritable (SubSp off) = InRange off
+IsWritable (ShiftImm op d m n) = (op < 3) × (d < 16) × (m < 16) × InRange n
+IsWritable (Alu op d m) = (op < 16) × (op ≢ 9) × (op ≢ 10) × (d < 16) × (m < 16)
+IsWritable (Rsbs d m) = (d < 16) × (m < 16)
+IsWritable (Adr d name) = (d < 16) × IsNameText name
+IsWritable (LdrLabel t name) = (t < 16) × IsNameText name
+IsWritable (MemImm op t n off) = (op < 6) × (t < 16) × (n < 16) × (op < 2 → n ≢ 13) × InRange off
+IsWritable (MemReg op t n m) = (op < 8) × (t < 16) × (n < 16) × (m < 16)
+IsWritable (MemSp load t off) = (t < 16) × InRange off
+IsWritable (Extend op d m) = (op < 4) × (d < 16) × (m < 16)
+IsWritable (Rev op d m) = (op < 4) × (op ≢ 2) × (d < 16) × (m < 16)
+IsWritable (B name) = IsNameText name
+IsWritable (BCond cond name) = (cond < 14) × IsNameText name
+IsWritable (Bl name) = IsNameText name
+IsWritable (Bx m) = m < 16
+IsWritable (Blx m) = m < 16
+IsWritable (Svc imm) = InRange imm
+IsWritable (Udf imm) = InRange imm
+IsWritable (Hint n) = n < 5
+IsWritable (Barrier op) = op < 3
+IsWritable Text = Unit {0}
+IsWritable Data = Unit {0}
+IsWritable Bss = Unit {0}
+IsWritable Rodata = Unit {0}
+IsWritable (Global name) = IsNameText name
+IsWritable (TypeFunction name) = IsNameText name
+IsWritable (TypeObject name) = IsNameText name
+IsWritable (Size name) = IsNameText name
+IsWritable (Space n) = InRange n
+IsWritable (Align n) = IsPower n
+IsWritable Pool = Unit {0}
+IsWritable FnStart = Unit {0}
+IsWritable FnEnd = Unit {0}
+IsWritable (Pad n) = InRange n
+IsWritable (SetFp r off) = (r < 16) × InRange off
+IsWritable CantUnwind = Unit {0}
+IsWritable (PersonalityIndex n) = InRange n
+IsWritable HandlerData = Unit {0}
+IsWritable kind = ⊥
+
+-- a text of this one line is the statement at line 1
+abbrev pub ReadsBack : Type 0
+ReadsBack = (kind : StmtKind) → IsWritable kind → read_of (written kind) ≡ Ok (stmt 1 kind ∷ [])
