@@ -6,10 +6,10 @@ use Rattle.asm_layout.specs.declared.fault.AsmFault.{AsmFault}
 use Rattle.asm_layout.specs.Faults.{number_of, is_before, first_with, first_of, first_of_all}
 
 -- a pair of numbers comes before another
-abbrev before : ℕ → ℕ → ℕ → ℕ → Bool
+abbrev pub before : ℕ → ℕ → ℕ → ℕ → Bool
 before line number line2 number2 = nat_lt line line2 || ((line == line2) && nat_lt number number2)
 
-before_trans : (k m l n i j : ℕ) → before k m l n ≡ true → before l n i j ≡ true → before k m i j ≡ true
+pub before_trans : (k m l n i j : ℕ) → before k m l n ≡ true → before l n i j ≡ true → before k m i j ≡ true
 before_trans k m l n i j p q = grind (arith, nat_tests)
 
 not_before_trans : (k m l n i j : ℕ) → before k m l n ≡ false → before l n i j ≡ false → before k m i j ≡ false

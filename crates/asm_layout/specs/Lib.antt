@@ -1,4 +1,5 @@
 pub mod Faults
+pub mod FaultLaw
 pub mod Words
 pub mod SameWords
 pub mod Sizes

@@ -2,6 +2,8 @@
 //! of its refusals.
 #![tactic(auto)]
 
+ghost use Rattle.asm_layout.specs.FaultLaw.{TheFirstIsAnswered, NoneOnlyOfNone};
+
 pub mod fault;
 pub mod frames;
 pub mod labels;
@@ -10,3 +12,10 @@ pub mod walk;
 pub mod word;
 
 pub use fault::{AsmFault, AsmWhat};
+
+/// Of several refusals the one at the lowest line is answered, there the one with the lowest number, and of those that are
+/// equal in both the first that was found; nothing is answered only where nothing is refused.
+pub fn the_first_refusal_is_answered()
+    ensures first { TheFirstIsAnswered }
+    ensures none { NoneOnlyOfNone }
+{}

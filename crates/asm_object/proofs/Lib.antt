@@ -6,3 +6,6 @@ pub mod StepLemmas
 pub mod ObjectLemmas
 pub mod PlaceLaws
 mod Unnamed
+pub mod ObjectLaws
+pub mod LabelLaws
+pub mod LoadLaws

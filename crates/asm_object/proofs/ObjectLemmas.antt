@@ -9,6 +9,7 @@ use Rattle.asm_layout.specs.Faults.{first_of, first_of_all}
 use Rattle.asm_layout.specs.Functions.{entries_of, unwind_faults_of}
 use Rattle.asm_layout.specs.Walks.{start, walk_behind}
 use Rattle.asm_layout.specs.Labels.{Named, labels_of, labelled, named_in, duplicates_from, too_large_from}
+use Rattle.asm_layout.proofs.NamedLaws.{named_in-labelled}
 use Rattle.asm_object.specs.declared.object.IndexRow.{IndexRow}
 use Rattle.asm_object.specs.declared.object.ObjSymbol.{ObjSymbol}
 use Rattle.asm_object.specs.declared.object.Object.{Object}
@@ -18,11 +19,6 @@ use Rattle.asm_object.specs.Objects.{refusals_from, faults_of, symbol_of, joined
 use Rattle.asm_object.specs.Built.{with_pieces, no_sections, object_built}
 use Rattle.asm_object.proofs.FirstOf.{first_of_four}
 use Rattle.asm_object.proofs.BuiltLemmas.{text-bytes, text-relocs, rodata-bytes, rodata-relocs, extab-bytes, extab-relocs, init-bytes, init-relocs, text-marks}
-
--- labels without what the directives say of them
-named_back : (entries : List (Option EntryWords)) (stmts : List Stmt) (labels : List Named) → named_in (map (labelled entries stmts) labels) ≡ labels
-named_back entries stmts [] = refl
-named_back entries stmts (label ∷ more) = ap (λ l. label ∷ l) (named_back entries stmts more)
 
 symbols_mapped : (entries : List (Option EntryWords)) (stmts : List Stmt) (labels : List Named)
     → map symbol_of (map (labelled entries stmts) labels) ≡ map (λ label. symbol_of (labelled entries stmts label)) labels
@@ -44,7 +40,7 @@ unfolding faults_of faults_by
 first_fault stmts entries labels unwind duplicate too_large refused e l u d t r =
     let known : refused ≡ first_of_all None (refusals_from entries (labels_of entries stmts) start stmts) =
     r ∙ ap (λ ls. first_of_all None (refusals_from entries (named_in ls) start stmts)) l
-    ∙ ap (λ ls. first_of_all None (refusals_from entries ls start stmts)) (named_back entries stmts (labels_of entries stmts)) in
+    ∙ ap (λ ls. first_of_all None (refusals_from entries ls start stmts)) (named_in-labelled entries stmts (labels_of entries stmts)) in
     ap (λ f. first_of (first_of (first_of f duplicate) too_large) refused) u
     ∙ ap (λ f. first_of (first_of (first_of (first_of_all None (unwind_faults_of stmts)) f) too_large) refused) d
     ∙ ap (λ f. first_of (first_of (first_of (first_of_all None (unwind_faults_of stmts)) (first_of_all None (duplicates_from [] stmts))) f) refused) t
@@ -88,7 +84,7 @@ object_joined : (stmts : List Stmt) (entries : List (Option EntryWords)) (labels
 unfolding joined object_by
 object_joined stmts entries labels sections rows bss e l s r b =
     let named : named_in labels ≡ labels_of entries stmts =
-    ap (λ ls. named_in ls) l ∙ named_back entries stmts (labels_of entries stmts) in
+    ap (λ ls. named_in ls) l ∙ named_in-labelled entries stmts (labels_of entries stmts) in
     let symbols : map symbol_of labels ≡ map (λ label. symbol_of (labelled entries stmts label)) (labels_of entries stmts) =
     ap (λ ls. map symbol_of ls) l ∙ symbols_mapped entries stmts (labels_of entries stmts) in
     ap (λ x. object_built x rows labels bss) s

@@ -29,7 +29,7 @@ use Rattle.asm_layout.specs.declared.walk.Walk.{Walk}
 use Rattle.asm_layout.specs.Words.{word_of}
 use Rattle.asm_layout.specs.SameWords.{same_word}
 use Rattle.asm_layout.specs.Sizes.{sum_64, times, filling, multiple, natural, is_instruction, size, table_size, size_in, sizes_grown, is_too_large}
-use Rattle.asm_layout.specs.Walks.{start, next, here, pool_place, ended, handling, started, pool_place, ended, handling, started, pool_place, ended, handling, started, pool_place, ended, handling, started, pool_place, ended, handling, started, pool_place, ended, handling, started, pool_place, ended, handling, started, entry_at, same_section, is_empty, is_in_text, ends_pool, walk_behind, coming_pool, sizes_with_pool}
+use Rattle.asm_layout.specs.Walks.{start, next, here, pool_place, ended, handling, started, entry_at, same_section, is_empty, is_in_text, ends_pool, walk_behind, coming_pool, sizes_with_pool}
 use Rattle.asm_layout.specs.declared.fault.AsmFault.{AsmFault}
 use Rattle.asm_layout.specs.declared.fault.AsmWhat.{AsmWhat}
 use Rattle.asm_layout.specs.declared.fault.AsmWhat.TheVariants.{UndefinedLocal, PoolTooFar, Placement}
@@ -48,13 +48,13 @@ each_has : {A : Type 0} (f : A → List ℕ) (n : ℕ) → ((a : A) → length (
 each_has f n h [] = omega arith
 each_has f n h (x ∷ xs) = length-append (f x) (flat_map f xs) ∙ grind (arith, h x, each_has f n h xs)
 
-words_length : (labels : List Named) (words : List Word) → length (words_bytes labels words) ≡ length words * 4
+pub words_length : (labels : List Named) (words : List Word) → length (words_bytes labels words) ≡ length words * 4
 words_length labels words = each_has (λ word. word_bytes (held labels word)) 4 (λ word. refl) words
 
 abbrev zero_byte : List ℕ
 zero_byte = 0 ∷ []
 
-filled_length : (count : ℕ) → length (filling_bytes count) ≡ count
+pub filled_length : (count : ℕ) → length (filling_bytes count) ≡ count
 filled_length count =
     length-append (cond (count % 2 == 1) zero_byte []) (fillers (count / 2))
     ∙ ap (λ n. length (cond (count % 2 == 1) zero_byte []) + n) (each_has half_bytes 2 (λ half. refl) (replicate (count / 2) 0x46c0) ∙ ap (λ n. n * 2) (length-replicate (count / 2) 0x46c0))
@@ -70,8 +70,8 @@ filling_length false count = length-replicate count 0
 
 -- ---- codes: a result that is no refusal has so many bytes
 
-record Gives (n : ℕ) (r : Result Code EncodeFault) : Type 0 where
-  has : result_err r ≡ None → length (bytes_of_code r) ≡ n
+pub record Gives (n : ℕ) (r : Result Code EncodeFault) : Type 0 where
+  pub has : result_err r ≡ None → length (bytes_of_code r) ≡ n
 
 refused_gives : (n : ℕ) (b : Bool) (f : EncodeFault) (r : Result Code EncodeFault) → Gives n r → Gives n (refused_if b f r)
 refused_gives n true f r h = record { has = λ e. absurd (cc) }
@@ -85,12 +85,12 @@ cond_gives : (n : ℕ) (b : Bool) (r s : Result Code EncodeFault) → Gives n r 
 cond_gives n true r s h k = h
 cond_gives n false r s h k = k
 
-abbrev width : Instr → ℕ
+abbrev pub width : Instr → ℕ
 width (Bl _) = 4
 width (Barrier _ _) = 4
 width _ = 2
 
-gives : (i : Instr) → Gives (width i) (encoded_of i)
+pub gives : (i : Instr) → Gives (width i) (encoded_of i)
 gives (ShiftImm op d m n) = refused_gives 2 (not (nat_lt op 3 && both_below 8 d m)) RegisterRange _ (refused_gives 2 (cond (op == 0) (nat_lt 31 n) (n == 0 || nat_lt 32 n)) ImmediateRange _ (record { has = λ e. refl }))
 gives (AddSubReg sub d n m) = refused_gives 2 (not (all_below 8 d n m)) RegisterRange _ (record { has = λ e. refl })
 gives (AddSubImm3 sub d n imm) = refused_gives 2 (not (both_below 8 d n)) RegisterRange _ (refused_gives 2 (nat_lt 7 imm) ImmediateRange _ (record { has = λ e. refl }))
@@ -128,15 +128,15 @@ compare_gives false i j n h k e = (gives j).has e ∙ k
 
 -- ---- bytes of statements
 
-abbrev is_load : StmtKind → Bool
+abbrev pub is_load : StmtKind → Bool
 is_load (stmt.LdrPool _ _) = true
 is_load _ = false
 
 -- a load from the pool has a code, which its refusals do not ask for
-abbrev LoadHasCode : List Named → StmtKind → ℕ → ℕ → Type 0
+abbrev pub LoadHasCode : List Named → StmtKind → ℕ → ℕ → Type 0
 LoadHasCode labels kind place word = is_load kind ≡ true → instruction_fault (instruction labels kind place word) ≡ None
 
-abbrev SameEnd : ℕ → ℕ → Type 0
+abbrev pub SameEnd : ℕ → ℕ → Type 0
 SameEnd a b = min a (2 ^ 64 - 1) ≡ min b (2 ^ 64 - 1)
 
 none_more : (a : ℕ) → SameEnd a (a + 0)
@@ -281,7 +281,7 @@ table_counts sizes None s = no_table sizes s
 
 -- ---- one statement
 
-abbrev is_ordinary : StmtKind → Bool
+abbrev pub is_ordinary : StmtKind → Bool
 is_ordinary stmt.Text = false
 is_ordinary stmt.Data = false
 is_ordinary stmt.Bss = false
@@ -293,7 +293,7 @@ is_ordinary (stmt.Align _) = false
 is_ordinary stmt.Pool = false
 is_ordinary _ = true
 
-ordinary_sizes : (entries : List (Option EntryWords)) (walk : Walk) (kind : StmtKind) → is_ordinary kind ≡ true
+pub ordinary_sizes : (entries : List (Option EntryWords)) (walk : Walk) (kind : StmtKind) → is_ordinary kind ≡ true
     → (next entries walk kind).at.sizes ≡ sizes_grown walk.at.sizes walk.at.section (size kind)
 ordinary_sizes entries walk stmt.Text o = absurd (true≢false (sym o))
 ordinary_sizes entries walk stmt.Data o = absurd (true≢false (sym o))
@@ -306,21 +306,21 @@ ordinary_sizes entries walk (stmt.Align n) o = absurd (true≢false (sym o))
 ordinary_sizes entries walk stmt.Pool o = absurd (true≢false (sym o))
 ordinary_sizes entries walk _ o = refl
 
-ordinary_sets : (entries : List (Option EntryWords)) (labels : List Named) (walk : Walk) (kind : StmtKind) → is_ordinary kind ≡ true
+pub ordinary_sets : (entries : List (Option EntryWords)) (labels : List Named) (walk : Walk) (kind : StmtKind) → is_ordinary kind ≡ true
     → set_pieces entries labels walk kind ≡ []
 ordinary_sets entries labels walk stmt.FnStart o = absurd (true≢false (sym o))
 ordinary_sets entries labels walk (stmt.Align n) o = absurd (true≢false (sym o))
 ordinary_sets entries labels walk stmt.Pool o = absurd (true≢false (sym o))
 ordinary_sets entries labels walk _ o = refl
 
-own_stands : (labels : List Named) (kind : StmtKind) (place : Place) (word : ℕ) → (own_piece labels kind place word).place ≡ place
+pub own_stands : (labels : List Named) (kind : StmtKind) (place : Place) (word : ℕ) → (own_piece labels kind place word).place ≡ place
 own_stands labels kind place word = by (is_instruction kind)
   where
     by : (b : Bool) → (cond b (instruction_piece labels kind place word) (data_piece labels kind place)).place ≡ place
     by true = refl
     by false = refl
 
-abbrev Fewer : List (Option EntryWords) → Type 0
+abbrev pub Fewer : List (Option EntryWords) → Type 0
 Fewer entries = length entries < 2 ^ 64
 
 ordinary_counts : (entries : List (Option EntryWords)) (labels : List Named) (walk : Walk) (word : ℕ) (kind : StmtKind) (s : Section) → is_ordinary kind ≡ true
@@ -376,7 +376,7 @@ start_counts entries walk s few = by walk.at.inside (nat_lt walk.at.functions (2
         none_more (size_in walk.at.sizes s)
         ∙ ap (λ entry. min (size_in walk.at.sizes s + length (bytes_in s (table_pieces walk.at.sizes.extab entry))) (2 ^ 64 - 1)) (sym (no_entry entries walk.at.functions few e))
 
-special_counts : (entries : List (Option EntryWords)) (labels : List Named) (walk : Walk) (word : ℕ) (kind : StmtKind) (s : Section) → Fewer entries → is_ordinary kind ≡ false
+pub special_counts : (entries : List (Option EntryWords)) (labels : List Named) (walk : Walk) (word : ℕ) (kind : StmtKind) (s : Section) → Fewer entries → is_ordinary kind ≡ false
     → SameEnd (size_in (next entries walk kind).at.sizes s) (size_in walk.at.sizes s + length (bytes_in s (pieces_at entries labels walk word kind)))
 special_counts entries labels walk word stmt.Text s few o = none_counts (size_in walk.at.sizes s) (same_section walk.at.section s)
 special_counts entries labels walk word stmt.Data s few o = none_counts (size_in walk.at.sizes s) (same_section walk.at.section s)
@@ -415,7 +415,7 @@ statement_counts entries labels walk word kind s few load e = by (is_ordinary ki
 
 -- ---- a load from the pool
 
-refusal_parts : (labels : List Named) (kind : StmtKind) (section : Section) (place word : ℕ) → refusal labels kind section place word ≡ None
+pub refusal_parts : (labels : List Named) (kind : StmtKind) (section : Section) (place word : ℕ) → refusal labels kind section place word ≡ None
     → (encode_fault labels kind place word ≡ None) × ((is_pool_too_far kind section place word ≡ false) × (is_misplaced kind section ≡ false))
 unfolding refusal
 refusal_parts labels kind section place word e =
@@ -430,7 +430,7 @@ refusal_parts labels kind section place word e =
     by false None false true e = absurd (cc)
     by false None false false e = (refl, (refl, refl))
 
-none_parts : (line : ℕ) (what : Option AsmWhat) (more : List AsmFault) → faults_at line what ++ more ≡ [] → (what ≡ None) × (more ≡ [])
+pub none_parts : (line : ℕ) (what : Option AsmWhat) (more : List AsmFault) → faults_at line what ++ more ≡ [] → (what ≡ None) × (more ≡ [])
 none_parts line (Some what) more e = absurd (cc)
 none_parts line None more e = (refl, e)
 
@@ -515,7 +515,7 @@ minus : (a b : ℕ) → b ≤ a → pos a -ℤ pos b ≡ pos (a - b)
 minus a zero h = ap pos (omega arith)
 minus a (suc b) h = ap (λ c. cond c (negsuc (suc b - suc a)) (pos (a - suc b))) (le-ltb a (suc b) h)
 
-load_code : (t n : ℕ) → nat_lt t 8 ≡ true → n ≤ 1020 → n % 4 ≡ 0 → result_err (encoded_of (LdrLit t (offset (pos n)))) ≡ None
+pub load_code : (t n : ℕ) → nat_lt t 8 ≡ true → n ≤ 1020 → n % 4 ≡ 0 → result_err (encoded_of (LdrLit t (offset (pos n)))) ≡ None
 load_code t n h k m =
     ap (λ b. result_err (encoded_of (LdrLit t (cond b (pos n) (pos 0x7fffffff))))) small
     ∙ by (nat_lt 7 t) (nat_lt 1020 n) (n % 4 == 0) (grind (arith, nat_tests)) (grind (arith, nat_tests)) (grind (arith, nat_tests))
@@ -542,11 +542,11 @@ word_there place text index pool word small behind p w near =
     let at : word ≡ (text + 3) / 4 * 4 + index * 4 = omega (arith, first) in
     (omega (arith, from, at), omega (arith, from, at))
 
-unless_none : (b : Bool) (fault : EncodeFault) → fault_unless b fault ≡ None → b ≡ true
+pub unless_none : (b : Bool) (fault : EncodeFault) → fault_unless b fault ≡ None → b ≡ true
 unless_none true fault e = refl
 unless_none false fault e = absurd (cc)
 
-not_false : (b : Bool) → not b ≡ false → b ≡ true
+pub not_false : (b : Bool) → not b ≡ false → b ≡ true
 not_false true e = refl
 not_false false e = absurd (true≢false e)
 
@@ -554,7 +554,7 @@ and_false : (a b : Bool) → a ≡ true → (a && b) ≡ false → b ≡ false
 and_false true b e f = f
 and_false false b e f = absurd (true≢false (sym e))
 
-text_here : (sizes : Sizes) (section : Section) → same_section section Text ≡ true → size_in sizes section ≡ sizes.text
+pub text_here : (sizes : Sizes) (section : Section) → same_section section Text ≡ true → size_in sizes section ≡ sizes.text
 text_here sizes Text e = refl
 text_here sizes _ e = absurd (true≢false (sym e))
 
@@ -570,7 +570,7 @@ load_there t place index pool word text r w near small behind p =
     ap (λ n. result_err (encoded_of (LdrLit t (offset n)))) (minus word (base place) there.0)
     ∙ load_code t (word - base place) r close there.1
 
-loads : (entries : List (Option EntryWords)) (labels : List Named) (walk : Walk) (kind : StmtKind) (more : List Stmt) (word : ℕ)
+pub loads : (entries : List (Option EntryWords)) (labels : List Named) (walk : Walk) (kind : StmtKind) (more : List Stmt) (word : ℕ)
     → word ≡ word_place walk kind (cond (ends_pool walk kind) (pool_place walk) (coming_pool entries (next entries walk kind) more))
     → (sizes_with_pool (walk_behind entries (next entries walk kind) more)).text ≤ 1048576
     → refusal labels kind walk.at.section (here walk.at).offset word ≡ None → LoadHasCode labels kind (here walk.at).offset word
@@ -625,7 +625,7 @@ or_parts_false false b e = (refl, e)
 not_above : (n : ℕ) → nat_lt 1048576 n ≡ false → n ≤ 1048576
 not_above n e = grind (arith, nat_tests)
 
-not_large : (sizes : Sizes) (s : Section) → is_too_large sizes ≡ false → size_in sizes s ≤ 1048576
+pub not_large : (sizes : Sizes) (s : Section) → is_too_large sizes ≡ false → size_in sizes s ≤ 1048576
 not_large sizes s e = by s
   where
     bss : ((nat_lt 1048576 sizes.text || nat_lt 1048576 sizes.rodata || nat_lt 1048576 sizes.extab || nat_lt 1048576 sizes.init) ≡ false) × (nat_lt 1048576 sizes.bss ≡ false)
@@ -655,13 +655,13 @@ law_of_ends entries labels walk stmts s few r h =
     exact : (end all : ℕ) → SameEnd end all → end ≤ 1048576 → all ≡ end
     exact end all e h = omega (arith, e, h)
 
-walks_on : (entries : List (Option EntryWords)) (walk : Walk) (before more : List Stmt)
+pub walks_on : (entries : List (Option EntryWords)) (walk : Walk) (before more : List Stmt)
     → walk_behind entries walk (before ++ more) ≡ walk_behind entries (walk_behind entries walk before) more
 unfolding walk_behind
 walks_on entries walk [] more = refl
 walks_on entries walk (stmt ∷ before) more = walks_on entries (next entries walk stmt.kind) before more
 
-none_behind : (entries : List (Option EntryWords)) (labels : List Named) (walk : Walk) (before more : List Stmt)
+pub none_behind : (entries : List (Option EntryWords)) (labels : List Named) (walk : Walk) (before more : List Stmt)
     → refusals_from entries labels walk (before ++ more) ≡ [] → refusals_from entries labels (walk_behind entries walk before) more ≡ []
 unfolding walk_behind refusals_from
 none_behind entries labels walk [] more r = r

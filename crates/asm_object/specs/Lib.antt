@@ -7,3 +7,5 @@ pub mod Pieces
 pub mod Objects
 pub mod Built
 pub mod PlaceLaw
+pub mod ObjectLaw
+pub mod LoadLaw

@@ -3,6 +3,7 @@ ghost use Rattle.asm_layout.specs.Labels.{named_in};
 ghost use Rattle.asm_object.specs.Links.{linked_now};
 ghost use Rattle.asm_object.specs.Instructions.{unsigned, offset, compare, add_eight, add_three, plain, pc, base, between, text_place, branch, literal, label_literal, instruction, branch_link};
 
+use crate::relocation::{R_ARM_THM_CALL, R_ARM_THM_JUMP8, R_ARM_THM_JUMP11};
 use crate::value::Link;
 use asm_layout::labels::Labels;
 use asm_layout::place::{Place, Section};
@@ -261,9 +262,9 @@ pub fn branch_link<'a>(labels: &Labels, kind: &'a StmtKind) -> Option<Link<'a>>
     ensures { linked_now result ≡ branch_link (named_in labels.now) kind.now }
 {
     let (kind, name) = match kind {
-        StmtKind::Bl(name) => (10, name),
-        StmtKind::B(name) => (102, name),
-        StmtKind::BCond { name, .. } => (103, name),
+        StmtKind::Bl(name) => (R_ARM_THM_CALL, name),
+        StmtKind::B(name) => (R_ARM_THM_JUMP11, name),
+        StmtKind::BCond { name, .. } => (R_ARM_THM_JUMP8, name),
         _ => return None,
     };
     if text_place(labels, name).is_some() {

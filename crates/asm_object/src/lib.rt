@@ -6,6 +6,8 @@ ghost use Rattle.asm_object.specs.PlaceLaw.{
   PlacesCountTheBytesBefore,
   BytesStandAtTheirPlaces,
 };
+ghost use Rattle.asm_object.specs.LoadLaw.{LoadsReadTheirWords};
+ghost use Rattle.asm_object.specs.ObjectLaw.{FieldsStandInOrder, RelocsGoBySection, RelocsHaveKinds, SymbolsStandAtTheirLabels};
 
 pub mod assembly;
 mod bytes;
@@ -14,6 +16,7 @@ pub mod object;
 mod part;
 mod parts;
 mod refusal;
+pub mod relocation;
 mod symbols;
 #[cfg(test)]
 mod tests;
@@ -34,4 +37,24 @@ pub fn places_count_bytes()
     ensures end { SectionsEndBehindTheirBytes }
     ensures before { PlacesCountTheBytesBefore }
     ensures there { BytesStandAtTheirPlaces }
+{}
+
+/// The fields that the linker fills stand in the order of the sections, and in a section one behind the other, each whole in
+/// the section's bytes, in every object that statements stand for. So no two of them share a byte.
+pub fn fields_stand_in_order()
+    ensures fields { FieldsStandInOrder }
+    ensures sections { RelocsGoBySection }
+    ensures kinds { RelocsHaveKinds }
+{}
+
+/// The symbol of a label stands in the section where the statements before the label end, and at the place behind them, in
+/// every object that statements stand for.
+pub fn symbols_stand_at_their_labels()
+    ensures { SymbolsStandAtTheirLabels }
+{}
+
+/// A `ldr` of a value reads the value's word, in every object that statements stand for: its offset leads to a place of the text
+/// with the bytes of the word.
+pub fn loads_read_their_words()
+    ensures { LoadsReadTheirWords }
 {}

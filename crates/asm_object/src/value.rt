@@ -4,6 +4,7 @@ ghost use Rattle.asm_layout.specs.Labels.{named_in};
 ghost use Rattle.asm_object.specs.Values.{is_local, is_known, distance, is_word_known, number, held, signed, link_of};
 ghost use Rattle.asm_object.specs.Links.{linked_now};
 
+use crate::relocation::{R_ARM_ABS32, R_ARM_PREL31, R_ARM_REL32, R_ARM_TARGET2};
 use asm_layout::labels::Labels;
 use asm_layout::word::Word;
 use asm_read::Expr;
@@ -120,10 +121,10 @@ pub fn link_of(word: &Word) -> Option<Link<'_>>
 {
     let (kind, name, addend) = match word {
         Word::Num(_) | Word::Diff(_, _, _) => return None,
-        Word::Of(name, n) => (2, name, signed(*n)),
-        Word::Rel(name) => (3, name, 0),
-        Word::Target2(name) => (41, name, 0),
-        Word::Prel31(name) | Word::Prel31Ref(name) => (42, name, 0),
+        Word::Of(name, n) => (R_ARM_ABS32, name, signed(*n)),
+        Word::Rel(name) => (R_ARM_REL32, name, 0),
+        Word::Target2(name) => (R_ARM_TARGET2, name, 0),
+        Word::Prel31(name) | Word::Prel31Ref(name) => (R_ARM_PREL31, name, 0),
     };
     Some(Link { kind, name, addend })
 }

@@ -1,0 +1,21 @@
+-- Which refusal of a list is answered: the one at the lowest line, there the one with the lowest number, and of several that
+-- are equal in both the first in the list.
+use Rattle.std.specs.Prelude.{◌≡◌, ◌++◌, ◌∷◌, [], List, Some, None, not, true}
+use Rattle.std.specs.List.{list_all}
+use Rattle.asm_layout.specs.declared.fault.AsmFault.{AsmFault}
+use Rattle.asm_layout.specs.Faults.{is_before, first_of_all}
+
+-- a refusal comes before all that stand in front of it in the list, and none behind it comes before it
+pub record StandsFirst (faults : List AsmFault) (first : AsmFault) : Type 0 where
+  pub front : List AsmFault
+  pub behind : List AsmFault
+  pub split : faults ≡ front ++ first ∷ behind
+  pub before : list_all (λ fault. is_before first fault) front ≡ true
+  pub not_after : list_all (λ fault. not (is_before fault first)) behind ≡ true
+
+abbrev pub TheFirstIsAnswered : Type 0
+TheFirstIsAnswered = (faults : List AsmFault) (first : AsmFault) → first_of_all None faults ≡ Some first → StandsFirst faults first
+
+-- nothing is answered only where nothing is refused
+abbrev pub NoneOnlyOfNone : Type 0
+NoneOnlyOfNone = (faults : List AsmFault) → first_of_all None faults ≡ None → faults ≡ []

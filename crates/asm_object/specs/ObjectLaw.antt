@@ -1,0 +1,76 @@
+-- What holds of every object that statements stand for. The linker's fields stand in the order of the sections, and in a section
+-- one behind the other, each whole in the section's bytes, so that no two share a byte; each has a kind of the standard (IHI 0044).
+-- A label's symbol stands where the statements before it end. Of statements there are fewer than 2^64.
+use Rattle.std.specs.Prelude.{◌≡◌, ◌+◌, ◌^◌, ◌<◌, ◌≤◌, ◌==◌, ◌||◌, if◌then◌else◌, true, ℕ, List, [], ◌∷◌, ◌++◌, length, Option, Some, None, Ok}
+use Rattle.std.specs.List.{filter, list_all, list_any}
+use Rattle.eh_word.specs.Names.{same_bytes}
+use Rattle.asm_read.specs.declared.statement.Stmt.{Stmt}
+use Rattle.asm_read.specs.declared.statement.StmtKind.TheVariants.{Label}
+use Rattle.asm_layout.specs.declared.place.Place.{Place}
+use Rattle.asm_layout.specs.declared.place.Section.{Section}
+use Rattle.asm_layout.specs.declared.place.Section.TheVariants.{Text, Rodata, Extab, Init, Bss}
+use Rattle.asm_layout.specs.Functions.{entries_of}
+use Rattle.asm_layout.specs.Walks.{start, here, same_section, walk_behind}
+use Rattle.asm_object.specs.declared.object.Object.{Object}
+use Rattle.asm_object.specs.declared.object.ObjSymbol.{ObjSymbol}
+use Rattle.asm_object.specs.declared.object.Reloc.{Reloc}
+use Rattle.asm_object.specs.Objects.{object_of}
+
+-- how many bytes a relocation's field has (IHI 0044): two for R_ARM_THM_JUMP11 and R_ARM_THM_JUMP8, else four
+abbrev pub field_size : Reloc → ℕ
+field_size reloc = if reloc.kind == 102 || reloc.kind == 103 then 2 else 4
+
+-- fields from an offset on and up to another one, one behind the other
+abbrev pub StandInOrder : ℕ → List Reloc → ℕ → Type 0
+StandInOrder from [] end = from ≤ end
+StandInOrder from (reloc ∷ more) end = (from ≤ reloc.offset) × StandInOrder (reloc.offset + field_size reloc) more end
+
+-- the relocations of a section
+abbrev pub relocs_at : Section → Object → List Reloc
+relocs_at section object = filter (λ reloc. same_section reloc.section section) object.relocs
+
+-- the bytes of a section
+abbrev pub bytes_at : Section → Object → List ℕ
+bytes_at Text object = object.text
+bytes_at Rodata object = object.rodata
+bytes_at Extab object = object.extab
+bytes_at Init object = object.init
+bytes_at Bss object = []
+
+-- the fields of a section stand one behind the other, each whole in its bytes
+abbrev pub FieldsStandInOrder : Type 0
+FieldsStandInOrder =
+    (stmts : List Stmt) (object : Object) (section : Section)
+    → length stmts < 2 ^ 64 → object_of stmts ≡ Ok object
+    → StandInOrder 0 (relocs_at section object) (length (bytes_at section object))
+
+-- the relocations of the text come first, then those of the read-only data, the exception tables and the data
+abbrev pub RelocsGoBySection : Type 0
+RelocsGoBySection =
+    (stmts : List Stmt) (object : Object)
+    → object_of stmts ≡ Ok object
+    → object.relocs ≡ relocs_at Text object ++ relocs_at Rodata object ++ relocs_at Extab object ++ relocs_at Init object
+
+-- R_ARM_ABS32, R_ARM_REL32, R_ARM_THM_CALL, R_ARM_TARGET2, R_ARM_PREL31, R_ARM_THM_JUMP11, R_ARM_THM_JUMP8
+abbrev pub kinds : List ℕ
+kinds = 2 ∷ 3 ∷ 10 ∷ 41 ∷ 42 ∷ 102 ∷ 103 ∷ []
+
+-- each relocation has one of these kinds
+abbrev pub RelocsHaveKinds : Type 0
+RelocsHaveKinds =
+    (stmts : List Stmt) (object : Object)
+    → object_of stmts ≡ Ok object → list_all (λ reloc. list_any (λ kind. reloc.kind == kind) kinds) object.relocs ≡ true
+
+-- where the first symbol of a name stands
+abbrev pub symbol_place : List ℕ → List ObjSymbol → Option Place
+symbol_place name [] = None
+symbol_place name (symbol ∷ more) =
+    if same_bytes name symbol.name then Some (record { section = symbol.section; offset = symbol.offset }) else symbol_place name more
+
+-- the symbol of a label stands in the section where the statements before the label end, at the place behind them
+abbrev pub SymbolsStandAtTheirLabels : Type 0
+SymbolsStandAtTheirLabels =
+    (before more : List Stmt) (line : ℕ) (name : List ℕ) (object : Object)
+    → let stmts = before ++ record { line = line; kind = Label name } ∷ more in
+    length stmts < 2 ^ 64 → object_of stmts ≡ Ok object
+    → symbol_place name object.symbols ≡ Some (here (walk_behind (entries_of stmts) start before).at)
