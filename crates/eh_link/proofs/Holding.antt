@@ -16,7 +16,7 @@ use Rattle.eh_link.specs.declared.field.Change.{Change}
 use Rattle.eh_link.specs.declared.field.Change.TheVariants.{Keep, Half, Word, Unreachable}
 use Rattle.eh_link.specs.Layout.{address_at}
 use Rattle.eh_link.specs.Fields.{kind_of, width, size_of, branch, distance, filling, relative, change_by, change_of, written_at, changed, same_section, filled}
-use Rattle.eh_link.specs.FieldLaw.{field_size, IsInField, IsInNoField, OtherBytesStay, FieldsHold}
+use Rattle.eh_link.specs.FieldLaw.{field_size, IsInField, IsInNoField, StandsAlone, OtherBytesStay, FieldsHold}
 use Rattle.eh_link.proofs.Changes.{filling_fits, change_fits}
 
 -- ---- bytes written over others
@@ -63,7 +63,7 @@ written_above offset new bytes j h ge =
     ∙ get_or-drop offset bytes (length new + (j - offset - length new)) 0
     ∙ ap (λ k. get_or bytes k 0) back
 
-half_length : (v : ℕ) → length (half v) ≡ 2
+pub half_length : (v : ℕ) → length (half v) ≡ 2
 unfolding half
 half_length v = refl
 
@@ -73,7 +73,7 @@ word_length v = refl
 
 -- ---- changes
 
-changed_length : (c : Change) (offset : ℕ) (bytes : List ℕ) → size_of c ≤ length (drop offset bytes) → length (changed c offset bytes) ≡ length bytes
+pub changed_length : (c : Change) (offset : ℕ) (bytes : List ℕ) → size_of c ≤ length (drop offset bytes) → length (changed c offset bytes) ≡ length bytes
 changed_length Keep offset bytes h = refl
 changed_length (Half v) offset bytes h = written_length offset (half v) bytes (omega (arith, h, length-drop offset bytes, half_length v))
 changed_length (Word v) offset bytes h = written_length offset (word v) bytes (omega (arith, h, length-drop offset bytes, word_length v))
@@ -138,7 +138,7 @@ unfolding change_of
 change_size means section start bytes r =
     fits_where (same_section r.section section) _ _ (by_size (kind_of r.kind) (means r.name) r.addend (address_at start r.offset) (drop r.offset bytes))
 
-change_within : (means : List ℕ → Option Meaning) (section : Section) (start : ℕ) (bytes : List ℕ) (r : Reloc) → size_of (change_of means section start bytes r) ≤ length (drop r.offset bytes)
+pub change_within : (means : List ℕ → Option Meaning) (section : Section) (start : ℕ) (bytes : List ℕ) (r : Reloc) → size_of (change_of means section start bytes r) ≤ length (drop r.offset bytes)
 unfolding change_of
 change_within means section start bytes r =
     fits_where (same_section r.section section) _ _ (change_fits (kind_of r.kind) (means r.name) r.addend (address_at start r.offset) (drop r.offset bytes))
@@ -222,12 +222,18 @@ no_field_right : (section : Section) (j : ℕ) (xs ys : List Reloc) → IsInNoFi
 no_field_right section j [] ys h = h
 no_field_right section j (x ∷ xs) ys h = no_field_right section j xs ys h.1
 
+-- the relocations before it leave what it writes
+pub same_behind : (means : List ℕ → Option Meaning) (section : Section) (start : ℕ) (bytes : List ℕ) (before : List Reloc) (r : Reloc) (after : List Reloc)
+    → StandsAlone section r (before ++ after) → change_of means section start (filled means section start bytes before) r ≡ change_of means section start bytes r
+same_behind means section start bytes before r after alone =
+    same_change means section start (filled means section start bytes before) bytes r (filled_length means section start bytes before)
+    (λ k in_field. stay means section start bytes before k (no_field_left section k before after (alone k in_field)))
+
 hold : FieldsHold
 hold means section start bytes before r after j alone at =
     let so_far = filled means section start bytes before in
     let len : length so_far ≡ length bytes = filled_length means section start bytes before in
-    let same : change_of means section start so_far r ≡ change_of means section start bytes r =
-    same_change means section start so_far bytes r len (λ k in_field. stay means section start bytes before k (no_field_left section k before after (alone k in_field))) in
+    let same : change_of means section start so_far r ≡ change_of means section start bytes r = same_behind means section start bytes before r after alone in
     ap (λ xs. get_or xs j 0) (filled_append means section start bytes before (r ∷ after))
     ∙ stay means section start (changed (change_of means section start so_far r) r.offset so_far) after j (no_field_right section j before after (alone j at))
     ∙ ap (λ c. get_or (changed c r.offset so_far) j 0) same

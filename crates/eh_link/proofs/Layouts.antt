@@ -48,18 +48,18 @@ section_ends : (objects : List Object) → SectionEnds (layout_of objects) objec
 section_ends objects = let e = ends_of objects in record { text = e.text; rodata = e.rodata; extab = e.extab; init = e.init; bss = e.bss }
 
 -- in rising order
-record Rising (layout : Layout) : Type 0 where
-  text : 0x8000 ≤ layout.text_end
-  rodata : layout.text_end ≤ layout.rodata_end
-  extab : layout.rodata_end ≤ layout.extab_end
-  index : layout.extab_end ≤ layout.index_start
-  code : layout.index_start ≤ layout.code_end
-  start : layout.code_end ≤ layout.data_start
-  page : layout.data_start < layout.code_end + 4096
-  init : layout.data_start ≤ layout.init_end
-  bss : layout.init_end ≤ layout.bss_end
+pub record Rising (layout : Layout) : Type 0 where
+  pub text : 0x8000 ≤ layout.text_end
+  pub rodata : layout.text_end ≤ layout.rodata_end
+  pub extab : layout.rodata_end ≤ layout.extab_end
+  pub index : layout.extab_end ≤ layout.index_start
+  pub code : layout.index_start ≤ layout.code_end
+  pub start : layout.code_end ≤ layout.data_start
+  pub page : layout.data_start < layout.code_end + 4096
+  pub init : layout.data_start ≤ layout.init_end
+  pub bss : layout.init_end ≤ layout.bss_end
 
-rising : (objects : List Object) → Rising (layout_of objects)
+pub rising : (objects : List Object) → Rising (layout_of objects)
 rising objects =
     let e = ends_of objects in
     let l = layout_of objects in

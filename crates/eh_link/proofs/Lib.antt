@@ -1,6 +1,12 @@
+pub mod Branches
 pub mod Changes
+pub mod Equations
 pub mod Holding
+pub mod Images
 pub mod Layouts
+pub mod Reading
 pub mod Sorting
 pub mod Standing
 pub mod Steps
+pub mod AssembledLaws
+pub mod Words

@@ -1,21 +1,23 @@
 -- The stable sort of rows by their starts is the one that puts each row behind those with the same start.
-use Rattle.std.proofs.Common.{◌≡◌, ℕ, suc, ◌<◌, ◌≤◌, Bool, true, false, cond, not, ◌&&◌, ◌⊎◌, inl, inr, nat_lt, nat_eq, List, [], ◌∷◌, ◌++◌, filter, fold, refl, sym, ap, ◌∙◌, arith, append_assoc}
+use Rattle.std.proofs.Common.{◌≡◌, ℕ, zero, suc, ◌==◌, length, get_or, subst, ◌<◌, ◌≤◌, Bool, true, false, cond, not, ◌&&◌, ◌⊎◌, inl, inr, nat_lt, nat_eq, List, [], ◌∷◌, ◌++◌, filter, fold, refl, sym, ap, ◌∙◌, arith, append_assoc}
 use Rattle.std.proofs.Math.Path.{fun_ext}
 use Rattle.std.proofs.lemmas.List.{append-nil}
 use Rattle.std.specs.Ordering.{nat_cmp, is_lt}
 use Rattle.std.specs.declared.cmp.Ordering.TheVariants.{Less, Equal, Greater}
-use Rattle.std.specs.List.Sorted.{ties, IsNonDecreasingBy, IsStableByKey}
+use Rattle.std.specs.List.Sorted.{ties, IsNonDecreasingBy, IsStableByKey, IsPermutation}
+use Rattle.std.proofs.lemmas.List.Sorted.{IsPermutation-refl, IsPermutation-sym, IsPermutation-cons, IsPermutation-trans, IsPermutation-middle, IsPermutation-append_left}
 use Rattle.std.proofs.lemmas.Bool.Decides.{nat_tests}
 use Rattle.eh_link.specs.declared.index.Row.{Row}
+use Rattle.eh_link.specs.declared.index.RowWord.TheVariants.{Given}
 use Rattle.eh_link.specs.Index.{row_among, in_order}
 
 -- the starts don't fall, from `low` on
-abbrev Ascending : ℕ → List Row → Type 0
+abbrev pub Ascending : ℕ → List Row → Type 0
 Ascending low [] = Unit {0}
 Ascending low (r ∷ rows) = (low ≤ r.start) × Ascending r.start rows
 
 -- whether two rows have the same start
-abbrev tie : Row → Row → Bool
+abbrev pub tie : Row → Row → Bool
 tie x y = not (nat_lt x.start y.start) && not (nat_lt y.start x.start)
 
 same_test : (p q : Bool) → p ≡ false → q ≡ false → (not p && not q) ≡ true
@@ -112,11 +114,11 @@ fold_keeps k sorted (row ∷ rows) a =
     fold_keeps k (row_among sorted row) rows (among_ascends 0 sorted row a (omega arith))
     ∙ rw (among_keeps k 0 sorted row a, filter_cons k row rows, append_assoc) refl
 
-order_ascends : (rows : List Row) → Ascending 0 (in_order rows)
+pub order_ascends : (rows : List Row) → Ascending 0 (in_order rows)
 unfolding in_order
 order_ascends rows = fold_ascends [] rows tt
 
-order_keeps : (k : Row) (rows : List Row) → filter (tie k) (in_order rows) ≡ filter (tie k) rows
+pub order_keeps : (k : Row) (rows : List Row) → filter (tie k) (in_order rows) ≡ filter (tie k) rows
 unfolding in_order
 order_keeps k rows = fold_keeps k [] rows tt
 
@@ -187,3 +189,61 @@ pub sorted_is : (xs ys : List Row) → IsNonDecreasingBy (λ (r : Row). r.start)
 sorted_is xs ys up stable =
     unique 0 ys (in_order xs) (ascends ys up) (order_ascends xs)
     (λ k. sym (same_filter k ys) ∙ stable k ∙ same_filter k xs ∙ sym (order_keeps k xs))
+
+-- ---- the rows of the index are those that were sorted
+
+from_low : (low : ℕ) (rows : List Row) (j : ℕ) (d : Row) → Ascending low rows → j < length rows → low ≤ (get_or rows j d).start
+from_low low [] j d a h = absurd (omega arith)
+from_low low (r ∷ rows) zero d a h = a.0
+from_low low (r ∷ rows) (suc j) d a h = omega (arith, a.0, from_low r.start rows j d a.1 (omega arith))
+
+never_falls : (low : ℕ) (rows : List Row) → Ascending low rows → IsNonDecreasingBy (λ (r : Row). r.start) rows
+never_falls low [] a i j d le lt = absurd (omega arith)
+never_falls low (r ∷ rows) a zero zero d le lt = omega arith
+never_falls low (r ∷ rows) a zero (suc j) d le lt = from_low r.start rows j d a.1 (omega arith)
+never_falls low (r ∷ rows) a (suc i) zero d le lt = absurd (omega arith)
+never_falls low (r ∷ rows) a (suc i) (suc j) d le lt = never_falls r.start rows a.1 i j d (omega arith) (omega arith)
+
+pub order_never_falls : (rows : List Row) → IsNonDecreasingBy (λ (r : Row). r.start) (in_order rows)
+order_never_falls rows = never_falls 0 (in_order rows) (order_ascends rows)
+
+-- one row more, in its place
+among_moves : (rows : List Row) (row : Row) → IsPermutation (row ∷ rows) (row_among rows row)
+among_moves [] row = IsPermutation-refl (row ∷ [])
+among_moves (first ∷ more) row = at (nat_lt row.start first.start) (among_moves more row)
+  where
+    at : (b : Bool) → IsPermutation (row ∷ more) (row_among more row) → IsPermutation (row ∷ first ∷ more) (cond b (row ∷ first ∷ more) (first ∷ row_among more row))
+    at true next = IsPermutation-refl (row ∷ first ∷ more)
+    at false next =
+        IsPermutation-trans (row ∷ first ∷ more) (first ∷ row ∷ more) (first ∷ row_among more row)
+        (IsPermutation-sym (first ∷ row ∷ more) (row ∷ first ∷ more) (IsPermutation-middle (first ∷ []) row more))
+        (IsPermutation-cons first (row ∷ more) (row_among more row) next)
+
+fold_moves : (sorted rows : List Row) → IsPermutation (sorted ++ rows) (fold row_among sorted rows)
+fold_moves sorted [] = subst (λ xs. IsPermutation xs sorted) (sym (append-nil sorted)) (IsPermutation-refl sorted)
+fold_moves sorted (row ∷ rows) =
+    IsPermutation-trans (sorted ++ row ∷ rows) (row_among sorted row ++ rows) (fold row_among (row_among sorted row) rows)
+    (IsPermutation-trans (sorted ++ row ∷ rows) (row ∷ (sorted ++ rows)) (row_among sorted row ++ rows)
+    (IsPermutation-middle sorted row rows)
+    (IsPermutation-append_left rows (row ∷ sorted) (row_among sorted row) (among_moves sorted row)))
+    (fold_moves (row_among sorted row) rows)
+
+pub order_moves : (rows : List Row) → IsPermutation rows (in_order rows)
+unfolding in_order
+order_moves rows = fold_moves [] rows
+
+-- rows with one start
+starts_at : (start : ℕ) (d r : Row) → d.start ≡ start → (r.start == start) ≡ tie d r
+starts_at start d r e = by_test (r.start == start) refl (tie d r) refl
+  where
+    by_test : (p : Bool) → p ≡ (r.start == start) → (q : Bool) → q ≡ tie d r → p ≡ q
+    by_test true f true g = refl
+    by_test true f false g = absurd (let same : r.start ≡ start = grind (arith, nat_tests) in let t = tie_same d r (e ∙ sym same) in cc)
+    by_test false f true g = absurd (let same = tied_start d r (sym g) in grind (arith, nat_tests))
+    by_test false f false g = refl
+
+pub order_keeps_starts : (start : ℕ) (rows : List Row) → filter (λ (r : Row). r.start == start) (in_order rows) ≡ filter (λ (r : Row). r.start == start) rows
+order_keeps_starts start rows =
+    let d : Row = record { start = start; second = Given 0 } in
+    let same : (λ (r : Row). r.start == start) ≡ tie d = fun_ext (λ r. starts_at start d r refl) in
+    ap (λ (p : Row → Bool). filter p (in_order rows)) same ∙ order_keeps d rows ∙ ap (λ (p : Row → Bool). filter p rows) (sym same)

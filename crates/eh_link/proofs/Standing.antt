@@ -89,7 +89,7 @@ ends_in Init at x = refl
 ends_in Bss at x = refl
 
 -- the parts have the sizes of the objects' parts
-abbrev Sizes : Section → (Placed → Filled) → Type 0
+abbrev pub Sizes : Section → (Placed → Filled) → Type 0
 Sizes section f = (p : Placed) → length (part_in section (f p)) ≡ size_in section p.object
 
 parts : Section → (Placed → Filled) → List Placed → List (List ℕ)
@@ -159,13 +159,13 @@ filled_sizes all section size part p =
     ∙ filled_length (meaning_of all p) section (address_in section p.at) (bytes_in section p.object) p.object.relocs
     ∙ sym (size p)
 
-text_sizes : (all : List Placed) → Sizes Text (filled_of all)
+pub text_sizes : (all : List Placed) → Sizes Text (filled_of all)
 text_sizes all = filled_sizes all Text (λ p. refl) (λ p. refl)
 
 rodata_sizes : (all : List Placed) → Sizes Rodata (filled_of all)
 rodata_sizes all = filled_sizes all Rodata (λ p. refl) (λ p. refl)
 
-extab_sizes : (all : List Placed) → Sizes Extab (filled_of all)
+pub extab_sizes : (all : List Placed) → Sizes Extab (filled_of all)
 extab_sizes all = filled_sizes all Extab (λ p. refl) (λ p. refl)
 
 init_sizes : (all : List Placed) → Sizes Init (filled_of all)
@@ -185,14 +185,14 @@ fold_length : (sorted rows : List Row) → length (fold row_among sorted rows) �
 fold_length sorted [] = omega arith
 fold_length sorted (row ∷ rows) = omega (arith, fold_length (row_among sorted row) rows, among_length sorted row)
 
-order_length : (rows : List Row) → length (in_order rows) ≡ length rows
+pub order_length : (rows : List Row) → length (in_order rows) ≡ length rows
 unfolding in_order
 order_length rows = fold_length [] rows ∙ omega arith
 
 two_words : (x y : ℕ) → length (word x ++ word y) ≡ 8
 two_words x y = length-append (word x) (word y) ∙ omega (arith, word_length x, word_length y)
 
-rows_length : (end place : ℕ) (rows : List Row) → length (rows_from end place rows) ≡ 8 * (length rows + 1)
+pub rows_length : (end place : ℕ) (rows : List Row) → length (rows_from end place rows) ≡ 8 * (length rows + 1)
 rows_length end place [] = two_words _ 1
 rows_length end place (row ∷ more) =
     length-append (row_bytes place row) (rows_from end (address_at place 8) more)
@@ -278,7 +278,7 @@ code_from_extabs : (objects : List Object) → linked_code objects ≡ joined (e
 unfolding extabs
 code_from_extabs objects = code_from_rodatas objects ∙ joined_append (rodatas objects) (parts Extab (filled_of (placed_of objects)) (placed_of objects)) _
 
-code_ends : (objects : List Object) → 0x8000 + length (linked_code objects) ≡ (layout_of objects).code_end
+pub code_ends : (objects : List Object) → 0x8000 + length (linked_code objects) ≡ (layout_of objects).code_end
 code_ends objects =
     let e = ends_of objects in
     let whole : length (linked_code objects) ≡ length ((extabs objects ++ gap (extabs objects)) ++ linked_index objects) =

@@ -11,14 +11,16 @@ pub enum LinkFault {
     /// The name of a field means no label.
     #[error("a name without a label")]
     Undefined(Name),
+    /// No object has a global function of the entry's name.
     #[error("no global function has the name of the entry")]
     NoEntry,
     /// The segments have more than 1,048,576 bytes of memory together.
     #[error("too large")]
     TooLarge,
-    /// No branch at this address reaches its target.
+    /// The branch at this address, in bytes, can't be encoded: its target is too far away or at an odd distance.
     #[error("a branch at {0} can't reach its target")]
     RelocationRange(u32),
+    /// No memory was left. Nothing is said of the objects.
     #[error("out of memory")]
     OutOfMemory,
 }

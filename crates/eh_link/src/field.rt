@@ -9,6 +9,23 @@ use thumb_encode::code::{Code, EncodeFault};
 use thumb_encode::encode::encode;
 use thumb_isa::instr::Instr;
 
+// The numbers of relocations in the Arm ELF standard (IHI 0044).
+const R_ARM_ABS32: u32 = 2;
+
+const R_ARM_REL32: u32 = 3;
+
+const R_ARM_THM_CALL: u32 = 10;
+
+const R_ARM_TARGET1: u32 = 38;
+
+const R_ARM_TARGET2: u32 = 41;
+
+const R_ARM_PREL31: u32 = 42;
+
+const R_ARM_THM_JUMP11: u32 = 102;
+
+const R_ARM_THM_JUMP8: u32 = 103;
+
 /// What the field of a relocation holds, by the kinds of the Arm ELF standard (IHI 0044).
 #[derive(Clone, Copy, PartialEq, Eq, Debug)]
 pub enum FieldKind {
@@ -29,23 +46,27 @@ pub enum FieldKind {
 /// What a relocation does to the bytes of a section.
 #[derive(Clone, Copy, PartialEq, Eq, Debug)]
 pub enum Change {
+    /// The bytes stay.
     Keep,
+    /// A halfword is written, the lower byte first.
     Half(u16),
+    /// A word is written, the lowest byte first.
     Word(u32),
     /// A branch that can't be encoded.
     Unreachable,
 }
 
+/// The kind by its number in the Arm ELF standard (IHI 0044). Other relocations change nothing.
 fn kind_of(number: u32) -> Option<FieldKind>
     ensures { result ≡ kind_of number }
 {
     match number {
-        2 | 38 => Some(FieldKind::Absolute),
-        3 | 41 => Some(FieldKind::Relative),
-        42 => Some(FieldKind::Prel31),
-        10 => Some(FieldKind::Call),
-        102 => Some(FieldKind::Jump),
-        103 => Some(FieldKind::CondJump),
+        R_ARM_ABS32 | R_ARM_TARGET1 => Some(FieldKind::Absolute),
+        R_ARM_REL32 | R_ARM_TARGET2 => Some(FieldKind::Relative),
+        R_ARM_PREL31 => Some(FieldKind::Prel31),
+        R_ARM_THM_CALL => Some(FieldKind::Call),
+        R_ARM_THM_JUMP11 => Some(FieldKind::Jump),
+        R_ARM_THM_JUMP8 => Some(FieldKind::CondJump),
         _ => None,
     }
 }

@@ -14,9 +14,13 @@ use std::alloc::{AllocError, Global};
 /// The parts of an object with their fields filled.
 #[derive(Drop)]
 pub struct Filled {
+    /// The code.
     pub text: OwnBytes,
+    /// The read-only data.
     pub rodata: OwnBytes,
+    /// The exception tables.
     pub extab: OwnBytes,
+    /// The data with given bytes.
     pub init: OwnBytes,
 }
 

@@ -10,15 +10,18 @@ use std::alloc::{AllocError, Global};
 /// A row of the index: the start of a function, and what the row says of it.
 #[derive(Clone, Copy, PartialEq, Eq, Debug)]
 pub struct Row {
+    /// The address of the function, in bytes.
     pub start: u32,
+    /// What the row says of it.
     pub second: RowWord,
 }
 
 /// The second word of a row.
 #[derive(Clone, Copy, PartialEq, Eq, Debug)]
 pub enum RowWord {
+    /// The word itself: 1, or an inline entry.
     Given(u32),
-    /// The address of a table, which is seen from the place of the word.
+    /// The address of a table, in bytes, which is seen from the place of the word.
     Table(u32),
 }
 

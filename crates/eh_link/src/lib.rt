@@ -2,27 +2,50 @@
 #![tactic(auto)]
 
 ghost use Rattle.eh_link.specs.FieldLaw.{OtherBytesStay, FieldsHold};
+ghost use Rattle.eh_link.specs.AssembledLaw.{AssembledFieldsStandAlone};
+ghost use Rattle.eh_link.specs.EquationLaw.{AbsoluteFields, RelativeFields, Prel31Fields, Calls, Jumps, CondJumps, ImagesReach};
 ghost use Rattle.eh_link.specs.LayoutLaw.{ImagesHaveTheseBytes, SizesAreOfBytes, CodeStands, IndexStands, DataStands};
+ghost use Rattle.eh_link.specs.IndexLaw.{RowsAscend, RowsAreKept, SameStartsKeepTheirOrder, IndexReadsBack, ImagesHaveTheirRows};
 
 pub mod fault;
-pub mod field;
-pub mod fill;
-pub mod index;
-pub mod link;
-pub mod names;
-pub mod places;
+mod field;
+mod fill;
+mod index;
+mod linking;
+mod names;
+mod places;
 mod segments;
 mod symbols;
 #[cfg(test)]
 mod tests;
 
 pub use fault::LinkFault;
+pub use linking::link;
 
 /// A field that shares no byte with another one holds what its own relocation writes into the object's bytes, and a byte in no
 /// field is the object's.
 pub fn fields_hold_what_their_relocations_write()
     ensures stay { OtherBytesStay }
     ensures hold { FieldsHold }
+{}
+
+/// Each field of an object that the assembler gives shares no byte with another one, and lies within its section. So what the two
+/// laws beside this one say of fields holds of every field of a source.
+pub fn assembled_fields_stand_alone()
+    ensures { AssembledFieldsStandAlone }
+{}
+
+/// A field that shares no byte with another one and lies within its section holds what the equation of its kind (IHI 0044) says of
+/// the address that its name means, the addend and its own address: a word of that sum or difference, or a branch that decodes to
+/// that offset. In objects that link to an image each branch reaches.
+pub fn fields_satisfy_their_equations()
+    ensures absolute { AbsoluteFields }
+    ensures relative { RelativeFields }
+    ensures prel31 { Prel31Fields }
+    ensures call { Calls }
+    ensures jump { Jumps }
+    ensures cond_jump { CondJumps }
+    ensures reach { ImagesReach }
 {}
 
 /// In the segments of the image that objects link to, each object's part stands at its address and the index stands last in the
@@ -33,4 +56,15 @@ pub fn parts_stand_at_their_addresses()
     ensures code { CodeStands }
     ensures index { IndexStands }
     ensures init { DataStands }
+{}
+
+/// The exception index (IHI 0038) has the objects' rows, in rising order of their starts and those of one start in the objects'
+/// order. Each of its words, read from its own address, gives the start, the table or the inline entry of its row, and the last row
+/// the end of the texts and that nothing can be unwound there.
+pub fn the_index_reads_back()
+    ensures ascend { RowsAscend }
+    ensures kept { RowsAreKept }
+    ensures ties { SameStartsKeepTheirOrder }
+    ensures read { IndexReadsBack }
+    ensures images { ImagesHaveTheirRows }
 {}

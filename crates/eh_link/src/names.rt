@@ -15,7 +15,9 @@ use std::marker::Model;
 /// What a name means: an address, and whether a function begins there.
 #[derive(Clone, Copy, PartialEq, Eq, Debug)]
 pub struct Meaning {
+    /// The address of the label, in bytes.
     pub address: u32,
+    /// Whether a function begins there.
     pub function: bool,
 }
 
@@ -275,37 +277,27 @@ fn is_entry(name: &[u8], symbol: &ObjSymbol) -> bool
 fn has_entry_in(name: &[u8], object: &Object) -> bool
     ensures { result ≡ list_any (is_entry name.now) object.now.symbols }
 {
-    for symbol in object.symbols.as_slice() {
-        if is_entry(name, symbol) {
-            return true;
-        }
-    }
-    false
+    object
+        .symbols
+        .as_slice()
+        .iter()
+        .any(|symbol| is_entry(name, symbol))
 }
 
 /// Whether there is a global function of a name.
 pub(crate) fn has_entry(name: &[u8], objects: &[Object]) -> bool
     ensures { result ≡ has_entry name.now objects.now }
 {
-    for object in objects {
-        if has_entry_in(name, object) {
-            return true;
-        }
-    }
-    false
+    objects.iter().any(|object| has_entry_in(name, object))
 }
 
 /// The first global function of a name in an object.
-#[tactic(auto, using(crate::proofs::Steps::finds))]
 fn entry_in(name: &[u8], placed: &Placed) -> Option<Meaning>
     ensures { result ≡ first_label (is_entry name.now) placed.now }
 {
-    for symbol in placed.object.symbols.as_slice() {
-        if is_entry(name, symbol) {
-            return Some(meaning_at(placed.at, symbol));
-        }
-    }
-    None
+    let symbols = placed.object.symbols.as_slice();
+    let found = symbols.iter().find(|symbol| is_entry(name, symbol))?;
+    Some(meaning_at(placed.at, found))
 }
 
 /// The first global function of a name.

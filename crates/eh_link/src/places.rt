@@ -10,33 +10,48 @@ use std::marker::Model;
 /// The highest address that is looked at, far above what the segments may take.
 const REACH: u32 = 0x40_0000;
 
-/// An address for each section.
+/// The address, in bytes, at which an object's part of each section begins or ends.
 #[derive(Clone, Copy, PartialEq, Eq, Debug)]
 pub struct Addresses {
+    /// Of the code.
     pub text: u32,
+    /// Of the read-only data.
     pub rodata: u32,
+    /// Of the exception tables.
     pub extab: u32,
+    /// Of the data with given bytes.
     pub init: u32,
+    /// Of the data that begins as zeros.
     pub bss: u32,
 }
 
-/// Where the sections of an image end, and where its index and its data begin.
+/// Where the sections of an image end, and where its index and its data begin: addresses in bytes.
 #[derive(Clone, Copy, PartialEq, Eq, Debug)]
 pub struct Layout {
+    /// Behind the last byte of code.
     pub text_end: u32,
+    /// Behind the last byte of read-only data.
     pub rodata_end: u32,
+    /// Behind the last byte of the exception tables.
     pub extab_end: u32,
+    /// The first byte of the exception index.
     pub index_start: u32,
+    /// Behind the index, and so behind the first segment, which begins at 0x8000.
     pub code_end: u32,
+    /// The first byte of the second segment.
     pub data_start: u32,
+    /// Behind the last data with given bytes.
     pub init_end: u32,
+    /// Behind the last data that begins as zeros, and so behind the second segment.
     pub bss_end: u32,
 }
 
 /// An object, and where its parts begin.
 #[derive(Drop)]
 pub struct Placed<'a> {
+    /// The object.
     pub object: &'a Object,
+    /// Where its part of each section begins.
     pub at: Addresses,
 }
 

@@ -1,6 +1,6 @@
 // Two small objects by hand.
 use crate::fault::LinkFault;
-use crate::link::link;
+use crate::link;
 use asm_layout::place::Section;
 use asm_object::object::{
     IndexRow, IndexRows, Mark, Marks, ObjSymbol, ObjSymbols, Object, Octets, Reloc, Relocs,
@@ -259,5 +259,128 @@ fn sizes_and_ranges(rt: HostRuntime) -> Result<(), Fail> {
         link(alloc, &objects, b"main").err(),
         Some(LinkFault::TooLarge)
     );
+    Ok(())
+}
+
+#[test]
+fn branches_that_reach(rt: HostRuntime) -> Result<(), Fail> {
+    let alloc = rt.alloc();
+    let there: Label = (b"there", Section::Text, 8, false, false);
+    let fields: [Field; 4] = [
+        (Section::Text, 0, 102, b"there", -4),
+        (Section::Text, 2, 103, b"there", -4),
+        (Section::Text, 4, 102, b"main", -4),
+        (Section::Text, 6, 103, b"main", -4),
+    ];
+    let text = [0, 0, 0, 0xd1, 0, 0, 0, 0xd0, 0x70, 0x47];
+    let mut objects = Vec::new(alloc);
+    objects.push(object(alloc, &text, &[MAIN, there], &fields, &[])?)?;
+    let parts = link(alloc, &objects, b"main")?;
+    // b of 4, bne of 2, b of -8, beq of -10; the index stands at 0x800c.
+    assert_eq!(rt;
+        code(&parts),
+        [
+            0x02, 0xe0, 0x01, 0xd1, 0xfc, 0xe7, 0xfb, 0xd0, 0x70, 0x47, 0, 0, //
+            0xfe, 0xff, 0xff, 0x7f, 1, 0, 0, 0,
+        ]
+        .as_slice()
+    );
+    Ok(())
+}
+
+#[test]
+fn the_own_label_before_a_global_one(rt: HostRuntime) -> Result<(), Fail> {
+    let alloc = rt.alloc();
+    let text = [0x70, 0x47, 0x70, 0x47];
+    let global: Label = (b"here", Section::Text, 2, false, true);
+    let own: Label = (b"here", Section::Text, 2, false, false);
+    let field: Field = (Section::Rodata, 0, 2, b"here", 0);
+    let mut objects = Vec::new(alloc);
+    for labels in [[MAIN, global].as_slice(), [own].as_slice()] {
+        let mut next = object(alloc, &text, labels, &[field], &[])?;
+        next.rodata = octets(alloc, &[0, 0, 0, 0])?;
+        objects.push(next)?;
+    }
+    let parts = link(alloc, &objects, b"main")?;
+    // Texts at 0x8000 and 0x8004, rodata at 0x8008 and 0x800c, the index at 0x8010.
+    assert_eq!(rt;
+        code(&parts),
+        [
+            0x70, 0x47, 0x70, 0x47, 0x70, 0x47, 0x70, 0x47, //
+            0x02, 0x80, 0, 0, 0x06, 0x80, 0, 0, //
+            0xf8, 0xff, 0xff, 0x7f, 1, 0, 0, 0,
+        ]
+        .as_slice()
+    );
+    Ok(())
+}
+
+#[test]
+fn odd_distances(rt: HostRuntime) -> Result<(), Fail> {
+    let alloc = rt.alloc();
+    for kind in [10, 102, 103] {
+        let fields: [Field; 2] = [
+            (Section::Text, 0, 10, b"main", -4),
+            (Section::Text, 4, kind, b"main", -3),
+        ];
+        let mut objects = Vec::new(alloc);
+        objects.push(object(alloc, &[0; 8], &[MAIN], &fields, &[])?)?;
+        assert_eq!(rt;
+            link(alloc, &objects, b"main").err(),
+            Some(LinkFault::RelocationRange(0x8004))
+        );
+    }
+    Ok(())
+}
+
+#[test]
+fn zeroed_data_behind_data(rt: HostRuntime) -> Result<(), Fail> {
+    let alloc = rt.alloc();
+    let first_zeros: Label = (b"first", Section::Bss, 2, false, false);
+    let second_zeros: Label = (b"second", Section::Bss, 1, false, false);
+    let mut first = object(alloc, &[0x70, 0x47], &[MAIN, first_zeros], &[], &[])?;
+    first.init = octets(alloc, &[1, 2, 3])?;
+    first.bss = 6;
+    let mut second = object(alloc, &[], &[second_zeros], &[], &[])?;
+    second.bss = 5;
+    let mut objects = Vec::new(alloc);
+    objects.push(first)?;
+    objects.push(second)?;
+    let parts = link(alloc, &objects, b"main")?;
+    // Data at 0x9000 to 0x9003 and at 0x9004, zeros at 0x9004 to 0x900a and at 0x900c to 0x9011.
+    let segments = parts.segments.as_slice();
+    assert_eq!(rt; segments.len(), 2);
+    assert_eq!(rt; segments[1].bytes.as_slice(), [1, 2, 3, 0].as_slice());
+    assert_eq!(rt; segments[1].size, 0x11);
+    let symbols = parts.symbols.as_slice();
+    assert_eq!(rt; symbols.len(), 4);
+    assert_eq!(rt; symbols[2].value, 0x9006);
+    assert_eq!(rt; symbols[3].value, 0x900d);
+    Ok(())
+}
+
+#[test]
+fn empty_parts(rt: HostRuntime) -> Result<(), Fail> {
+    let alloc = rt.alloc();
+    let end: Label = (b"end", Section::Text, 0, false, false);
+    let mut first = object(alloc, &[0x70, 0x47], &[MAIN], &[], &[])?;
+    first.rodata = octets(alloc, &[9])?;
+    let mut objects = Vec::new(alloc);
+    objects.push(first)?;
+    objects.push(object(alloc, &[], &[end], &[], &[])?)?;
+    let parts = link(alloc, &objects, b"main")?;
+    // Texts at 0x8000 and 0x8004, rodata at 0x8004 and 0x8008, the index at 0x8008.
+    assert_eq!(rt;
+        code(&parts),
+        [
+            0x70, 0x47, 0, 0, 9, 0, 0, 0, 0xfc, 0xff, 0xff, 0x7f, 1, 0, 0, 0
+        ]
+        .as_slice()
+    );
+    assert_eq!(rt; parts.index, (0x8008, 8));
+    let symbols = parts.symbols.as_slice();
+    assert_eq!(rt; symbols.len(), 4);
+    assert_eq!(rt; symbols[3].name.bytes(), b"end".as_slice());
+    assert_eq!(rt; symbols[3].value, 0x8004);
     Ok(())
 }

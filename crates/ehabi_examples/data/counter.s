@@ -4,6 +4,7 @@
 @ > 8
 @ > -- trace
 @ > -- exit 0
+@ exit status 0
 
         .global main
         .type main, %function

@@ -5,6 +5,7 @@
 @ >
 @ > -- trace
 @ > -- exit 0
+@ exit status 0
 
         .global main
         .type main, %function

@@ -1,4 +1,4 @@
-@ Reads its input to the end and writes it in capitals. The exit status is the number of bytes.
+@ Reads its input to the end and writes it in capitals. It exits with the number of bytes.
 @
 @ < mind the gap
 @ $ ./ehabi_run run examples/shout.s 1000
@@ -6,6 +6,7 @@
 @ >
 @ > -- trace
 @ > -- exit 13
+@ exit status 1
 
         .global main
         .type main, %function

@@ -4,6 +4,7 @@
 @ > 7
 @ > -- trace
 @ > -- exit 7
+@ exit status 1
 
         .global main
         .type main, %function

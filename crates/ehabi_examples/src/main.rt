@@ -1,5 +1,6 @@
-//! Runs the examples of data/, each by the command in its own head comment, and compares what it writes with that comment;
-//! and builds them, and compares the image that is read of what was written with the parts that the sources link to.
+//! Runs the examples of data/, each by the command in its own head comment, and compares what it writes and its status with
+//! that comment; and builds them, and compares the image that is read of what was written with the parts that the sources
+//! link to.
 #![tactic(auto)]
 
 mod image;
@@ -21,13 +22,14 @@ const EXAMPLES: [&str; 6] = [
     "table.s",
 ];
 
-/// What the head comment of an example says: the words of its command behind the program's name, its input, and what
-/// it writes.
+/// What the head comment of an example says: the words of its command behind the program's name, its input, what it
+/// writes, and its status.
 #[derive(Drop)]
 struct Head<'a> {
     words: Vec<&'a str>,
     input: Vec<u8>,
     wrote: Vec<u8>,
+    status: Option<u8>,
 }
 
 impl<'a> Head<'a> {
@@ -36,6 +38,7 @@ impl<'a> Head<'a> {
             words: Vec::new(alloc),
             input: Vec::new(alloc),
             wrote: Vec::new(alloc),
+            status: None,
         }
     }
 
@@ -55,6 +58,8 @@ impl<'a> Head<'a> {
             self.input.push(b'\n')?;
         } else if let Some(command) = line.strip_prefix("@ $ ./ehabi_run ") {
             self.take_command(command)?;
+        } else if let Some(status) = line.strip_prefix("@ exit status ") {
+            self.status = status.parse().ok();
         } else if let Some(text) = line.strip_prefix("@ >") {
             self.wrote
                 .extend_from_slice(text.strip_prefix(" ").unwrap_or(text).as_bytes())?;
@@ -81,15 +86,15 @@ fn sink(alloc: Global) -> MemSink {
     }
 }
 
-/// What the program writes for some words and an input.
-fn written(host: &HostRuntime, words: &[&str], input: Vec<u8>) -> MemSink {
+/// What the program writes for some words and an input, and its status.
+fn run(host: &HostRuntime, words: &[&str], input: Vec<u8>) -> (MemSink, u8) {
     let mut files = HostFiles { host, faults: 0 };
     let mut input = SureSource {
         left: Bytes::of_vec(input),
     };
     let mut out = sink(host.alloc());
-    ehabi_main(host.alloc(), words, &mut files, &mut input, &mut out);
-    out
+    let status = ehabi_main(host.alloc(), words, &mut files, &mut input, &mut out);
+    (out, status)
 }
 
 /// Whether what is built of sources is read as the image of the parts that they link to.
@@ -102,9 +107,9 @@ fn is_built(host: &HostRuntime, sources: &[&str]) -> Result<bool, Error> {
         words.push(*name)?;
         texts.push(fs::read_to_string(host, *name)?)?;
     }
-    let out = written(host, words.as_slice(), Vec::new(alloc));
+    let (out, status) = run(host, words.as_slice(), Vec::new(alloc));
     Ok(match parts_of(alloc, texts.as_slice()) {
-        Some(parts) => is_image_of(alloc, out.written.as_slice(), &parts),
+        Some(parts) => status == 0 && is_image_of(alloc, out.written.as_slice(), &parts),
         None => false,
     })
 }
@@ -116,6 +121,7 @@ fn verdict(host: &HostRuntime, name: &str) -> Result<&'static str, Error> {
         words,
         input,
         wrote,
+        status: said,
     } = head_of(host.alloc(), text.as_str())?;
     let [_run, sources @ .., _budget] = words.as_slice() else {
         return Ok("no command");
@@ -123,9 +129,12 @@ fn verdict(host: &HostRuntime, name: &str) -> Result<&'static str, Error> {
     if !is_built(host, sources)? {
         return Ok("another image than its parts'");
     }
-    let out = written(host, words.as_slice(), input);
+    let (out, status) = run(host, words.as_slice(), input);
     if out.written.as_slice() != wrote.as_slice() {
         return Ok("not what its head says");
+    }
+    if said != Some(status) {
+        return Ok("another status than its head says");
     }
     Ok("as its head says")
 }

@@ -8,4 +8,8 @@ mod faults;
 #[cfg(test)]
 mod images;
 #[cfg(test)]
+mod inputs;
+#[cfg(test)]
 mod sources;
+#[cfg(test)]
+mod texts;

@@ -1,36 +1,14 @@
 // `build` and `run` of sources.
 use crate::cases::{Case, NONE, USAGE, call, comes_out};
+use crate::texts::{ECHO_MAIN, ECHO_PUT, HANDLER, HANDLER_IMAGE, WRITES_A, with_line};
 use elf_image::read_image;
+use std::alloc::{AllocError, Global};
 use std::test::Fail;
 
-/// A program that writes A and ends well.
-const Z: &[u8] =
-    b".global main\n.type main, %function\nmain: push {r4, lr}\nmovs r0, #65\nbl putchar\nmovs r0, #0\npop {r4, pc}\n";
-
-/// A call of a name that no source has.
-const NOWHERE: &[u8] = b".global main\n.type main, %function\nmain: bl nowhere\n";
-
-/// An instruction on line 3 whose register has no place in its code.
-const HIGH: &[u8] = b".global main\n.type main, %function\nmovs r9, #1\n";
-
-/// A directive on line 2 that saves sp.
-const SAVES_SP: &[u8] = b".fnstart\n.save {sp}\n.fnend\n";
-
-/// A word on line 2 that is no mnemonic.
-const FROB: &[u8] = b"nop\nfrob r0\n";
-
-/// A function that calls one that throws, with a handler for `int` in its exception table.
-const HANDLER: &[u8] =
-    b".global main\n.type main, %function\nmain:   .fnstart\n.save {r4, lr}\npush {r4, lr}\n.Lb:    bl f\n.Le:    movs r0, #1\npop {r4, pc}\n.Lp:    bl __cxa_begin_catch\nbl __cxa_end_catch\nmovs r0, #107\nbl putchar\nmovs r0, #0\npop {r4, pc}\n.personalityindex 0\n.handlerdata\n.half .Le-.Lb+1, .Lb-main\n.word .Lp(prel31), _ZTIi(target2), 0\n.fnend\n.type f, %function\nf:      .fnstart\n.save {r4, lr}\npush {r4, lr}\nmovs r0, #4\nbl __cxa_allocate_exception\nmovs r1, #7\nstr r1, [r0]\nldr r1, =_ZTIi\nmovs r2, #0\nbl __cxa_throw\n.fnend\n";
-
-/// What clang 14 and ld.lld make of HANDLER and the stubs at the same addresses: texts, read-only data, exception tables, index.
-const HANDLER_IMAGE: &str =
-    "10b500f00bf8012010bd00f01cf800f01cf86b2000f029f8002010bd10b5042000f00cf8072101600149002200f00af8c480000010b5fff7e3ff10bd10df704711df704712df13df704710b514df040004d0002900d08847200011df10bd15df16df17df18df19df704701df704702df704700df00000000000000000000000000000000000000000000000000000000000000000000000000000000000000000000000000000000000000000000000000000000000000000000000000000000000000007c800000d48000007c800000d680000069007600b0b0a880050002002affff7fe0ffffff0000000014ffff7fe8ffff7f28ffff7fb0b0a88038ffff7fb0b0a88038ffff7fb0b0b08034ffff7fb0b0b08030ffff7fb0b0b0802affff7fb0b0b08026ffff7fb0b0a88032ffff7fb0b0b0802cffff7fb0b0b08026ffff7fb0b0b08020ffff7fb0b0b0801affff7fb0b0b08016ffff7fb0b0b08012ffff7fb0b0b0800effff7fb0b0b08008ffff7f01000000";
-
-static CASES: [Case; 16] = [
+static CASES: [Case; 8] = [
     Case {
         words: &["run", "z.s", "100"],
-        files: &[("z.s", Z)],
+        files: &[("z.s", WRITES_A)],
         input: b"in",
         status: 0,
         written: b"A\n-- trace\n-- exit 0\n",
@@ -38,82 +16,23 @@ static CASES: [Case; 16] = [
     },
     Case {
         words: &["run", "z.s", "1"],
-        files: &[("z.s", Z)],
+        files: &[("z.s", WRITES_A)],
         input: b"",
         status: 6,
         written: b"\n-- trace\n-- budget\n",
         left: b"",
     },
     Case {
-        words: &["run", "a.s", "a.s", "100"],
-        files: &[("a.s", Z)],
-        input: b"in",
-        status: 3,
-        written: b"link: Duplicate main\n",
-        left: b"in",
-    },
-    Case {
-        words: &["build", "a.s"],
-        files: &[("a.s", NOWHERE)],
-        input: b"",
-        status: 3,
-        written: b"link: Undefined nowhere\n",
-        left: b"",
-    },
-    Case {
-        // the stubs call main
-        words: &["build", "a.s"],
-        files: &[("a.s", b"")],
-        input: b"",
-        status: 3,
-        written: b"link: Undefined main\n",
-        left: b"",
-    },
-    Case {
-        words: &["build", "a.s"],
-        files: &[("a.s", HIGH)],
-        input: b"",
-        status: 3,
-        written: b"a.s:3: RegisterRange\n",
-        left: b"",
-    },
-    Case {
-        words: &["build", "a.s"],
-        files: &[("a.s", SAVES_SP)],
-        input: b"",
-        status: 3,
-        written: b"a.s:2: SaveRange\n",
-        left: b"",
-    },
-    Case {
-        words: &["run", "a.s", "100"],
-        files: &[("a.s", FROB)],
-        input: b"in",
-        status: 3,
-        written: b"a.s:2:1: UnknownMnemonic\n",
-        left: b"in",
-    },
-    Case {
-        // a source that is none, behind one that has no object
-        words: &["build", "h.s", "f.s"],
-        files: &[("h.s", HIGH), ("f.s", FROB)],
-        input: b"",
-        status: 3,
-        written: b"f.s:2:1: UnknownMnemonic\n",
-        left: b"",
-    },
-    Case {
-        // a file that is missing, behind a source that is none
-        words: &["build", "f.s", "gone.s"],
-        files: &[("f.s", FROB)],
-        input: b"",
-        status: 10,
-        written: b"gone.s: missing\n",
-        left: b"",
+        words: &["run", "main.s", "put.s", "100"],
+        files: &[("put.s", ECHO_PUT), ("main.s", ECHO_MAIN)],
+        input: b"xyz",
+        status: 0,
+        written: b"x\n-- trace\n-- exit 0\n",
+        left: b"z",
     },
     Case {
         words: &["build", "z"],
-        files: &[("z", Z)],
+        files: &[("z", WRITES_A)],
         input: b"",
         status: 2,
         written: USAGE,
@@ -130,7 +49,7 @@ static CASES: [Case; 16] = [
     Case {
         // names of sources and of an image do not go together
         words: &["run", "z.s", "z", "100"],
-        files: &[("z.s", Z), ("z", Z)],
+        files: &[("z.s", WRITES_A), ("z", WRITES_A)],
         input: b"",
         status: 2,
         written: USAGE,
@@ -138,37 +57,189 @@ static CASES: [Case; 16] = [
     },
     Case {
         words: &["run", "100"],
-        files: &[("100", Z)],
+        files: &[("100", WRITES_A)],
         input: b"",
         status: 2,
         written: USAGE,
         left: b"",
     },
     Case {
-        // seventeen
-        words: &[
-            "build", "a.s", "a.s", "a.s", "a.s", "a.s", "a.s", "a.s", "a.s", "a.s", "a.s", "a.s",
-            "a.s", "a.s", "a.s", "a.s", "a.s", "a.s",
+        // a branch that just reaches: 2 + 2046 bytes, then two more before its label
+        words: &["run", "near.s", "far.s", "100"],
+        files: &[
+            (
+                "near.s",
+                b".global main\n.type main, %function\nmain: b far\n.space 2046\n",
+            ),
+            (
+                "far.s",
+                b"nop\n.global far\n.type far, %function\nfar: bx lr\n",
+            ),
         ],
-        files: &[("a.s", Z)],
         input: b"",
-        status: 2,
-        written: USAGE,
-        left: b"",
-    },
-    Case {
-        // sixteen
-        words: &[
-            "build", "a.s", "a.s", "a.s", "a.s", "a.s", "a.s", "a.s", "a.s", "a.s", "a.s", "a.s",
-            "a.s", "a.s", "a.s", "a.s", "a.s",
-        ],
-        files: &[("a.s", Z)],
-        input: b"",
-        status: 3,
-        written: b"link: Duplicate main\n",
+        status: 0,
+        written: b"\n-- trace\n-- exit 0\n",
         left: b"",
     },
 ];
+
+/// Sources that give no image: what `build` and `run` of them answer and write.
+struct Refused {
+    names: &'static [&'static str],
+    files: &'static [(&'static str, &'static [u8])],
+    status: u8,
+    line: &'static [u8],
+}
+
+/// An instruction on line 3 whose register has no place in its code.
+const HIGH: &[u8] = b".global main\n.type main, %function\nmovs r9, #1\n";
+
+/// A word on line 2 that is no mnemonic.
+const FROB: &[u8] = b"nop\nfrob r0\n";
+
+/// Four bytes of codes under a personality that has room for three.
+const LONG_CODES: &[u8] = b"\
+.fnstart
+.save {r4, r7, lr}
+.pad #8
+.setfp r7, sp, #0
+.personalityindex 0
+.fnend
+";
+
+/// A branch at 0x8000 with 2,050 bytes behind it, so that the next object begins at 0x8804: 2,048 from 0x8004.
+const NEAR: &[u8] = b"\
+.global main
+.type main, %function
+main: b far
+.space 2050
+";
+
+/// What fills an image alone, so that nothing has room beside it.
+const LARGE: &[u8] = b"\
+.global main
+.type main, %function
+main: bx lr
+.bss
+.space 1048576
+";
+
+/// The refusals of one source under the name `a.s`.
+static REFUSED: [(&[u8], &[u8]); 15] = [
+    // the stubs call main
+    (b"", b"link: Undefined main\n"),
+    (
+        b".global main\n.type main, %function\nmain: bl nowhere\n",
+        b"link: Undefined nowhere\n",
+    ),
+    (LARGE, b"link: TooLarge\n"),
+    (HIGH, b"a.s:3: RegisterRange\n"),
+    (FROB, b"a.s:2:1: UnknownMnemonic\n"),
+    (b".ascii \"a\n", b"a.s:1:8: BadToken\n"),
+    (b".ascii \"a", b"a.s:1:8: BadToken\n"),
+    (b".save {r4, lr}\n", b"a.s:1: OutsideFunction\n"),
+    (
+        b".fnstart\n.fnend\n.save {r4, lr}\n",
+        b"a.s:3: OutsideFunction\n",
+    ),
+    (b"nop\n.fnstart\n", b"a.s:2: OutsideFunction\n"),
+    (b".fnstart\n.fnstart\n.fnend\n", b"a.s:2: NestedFunction\n"),
+    (b".fnstart\n.save {sp}\n.fnend\n", b"a.s:2: SaveRange\n"),
+    (b".fnstart\n.pad #6\n.fnend\n", b"a.s:2: PadRange\n"),
+    (LONG_CODES, b"a.s:6: TooLong\n"),
+    (b"a: nop\nb: nop\na: nop\n", b"a.s:3: DuplicateLabel\n"),
+];
+
+/// The refusals of several.
+static SEVERAL: [Refused; 6] = [
+    Refused {
+        names: &["a.s", "a.s"],
+        files: &[("a.s", WRITES_A)],
+        status: 3,
+        line: b"link: Duplicate main\n",
+    },
+    Refused {
+        names: &["near.s", "far.s"],
+        files: &[("near.s", NEAR), ("far.s", b".global far\nfar: nop\n")],
+        status: 3,
+        line: b"link: RelocationRange 00008000\n",
+    },
+    Refused {
+        // a source that is none, behind one that has no object
+        names: &["h.s", "f.s"],
+        files: &[("h.s", HIGH), ("f.s", FROB)],
+        status: 3,
+        line: b"f.s:2:1: UnknownMnemonic\n",
+    },
+    Refused {
+        // a file that is missing, behind a source that is none
+        names: &["f.s", "gone.s"],
+        files: &[("f.s", FROB)],
+        status: 10,
+        line: b"gone.s: missing\n",
+    },
+    Refused {
+        // two files that are missing
+        names: &["gone.s", "lost.s"],
+        files: &[("f.s", FROB)],
+        status: 10,
+        line: b"gone.s: missing\n",
+    },
+    Refused {
+        // sixteen names of one file
+        names: &[
+            "a.s", "a.s", "a.s", "a.s", "a.s", "a.s", "a.s", "a.s", "a.s", "a.s", "a.s", "a.s",
+            "a.s", "a.s", "a.s", "a.s",
+        ],
+        files: &[("a.s", WRITES_A)],
+        status: 3,
+        line: b"link: Duplicate main\n",
+    },
+];
+
+/// Lines put into HANDLER: how many lines of it stand before, and how it is then refused.
+static EDITS: [(usize, &str, &[u8]); 3] = [
+    (5, "bl nowhere", b"link: Undefined nowhere\n"),
+    (2, "movs r9, #1", b"a.s:3: RegisterRange\n"),
+    (1, "frob r0", b"a.s:2:1: UnknownMnemonic\n"),
+];
+
+/// Whether a call answers this status, writes this text and leaves its input.
+pub(crate) fn answers(
+    alloc: Global,
+    words: &[&str],
+    files: &[(&str, &[u8])],
+    status: u8,
+    text: &[u8],
+) -> Result<bool, AllocError> {
+    let outcome = call(alloc, words, files, b"in", NONE)?;
+    Ok(
+        outcome.status == status
+            && outcome.out.written.as_slice() == text
+            && outcome.input.left.as_slice() == b"in".as_slice(),
+    )
+}
+
+/// Whether both `build` and `run` of sources answer this status and write this line alone.
+pub(crate) fn refuses(
+    alloc: Global,
+    names: &[&str],
+    files: &[(&str, &[u8])],
+    status: u8,
+    line: &[u8],
+) -> Result<bool, AllocError> {
+    let mut build = vec![in alloc; "build"]?;
+    let mut run = vec![in alloc; "run"]?;
+    for name in names {
+        build.push(*name)?;
+        run.push(*name)?;
+    }
+    run.push("1000")?;
+    Ok(
+        answers(alloc, build.as_slice(), files, status, line)?
+            && answers(alloc, run.as_slice(), files, status, line)?,
+    )
+}
 
 #[test]
 fn source_cases(rt: HostRuntime) -> Result<(), Fail> {
@@ -179,9 +250,47 @@ fn source_cases(rt: HostRuntime) -> Result<(), Fail> {
 }
 
 #[test]
+fn refused_sources(rt: HostRuntime) -> Result<(), Fail> {
+    for (number, (text, line)) in REFUSED.iter().enumerate() {
+        let well = refuses(rt.alloc(), &["a.s"], &[("a.s", text)], 3, line)?;
+        assert!(rt; well, "source {number}");
+    }
+    for (number, refused) in SEVERAL.iter().enumerate() {
+        let Refused {
+            names,
+            files,
+            status,
+            line,
+        } = refused;
+        let well = refuses(rt.alloc(), names, files, *status, line)?;
+        assert!(rt; well, "sources {number}");
+    }
+    Ok(())
+}
+
+#[test]
+fn refused_handlers(rt: HostRuntime) -> Result<(), Fail> {
+    let alloc = rt.alloc();
+    let twice = refuses(
+        alloc,
+        &["a.s", "a.s"],
+        &[("a.s", HANDLER.as_bytes())],
+        3,
+        b"link: Duplicate main\n",
+    )?;
+    assert!(rt; twice);
+    for (behind, line, refusal) in &EDITS {
+        let text = with_line(alloc, HANDLER, *behind, line)?;
+        let well = refuses(alloc, &["a.s"], &[("a.s", text.as_bytes())], 3, refusal)?;
+        assert!(rt; well, "{line}");
+    }
+    Ok(())
+}
+
+#[test]
 fn built_image_runs(rt: HostRuntime) -> Result<(), Fail> {
     let alloc = rt.alloc();
-    let built = call(alloc, &["build", "z.s"], &[("z.s", Z)], b"", NONE)?;
+    let built = call(alloc, &["build", "z.s"], &[("z.s", WRITES_A)], b"", NONE)?;
     assert_eq!(rt; built.status, 0);
     let bytes = built.out.written.as_slice();
     let image = read_image(alloc, bytes)?;
@@ -199,7 +308,13 @@ fn built_image_runs(rt: HostRuntime) -> Result<(), Fail> {
 #[test]
 fn handler_links_as_elsewhere(rt: HostRuntime) -> Result<(), Fail> {
     let alloc = rt.alloc();
-    let built = call(alloc, &["build", "a.s"], &[("a.s", HANDLER)], b"", NONE)?;
+    let built = call(
+        alloc,
+        &["build", "a.s"],
+        &[("a.s", HANDLER.as_bytes())],
+        b"",
+        NONE,
+    )?;
     assert_eq!(rt; built.status, 0);
     let image = read_image(alloc, built.out.written.as_slice())?;
     assert_eq!(rt; image.functions().len(), 16);

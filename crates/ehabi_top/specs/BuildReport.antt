@@ -1,35 +1,26 @@
 -- The reports of `build FILE..` and of `run FILE.. N` of sources.
 use Rattle.std.specs.Prelude.{ℕ, List, Result, Ok, Err, IsErr}
 use Rattle.elf_image.specs.Image.{image_of}
-use Rattle.ehabi_top.specs.Building.{files_of, built}
+use Rattle.ehabi_top.specs.Building.{built, image_bytes}
 use Rattle.ehabi_top.specs.Loading.{Report}
 use Rattle.ehabi_top.specs.RunReport.{bytes_report, IsRefusedImage}
-use Rattle.ehabi_top.specs.Sources.{NamedText}
+use Rattle.ehabi_top.specs.Sources.{NamedText, Refusal}
 
--- the report of what was built, or the line of why nothing was
-abbrev pub built_report : List ℕ → (List ℕ → Report) → Result (List ℕ) (List ℕ) → Report
+-- the report of the bytes that were built, or the line of why there are none
+abbrev pub built_report : List ℕ → (List ℕ → Report) → Result (List ℕ) Refusal → Report
 built_report input report (Ok bytes) = report bytes
-built_report input report (Err line) = record { text = line; status = 3; left = input }
-
--- the report of files that are there, or the line of the first that is not
-abbrev pub with_files : List ℕ → (List NamedText → Report) → Result (List NamedText) (List ℕ) → Report
-with_files input report (Ok sources) = report sources
-with_files input report (Err line) = record { text = line; status = 10; left = input }
-
--- what is done with the bytes of the image that sources are built to
-abbrev pub sources_report : List ℕ → (List ℕ → Report) → List NamedText → Report
-sources_report input report sources = built_report input report (built sources)
+built_report input report (Err refusal) = record { text = refusal.line; status = refusal.status; left = input }
 
 -- bytes that are written, and nothing else
 abbrev pub plain_report : List ℕ → List ℕ → Report
 plain_report input bytes = record { text = bytes; status = 0; left = input }
 
 unfoldable pub build_report : List (List ℕ) → List (List ℕ × List ℕ) → List ℕ → Report
-build_report names files input = with_files input (sources_report input (plain_report input)) (files_of files names)
+build_report names files input = built_report input (plain_report input) (image_bytes files names)
 
 -- the image is read from the bytes that `build` writes, and run as one that a file holds
 unfoldable pub run_sources_report : List (List ℕ) → ℕ → List (List ℕ × List ℕ) → List ℕ → Report
-run_sources_report names budget files input = with_files input (sources_report input (bytes_report budget input)) (files_of files names)
+run_sources_report names budget files input = built_report input (bytes_report budget input) (image_bytes files names)
 
 -- ---- what is refused
 

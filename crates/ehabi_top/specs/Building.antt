@@ -22,10 +22,12 @@ use Rattle.eh_port.specs.declared.FileAnswer.{FileAnswer}
 use Rattle.eh_port.specs.declared.FileAnswer.TheVariants.{Found, Missing, TooLong}
 use Rattle.ehabi_top.specs.Loading.{file_limit}
 use Rattle.ehabi_top.specs.RefusalText.{source_line, asm_line, link_line}
-use Rattle.ehabi_top.specs.Sources.{NamedText, NamedStmts, and_then, all_answers}
+use Rattle.ehabi_top.specs.Sources.{NamedText, NamedStmts, Refusal, and_then, all_answers}
 use Rattle.ehabi_top.specs.Text.{missing_line, too_long_line, image_fault_line}
 use Rattle.ehabi_top.specs.declared.refusal.BuildFault.{BuildFault}
 use Rattle.ehabi_top.specs.declared.refusal.BuildFault.TheVariants.{InSource, InObject, InLink, InImage, OutOfMemory}
+use Rattle.ehabi_top.specs.declared.refusal.FilesFault.{FilesFault}
+use Rattle.ehabi_top.specs.declared.refusal.FilesFault.TheVariants as files
 use Rattle.ehabi_top.specs.declared.sources.Loaded.{Loaded}
 use Rattle.ehabi_top.specs.declared.sources.Loaded.TheVariants.{All, Lacks, Exceeds}
 
@@ -77,6 +79,21 @@ built sources =
     and_then (all_answers assembled read) (λ objects.
     and_then (linked_parts objects) written_bytes))
 
+-- ---- from files to the bytes of an image
+
+abbrev pub bytes_of_built : Result (List ℕ) (List ℕ) → Result (List ℕ) Refusal
+bytes_of_built (Ok bytes) = Ok bytes
+bytes_of_built (Err line) = Err (record { status = 3; line = line })
+
+abbrev pub bytes_of_found : Result (List NamedText) (List ℕ) → Result (List ℕ) Refusal
+bytes_of_found (Ok sources) = bytes_of_built (built sources)
+bytes_of_found (Err line) = Err (record { status = 10; line = line })
+
+-- the bytes of the image that the sources of these names are built to, or why there are none: a file that is missing or too
+-- long, or what is refused of the sources
+unfoldable pub image_bytes : List (List ℕ × List ℕ) → List (List ℕ) → Result (List ℕ) Refusal
+image_bytes files names = bytes_of_found (files_of files names)
+
 -- ---- refusals as the program has them
 
 abbrev pub is_source_memory : SourceWhat → Bool
@@ -110,3 +127,14 @@ fault_line (InObject name fault) = asm_line name.now fault
 fault_line (InLink fault) = link_line fault
 fault_line (InImage fault) = image_fault_line fault
 fault_line OutOfMemory = []
+
+-- want of memory, of files
+abbrev pub wants_memory : FilesFault → Bool
+wants_memory (files.Missing name) = false
+wants_memory (files.TooLong name) = false
+wants_memory (files.Sources fault) = is_memory fault
+
+abbrev pub refusal_of : FilesFault → Refusal
+refusal_of (files.Missing name) = record { status = 10; line = missing_line name.now }
+refusal_of (files.TooLong name) = record { status = 10; line = too_long_line name.now }
+refusal_of (files.Sources fault) = record { status = 3; line = fault_line fault }

@@ -1,5 +1,5 @@
 -- What a report is, and the parts that the reports of several commands share.
-use Rattle.std.specs.Prelude.{ℕ, ◌==◌, List, [], ◌∷◌, ◌++◌, if◌then◌else◌}
+use Rattle.std.specs.Prelude.{ℕ, ◌≡◌, ◌==◌, ◌↔◌, List, [], ◌∷◌, ◌++◌, if◌then◌else◌}
 use Rattle.event_runs.specs.Runs.{Ran}
 use Rattle.eh_bus.specs.Built.{zeros_at}
 use Rattle.eh_bus.specs.Memory.{Memory}
@@ -15,6 +15,11 @@ pub record Report : Type 0 where
   pub text : List ℕ
   pub status : ℕ
   pub left : List ℕ
+
+-- a status is 10 exactly where a file is missing or too long, and 3 exactly where what is there is refused
+pub record SaysWhy (status : ℕ) (lacks unfit : Type 0) : Type 0 where
+  pub missing : (status ≡ 10) ↔ lacks
+  pub refused : (status ≡ 3) ↔ unfit
 
 -- ---- files
 

@@ -1,5 +1,5 @@
 -- The lines of sources that are refused. Each ends in a line feed.
-use Rattle.std.specs.Prelude.{ℕ, List, ◌++◌, codes, decimal}
+use Rattle.std.specs.Prelude.{ℕ, List, [], ◌++◌, codes, decimal}
 use Rattle.asm_layout.specs.declared.fault.AsmFault.{AsmFault}
 use Rattle.asm_layout.specs.declared.fault.AsmWhat.{AsmWhat}
 use Rattle.asm_layout.specs.declared.fault.AsmWhat.TheVariants as asm
@@ -77,10 +77,11 @@ asm_line name fault = name ++ asm_place fault
 abbrev pub range_line : ℕ → List ℕ
 range_line place = codes "link: RelocationRange " ++ hex8 place ++ codes "\n"
 
+-- want of memory has none
 abbrev pub link_line : LinkFault → List ℕ
 link_line (link.Duplicate name) = codes "link: Duplicate " ++ name ++ codes "\n"
 link_line (link.Undefined name) = codes "link: Undefined " ++ name ++ codes "\n"
 link_line link.NoEntry = codes "link: NoEntry\n"
 link_line link.TooLarge = codes "link: TooLarge\n"
 link_line (link.RelocationRange place) = range_line place
-link_line link.OutOfMemory = codes "link: OutOfMemory\n"
+link_line link.OutOfMemory = []

@@ -14,6 +14,11 @@ pub record NamedStmts : Type 0 where
 
 -- ---- answers, or the line that says why there is none
 
+-- why nothing is made of files: the status, and the line
+pub record Refusal : Type 0 where
+  pub status : ℕ
+  pub line : List ℕ
+
 -- what is made of an answer
 abbrev pub and_then : {A B : Type 0} → Result A (List ℕ) → (A → Result B (List ℕ)) → Result B (List ℕ)
 and_then (Ok answer) next = next answer

@@ -1,21 +1,22 @@
 // `build FILE..`: sources to the bytes of an image.
-ghost use Rattle.std.specs.Prelude.{◌≡◌, ◌≢◌, ◌≤◌, ◌++◌, [], ◌∷◌, ℕ, List, Some, Ok, Err, IfOk, IfSome, IsErrOf, MatchResult, true, false};
+ghost use Rattle.std.specs.Prelude.{◌≡◌, ◌≢◌, ◌≤◌, ◌++◌, [], ◌∷◌, ℕ, List, Some, Ok, Err, IfOk, IfErr, IfSome, IsErrOf, MatchResult, true, false};
 ghost use Rattle.eh_port.specs.Causes.{Rose};
-ghost use Rattle.ehabi_top.specs.Words.{texts};
+ghost use Rattle.ehabi_top.specs.Words.{BuildSources, texts};
 ghost use Rattle.ehabi_top.specs.Sources.{NamedText, all_answers};
-ghost use Rattle.ehabi_top.specs.Building.{statements_of, assembled, linked_parts, written_bytes, stubs, built, is_memory, fault_line};
-ghost use Rattle.ehabi_top.specs.BuildReport.{build_report, sources_report, plain_report};
-ghost use Rattle.ehabi_top.specs.Report.{Gives, is_settled};
+ghost use Rattle.ehabi_top.specs.Building.{statements_of, assembled, linked_parts, written_bytes, stubs, built, image_bytes, is_memory, fault_line, wants_memory, refusal_of};
+ghost use Rattle.ehabi_top.specs.BuildReport.{build_report};
+ghost use Rattle.ehabi_top.specs.Loading.{SaysWhy};
+ghost use Rattle.ehabi_top.specs.Report.{Gives, LacksFile, IsRefused, is_settled};
 
-use crate::answer::{answer_missing, answer_text, answer_too_long};
+use crate::answer::answer_text;
 use crate::named::{SourceStmts, SourceText};
-use crate::refusal::{BuildFault, answer_fault, is_memory};
+use crate::refusal::{BuildFault, FilesFault, answer_files_fault, is_memory};
 use crate::sources::{Loaded, load};
 use crate::stop::Stop;
 use asm_object::{Object, assemble};
 use asm_read::read_source;
 use eh_kit::stubs;
-use eh_link::link::link;
+use eh_link::link;
 use eh_port::{Files, Sink};
 use elf_write::{ImageParts, write_image};
 use std::alloc::Global;
@@ -99,11 +100,8 @@ fn written_bytes<'a>(alloc: Global, parts: &ImageParts) -> Result<Vec<u8>, Build
     }
 }
 
-/// The bytes of the image that sources and the stubs are built to.
-pub(crate) fn built<'a>(
-    alloc: Global,
-    sources: &[SourceText<'a>],
-) -> Result<Vec<u8>, BuildFault<'a>>
+// The bytes of the image that sources and the stubs are built to.
+fn built<'a>(alloc: Global, sources: &[SourceText<'a>]) -> Result<Vec<u8>, BuildFault<'a>>
     ensures { MatchResult result (λ bytes. built sources.now ≡ Ok bytes.items)
         (λ fault. is_memory fault ≡ false → built sources.now ≡ Err (fault_line fault)) }
 {
@@ -113,20 +111,30 @@ pub(crate) fn built<'a>(
     written_bytes(alloc, &parts)
 }
 
-// Writes the image of sources.
-fn build_sources<O: Sink>(alloc: Global, sources: &[SourceText], out: &mut O) -> Result<u8, Stop>
-    ensures told { (input : List ℕ) → Gives (sources_report input (plain_report input) sources.now) result (Some input) (O.written out.old) (O.written out.new) }
-    ensures read { IsErrOf result Stop.Read → ⊥ }
-    ensures write { IsErrOf result Stop.Write → Rose (O.faults out.old) (O.faults out.new) }
-    ensures status { IfOk result (λ status. (is_settled status ≡ true) × (status ≤ 10) × (status ≢ 2)) }
+/// The bytes of the image that the sources of these names are built to, or why there are none.
+pub(crate) fn built_files<'a, F: Files>(
+    alloc: Global,
+    names: &[&'a str],
+    files: &mut F,
+) -> Result<Result<Vec<u8>, FilesFault<'a>>, Stop>
+    ensures told { IfOk result (λ answer. IfSome (F.held files.old) (λ held. MatchResult answer
+        (λ bytes. image_bytes held (texts names.now) ≡ Ok bytes.items) (λ fault. image_bytes held (texts names.now) ≡ Err (refusal_of fault)))) }
+    ensures fit { IfOk result (λ answer. IfErr answer (λ fault. wants_memory fault ≡ false)) }
+    ensures read { IsErrOf result Stop.Read → Rose (F.faults files.old) (F.faults files.new) }
+    ensures write { IsErrOf result Stop.Write → ⊥ }
 {
-    match built(alloc, sources) {
-        Ok(bytes) => answer_text(out, bytes.as_slice(), 0),
+    let sources = match load(alloc, names, files)? {
+        Loaded::All(sources) => sources,
+        Loaded::Lacks(name) => return Ok(Err(FilesFault::Missing(name))),
+        Loaded::Exceeds(name) => return Ok(Err(FilesFault::TooLong(name))),
+    };
+    match built(alloc, sources.as_slice()) {
+        Ok(bytes) => Ok(Ok(bytes)),
         Err(fault) => {
             if is_memory(&fault) {
                 return Err(Stop::Memory);
             }
-            answer_fault(out, &fault)
+            Ok(Err(FilesFault::Sources(fault)))
         }
     }
 }
@@ -140,13 +148,14 @@ pub(crate) fn build<F: Files, O: Sink>(
 ) -> Result<u8, Stop>
     ensures told { (input : List ℕ) → IfSome (F.held files.old) (λ held. Gives (build_report (texts names.now) held input) result
         (Some input) (O.written out.old) (O.written out.new)) }
+    ensures why { IfOk result (λ status. IfSome (F.held files.old) (λ held. SaysWhy status (LacksFile (Some (BuildSources (texts names.now))) held)
+        (IsRefused (Some (BuildSources (texts names.now))) held))) }
     ensures read { IsErrOf result Stop.Read → Rose (F.faults files.old) (F.faults files.new) }
     ensures write { IsErrOf result Stop.Write → Rose (O.faults out.old) (O.faults out.new) }
     ensures status { IfOk result (λ status. (is_settled status ≡ true) × (status ≤ 10) × (status ≢ 2)) }
 {
-    match load(alloc, names, files)? {
-        Loaded::All(sources) => build_sources(alloc, sources.as_slice(), out),
-        Loaded::Lacks(name) => answer_missing(out, name),
-        Loaded::Exceeds(name) => answer_too_long(out, name),
+    match built_files(alloc, names, files)? {
+        Ok(bytes) => answer_text(out, bytes.as_slice(), 0),
+        Err(fault) => answer_files_fault(out, &fault),
     }
 }

@@ -1,11 +1,12 @@
 // `flat FILE N`: runs the bytes of a file as raw code.
-ghost use Rattle.std.specs.Prelude.{◌≡◌, ◌≢◌, ◌≤◌, ◌⊎◌, ◌∷◌, [], length, IfOk, IfSome, IsErrOf, true, false};
+ghost use Rattle.std.specs.Prelude.{◌≡◌, ◌≢◌, ◌<◌, ◌≤◌, ◌⊎◌, ◌∷◌, [], length, IfOk, IfSome, IsErrOf, Some, true, false};
 ghost use Rattle.eh_port.specs.Causes.{Rose};
 ghost use Rattle.eh_bus.specs.Flat.{memory_of};
 ghost use Rattle.ehabi_top.specs.FlatMachine.{is_fault};
-ghost use Rattle.ehabi_top.specs.FlatReport.{flat_report, code_report, start_regs, code_segment};
-ghost use Rattle.ehabi_top.specs.Loading.{status_of, with_host};
-ghost use Rattle.ehabi_top.specs.Report.{Gives, IfTold, is_settled};
+ghost use Rattle.ehabi_top.specs.FlatReport.{flat_report, code_report, image_limit, start_regs, code_segment};
+ghost use Rattle.ehabi_top.specs.Loading.{SaysWhy, status_of, with_host};
+ghost use Rattle.ehabi_top.specs.Report.{Gives, IfTold, LacksFile, IsRefused, is_settled};
+ghost use Rattle.ehabi_top.specs.Words.{FlatFile};
 
 use crate::answer::{answer_end, answer_missing, answer_text, answer_too_long};
 use crate::flat_machine::flat_run;
@@ -98,6 +99,7 @@ fn run_code<I: Source, O: Sink>(
 ) -> Result<u8, Stop>
     ensures told { IfSome (I.left input.old) (λ bytes. Gives (code_report budget bytes code.now) result
         (I.left input.new) (O.written out.old) (O.written out.new)) }
+    ensures why { IfOk result (λ status. SaysWhy status ⊥ (image_limit < length code.now)) }
     ensures read { IsErrOf result Stop.Read → Rose (I.faults input.old) (I.faults input.new) }
     ensures write { IsErrOf result Stop.Write → Rose (O.faults out.old) (O.faults out.new) }
     ensures status { IfOk result (λ status. (is_settled status ≡ true) × (status ≤ 10) × (status ≢ 2)) }
@@ -126,6 +128,8 @@ pub(crate) fn flat<F: Files, I: Source, O: Sink>(
 ) -> Result<u8, Stop>
     ensures told { IfTold (F.held files.old) (I.left input.old) (λ held bytes. Gives (flat_report name.now budget held bytes) result
         (I.left input.new) (O.written out.old) (O.written out.new)) }
+    ensures why { IfOk result (λ status. IfSome (F.held files.old) (λ held. SaysWhy status (LacksFile (Some (FlatFile name.now budget)) held)
+        (IsRefused (Some (FlatFile name.now budget)) held))) }
     ensures read { IsErrOf result Stop.Read → Rose (F.faults files.old) (F.faults files.new) ⊎ Rose (I.faults input.old) (I.faults input.new) }
     ensures write { IsErrOf result Stop.Write → Rose (O.faults out.old) (O.faults out.new) }
     ensures status { IfOk result (λ status. (is_settled status ≡ true) × (status ≤ 10) × (status ≢ 2)) }

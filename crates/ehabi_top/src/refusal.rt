@@ -1,10 +1,11 @@
-// Why sources give no image, and the lines that say so.
-ghost use Rattle.std.specs.Prelude.{◌≡◌, ◌≤◌, ◌++◌, length, codes};
-ghost use Rattle.ehabi_top.specs.Building.{is_memory, fault_line};
+// Why files give no image, and the lines that say so.
+ghost use Rattle.std.specs.Prelude.{◌≡◌, ◌≢◌, ◌≤◌, ◌++◌, length, codes, IfOk, true, false};
+ghost use Rattle.ehabi_top.specs.Building.{is_memory, is_link_memory, fault_line, wants_memory, refusal_of};
 ghost use Rattle.ehabi_top.specs.RefusalText.{source_what, source_place, encode_what, unwind_what, asm_what, asm_place, range_line, link_line};
+ghost use Rattle.ehabi_top.specs.Report.{is_settled};
 ghost use Rattle.ehabi_top.specs.Writes.{Answers};
 
-use crate::answer::{answer_both, answer_text, answer_three};
+use crate::answer::{answer_both, answer_missing, answer_text, answer_three, answer_too_long};
 use crate::line::{Line, append, hex8, image_fault_line};
 use crate::stop::Stop;
 use asm_layout::{AsmFault, AsmWhat};
@@ -30,6 +31,17 @@ pub(crate) enum BuildFault<'a> {
     InImage(ImageFault),
     /// Want of memory.
     OutOfMemory,
+}
+
+/// Why files give no image.
+#[derive(Drop)]
+pub(crate) enum FilesFault<'a> {
+    /// The file of this name is missing.
+    Missing(&'a str),
+    /// The file of this name is too long.
+    TooLong(&'a str),
+    /// The sources that they hold give none.
+    Sources(BuildFault<'a>),
 }
 
 impl<T: Drop> From<AllocFailed<T>> for BuildFault<'_> {
@@ -158,6 +170,7 @@ fn range_line(place: u32) -> Line
 
 /// Ends with the line of objects that can't be linked.
 fn answer_link<O: Sink>(out: &mut O, fault: &LinkFault) -> Result<u8, Stop>
+    requires { is_link_memory fault.now ≡ false }
     ensures { Answers (link_line fault.now) 3 result (O.written out.old) (O.written out.new) (O.faults out.old) (O.faults out.new) }
 {
     match fault {
@@ -178,12 +191,13 @@ fn answer_link<O: Sink>(out: &mut O, fault: &LinkFault) -> Result<u8, Stop>
         LinkFault::NoEntry => answer_text(out, b"link: NoEntry\n", 3),
         LinkFault::TooLarge => answer_text(out, b"link: TooLarge\n", 3),
         LinkFault::RelocationRange(place) => answer_text(out, range_line(*place).as_slice(), 3),
-        LinkFault::OutOfMemory => answer_text(out, b"link: OutOfMemory\n", 3),
+        LinkFault::OutOfMemory => unreachable!(),
     }
 }
 
-/// Ends with the line of a refusal.
-pub(crate) fn answer_fault<O: Sink>(out: &mut O, fault: &BuildFault) -> Result<u8, Stop>
+// Ends with the line of sources that give no image.
+fn answer_fault<O: Sink>(out: &mut O, fault: &BuildFault) -> Result<u8, Stop>
+    requires { is_memory fault.now ≡ false }
     ensures { Answers (fault_line fault.now) 3 result (O.written out.old) (O.written out.new) (O.faults out.old) (O.faults out.new) }
 {
     match fault {
@@ -195,6 +209,19 @@ pub(crate) fn answer_fault<O: Sink>(out: &mut O, fault: &BuildFault) -> Result<u
         }
         BuildFault::InLink(fault) => answer_link(out, fault),
         BuildFault::InImage(fault) => answer_text(out, image_fault_line(*fault).as_slice(), 3),
-        BuildFault::OutOfMemory => answer_text(out, b"", 3),
+        BuildFault::OutOfMemory => unreachable!(),
+    }
+}
+
+/// Ends with the line of files that give no image.
+pub(crate) fn answer_files_fault<O: Sink>(out: &mut O, fault: &FilesFault) -> Result<u8, Stop>
+    requires { wants_memory fault.now ≡ false }
+    ensures line { Answers (refusal_of fault.now).line (refusal_of fault.now).status result (O.written out.old) (O.written out.new) (O.faults out.old) (O.faults out.new) }
+    ensures status { IfOk result (λ status. (is_settled status ≡ true) × (status ≤ 10) × (status ≢ 2)) }
+{
+    match fault {
+        FilesFault::Missing(name) => answer_missing(out, name),
+        FilesFault::TooLong(name) => answer_too_long(out, name),
+        FilesFault::Sources(fault) => answer_fault(out, fault),
     }
 }

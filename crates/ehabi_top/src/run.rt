@@ -1,23 +1,22 @@
 // `run FILE N` and `run FILE.. N`: runs an image, or the one that sources are built to.
-ghost use Rattle.std.specs.Prelude.{◌≡◌, ◌≢◌, ◌≤◌, ◌⊎◌, IfOk, IfSome, IsErrOf, map, sum_by, true};
+ghost use Rattle.std.specs.Prelude.{◌≡◌, ◌≢◌, ◌≤◌, ◌⊎◌, IfOk, IfSome, IsErrOf, Some, map, sum_by, true};
 ghost use Rattle.eh_port.specs.Causes.{Rose};
 ghost use Rattle.eh_bus.specs.Flat.{memory_of};
+ghost use Rattle.elf_image.specs.Image.{image_of};
 ghost use Rattle.elf_image.specs.Segments.{RiseFrom};
-ghost use Rattle.ehabi_top.specs.Loading.{with_host};
+ghost use Rattle.ehabi_top.specs.Loading.{SaysWhy, with_host};
 ghost use Rattle.ehabi_top.specs.Placing.{placed};
-ghost use Rattle.ehabi_top.specs.Report.{Gives, IfTold, is_settled};
-ghost use Rattle.ehabi_top.specs.Words.{texts};
-ghost use Rattle.ehabi_top.specs.BuildReport.{sources_report, run_sources_report};
-ghost use Rattle.ehabi_top.specs.RunReport.{memory_segment, image_report, bytes_report, run_report};
+ghost use Rattle.ehabi_top.specs.Report.{Gives, IfTold, LacksFile, IsRefused, is_settled};
+ghost use Rattle.ehabi_top.specs.Words.{RunFile, RunSources, texts};
+ghost use Rattle.ehabi_top.specs.BuildReport.{run_sources_report};
+ghost use Rattle.ehabi_top.specs.RunReport.{IsRefusedImage, memory_segment, image_report, bytes_report, run_report};
 
 use crate::answer::{answer_end, answer_missing, answer_text, answer_too_long};
-use crate::build::built;
+use crate::build::built_files;
 use crate::flat::{FILE_LIMIT, start_regs, status_of};
 use crate::image_machine::image_run;
 use crate::line::image_fault_line;
-use crate::named::SourceText;
-use crate::refusal::{answer_fault, is_memory};
-use crate::sources::{Loaded, load};
+use crate::refusal::answer_files_fault;
 use crate::stop::Stop;
 use eh_bus::fault::BusMemory;
 use eh_bus::flat::FlatBus;
@@ -75,6 +74,7 @@ fn run_image<I: Source, O: Sink>(
 ) -> Result<u8, Stop>
     ensures told { IfSome (I.left input.old) (λ bytes. Gives (image_report budget bytes (Ok image.now)) result
         (I.left input.new) (O.written out.old) (O.written out.new)) }
+    ensures why { IfOk result (λ status. SaysWhy status ⊥ ⊥) }
     ensures read { IsErrOf result Stop.Read → Rose (I.faults input.old) (I.faults input.new) }
     ensures write { IsErrOf result Stop.Write → Rose (O.faults out.old) (O.faults out.new) }
     ensures status { IfOk result (λ status. (is_settled status ≡ true) × (status ≤ 10) × (status ≢ 2)) }
@@ -99,6 +99,7 @@ fn run_bytes<I: Source, O: Sink>(
 ) -> Result<u8, Stop>
     ensures told { IfSome (I.left input.old) (λ b. Gives (bytes_report budget b bytes.now) result
         (I.left input.new) (O.written out.old) (O.written out.new)) }
+    ensures why { IfOk result (λ status. SaysWhy status ⊥ (IsRefusedImage (image_of bytes.now))) }
     ensures read { IsErrOf result Stop.Read → Rose (I.faults input.old) (I.faults input.new) }
     ensures write { IsErrOf result Stop.Write → Rose (O.faults out.old) (O.faults out.new) }
     ensures status { IfOk result (λ status. (is_settled status ≡ true) × (status ≤ 10) × (status ≢ 2)) }
@@ -125,6 +126,8 @@ pub(crate) fn run<F: Files, I: Source, O: Sink>(
 ) -> Result<u8, Stop>
     ensures told { IfTold (F.held files.old) (I.left input.old) (λ held bytes. Gives (run_report name.now budget held bytes) result
         (I.left input.new) (O.written out.old) (O.written out.new)) }
+    ensures why { IfOk result (λ status. IfSome (F.held files.old) (λ held. SaysWhy status (LacksFile (Some (RunFile name.now budget)) held)
+        (IsRefused (Some (RunFile name.now budget)) held))) }
     ensures read { IsErrOf result Stop.Read → Rose (F.faults files.old) (F.faults files.new) ⊎ Rose (I.faults input.old) (I.faults input.new) }
     ensures write { IsErrOf result Stop.Write → Rose (O.faults out.old) (O.faults out.new) }
     ensures status { IfOk result (λ status. (is_settled status ≡ true) × (status ≤ 10) × (status ≢ 2)) }
@@ -133,31 +136,6 @@ pub(crate) fn run<F: Files, I: Source, O: Sink>(
         FileAnswer::Found(bytes) => run_bytes(alloc, bytes.as_slice(), budget, input, out),
         FileAnswer::Missing => answer_missing(out, name),
         FileAnswer::TooLong => answer_too_long(out, name),
-    }
-}
-
-// Runs the image of sources.
-fn run_built<I: Source, O: Sink>(
-    alloc: Global,
-    sources: &[SourceText],
-    budget: u64,
-    input: &mut I,
-    out: &mut O,
-) -> Result<u8, Stop>
-    ensures told { IfSome (I.left input.old) (λ b. Gives (sources_report b (bytes_report budget b) sources.now) result
-        (I.left input.new) (O.written out.old) (O.written out.new)) }
-    ensures read { IsErrOf result Stop.Read → Rose (I.faults input.old) (I.faults input.new) }
-    ensures write { IsErrOf result Stop.Write → Rose (O.faults out.old) (O.faults out.new) }
-    ensures status { IfOk result (λ status. (is_settled status ≡ true) × (status ≤ 10) × (status ≢ 2)) }
-{
-    match built(alloc, sources) {
-        Ok(bytes) => run_bytes(alloc, bytes.as_slice(), budget, input, out),
-        Err(fault) => {
-            if is_memory(&fault) {
-                return Err(Stop::Memory);
-            }
-            answer_fault(out, &fault)
-        }
     }
 }
 
@@ -172,13 +150,14 @@ pub(crate) fn run_sources<F: Files, I: Source, O: Sink>(
 ) -> Result<u8, Stop>
     ensures told { IfTold (F.held files.old) (I.left input.old) (λ held bytes. Gives (run_sources_report (texts names.now) budget held bytes) result
         (I.left input.new) (O.written out.old) (O.written out.new)) }
+    ensures why { IfOk result (λ status. IfSome (F.held files.old) (λ held. SaysWhy status (LacksFile (Some (RunSources (texts names.now) budget)) held)
+        (IsRefused (Some (RunSources (texts names.now) budget)) held))) }
     ensures read { IsErrOf result Stop.Read → Rose (F.faults files.old) (F.faults files.new) ⊎ Rose (I.faults input.old) (I.faults input.new) }
     ensures write { IsErrOf result Stop.Write → Rose (O.faults out.old) (O.faults out.new) }
     ensures status { IfOk result (λ status. (is_settled status ≡ true) × (status ≤ 10) × (status ≢ 2)) }
 {
-    match load(alloc, names, files)? {
-        Loaded::All(sources) => run_built(alloc, sources.as_slice(), budget, input, out),
-        Loaded::Lacks(name) => answer_missing(out, name),
-        Loaded::Exceeds(name) => answer_too_long(out, name),
+    match built_files(alloc, names, files)? {
+        Ok(bytes) => run_bytes(alloc, bytes.as_slice(), budget, input, out),
+        Err(fault) => answer_files_fault(out, &fault),
     }
 }

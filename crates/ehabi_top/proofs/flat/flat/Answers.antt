@@ -1,8 +1,9 @@
 use Rattle.std.proofs.Common.{refl}
+use Rattle.eh_port.specs.FileList.{answer_of}
 use Rattle.eh_port.specs.declared.FileAnswer.TheVariants.{Found, Missing, TooLong}
-use Rattle.ehabi_top.specs.FlatReport.{code_report}
-use Rattle.ehabi_top.specs.Loading.{with_file}
-use Rattle.ehabi_top.specs.FlatReport.{flat_report}
+use Rattle.ehabi_top.specs.FlatReport.{IsTooLarge, code_report, flat_report}
+use Rattle.ehabi_top.specs.Loading.{IsLacking, file_limit, with_file}
+use Rattle.ehabi_top.proofs.Commands.{says_lacking, why_answer, why_asked}
 use Rattle.ehabi_top.proofs.Reporting.{told_answer, told_file}
 use Rattle.ehabi_top.proofs.FlatReports.{flat_at}
 use Rattle.ehabi_top.proofs.flat.flat.Goals as goal
@@ -21,3 +22,20 @@ pub returns-in-TooLong-clause-told : goal.returns-in-TooLong-clause-told
 returns-in-TooLong-clause-told g c =
     told_file (flat_report c.args.name.now c.args.budget) (code_report c.args.budget) _ _ TooLong _ _ _ _ _ (λ h b. flat_at c.args.name.now c.args.budget h b) (rw c.in-TooLong.is at c.in_ok-bytes.ensures.answer)
     (told_answer (λ b. with_file c.args.name.now b (code_report c.args.budget b) TooLong) _ 10 _ _ _ _ _ _ (λ _. refl) c.answer_too_long.ensures)
+
+pub returns-in-Found-clause-why : goal.returns-in-Found-clause-why
+returns-in-Found-clause-why g c =
+    why_asked (λ h. answer_of h c.args.name.now file_limit) IsLacking IsTooLarge (Found c.in-Found.bytes) _ _
+    (rw c.in-Found.is at c.in_ok-bytes.ensures.answer) (rw c.as_slice.ensures at c.run_code.ensures.why)
+
+pub returns-in-Missing-clause-why : goal.returns-in-Missing-clause-why
+returns-in-Missing-clause-why g c =
+    why_asked (λ h. answer_of h c.args.name.now file_limit) IsLacking IsTooLarge Missing _ _
+    (rw c.in-Missing.is at c.in_ok-bytes.ensures.answer)
+    (why_answer 10 (Unit {0}) ⊥ _ _ _ _ _ _ (says_lacking (Unit {0}) ⊥ tt (λ u. u)) c.answer_missing.ensures)
+
+pub returns-in-TooLong-clause-why : goal.returns-in-TooLong-clause-why
+returns-in-TooLong-clause-why g c =
+    why_asked (λ h. answer_of h c.args.name.now file_limit) IsLacking IsTooLarge TooLong _ _
+    (rw c.in-TooLong.is at c.in_ok-bytes.ensures.answer)
+    (why_answer 10 (Unit {0}) ⊥ _ _ _ _ _ _ (says_lacking (Unit {0}) ⊥ tt (λ u. u)) c.answer_too_long.ensures)

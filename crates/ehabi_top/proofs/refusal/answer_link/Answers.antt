@@ -8,6 +8,3 @@ returns-in-NoEntry g c = rw c.in-NoEntry.is c.answer_text.ensures
 
 pub returns-in-TooLarge : goal.returns-in-TooLarge
 returns-in-TooLarge g c = rw c.in-TooLarge.is c.answer_text-in-TooLarge.ensures
-
-pub returns-in-OutOfMemory : goal.returns-in-OutOfMemory
-returns-in-OutOfMemory g c = rw c.in-OutOfMemory.is c.answer_text-in-OutOfMemory.ensures

@@ -1,0 +1,115 @@
+-- What the bytes of a field are behind all relocations, where the field shares no byte with another one and lies within its
+-- section: the equation of its kind (IHI 0044, "Relocation types"). S is the address that its name means, T is 1 where that is a
+-- function's, A the addend, P the field's own address.
+use Rattle.std.specs.Prelude.{◌≡◌, ℕ, ◌+◌, ◌/◌, ◌%◌, ◌^◌, ◌<◌, ◌≤◌, true, List, ◌∷◌, ◌++◌, length, bit_or, All, Option, Some, None, Ok, ℤ, pos, ◌+ℤ◌, ◌-ℤ◌}
+use Rattle.std.specs.Int.{from_bool}
+use Rattle.eh_word.specs.Words.{moved, prel31_of, number_at}
+use Rattle.thumb_isa.specs.Fields.{field}
+use Rattle.thumb_isa.specs.declared.instr.Instr.{Instr}
+use Rattle.thumb_isa.specs.declared.instr.Instr.TheVariants.{BCond, B, Bl}
+use Rattle.thumb_encode.specs.Codes.{IsCodeOf}
+use Rattle.thumb_encode.specs.declared.code.Code.{Code}
+use Rattle.thumb_encode.specs.declared.code.Code.TheVariants as code
+use Rattle.asm_layout.specs.declared.place.Section.{Section}
+use Rattle.asm_object.specs.declared.object.Object.{Object}
+use Rattle.asm_object.specs.declared.object.Reloc.{Reloc}
+use Rattle.elf_write.specs.declared.parts.ImageParts.{ImageParts}
+use Rattle.eh_link.specs.declared.names.Meaning.{Meaning}
+use Rattle.eh_link.specs.declared.field.FieldKind.{FieldKind}
+use Rattle.eh_link.specs.declared.field.FieldKind.TheVariants.{Absolute, Relative, Prel31, Call, Jump, CondJump}
+use Rattle.eh_link.specs.Layout.{placed_of}
+use Rattle.eh_link.specs.Symbols.{meaning_of}
+use Rattle.eh_link.specs.Fields.{kind_of, width, same_section, filled, unreachable_in, unreachable_for}
+use Rattle.eh_link.specs.FieldLaw.{StandsAlone}
+use Rattle.eh_link.specs.Linked.{linked}
+
+-- ---- what fields say
+
+-- (S + A) OR T
+abbrev pub target_of : Meaning → ℤ → ℕ
+target_of meaning addend = bit_or (moved meaning.address addend) (from_bool meaning.function)
+
+-- S + A - P, a whole number
+abbrev pub way_of : Meaning → ℤ → ℕ → ℤ
+way_of meaning addend place = (pos meaning.address +ℤ addend) -ℤ pos place
+
+-- the word at an offset and its address P make the target, modulo 2 ^ 32
+pub record IsRelative (target place : ℕ) (bytes : List ℕ) (offset : ℕ) : Type 0 where
+  pub word : ℕ
+  pub there : number_at 4 bytes offset ≡ Some word
+  pub sum : (word + place) % 2 ^ 32 ≡ target
+
+-- the same in bits 30 to 0, modulo 2 ^ 31; bit 31 is that of the word that was there. Below 2 ^ 30 an unwinder reads the target
+pub record IsPrel31 (old target place : ℕ) (bytes : List ℕ) (offset : ℕ) : Type 0 where
+  pub word : ℕ
+  pub there : number_at 4 bytes offset ≡ Some word
+  pub sum : (word + place) % 2 ^ 31 ≡ target % 2 ^ 31
+  pub kept : word / 2 ^ 31 ≡ old / 2 ^ 31
+  pub leads : place < 2 ^ 30 → target < 2 ^ 30 → prel31_of place word ≡ target
+
+-- the halfwords of a code stand at an offset
+abbrev pub Stands : Code → List ℕ → ℕ → Type 0
+Stands (code.Half first) bytes offset = number_at 2 bytes offset ≡ Some first
+Stands (code.Pair first second) bytes offset = (number_at 2 bytes offset ≡ Some first) × (number_at 2 bytes (offset + 2) ≡ Some second)
+
+-- the halfwords at an offset decode to an instruction
+pub record Decodes (instruction : Instr) (bytes : List ℕ) (offset : ℕ) : Type 0 where
+  pub encoding : Code
+  pub there : Stands encoding bytes offset
+  pub means : IsCodeOf encoding instruction
+
+-- ---- the law
+
+-- a field of a section that shares no byte with those of others: its kind, its bytes within those of the section, and what its
+-- name means
+pub record IsField (means : List ℕ → Option Meaning) (section : Section) (bytes : List ℕ) (others : List Reloc) (reloc : Reloc) (kind : FieldKind) (meaning : Meaning) : Type 0 where
+  pub here : same_section reloc.section section ≡ true
+  pub number : kind_of reloc.kind ≡ Some kind
+  pub inside : reloc.offset + width kind ≤ length bytes
+  pub alone : StandsAlone section reloc others
+  pub name : means reloc.name ≡ Some meaning
+
+-- what each field of a kind says, by S and T, A, P, its offset, the object's bytes of its section and those behind all relocations
+abbrev pub FieldsSay : FieldKind → (Meaning → ℤ → ℕ → ℕ → List ℕ → List ℕ → Type 0) → Type 0
+FieldsSay kind Says =
+    (means : List ℕ → Option Meaning) (section : Section) (start : ℕ) (bytes : List ℕ) (before : List Reloc) (reloc : Reloc) (after : List Reloc) (meaning : Meaning)
+    → IsField means section bytes (before ++ after) reloc kind meaning → start + reloc.offset < 2 ^ 32
+    → Says meaning reloc.addend (start + reloc.offset) reloc.offset bytes (filled means section start bytes (before ++ reloc ∷ after))
+
+-- the same where each branch of the section reaches its label
+abbrev pub BranchesSay : FieldKind → (Meaning → ℤ → ℕ → ℕ → List ℕ → List ℕ → Type 0) → Type 0
+BranchesSay kind Says =
+    (means : List ℕ → Option Meaning) (section : Section) (start : ℕ) (bytes : List ℕ) (before : List Reloc) (reloc : Reloc) (after : List Reloc) (meaning : Meaning)
+    → IsField means section bytes (before ++ after) reloc kind meaning → start + reloc.offset < 2 ^ 32
+    → unreachable_in means section start bytes (before ++ reloc ∷ after) ≡ None
+    → Says meaning reloc.addend (start + reloc.offset) reloc.offset bytes (filled means section start bytes (before ++ reloc ∷ after))
+
+abbrev pub AbsoluteFields : Type 0
+AbsoluteFields = FieldsSay Absolute (λ meaning addend place offset old new. number_at 4 new offset ≡ Some (target_of meaning addend))
+
+abbrev pub RelativeFields : Type 0
+RelativeFields = FieldsSay Relative (λ meaning addend place offset old new. IsRelative (target_of meaning addend) place new offset)
+
+abbrev pub Prel31Fields : Type 0
+Prel31Fields =
+    FieldsSay Prel31 (λ meaning addend place offset old new.
+    (word : ℕ) → number_at 4 old offset ≡ Some word → word < 2 ^ 32 → IsPrel31 word (target_of meaning addend) place new offset)
+
+abbrev pub Calls : Type 0
+Calls = BranchesSay Call (λ meaning addend place offset old new. Decodes (Bl (way_of meaning addend place)) new offset)
+
+abbrev pub Jumps : Type 0
+Jumps = BranchesSay Jump (λ meaning addend place offset old new. Decodes (B (way_of meaning addend place)) new offset)
+
+-- the condition is in bits 11 to 8 of the halfword that was there
+abbrev pub CondJumps : Type 0
+CondJumps =
+    BranchesSay CondJump (λ meaning addend place offset old new.
+    (half : ℕ) → number_at 2 old offset ≡ Some half → Decodes (BCond (field half 8 4) (way_of meaning addend place)) new offset)
+
+-- in objects that link to an image, each branch reaches its label
+abbrev pub ImagesReach : Type 0
+ImagesReach =
+    (objects : List Object) (entry : List ℕ) (image : ImageParts) (section : Section)
+    → linked objects entry ≡ Ok image
+    → All (λ placed. unreachable_for (meaning_of (placed_of objects) placed) placed section ≡ None) (placed_of objects)

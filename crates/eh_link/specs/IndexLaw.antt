@@ -1,0 +1,103 @@
+-- What an unwinder reads in the exception index (IHI 0038): each function of the objects has its row, the rows ascend by the
+-- functions' starts, and each word, read from the word's own address, gives the address that the row is about.
+use Rattle.std.specs.Prelude.{◌≡◌, ℕ, ◌+◌, ◌*◌, ◌^◌, ◌<◌, ◌≤◌, ◌==◌, List, length, filter, All, slice_get, Some, Ok}
+use Rattle.std.specs.List.{flat_map}
+use Rattle.std.specs.List.Sorted.{IsNonDecreasingBy, IsPermutation}
+use Rattle.eh_word.specs.Words.{prel31_of, number_at}
+use Rattle.asm_object.specs.declared.object.Object.{Object}
+use Rattle.asm_object.specs.declared.object.IndexRow.{IndexRow}
+use Rattle.asm_object.specs.declared.object.RowEntry.{RowEntry}
+use Rattle.asm_object.specs.declared.object.RowEntry.TheVariants as entry
+use Rattle.elf_write.specs.declared.parts.ImageParts.{ImageParts}
+use Rattle.eh_link.specs.declared.index.Row.{Row}
+use Rattle.eh_link.specs.declared.index.RowWord.{RowWord}
+use Rattle.eh_link.specs.declared.index.RowWord.TheVariants.{Given, Table}
+use Rattle.eh_link.specs.Placed.{Placed}
+use Rattle.eh_link.specs.Layout.{layout_of, placed_of}
+use Rattle.eh_link.specs.Index.{rows_in, in_order, index_of}
+use Rattle.eh_link.specs.Linked.{linked}
+use Rattle.eh_link.specs.LayoutLaw.{linked_index}
+
+-- ---- the rows
+
+-- the rows of the objects, one object after the other
+abbrev pub object_rows : List Placed → List Row
+object_rows all = flat_map rows_in all
+
+-- the same in the order of the index
+abbrev pub index_rows : List Placed → List Row
+index_rows all = in_order (object_rows all)
+
+-- no row starts below the one before it
+abbrev pub RowsAscend : Type 0
+RowsAscend = (all : List Placed) → IsNonDecreasingBy (λ (row : Row). row.start) (index_rows all)
+
+-- the index has the objects' rows, each as often
+abbrev pub RowsAreKept : Type 0
+RowsAreKept = (all : List Placed) → IsPermutation (object_rows all) (index_rows all)
+
+-- rows with one start stand in the objects' order
+abbrev pub SameStartsKeepTheirOrder : Type 0
+SameStartsKeepTheirOrder =
+    (all : List Placed) (start : ℕ)
+    → filter (λ (row : Row). row.start == start) (index_rows all) ≡ filter (λ (row : Row). row.start == start) (object_rows all)
+
+-- ---- the words
+
+-- the word at an offset of a table leads to an address: bit 31 is clear, and bits 30 to 0 are the way from the word's own address
+pub record LeadsTo (address table : ℕ) (bytes : List ℕ) (offset : ℕ) : Type 0 where
+  pub word : ℕ
+  pub there : number_at 4 bytes offset ≡ Some word
+  pub clear : word < 2 ^ 31
+  pub leads : prel31_of (table + offset) word ≡ address
+
+-- the word at an offset is the given one, or leads to the table
+abbrev pub Says : RowWord → ℕ → List ℕ → ℕ → Type 0
+Says (Given word) table bytes offset = number_at 4 bytes offset ≡ Some word
+Says (Table address) table bytes offset = LeadsTo address table bytes offset
+
+-- a table at an address has these rows, eight bytes each, and one more: from `end` on nothing can be unwound
+pub record HasRows (rows : List Row) (end table : ℕ) (bytes : List ℕ) : Type 0 where
+  pub size : length bytes ≡ 8 * (length rows + 1)
+  pub starts : (k : ℕ) (row : Row) → slice_get rows k ≡ Some row → LeadsTo row.start table bytes (8 * k)
+  pub seconds : (k : ℕ) (row : Row) → slice_get rows k ≡ Some row → Says row.second table bytes (8 * k + 4)
+  pub last : LeadsTo end table bytes (8 * length rows)
+  pub closed : number_at 4 bytes (8 * length rows + 4) ≡ Some 1
+
+-- ---- the law
+
+abbrev pub IsLowWord : RowWord → Type 0
+IsLowWord (Given word) = word < 2 ^ 32
+IsLowWord (Table address) = address < 2 ^ 30
+
+-- a row's addresses are below 2 ^ 30, so that 31 bits lead to them from each place below 2 ^ 30, and an inline entry is a word
+pub record IsLow (row : Row) : Type 0 where
+  pub start : row.start < 2 ^ 30
+  pub second : IsLowWord row.second
+
+-- an index that ends at most at 2 ^ 30 has its rows
+abbrev pub IndexReadsBack : Type 0
+IndexReadsBack =
+    (all : List Placed) (end table : ℕ)
+    → All IsLow (object_rows all) → end < 2 ^ 30 → table + 8 * (length (object_rows all) + 1) ≤ 2 ^ 30
+    → HasRows (index_rows all) end table (index_of end table all)
+
+-- ---- images
+
+abbrev pub IsEntryOf : Object → RowEntry → Type 0
+IsEntryOf object entry.CantUnwind = Unit {0}
+IsEntryOf object (entry.Inline word) = word < 2 ^ 32
+IsEntryOf object (entry.Table offset) = offset ≤ length object.extab
+
+-- a row's start and its table lie in the object's text and exception table
+pub record IsRowOf (object : Object) (row : IndexRow) : Type 0 where
+  pub start : row.offset ≤ length object.text
+  pub second : IsEntryOf object row.entry
+
+-- the index of an image has the rows of the objects that link to it, and the end of the texts as its end
+abbrev pub ImagesHaveTheirRows : Type 0
+ImagesHaveTheirRows =
+    (objects : List Object) (entry : List ℕ) (image : ImageParts)
+    → linked objects entry ≡ Ok image
+    → All (λ object. All (IsRowOf object) object.rows) objects
+    → HasRows (index_rows (placed_of objects)) (layout_of objects).text_end image.index.0 (linked_index objects)
