@@ -54,8 +54,7 @@ started entries at =
 
 -- behind `.fnend`: back in the section that `.handlerdata` left
 abbrev pub ended : Cursor → Cursor
-ended at =
-    if at.inside then record at { section = unwrap_or at.left at.section; left = None; inside = false } else at
+ended at = record at { section = unwrap_or at.left at.section; left = None; inside = false }
 
 -- behind `.handlerdata`: in the exception tables
 abbrev pub handling : Cursor → Cursor

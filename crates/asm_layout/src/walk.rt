@@ -235,11 +235,9 @@ impl Cursor {
     fn ended(mut self) -> Cursor
         ensures { result ≡ ended self }
     {
-        if self.inside {
-            self.section = self.left.unwrap_or(self.section);
-            self.left = None;
-            self.inside = false;
-        }
+        self.section = self.left.unwrap_or(self.section);
+        self.left = None;
+        self.inside = false;
         self
     }
 

@@ -342,11 +342,7 @@ last_none s pieces piece e =
     ∙ plus_none (length (bytes_in s pieces))
 
 ended_sizes : (walk : Walk) → (ended walk.at).sizes ≡ walk.at.sizes
-ended_sizes walk = by walk.at.inside
-  where
-    by : (b : Bool) → (cond b (record walk.at { section = unwrap_or walk.at.left walk.at.section; left = None; inside = false }) walk.at).sizes ≡ walk.at.sizes
-    by true = refl
-    by false = refl
+ended_sizes walk = refl
 
 handling_sizes : (walk : Walk) → (handling walk.at).sizes ≡ walk.at.sizes
 handling_sizes walk = by (same_section walk.at.section Extab)

@@ -6,6 +6,8 @@ pub const R_ARM_ABS32: u32 = 2;
 pub const R_ARM_REL32: u32 = 3;
 /// `bl`.
 pub const R_ARM_THM_CALL: u32 = 10;
+/// The same as `R_ARM_ABS32`; no source gives it.
+pub const R_ARM_TARGET1: u32 = 38;
 /// A word that names a type, as seen from its own address.
 pub const R_ARM_TARGET2: u32 = 41;
 /// Bits 30 to 0 of a word: the address as seen from the word's own.

@@ -90,3 +90,26 @@ fn function_with_handler_words(rt: HostRuntime) -> Result<(), Fail> {
     );
     Ok(())
 }
+
+#[test]
+fn rows_of_every_kind(rt: HostRuntime) -> Result<(), Fail> {
+    // an inline entry; a table that a zero word closes; handler words without a table
+    let text =
+        b".fnstart\n.save {r4, lr}\nb g\n.fnend\n.fnstart\n.save {r7, lr}\n.pad #8\n.setfp r7, sp, #0\nbeq g\n.fnend\n.fnstart\n.handlerdata\n.word 5\n.cantunwind\n.fnend\n";
+    let object = built(&rt, rt.alloc(), text)?;
+    assert_eq!(rt; object.text.as_slice(), b"\xfe\xe7\xfe\xd0".as_slice());
+    assert_eq!(rt;
+        object.extab.as_slice(),
+        b"\x01\x97\x01\x81\xb0\xb0\x08\x84\0\0\0\0\x05\0\0\0".as_slice()
+    );
+    let rows = object.rows.as_slice();
+    assert_eq!(rt; rows.len(), 3);
+    assert!(rt; rows[0].offset == 0 && rows[0].entry == RowEntry::Inline(0x80a8_b0b0));
+    assert!(rt; rows[1].offset == 2 && rows[1].entry == RowEntry::Table(0));
+    assert!(rt; rows[2].offset == 4 && rows[2].entry == RowEntry::CantUnwind);
+    let relocs = object.relocs.as_slice();
+    assert_eq!(rt; relocs.len(), 2);
+    assert!(rt; relocs[0].offset == 0 && relocs[0].kind == 102 && relocs[0].addend == -4);
+    assert!(rt; relocs[1].offset == 2 && relocs[1].kind == 103 && relocs[1].addend == -4);
+    Ok(())
+}

@@ -4,27 +4,14 @@ ghost use Rattle.thumb_encode.specs.Codes.{encoded_of};
 ghost use Rattle.eh_link.specs.Fields.{kind_of, width, absolute, relative, distance, branch, filling, change_by, change_of, same_section};
 
 use crate::names::Meaning;
+use asm_object::relocation::{
+    R_ARM_ABS32, R_ARM_PREL31, R_ARM_REL32, R_ARM_TARGET1, R_ARM_TARGET2, R_ARM_THM_CALL,
+    R_ARM_THM_JUMP8, R_ARM_THM_JUMP11,
+};
 use byteorder::{ByteOrder, LittleEndian};
 use thumb_encode::code::{Code, EncodeFault};
 use thumb_encode::encode::encode;
 use thumb_isa::instr::Instr;
-
-// The numbers of relocations in the Arm ELF standard (IHI 0044).
-const R_ARM_ABS32: u32 = 2;
-
-const R_ARM_REL32: u32 = 3;
-
-const R_ARM_THM_CALL: u32 = 10;
-
-const R_ARM_TARGET1: u32 = 38;
-
-const R_ARM_TARGET2: u32 = 41;
-
-const R_ARM_PREL31: u32 = 42;
-
-const R_ARM_THM_JUMP11: u32 = 102;
-
-const R_ARM_THM_JUMP8: u32 = 103;
 
 /// What the field of a relocation holds, by the kinds of the Arm ELF standard (IHI 0044).
 #[derive(Clone, Copy, PartialEq, Eq, Debug)]

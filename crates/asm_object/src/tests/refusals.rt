@@ -2,7 +2,7 @@ use super::{AsmFault, AsmWhat, EncodeFault, UnwindFault, built};
 use std::test::Fail;
 
 /// Texts with the line and the reason of their refusal.
-static REFUSALS: [(&str, u32, AsmWhat); 26] = [
+static REFUSALS: [(&str, u32, AsmWhat); 30] = [
     ("a: nop\na: nop", 2, AsmWhat::DuplicateLabel),
     ("b .La", 1, AsmWhat::UndefinedLocal),
     (".word .La", 1, AsmWhat::UndefinedLocal),
@@ -62,6 +62,23 @@ static REFUSALS: [(&str, u32, AsmWhat); 26] = [
         2,
         AsmWhat::Unwind(UnwindFault::PadRange),
     ),
+    // a refused `.handlerdata` and the refused `.fnend` behind it go to the tables and back
+    (
+        ".word b-a\na:\n.handlerdata\n.fnend\nb:",
+        3,
+        AsmWhat::Unwind(UnwindFault::OutsideFunction),
+    ),
+    (
+        "b b\n.space 4000\n.handlerdata\n.fnend\nb:",
+        1,
+        AsmWhat::Encode(EncodeFault::TargetRange),
+    ),
+    (
+        ".word b-a\na: .fnstart\n.cantunwind\n.handlerdata\nb:\n.fnend",
+        1,
+        AsmWhat::UndefinedLocal,
+    ),
+    (".data\n.space 1048576\nnop", 3, AsmWhat::SectionTooLarge),
     (".data\nnop", 2, AsmWhat::Placement),
     (".bss\n.byte 1", 2, AsmWhat::Placement),
     (".data\n.fnstart\n.fnend", 2, AsmWhat::Placement),
