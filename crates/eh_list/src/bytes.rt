@@ -1,0 +1,41 @@
+//! Zeros, multiples, and numbers of 2 and 4 bytes, the lowest byte first.
+ghost use Rattle.std.specs.Prelude.{◌≡◌, ◌+◌, ◌^◌, ◌<◌, ◌≤◌, ◌++◌, OnOk, OnErr};
+ghost use Rattle.byteorder.specs.Endian.{little_bytes};
+ghost use Rattle.eh_list.specs.Bytes.{zeros, next_multiple};
+
+use std::alloc::AllocError;
+
+/// The least multiple of `step` that is not below `n`.
+pub fn next_multiple(n: u64, step: u64) -> u64
+    requires some { 0 < step }
+    requires fits { n + step ≤ 2 ^ 64 }
+    ensures { result ≡ next_multiple n step }
+{
+    (n + (step - 1)) / step * step
+}
+
+/// Adds `count` zero bytes at the end. Without memory nothing is added.
+#[tactic(auto, unfolding(crate::specs::Bytes::zeros))]
+pub fn push_zeros(out: &mut Vec<u8>, count: usize) -> Result<(), AllocError>
+    ensures ok { OnOk result (out.new.items ≡ out.old.items ++ zeros count) }
+    ensures err { OnErr result (out.new.items ≡ out.old.items) }
+{
+    match out.len().checked_add(count) {
+        Some(len) => out.resize(len, 0),
+        None => Err(AllocError),
+    }
+}
+
+/// Adds a number of two bytes at the end.
+pub fn push_half(out: &mut Vec<u8>, half: u16) -> Result<(), AllocError>
+    ensures { OnOk result (out.new.items ≡ out.old.items ++ little_bytes 2 half) }
+{
+    out.extend_from_slice(&half.to_le_bytes())
+}
+
+/// Adds a number of four bytes at the end.
+pub fn push_word(out: &mut Vec<u8>, word: u32) -> Result<(), AllocError>
+    ensures { OnOk result (out.new.items ≡ out.old.items ++ little_bytes 4 word) }
+{
+    out.extend_from_slice(&word.to_le_bytes())
+}

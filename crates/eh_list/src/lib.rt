@@ -1,0 +1,7 @@
+//! Vectors that contracts see as their lists, and what many crates do with bytes and sizes.
+#![tactic(auto)]
+
+pub mod bytes;
+pub mod seq;
+
+pub use seq::Seq;
