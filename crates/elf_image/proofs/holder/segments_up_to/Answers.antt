@@ -4,7 +4,7 @@ use Rattle.elf_image.specs.Segments.{Segment}
 use Rattle.elf_image.proofs.Search.{partition_is}
 use Rattle.elf_image.proofs.Lookups.{no_segment}
 use Rattle.elf_image.proofs.Ascending.{segments_rise}
-use Rattle.elf_image.proofs.function.segments_up_to.Goals as goal
+use Rattle.elf_image.proofs.holder.segments_up_to.Goals as goal
 
 pub returns-clause-count : goal.returns-clause-count
 returns-clause-count c =
