@@ -1,9 +1,10 @@
 use Rattle.std.proofs.Common.{zero, suc, [], ◌∷◌, inl, arith}
 use Rattle.std.specs.Prelude.{All}
-use Rattle.eh_bus.specs.Built.{Fits, length-zeros}
+use Rattle.eh_list.specs.Bytes.{length-zeros}
+use Rattle.eh_bus.specs.Built.{Fits}
 use Rattle.eh_bus.specs.declared.segment.SegmentSpec.{SegmentSpec}
 use Rattle.eh_bus.proofs.MapLaws.{two_apart}
-use Rattle.eh_bus.proofs.flat.tests.sample.Goals as goal
+use Rattle.words_test.proofs.bus.sample.Goals as goal
 
 two_fit : (s t : SegmentSpec) → Fits s → Fits t → All Fits (s ∷ t ∷ [])
 two_fit s t f g zero d h = f

@@ -1,4 +1,9 @@
-use super::*;
+//! The memory: rows of accesses, each with the answer that docs/memory-map.md gives.
+use eh_bus::bus::Bus;
+use eh_bus::fault::{BusFault, BusMemory};
+use eh_bus::flat::FlatBus;
+use eh_bus::segment::SegmentSpec;
+use std::alloc::Global;
 use std::process::Abort;
 use std::test::Fail;
 
