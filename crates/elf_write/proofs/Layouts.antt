@@ -4,7 +4,8 @@ use Rattle.std.proofs.lemmas.Bool.Decides.{nat_tests}
 use Rattle.std.specs.List.{flat_map}
 use Rattle.std.proofs.lemmas.List.{at_drop_more, length-replicate}
 use Rattle.elf_image.specs.Symbols.{Symbol}
-use Rattle.elf_write.specs.Layout.{word, half, zeros, aligned, padding, bit, closed, symbol_bytes, symbol_rows, contents, program_bytes, program_rows, place_of, segment_name, segment_names, section_bytes, section_rows}
+use Rattle.eh_list.specs.Bytes.{zeros}
+use Rattle.elf_write.specs.Layout.{load_header, segment_row, word, half, aligned, padding, closed, symbol_bytes, symbol_rows, contents, program_bytes, program_rows, place_of, segment_name, segment_names, section_bytes, section_rows}
 use Rattle.elf_write.specs.declared.parts.OwnSegment.{OwnSegment}
 
 -- one more name
@@ -45,7 +46,7 @@ contents_length at xs i d h =
 
 pub program_more : (at : ℕ) (xs : List OwnSegment) (i : ℕ) (d : OwnSegment) → i < length xs
     → program_rows at (drop i xs)
-    ≡ program_bytes 1 (aligned at) (get_or xs i d).start (length (get_or xs i d).bytes) (get_or xs i d).size (4 + bit (get_or xs i d).write 2 + bit (get_or xs i d).exec 1)
+    ≡ program_bytes (load_header (aligned at) (get_or xs i d))
     ++ program_rows (aligned at + length (get_or xs i d).bytes) (drop (i + 1) xs)
 program_more at xs i d h = at_drop_more (program_rows at) xs i d h
 
@@ -61,7 +62,7 @@ place_more a z at xs i d h = at_drop_more (place_of a z at) xs i d h
 
 pub sections_more : (n name at : ℕ) (xs : List OwnSegment) (i : ℕ) (d : OwnSegment) → i < length xs
     → section_rows n name at (drop i xs)
-    ≡ section_bytes name 1 (2 + bit (get_or xs i d).write 1 + bit (get_or xs i d).exec 4) (get_or xs i d).start (aligned at) (length (get_or xs i d).bytes) 0 0 0
+    ≡ section_bytes (segment_row name (aligned at) (get_or xs i d))
     ++ section_rows (n + 1) (name + length (segment_name n)) (aligned at + length (get_or xs i d).bytes) (drop (i + 1) xs)
 sections_more n name at xs i d h = at_drop_more (section_rows n name at) xs i d h
 

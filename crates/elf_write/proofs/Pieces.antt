@@ -4,7 +4,26 @@ use Rattle.std.proofs.Math.Seq.{drop-append_seam, take-append_seam}
 use Rattle.std.proofs.lemmas.List.{drop-drop}
 use Rattle.byteorder.specs.Endian.{little_number}
 use Rattle.byteorder.specs.Numbers.{little_number-reads_back}
+use Rattle.elf_image.specs.declared.format.ProgramHeader.{ProgramHeader}
+use Rattle.elf_write.specs.declared.layout.SectionRow.{SectionRow}
 use Rattle.elf_write.specs.Layout.{word, half}
+
+-- headers by their fields, in the order of the file
+abbrev pub program : ℕ → ℕ → ℕ → ℕ → ℕ → ℕ → ProgramHeader
+program kind offset address file_size memory_size flags = record { kind = kind; offset = offset; address = address; file_size = file_size; memory_size = memory_size; flags = flags }
+
+abbrev pub section : ℕ → ℕ → ℕ → ℕ → ℕ → ℕ → ℕ → ℕ → ℕ → SectionRow
+section name kind flags address offset size link info entry_size = record {
+  name = name;
+  kind = kind;
+  flags = flags;
+  address = address;
+  offset = offset;
+  size = size;
+  link = link;
+  info = info;
+  entry_size = entry_size;
+}
 
 -- a number of 32 bits is what its bytes give
 pub word_back : (x : ℕ) (rest : List ℕ) → x < 2 ^ 32 → little_number 4 (word x ++ rest) ≡ x

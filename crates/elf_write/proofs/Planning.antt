@@ -1,15 +1,17 @@
 -- The pieces of a file, and how long they are.
+use Rattle.elf_write.proofs.Pieces.{program}
 use Rattle.std.proofs.Common.{◌≡◌, ℕ, ◌+◌, ◌*◌, ◌^◌, ◌<◌, ◌≤◌, Bool, true, false, cond, nat_lt, nat_le, List, [], ◌∷◌, ◌++◌, length, Some, None, Ok, Err, refl, ap, ◌∙◌, length-append, arith}
 use Rattle.std.proofs.lemmas.Bool.Decides.{nat_tests}
 use Rattle.elf_image.specs.Image.{image_of}
 use Rattle.elf_image.specs.declared.fault.ImageFault.{ImageFault}
 use Rattle.elf_image.specs.declared.fault.ImageFault.TheVariants.{TooLarge}
-use Rattle.elf_write.specs.Layout.{word, zeros, aligned, bit, contents, program_bytes, program_rows, place_of, index_row, has_index, base_of, segment_names, last_names, section_names, symbol_rows, strings_of, table_of, Plan, file_end, plan_of, layout_of, joined, is_too_long, is_read, if_read, written_of}
+use Rattle.eh_list.specs.Bytes.{zeros}
+use Rattle.elf_write.specs.Layout.{word, aligned, bit, contents, program_bytes, program_rows, place_of, index_row, has_index, base_of, segment_names, last_names, section_names, symbol_rows, strings_of, table_of, Plan, file_end, plan_of, layout_of, joined, is_too_long, is_read, if_read, written_of}
 use Rattle.elf_write.specs.declared.parts.OwnSegment.{OwnSegment}
 use Rattle.elf_write.specs.declared.parts.ImageParts.{ImageParts}
 use Rattle.elf_write.proofs.Layouts.{length_zeros, length_rows}
 
-pub length_program : (kind offset address file_size memory_size flags : ℕ) → length (program_bytes kind offset address file_size memory_size flags) ≡ 32
+pub length_program : (kind offset address file_size memory_size flags : ℕ) → length (program_bytes (program kind offset address file_size memory_size flags)) ≡ 32
 unfolding program_bytes word
 length_program kind offset address file_size memory_size flags = refl
 
@@ -17,7 +19,7 @@ pub length_program_rows : (at : ℕ) (xs : List OwnSegment) → length (program_
 length_program_rows at [] = refl
 length_program_rows at (s ∷ xs) =
     let rest = length_program_rows (aligned at + length s.bytes) xs in
-    let all = length-append (program_bytes 1 (aligned at) s.start (length s.bytes) s.size (4 + bit s.write 2 + bit s.exec 1)) (program_rows (aligned at + length s.bytes) xs) in
+    let all = length-append (program_bytes (program 1 (aligned at) s.start (length s.bytes) s.size (4 + bit s.write 2 + bit s.exec 1))) (program_rows (aligned at + length s.bytes) xs) in
     omega (arith, all, rest, length_program 1 (aligned at) s.start (length s.bytes) s.size (4 + bit s.write 2 + bit s.exec 1))
 
 index_step : (b : Bool) (row : List ℕ) → length row ≡ 32 → length (cond b row []) ≡ 32 * bit b 1

@@ -11,11 +11,11 @@ use Rattle.elf_write.specs.Layout.{word, aligned, bit, contents, program_bytes, 
 use Rattle.elf_write.specs.Parts.{SegmentsFit, IsWord, holds_range, range_in}
 use Rattle.elf_write.specs.declared.parts.OwnSegment.{OwnSegment}
 use Rattle.elf_write.proofs.Layouts.{contents_length}
-use Rattle.elf_write.proofs.Pieces.{word_back, field_is, behind}
+use Rattle.elf_write.proofs.Pieces.{program, word_back, field_is, behind}
 use Rattle.elf_write.proofs.Planning.{length_program}
 
 abbrev pub header : ℕ → ℕ → ℕ → ℕ → ℕ → ℕ → ProgramHeader
-header kind offset address file_size memory_size flags = record { kind = kind; offset = offset; address = address; file_size = file_size; memory_size = memory_size; flags = flags }
+header kind offset address file_size memory_size flags = program kind offset address file_size memory_size flags
 
 same_header : (h : ProgramHeader) (kind offset address file_size memory_size flags : ℕ) → h.kind ≡ kind → h.offset ≡ offset → h.address ≡ address → h.file_size ≡ file_size
     → h.memory_size ≡ memory_size → h.flags ≡ flags → h ≡ header kind offset address file_size memory_size flags
@@ -23,11 +23,11 @@ same_header h kind offset address file_size memory_size flags a b c d e f = rw (
 
 -- a row that stands at a place
 pub header_back : (bytes rest : List ℕ) (at kind offset address file_size memory_size flags : ℕ) → IsWord kind → IsWord offset → IsWord address → IsWord file_size → IsWord memory_size
-    → IsWord flags → drop at bytes ≡ program_bytes kind offset address file_size memory_size flags ++ rest
+    → IsWord flags → drop at bytes ≡ program_bytes (program kind offset address file_size memory_size flags) ++ rest
     → program_header bytes at ≡ header kind offset address file_size memory_size flags
 unfolding program_header program_bytes word
 header_back bytes rest at kind offset address file_size memory_size flags k o a f m g h =
-    let row = program_bytes kind offset address file_size memory_size flags ++ rest in
+    let row = program_bytes (program kind offset address file_size memory_size flags) ++ rest in
     let six : List ℕ = word flags ++ (word 4 ++ rest) in
     let five : List ℕ = word memory_size ++ six in
     let four : List ℕ = word file_size ++ five in
@@ -70,7 +70,7 @@ headers_back bytes rest others off k at m [] fit inside h last =
     rw b (rw a at last)
 headers_back bytes rest others off k at m (s ∷ xs) fit inside h last =
     let next = aligned at + length s.bytes in
-    let row = program_bytes 1 (aligned at) s.start (length s.bytes) s.size (4 + bit s.write 2 + bit s.exec 1) in
+    let row = program_bytes (program 1 (aligned at) s.start (length s.bytes) s.size (4 + bit s.write 2 + bit s.exec 1)) in
     let place = first_place at s xs in
     let whole : drop (off + 32 * k) bytes ≡ row ++ (program_rows next xs ++ rest) = h ∙ append_assoc row (program_rows next xs) rest in
     let one : program_header bytes (off + 32 * k) ≡ header_of at s =
@@ -86,11 +86,11 @@ headers_back bytes rest others off k at m (s ∷ xs) fit inside h last =
 
 -- ---- the index header, whose place is not looked at
 
-index_header : (bytes rest : List ℕ) (at offset a z : ℕ) → IsWord a → IsWord z → drop at bytes ≡ program_bytes 0x70000001 offset a z z 4 ++ rest
+index_header : (bytes rest : List ℕ) (at offset a z : ℕ) → IsWord a → IsWord z → drop at bytes ≡ program_bytes (program 0x70000001 offset a z z 4) ++ rest
     → program_header bytes at ≡ header 0x70000001 (little_number 4 (drop (at + 4) bytes)) a z z 4
 unfolding program_header program_bytes word
 index_header bytes rest at offset a z fa fz h =
-    let row = program_bytes 0x70000001 offset a z z 4 ++ rest in
+    let row = program_bytes (program 0x70000001 offset a z z 4) ++ rest in
     let six : List ℕ = word 4 ++ (word 4 ++ rest) in
     let five : List ℕ = word z ++ six in
     let four : List ℕ = word z ++ five in
@@ -106,7 +106,7 @@ index_header bytes rest at offset a z fa fz h =
 abbrev pub index_headers : Bool → ℕ → ℕ → ℕ → List ProgramHeader
 index_headers b offset a z = cond b (header 0x70000001 offset a z z 4 ∷ []) []
 
-pub index_back : (b : Bool) (bytes rest : List ℕ) (off k offset a z : ℕ) → IsWord a → IsWord z → drop (off + 32 * k) bytes ≡ cond b (program_bytes 0x70000001 offset a z z 4) [] ++ rest
+pub index_back : (b : Bool) (bytes rest : List ℕ) (off k offset a z : ℕ) → IsWord a → IsWord z → drop (off + 32 * k) bytes ≡ cond b (program_bytes (program 0x70000001 offset a z z 4)) [] ++ rest
     → map (λ i. program_header bytes (off + 32 * i)) (range_with_len k (bit b 1)) ≡ index_headers b (little_number 4 (drop (off + 32 * k + 4) bytes)) a z
 index_back true bytes rest off k offset a z fa fz h = ap (λ (x : ProgramHeader). x ∷ []) (index_header bytes rest (off + 32 * k) offset a z fa fz h)
 index_back false bytes rest off k offset a z fa fz h = refl

@@ -4,11 +4,12 @@ use Rattle.std.specs.List.{range_with_len, find, slice_get}
 use Rattle.elf_image.specs.Format.{section_header}
 use Rattle.elf_image.specs.Symbols.{is_symbol_table, tables_of}
 use Rattle.elf_image.specs.declared.format.SectionHeader.{SectionHeader}
-use Rattle.elf_write.specs.Layout.{word, aligned, bit, contents, section_bytes, section_rows, segment_name, zeros}
+use Rattle.eh_list.specs.Bytes.{zeros}
+use Rattle.elf_write.specs.Layout.{word, aligned, bit, contents, section_bytes, section_rows, segment_name}
 use Rattle.elf_write.specs.Parts.{IsWord}
 use Rattle.elf_write.specs.declared.parts.OwnSegment.{OwnSegment}
 use Rattle.elf_write.proofs.Layouts.{length_zeros}
-use Rattle.elf_write.proofs.Pieces.{word_back, field_is, behind}
+use Rattle.elf_write.proofs.Pieces.{section, word_back, field_is, behind}
 use Rattle.elf_write.proofs.Programs.{first_place}
 
 abbrev pub head : ℕ → ℕ → ℕ → ℕ → SectionHeader
@@ -19,10 +20,10 @@ same_head h kind offset size link a b c d = rw (sym a, sym b, sym c, sym d) refl
 
 -- a row that stands at a place
 pub head_back : (bytes rest : List ℕ) (at name kind flags address offset size link info entry : ℕ) → IsWord kind → IsWord offset → IsWord size → IsWord link
-    → drop at bytes ≡ section_bytes name kind flags address offset size link info entry ++ rest → section_header bytes at ≡ head kind offset size link
+    → drop at bytes ≡ section_bytes (section name kind flags address offset size link info entry) ++ rest → section_header bytes at ≡ head kind offset size link
 unfolding section_header section_bytes word
 head_back bytes rest at name kind flags address offset size link info entry k o z l h =
-    let row = section_bytes name kind flags address offset size link info entry ++ rest in
+    let row = section_bytes (section name kind flags address offset size link info entry) ++ rest in
     let six : List ℕ = word info ++ (word 4 ++ (word entry ++ rest)) in
     let five : List ℕ = word link ++ six in
     let four : List ℕ = word size ++ five in
@@ -45,14 +46,14 @@ abbrev pub heads_of : ℕ → List OwnSegment → List SectionHeader
 heads_of at [] = []
 heads_of at (s ∷ more) = head 1 (aligned at) (length s.bytes) 0 ∷ heads_of (aligned at + length s.bytes) more
 
-pub length_section : (name kind flags address offset size link info entry : ℕ) → length (section_bytes name kind flags address offset size link info entry) ≡ 40
+pub length_section : (name kind flags address offset size link info entry : ℕ) → length (section_bytes (section name kind flags address offset size link info entry)) ≡ 40
 unfolding section_bytes word
 length_section name kind flags address offset size link info entry = refl
 
 pub length_section_rows : (i name at : ℕ) (xs : List OwnSegment) → length (section_rows i name at xs) ≡ 40 * length xs
 length_section_rows i name at [] = refl
 length_section_rows i name at (s ∷ xs) =
-    let row = section_bytes name 1 (2 + bit s.write 1 + bit s.exec 4) s.start (aligned at) (length s.bytes) 0 0 0 in
+    let row = section_bytes (section name 1 (2 + bit s.write 1 + bit s.exec 4) s.start (aligned at) (length s.bytes) 0 0 0) in
     let rest = length_section_rows (i + 1) (name + length (segment_name i)) (aligned at + length s.bytes) xs in
     let all = length-append row (section_rows (i + 1) (name + length (segment_name i)) (aligned at + length s.bytes) xs) in
     omega (arith, all, rest, length_section name 1 (2 + bit s.write 1 + bit s.exec 4) s.start (aligned at) (length s.bytes) 0 0 0)
@@ -68,7 +69,7 @@ heads_back bytes rest others off k i name at m [] inside h last =
     rw b (rw a at last)
 heads_back bytes rest others off k i name at m (s ∷ xs) inside h last =
     let next = aligned at + length s.bytes in
-    let row = section_bytes name 1 (2 + bit s.write 1 + bit s.exec 4) s.start (aligned at) (length s.bytes) 0 0 0 in
+    let row = section_bytes (section name 1 (2 + bit s.write 1 + bit s.exec 4) s.start (aligned at) (length s.bytes) 0 0 0) in
     let tail = section_rows (i + 1) (name + length (segment_name i)) next xs in
     let place = first_place at s xs in
     let whole : drop (off + 40 * k) bytes ≡ row ++ (tail ++ rest) = h ∙ append_assoc row tail rest in
@@ -85,15 +86,15 @@ heads_back bytes rest others off k i name at m (s ∷ xs) inside h last =
 
 -- the three last rows
 last_back : (bytes : List ℕ) (at ta tl sa sl na nl i j n locals link : ℕ) → IsWord ta → IsWord tl → IsWord sa → IsWord sl → IsWord na → IsWord nl → IsWord link
-    → drop at bytes ≡ section_bytes i 2 0 0 ta tl link locals 16 ++ (section_bytes j 3 0 0 sa sl 0 0 0 ++ (section_bytes n 3 0 0 na nl 0 0 0 ++ []))
+    → drop at bytes ≡ section_bytes (section i 2 0 0 ta tl link locals 16) ++ (section_bytes (section j 3 0 0 sa sl 0 0 0) ++ (section_bytes (section n 3 0 0 na nl 0 0 0) ++ []))
     → (section_header bytes at ≡ head 2 ta tl link) × (section_header bytes (at + 40) ≡ head 3 sa sl 0) × (section_header bytes (at + 40 + 40) ≡ head 3 na nl 0)
 last_back bytes at ta tl sa sl na nl i j n locals link a b c d e f g h =
-    let three : List ℕ = section_bytes n 3 0 0 na nl 0 0 0 ++ [] in
-    let two : List ℕ = section_bytes j 3 0 0 sa sl 0 0 0 ++ three in
+    let three : List ℕ = section_bytes (section n 3 0 0 na nl 0 0 0) ++ [] in
+    let two : List ℕ = section_bytes (section j 3 0 0 sa sl 0 0 0) ++ three in
     let zero_word : IsWord 0 = omega arith in
     let three_word : IsWord 3 = omega arith in
-    let second = behind at (at + 40) bytes (section_bytes i 2 0 0 ta tl link locals 16) two h (omega (arith, length_section i 2 0 0 ta tl link locals 16)) in
-    let third = behind (at + 40) (at + 40 + 40) bytes (section_bytes j 3 0 0 sa sl 0 0 0) three second (omega (arith, length_section j 3 0 0 sa sl 0 0 0)) in (
+    let second = behind at (at + 40) bytes (section_bytes (section i 2 0 0 ta tl link locals 16)) two h (omega (arith, length_section i 2 0 0 ta tl link locals 16)) in
+    let third = behind (at + 40) (at + 40 + 40) bytes (section_bytes (section j 3 0 0 sa sl 0 0 0)) three second (omega (arith, length_section j 3 0 0 sa sl 0 0 0)) in (
       head_back bytes two at i 2 0 0 ta tl link locals 16 (omega arith) a b g h,
       head_back bytes three (at + 40) j 3 0 0 sa sl 0 0 0 three_word c d zero_word second,
       head_back bytes [] (at + 40 + 40) n 3 0 0 na nl 0 0 0 three_word e f zero_word third,
@@ -104,11 +105,11 @@ pub sections_back : (bytes : List ℕ) (off base ta tl sa sl na nl i j n locals 
     → drop off bytes
     ≡ zeros 40
     ++ (section_rows 0 1 base xs
-    ++ (section_bytes i 2 0 0 ta tl (length xs + 2) locals 16 ++ (section_bytes j 3 0 0 sa sl 0 0 0 ++ (section_bytes n 3 0 0 na nl 0 0 0 ++ []))))
+    ++ (section_bytes (section i 2 0 0 ta tl (length xs + 2) locals 16) ++ (section_bytes (section j 3 0 0 sa sl 0 0 0) ++ (section_bytes (section n 3 0 0 na nl 0 0 0) ++ []))))
     → map (λ k. section_header bytes (off + 40 * k)) (range_with_len 0 (length xs + 4))
     ≡ head 0 0 0 0 ∷ heads_of base xs ++ head 2 ta tl (length xs + 2) ∷ head 3 sa sl 0 ∷ head 3 na nl 0 ∷ []
 sections_back bytes off base ta tl sa sl na nl i j n locals xs inside a b c d e f g h =
-    let last : List ℕ = section_bytes i 2 0 0 ta tl (length xs + 2) locals 16 ++ (section_bytes j 3 0 0 sa sl 0 0 0 ++ (section_bytes n 3 0 0 na nl 0 0 0 ++ [])) in
+    let last : List ℕ = section_bytes (section i 2 0 0 ta tl (length xs + 2) locals 16) ++ (section_bytes (section j 3 0 0 sa sl 0 0 0) ++ (section_bytes (section n 3 0 0 na nl 0 0 0) ++ [])) in
     let rows : List ℕ = section_rows 0 1 base xs in
     let there : drop (off + 40 * 0) bytes ≡ zeros 40 ++ (rows ++ last) = let o : off + 40 * 0 ≡ off = omega arith in rw o h in
     let null = null_back bytes (rows ++ last) (off + 40 * 0) there in

@@ -12,12 +12,13 @@ use Rattle.elf_image.specs.declared.fault.ImageFault.{ImageFault}
 use Rattle.elf_image.specs.declared.fault.ImageFault.TheVariants.{TooLarge}
 use Rattle.elf_image.specs.declared.format.ProgramHeader.{ProgramHeader}
 use Rattle.elf_image.specs.declared.format.SectionHeader.{SectionHeader}
-use Rattle.elf_write.specs.Layout.{word, half, zeros, aligned, padding, bit, contents, program_rows, place_of, index_row, has_index, base_of, section_bytes, strings_of, table_of, Plan, contents_end, table_at, strings_at, names_at, names_end, sections_at, file_end, identity, header_sizes, file_header, sections_of, joined, plan_of, layout_of, is_too_long, is_read, if_read, written_of}
+use Rattle.eh_list.specs.Bytes.{zeros}
+use Rattle.elf_write.specs.Layout.{word, half, aligned, padding, bit, contents, program_rows, place_of, index_row, has_index, base_of, section_bytes, strings_of, table_of, Plan, contents_end, table_at, strings_at, names_at, names_end, sections_at, file_end, identity, header_sizes, file_header, sections_of, joined, plan_of, layout_of, is_too_long, is_read, if_read, written_of}
 use Rattle.elf_write.specs.Parts.{IsWord, AreParts, segments_of_parts, index_of_parts, symbols_of_parts, image_of_parts, Stands, ReadsBack}
 use Rattle.elf_write.specs.declared.parts.ImageParts.{ImageParts}
 use Rattle.elf_write.proofs.Layouts.{length_zeros}
 use Rattle.elf_write.proofs.Planning.{length_programs, length_program_rows}
-use Rattle.elf_write.proofs.Pieces.{word_back, half_back, behind, piece_is}
+use Rattle.elf_write.proofs.Pieces.{section, word_back, half_back, behind, piece_is}
 use Rattle.elf_write.proofs.Programs.{headers_of, headers_back, index_headers, index_back, indexes_back, loads_are, index_range}
 use Rattle.elf_write.proofs.Sections.{head, sections_back, tables_back}
 use Rattle.elf_write.proofs.Table.{table_back}
@@ -203,9 +204,9 @@ tables_are parts bytes few r short =
     let i = length p.names - 26 in
     let j = length p.names - 18 in
     let n = length p.names - 10 in
-    let symbols : List ℕ = section_bytes i 2 0 0 (table_at p) (length p.table) (p.segment_total + 2) p.locals 16 in
-    let strings : List ℕ = section_bytes j 3 0 0 (strings_at p) (length p.strings) 0 0 0 in
-    let names : List ℕ = section_bytes n 3 0 0 (names_at p) (length p.names) 0 0 0 in
+    let symbols : List ℕ = section_bytes (section i 2 0 0 (table_at p) (length p.table) (p.segment_total + 2) p.locals 16) in
+    let strings : List ℕ = section_bytes (section j 3 0 0 (strings_at p) (length p.strings) 0 0 0) in
+    let names : List ℕ = section_bytes (section n 3 0 0 (names_at p) (length p.names) 0 0 0) in
     let there = r.sections ∙ regroup_sections (zeros 40) p.segment_rows symbols strings names in
     let all = sections_back bytes (sections_at p) base (table_at p) (length p.table) (strings_at p) (length p.strings) (names_at p) (length p.names) i j n p.locals parts.segments
     (contents_fit parts short) (omega (arith, short)) (omega (arith, short)) (omega (arith, short)) (omega (arith, short)) (omega (arith, short)) (omega (arith, short)) (omega (arith, few)) there in

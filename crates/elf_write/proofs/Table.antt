@@ -3,7 +3,8 @@ use Rattle.std.proofs.Common.{◌≡◌, ℕ, zero, suc, ◌+◌, ◌*◌, ◌^�
 use Rattle.std.proofs.lemmas.List.Elements.{All-append}
 use Rattle.std.specs.List.{All, range_with_len, flat_map, position_from}
 use Rattle.elf_image.specs.Symbols.{Symbol, symbol_at, symbols_of, symbol_count}
-use Rattle.elf_write.specs.Layout.{zeros, closed, symbol_rows, strings_of, symbol_row_of, rows_of, section_of, is_wanted, wanted_rows, table_of}
+use Rattle.eh_list.specs.Bytes.{zeros}
+use Rattle.elf_write.specs.Layout.{closed, symbol_rows, strings_of, symbol_row_of, rows_of, section_of, is_wanted, wanted_rows, table_of}
 use Rattle.elf_write.specs.Parts.{IsWord, HasNoZero, SymbolsFit, AreParts, null_symbol, symbols_of_parts}
 use Rattle.elf_write.specs.declared.parts.OwnSegment.{OwnSegment}
 use Rattle.elf_write.specs.declared.parts.OwnSymbol.{OwnSymbol}

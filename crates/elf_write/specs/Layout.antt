@@ -1,8 +1,15 @@
 -- The file that is written for the parts of an image, as one joined list of bytes.
-use Rattle.std.specs.Prelude.{ℕ, ◌≡◌, ◌+◌, ◌-◌, ◌*◌, ◌/◌, ◌%◌, ◌^◌, ◌==◌, not, ◌&&◌, ◌||◌, nat_le, nat_lt, Bool, true, false, if◌then◌else◌, List, [], ◌∷◌, ◌++◌, length, map, filter, replicate, Option, Some, None, unwrap_or, Result, Ok, Err, codes}
+use Rattle.std.specs.Prelude.{ℕ, ◌≡◌, ◌+◌, ◌-◌, ◌*◌, ◌/◌, ◌%◌, ◌^◌, ◌==◌, not, ◌&&◌, ◌||◌, nat_le, nat_lt, Bool, true, false, if◌then◌else◌, List, [], ◌∷◌, ◌++◌, length, map, filter, Option, Some, None, unwrap_or, Result, Ok, Err, codes}
 use Rattle.std.specs.List.{position_from, flat_map}
 use Rattle.byteorder.specs.Endian.{little_bytes}
+use Rattle.eh_list.specs.Bytes.{zeros, next_multiple}
 use Rattle.elf_image.specs.Symbols.{Symbol}
+use Rattle.elf_image.specs.declared.format.ProgramHeader.{ProgramHeader}
+use Rattle.elf_image.specs.declared.format.TheConstants.{FILE_HEADER_SIZE, PROGRAM_HEADER_SIZE, SECTION_HEADER_SIZE, ET_EXEC, EM_ARM, PT_LOAD, PT_ARM_EXIDX, SHT_SYMTAB, SHT_STRTAB}
+use Rattle.elf_image.specs.declared.symbol.TheConstants.{SYMBOL_SIZE}
+use Rattle.elf_image.specs.declared.limits.TheConstants.{SEGMENT_LIMIT}
+use Rattle.elf_write.specs.declared.layout.SectionRow.{SectionRow}
+use Rattle.elf_write.specs.declared.layout.TheConstants.{SHT_PROGBITS, SHN_ABS, ABI_FLAGS}
 use Rattle.elf_image.specs.Image.{Image, image_of}
 use Rattle.elf_image.specs.declared.fault.ImageFault.{ImageFault}
 use Rattle.elf_image.specs.declared.fault.ImageFault.TheVariants.{TooLarge}
@@ -21,10 +28,7 @@ half x = little_bytes 2 x
 
 -- the next multiple of 4
 abbrev pub aligned : ℕ → ℕ
-aligned n = (n + 3) / 4 * 4
-
-unfoldable pub zeros : ℕ → List ℕ
-zeros n = replicate n 0
+aligned n = next_multiple n 4
 
 -- zeros up to the next multiple of 4
 abbrev pub padding : ℕ → List ℕ
@@ -43,7 +47,7 @@ is_mapping kind.Words = true
 
 -- the number of the first segment that the value lies in, or at the end of; SHN_ABS where there is none
 abbrev pub section_of : List OwnSegment → ℕ → ℕ
-section_of segments value = unwrap_or (position_from (λ s. nat_le s.start value && nat_le value (s.start + s.size)) 1 segments) 0xfff1
+section_of segments value = unwrap_or (position_from (λ s. nat_le s.start value && nat_le value (s.start + s.size)) 1 segments) SHN_ABS
 
 -- a mapping symbol is local and of no type, without a size; a function is global with bit 0 of its value set, an object is global
 abbrev pub symbol_row_of : List OwnSegment → OwnSymbol → SymbolKind → Symbol
@@ -93,14 +97,29 @@ abbrev pub contents : ℕ → List OwnSegment → List ℕ
 contents at [] = []
 contents at (s ∷ more) = padding at ++ s.bytes ++ contents (aligned at + length s.bytes) more
 
-unfoldable pub program_bytes : ℕ → ℕ → ℕ → ℕ → ℕ → ℕ → List ℕ
-program_bytes kind offset address file_size memory_size flags =
-    word kind ++ word offset ++ word address ++ word address ++ word file_size ++ word memory_size ++ word flags ++ word 4
+-- a program header: the load address is the address, the alignment is 4
+unfoldable pub program_bytes : ProgramHeader → List ℕ
+program_bytes h = word h.kind ++ word h.offset ++ word h.address ++ word h.address ++ word h.file_size ++ word h.memory_size ++ word h.flags ++ word 4
+
+-- the header of a segment whose bytes stand at an offset; it may be read, and as it says written and executed
+abbrev pub load_header : ℕ → OwnSegment → ProgramHeader
+load_header at s = record {
+  kind = PT_LOAD;
+  offset = at;
+  address = s.start;
+  file_size = length s.bytes;
+  memory_size = s.size;
+  flags = 4 + bit s.write 2 + bit s.exec 1;
+}
+
+-- the header of the index, whose bytes stand at an offset
+abbrev pub index_header : ℕ → ℕ × ℕ → ProgramHeader
+index_header at index = record { kind = PT_ARM_EXIDX; offset = at; address = index.0; file_size = index.1; memory_size = index.1; flags = 4 }
 
 abbrev pub program_rows : ℕ → List OwnSegment → List ℕ
 program_rows at [] = []
 program_rows at (s ∷ more) =
-    program_bytes 1 (aligned at) s.start (length s.bytes) s.size (4 + bit s.write 2 + bit s.exec 1)
+    program_bytes (load_header (aligned at) s)
     ++ program_rows (aligned at + length s.bytes) more
 
 -- where the bytes at an address stand in the file: in the first segment whose bytes hold them all; 0 where none does
@@ -115,14 +134,14 @@ has_index parts = not (parts.index.1 == 0)
 
 abbrev pub index_row : ℕ → ImageParts → List ℕ
 index_row at parts =
-    if has_index parts then program_bytes 0x70000001 (place_of parts.index.0 parts.index.1 at parts.segments) parts.index.0 parts.index.1 parts.index.1 4 else []
+    if has_index parts then program_bytes (index_header (place_of parts.index.0 parts.index.1 at parts.segments) parts.index) else []
 
 abbrev pub program_total : ImageParts → ℕ
 program_total parts = length parts.segments + bit (has_index parts) 1
 
 -- the end of the program headers
 abbrev pub base_of : ImageParts → ℕ
-base_of parts = 52 + 32 * program_total parts
+base_of parts = FILE_HEADER_SIZE + PROGRAM_HEADER_SIZE * program_total parts
 
 -- ---- the sections
 
@@ -150,15 +169,48 @@ last_names = codes ".symtab" ++ 0 ∷ [] ++ codes ".strtab" ++ 0 ∷ [] ++ codes
 abbrev pub section_names : List OwnSegment → List ℕ
 section_names segments = 0 ∷ segment_names 0 segments ++ last_names
 
-unfoldable pub section_bytes : ℕ → ℕ → ℕ → ℕ → ℕ → ℕ → ℕ → ℕ → ℕ → List ℕ
-section_bytes name kind flags address offset size link info entry_size =
-    word name ++ word kind ++ word flags ++ word address ++ word offset ++ word size ++ word link ++ word info ++ word 4 ++ word entry_size
+-- a section header, whose alignment is 4
+unfoldable pub section_bytes : SectionRow → List ℕ
+section_bytes s =
+    word s.name ++ word s.kind ++ word s.flags ++ word s.address ++ word s.offset ++ word s.size ++ word s.link ++ word s.info ++ word 4 ++ word s.entry_size
+
+-- the section of a segment whose bytes stand at an offset: it takes memory (flag 2), and as it says is written (1) and executed (4)
+abbrev pub segment_row : ℕ → ℕ → OwnSegment → SectionRow
+segment_row name at s = record {
+  name = name;
+  kind = SHT_PROGBITS;
+  flags = 2 + bit s.write 1 + bit s.exec 4;
+  address = s.start;
+  offset = at;
+  size = length s.bytes;
+  link = 0;
+  info = 0;
+  entry_size = 0;
+}
+
+-- a section of strings
+abbrev pub strings_row : ℕ → ℕ → ℕ → SectionRow
+strings_row name at size = record { name = name; kind = SHT_STRTAB; flags = 0; address = 0; offset = at; size = size; link = 0; info = 0; entry_size = 0 }
+
+-- the section of the symbol table
+abbrev pub symbols_row : ℕ → ℕ → ℕ → ℕ → ℕ → SectionRow
+symbols_row name at size link locals = record {
+  name = name;
+  kind = SHT_SYMTAB;
+  flags = 0;
+  address = 0;
+  offset = at;
+  size = size;
+  link = link;
+  info = locals;
+  entry_size = SYMBOL_SIZE;
+}
 
 -- the sections of the segments: the number of the first, the offset of its name, and where its bytes may begin
 abbrev pub section_rows : ℕ → ℕ → ℕ → List OwnSegment → List ℕ
 section_rows i name at [] = []
 section_rows i name at (s ∷ more) =
-    section_bytes name 1 (2 + bit s.write 1 + bit s.exec 4) s.start (aligned at) (length s.bytes) 0 0 0
+    section_bytes (segment_row name (aligned at) s)
     ++ section_rows (i + 1) (name + length (segment_name i)) (aligned at + length s.bytes) more
 
 -- ---- the file
@@ -177,7 +229,7 @@ pub record Plan : Type 0 where
 
 -- where the pieces stand
 abbrev pub contents_end : Plan → ℕ
-contents_end p = 52 + length p.programs + length p.contents
+contents_end p = FILE_HEADER_SIZE + length p.programs + length p.contents
 
 abbrev pub table_at : Plan → ℕ
 table_at p = aligned (contents_end p)
@@ -202,26 +254,26 @@ pub record ArePlaces (p : Plan) (at : Places) : Type 0 where
   pub sections : at.sections ≡ sections_at p
 
 abbrev pub file_end : Plan → ℕ
-file_end p = sections_at p + 40 * (p.segment_total + 4)
+file_end p = sections_at p + SECTION_HEADER_SIZE * (p.segment_total + 4)
 
 -- the identification, and the type, the machine and the version
 unfoldable pub identity : List ℕ
-identity = (0x7f ∷ 0x45 ∷ 0x4c ∷ 0x46 ∷ 1 ∷ 1 ∷ 1 ∷ []) ++ zeros 9 ++ half 2 ++ half 40 ++ word 1
+identity = (0x7f ∷ 0x45 ∷ 0x4c ∷ 0x46 ∷ 1 ∷ 1 ∷ 1 ∷ []) ++ zeros 9 ++ half ET_EXEC ++ half EM_ARM ++ word 1
 
 -- the sizes and numbers of headers
 unfoldable pub header_sizes : Plan → List ℕ
-header_sizes p = half 52 ++ half 32 ++ half (length p.programs / 32) ++ half 40 ++ half (p.segment_total + 4) ++ half (p.segment_total + 3)
+header_sizes p = half FILE_HEADER_SIZE ++ half PROGRAM_HEADER_SIZE ++ half (length p.programs / PROGRAM_HEADER_SIZE) ++ half SECTION_HEADER_SIZE ++ half (p.segment_total + 4) ++ half (p.segment_total + 3)
 
 unfoldable pub file_header : Plan → List ℕ
-file_header p = identity ++ word (p.entry - p.entry % 2 + 1) ++ word 52 ++ word (sections_at p) ++ word 0x05000000 ++ header_sizes p
+file_header p = identity ++ word (p.entry - p.entry % 2 + 1) ++ word FILE_HEADER_SIZE ++ word (sections_at p) ++ word ABI_FLAGS ++ header_sizes p
 
 -- the null section, those of the segments, `.symtab`, `.strtab` and `.shstrtab`, whose names are the last 26 bytes of the names
 unfoldable pub sections_of : Plan → List ℕ
 sections_of p =
-    zeros 40 ++ p.segment_rows
-    ++ section_bytes (length p.names - 26) 2 0 0 (table_at p) (length p.table) (p.segment_total + 2) p.locals 16
-    ++ section_bytes (length p.names - 18) 3 0 0 (strings_at p) (length p.strings) 0 0 0
-    ++ section_bytes (length p.names - 10) 3 0 0 (names_at p) (length p.names) 0 0 0
+    zeros SECTION_HEADER_SIZE ++ p.segment_rows
+    ++ section_bytes (symbols_row (length p.names - 26) (table_at p) (length p.table) (p.segment_total + 2) p.locals)
+    ++ section_bytes (strings_row (length p.names - 18) (strings_at p) (length p.strings))
+    ++ section_bytes (strings_row (length p.names - 10) (names_at p) (length p.names))
 
 unfoldable pub joined : Plan → List ℕ
 joined p =
@@ -232,7 +284,7 @@ plan_of parts = record {
   entry = parts.entry;
   programs = program_rows (base_of parts) parts.segments ++ index_row (base_of parts) parts;
   contents = contents (base_of parts) parts.segments;
-  table = zeros 16 ++ symbol_rows 1 (table_of parts);
+  table = zeros SYMBOL_SIZE ++ symbol_rows 1 (table_of parts);
   locals = 1 + length (wanted_rows true parts.segments parts.symbols);
   strings = strings_of (table_of parts);
   names = section_names parts.segments;
@@ -246,7 +298,7 @@ layout_of parts = joined (plan_of parts)
 
 -- more than 1,024 segments, or a file of 2 ^ 32 bytes or more
 unfoldable pub is_too_long : ImageParts → Bool
-is_too_long parts = nat_lt 1024 (length parts.segments) || nat_le (2 ^ 32) (file_end (plan_of parts))
+is_too_long parts = nat_lt SEGMENT_LIMIT (length parts.segments) || nat_le (2 ^ 32) (file_end (plan_of parts))
 
 -- what a reading refuses
 abbrev pub is_read : Result Image ImageFault → Option ImageFault

@@ -1,9 +1,36 @@
+//! The segments of a file with their headers, and the sections that name them (docs/elf.md).
 ghost use Rattle.std.specs.Prelude.{◌≡◌, ◌+◌, ◌-◌, ◌*◌, ◌^◌, ◌<◌, ◌≤◌, [], ◌∷◌, ◌++◌, length, nat_le, ◌&&◌, OnOk, IfOk};
-ghost use Rattle.elf_write.specs.Layout.{word, half, zeros, aligned, padding, bit, contents, program_bytes, program_rows, place_of, decimal, segment_name, segment_names, last_names, section_names, section_bytes, section_rows};
+ghost use Rattle.elf_write.specs.Layout.{load_header, segment_row, word, half, aligned, padding, bit, contents, program_bytes, program_rows, place_of, decimal, segment_name, segment_names, last_names, section_names, section_bytes, section_rows};
 
 use crate::parts::OwnSegment;
 use crate::rows::{aligned, put_padding, put_word};
+use elf_image::format::{PT_LOAD, ProgramHeader};
 use std::alloc::{AllocError, Global};
+
+/// The type of a section with contents of the program.
+pub const SHT_PROGBITS: u32 = 1;
+/// The section of a value that lies in none.
+pub const SHN_ABS: u16 = 0xfff1;
+/// The flags of the file header: version 5 of the ABI.
+pub const ABI_FLAGS: u32 = 0x0500_0000;
+
+/// A section header, as it is written.
+#[derive(Clone, Copy)]
+pub struct SectionRow {
+    /// The offset of its name in the names of the sections.
+    pub name: u32,
+    pub kind: u32,
+    pub flags: u32,
+    pub address: u32,
+    /// The offset of its bytes in the file.
+    pub offset: u32,
+    pub size: u32,
+    /// The number of another section.
+    pub link: u32,
+    pub info: u32,
+    /// The size of each of its entries in bytes; 0 where it has none.
+    pub entry_size: u32,
+}
 
 /// The bytes of the segments, each at the next multiple of 4, from the offset `base` on.
 #[tactic(auto, using(crate::proofs::Layouts::layouts))]
@@ -30,28 +57,35 @@ fn bit(holds: bool, n: u32) -> u32
     if holds { n } else { 0 }
 }
 
-/// Puts a program header at the end: its type, the offset, address and size of its bytes, its size in memory and its
-/// rights.
+/// Puts a program header at the end. The load address is the address, the alignment 4.
 #[tactic(auto, using(std::proofs::lemmas::List::append_assoc), unfolding(crate::specs::Layout::program_bytes))]
-pub(crate) fn put_program(
-    out: &mut Vec<u8>,
-    kind: u32,
-    offset: u32,
-    address: u32,
-    file_size: u32,
-    memory_size: u32,
-    flags: u32,
-) -> Result<(), AllocError>
-    ensures { OnOk result (out.new.items ≡ out.old.items ++ program_bytes kind offset address file_size memory_size flags) }
+pub(crate) fn put_program(out: &mut Vec<u8>, h: &ProgramHeader) -> Result<(), AllocError>
+    ensures { OnOk result (out.new.items ≡ out.old.items ++ program_bytes h.now) }
 {
-    put_word(out, kind)?;
-    put_word(out, offset)?;
-    put_word(out, address)?;
-    put_word(out, address)?;
-    put_word(out, file_size)?;
-    put_word(out, memory_size)?;
-    put_word(out, flags)?;
+    put_word(out, h.kind)?;
+    put_word(out, h.offset)?;
+    put_word(out, h.address)?;
+    put_word(out, h.address)?;
+    put_word(out, h.file_size)?;
+    put_word(out, h.memory_size)?;
+    put_word(out, h.flags)?;
     put_word(out, 4)
+}
+
+/// The header of a segment whose bytes stand at an offset.
+fn load_header(at: usize, s: &OwnSegment) -> ProgramHeader
+    requires at { at < 2 ^ 32 }
+    requires fits { length s.now.bytes < 2 ^ 32 }
+    ensures { result ≡ load_header at s.now }
+{
+    ProgramHeader {
+        kind: PT_LOAD,
+        offset: at as u32,
+        address: s.start,
+        file_size: s.bytes.len() as u32,
+        memory_size: s.size,
+        flags: 4 + bit(s.write, 2) + bit(s.exec, 1),
+    }
 }
 
 /// The program headers of the segments, whose bytes stand from `base` on.
@@ -69,8 +103,7 @@ pub(crate) fn program_rows(
     for s in segments {
         let at = aligned(end);
         let size = s.bytes.as_slice().len();
-        let flags = 4 + bit(s.write, 2) + bit(s.exec, 1);
-        put_program(&mut out, 1, at as u32, s.start, size as u32, s.size, flags)?;
+        put_program(&mut out, &load_header(at, s))?;
         end = at + size;
     }
     Ok(out)
@@ -157,32 +190,40 @@ pub(crate) fn section_names(alloc: Global, segments: &[OwnSegment]) -> Result<Ve
     Ok(out)
 }
 
-/// Puts a section header at the end: the offset of its name, its type, flags and address, the offset and the size of its
-/// bytes, its link, its info and the size of its entries.
+/// Puts a section header at the end. The alignment is 4.
 #[tactic(auto, using(std::proofs::lemmas::List::append_assoc), unfolding(crate::specs::Layout::section_bytes))]
-pub(crate) fn put_section(
-    out: &mut Vec<u8>,
-    name: u32,
-    kind: u32,
-    flags: u32,
-    address: u32,
-    place: (u32, u32),
-    link: u32,
-    info: u32,
-    entry_size: u32,
-) -> Result<(), AllocError>
-    ensures { OnOk result (out.new.items ≡ out.old.items ++ section_bytes name kind flags address place.0 place.1 link info entry_size) }
+pub(crate) fn put_section(out: &mut Vec<u8>, s: &SectionRow) -> Result<(), AllocError>
+    ensures { OnOk result (out.new.items ≡ out.old.items ++ section_bytes s.now) }
 {
-    put_word(out, name)?;
-    put_word(out, kind)?;
-    put_word(out, flags)?;
-    put_word(out, address)?;
-    put_word(out, place.0)?;
-    put_word(out, place.1)?;
-    put_word(out, link)?;
-    put_word(out, info)?;
+    put_word(out, s.name)?;
+    put_word(out, s.kind)?;
+    put_word(out, s.flags)?;
+    put_word(out, s.address)?;
+    put_word(out, s.offset)?;
+    put_word(out, s.size)?;
+    put_word(out, s.link)?;
+    put_word(out, s.info)?;
     put_word(out, 4)?;
-    put_word(out, entry_size)
+    put_word(out, s.entry_size)
+}
+
+/// The section header of a segment whose bytes stand at an offset.
+fn segment_row(name: u32, at: usize, s: &OwnSegment) -> SectionRow
+    requires at { at < 2 ^ 32 }
+    requires fits { length s.now.bytes < 2 ^ 32 }
+    ensures { result ≡ segment_row name at s.now }
+{
+    SectionRow {
+        name,
+        kind: SHT_PROGBITS,
+        flags: 2 + bit(s.write, 1) + bit(s.exec, 4),
+        address: s.start,
+        offset: at as u32,
+        size: s.bytes.len() as u32,
+        link: 0,
+        info: 0,
+        entry_size: 0,
+    }
 }
 
 /// How many bytes the name of a segment's section takes, with its closing zero byte.
@@ -221,18 +262,7 @@ pub(crate) fn section_rows(
     for s in segments {
         let at = aligned(end);
         let size = s.bytes.as_slice().len();
-        let flags = 2 + bit(s.write, 1) + bit(s.exec, 4);
-        put_section(
-            &mut out,
-            name,
-            1,
-            flags,
-            s.start,
-            (at as u32, size as u32),
-            0,
-            0,
-            0,
-        )?;
+        put_section(&mut out, &segment_row(name, at, s))?;
         name += segment_name_len(i);
         end = at + size;
         i += 1;

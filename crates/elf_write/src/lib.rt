@@ -1,4 +1,4 @@
-// Writing Arm ELF images.
+//! Writing Arm ELF images (docs/elf.md).
 #![tactic(auto)]
 
 ghost use Rattle.elf_write.specs.Parts.{ReadsBack, Stands};

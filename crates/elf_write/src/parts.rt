@@ -1,35 +1,13 @@
-ghost use Rattle.std.specs.Prelude.{◌≡◌};
-
+//! What an image is written from.
+use eh_list::Seq;
 use eh_word::Name;
-use std::marker::Model;
 
-/// Bytes that contracts see as their list.
-#[derive(Debug, Drop)]
-pub struct OwnBytes {
-    bytes: Vec<u8>,
-}
-
-impl Model for OwnBytes {
-    ghost use Rattle.std.specs.Prelude.{List, ℕ};
-
-    ghost Value = { List ℕ };
-
-    ghost view = { λ b. b.bytes.items };
-}
-
-impl OwnBytes {
-    pub fn of_vec(bytes: Vec<u8>) -> OwnBytes
-        ensures { result ≡ bytes.items }
-    {
-        OwnBytes { bytes }
-    }
-
-    pub fn as_slice(&self) -> &[u8]
-        ensures { result.now ≡ self.now }
-    {
-        self.bytes.as_slice()
-    }
-}
+/// Bytes in order.
+pub type OwnBytes = Seq<u8>;
+/// Segments in order.
+pub type OwnSegments = Seq<OwnSegment>;
+/// Symbols in order.
+pub type OwnSymbols = Seq<OwnSymbol>;
 
 /// A segment to write: `size` bytes of memory from the address `start` on, the first of them given.
 #[derive(Debug, Drop)]
@@ -59,64 +37,6 @@ pub struct OwnSymbol {
     pub value: u32,
     pub size: u32,
     pub kind: SymbolKind,
-}
-
-/// Segments that contracts see as their list.
-#[derive(Debug, Drop)]
-pub struct OwnSegments {
-    segments: Vec<OwnSegment>,
-}
-
-impl Model for OwnSegments {
-    ghost use Rattle.std.specs.Prelude.{List};
-    ghost use Rattle.elf_write.specs.declared.parts.OwnSegment.{OwnSegment};
-
-    ghost Value = { List OwnSegment };
-
-    ghost view = { λ s. s.segments.items };
-}
-
-impl OwnSegments {
-    pub fn of_vec(segments: Vec<OwnSegment>) -> OwnSegments
-        ensures { result ≡ segments.items }
-    {
-        OwnSegments { segments }
-    }
-
-    pub fn as_slice(&self) -> &[OwnSegment]
-        ensures { result.now ≡ self.now }
-    {
-        self.segments.as_slice()
-    }
-}
-
-/// Symbols that contracts see as their list.
-#[derive(Debug, Drop)]
-pub struct OwnSymbols {
-    symbols: Vec<OwnSymbol>,
-}
-
-impl Model for OwnSymbols {
-    ghost use Rattle.std.specs.Prelude.{List};
-    ghost use Rattle.elf_write.specs.declared.parts.OwnSymbol.{OwnSymbol};
-
-    ghost Value = { List OwnSymbol };
-
-    ghost view = { λ s. s.symbols.items };
-}
-
-impl OwnSymbols {
-    pub fn of_vec(symbols: Vec<OwnSymbol>) -> OwnSymbols
-        ensures { result ≡ symbols.items }
-    {
-        OwnSymbols { symbols }
-    }
-
-    pub fn as_slice(&self) -> &[OwnSymbol]
-        ensures { result.now ≡ self.now }
-    {
-        self.symbols.as_slice()
-    }
 }
 
 /// What an image is written from.

@@ -1,8 +1,15 @@
+//! The pieces of a file: where they stand, and the file that joins them (docs/elf.md).
 ghost use Rattle.std.specs.Prelude.{◌≡◌, ◌+◌, ◌-◌, ◌*◌, ◌/◌, ◌%◌, ◌^◌, ◌<◌, ◌≤◌, [], ◌∷◌, ◌++◌, length, OnOk, IfOk, IfSome, IfNone};
-ghost use Rattle.elf_write.specs.Layout.{Plan as Pieces, ArePlaces, word, half, zeros, padding, identity, header_sizes, file_header, sections_of, joined, contents_end, table_at, strings_at, names_at, names_end, sections_at, file_end};
+ghost use Rattle.elf_write.specs.Layout.{strings_row, Plan as Pieces, ArePlaces, word, half, padding, identity, header_sizes, file_header, sections_of, joined, contents_end, table_at, strings_at, names_at, names_end, sections_at, file_end};
 
-use crate::layout::put_section;
-use crate::rows::{put_half, put_padding, put_word, put_zeros};
+use crate::layout::{ABI_FLAGS, SectionRow, put_section};
+use crate::rows::{put_half, put_padding, put_word};
+use eh_list::bytes::push_zeros;
+use elf_image::format::{
+    EM_ARM, ET_EXEC, FILE_HEADER_SIZE, PROGRAM_HEADER_SIZE, SECTION_HEADER_SIZE, SHT_STRTAB,
+    SHT_SYMTAB,
+};
+use elf_image::symbol::SYMBOL_SIZE;
 use std::alloc::{AllocError, Global};
 use std::marker::Model;
 
@@ -80,9 +87,9 @@ fn put_identity(out: &mut Vec<u8>) -> Result<(), AllocError>
     ensures { OnOk result (out.new.items ≡ out.old.items ++ identity) }
 {
     out.extend_from_slice(b"\x7fELF\x01\x01\x01")?;
-    put_zeros(out, 9)?;
-    put_half(out, 2)?;
-    put_half(out, 40)?;
+    push_zeros(out, 9)?;
+    put_half(out, ET_EXEC)?;
+    put_half(out, EM_ARM)?;
     put_word(out, 1)
 }
 
@@ -92,10 +99,13 @@ fn put_header_sizes(out: &mut Vec<u8>, p: &Plan) -> Result<(), AllocError>
     requires segments { p.now.segment_total ≤ 1024 }
     ensures { OnOk result (out.new.items ≡ out.old.items ++ header_sizes p.now) }
 {
-    put_half(out, 52)?;
-    put_half(out, 32)?;
-    put_half(out, (p.programs.len() / 32) as u16)?;
-    put_half(out, 40)?;
+    put_half(out, FILE_HEADER_SIZE as u16)?;
+    put_half(out, PROGRAM_HEADER_SIZE as u16)?;
+    put_half(
+        out,
+        (p.programs.len() / PROGRAM_HEADER_SIZE as usize) as u16,
+    )?;
+    put_half(out, SECTION_HEADER_SIZE as u16)?;
     put_half(out, p.segment_total + 4)?;
     put_half(out, p.segment_total + 3)
 }
@@ -109,10 +119,27 @@ fn put_file_header(out: &mut Vec<u8>, p: &Plan, at: Places) -> Result<(), AllocE
 {
     put_identity(out)?;
     put_word(out, p.entry - p.entry % 2 + 1)?;
-    put_word(out, 52)?;
+    put_word(out, FILE_HEADER_SIZE)?;
     put_word(out, at.sections)?;
-    put_word(out, 0x0500_0000)?;
+    put_word(out, ABI_FLAGS)?;
     put_header_sizes(out, p)
+}
+
+/// The section header of strings.
+fn strings_row(name: u32, offset: u32, size: u32) -> SectionRow
+    ensures { result ≡ strings_row name offset size }
+{
+    SectionRow {
+        name,
+        kind: SHT_STRTAB,
+        flags: 0,
+        address: 0,
+        offset,
+        size,
+        link: 0,
+        info: 0,
+        entry_size: 0,
+    }
 }
 
 #[tactic(auto, using(std::proofs::lemmas::List::append_assoc), unfolding(crate::specs::Layout::sections_of))]
@@ -128,21 +155,22 @@ fn put_sections(out: &mut Vec<u8>, p: &Plan, at: Places) -> Result<(), AllocErro
         p.strings.len() as u32,
         p.names.len() as u32,
     );
-    put_zeros(out, 40)?;
+    push_zeros(out, SECTION_HEADER_SIZE as usize)?;
     out.extend_from_slice(&p.segment_rows)?;
-    put_section(
-        out,
-        names - 26,
-        2,
-        0,
-        0,
-        (at.table, table),
-        u32::from(p.segment_total) + 2,
-        p.locals,
-        16,
-    )?;
-    put_section(out, names - 18, 3, 0, 0, (at.strings, strings), 0, 0, 0)?;
-    put_section(out, names - 10, 3, 0, 0, (at.names, names), 0, 0, 0)
+    let section = SectionRow {
+        name: names - 26,
+        kind: SHT_SYMTAB,
+        flags: 0,
+        address: 0,
+        offset: at.table,
+        size: table,
+        link: u32::from(p.segment_total) + 2,
+        info: p.locals,
+        entry_size: SYMBOL_SIZE as u32,
+    };
+    put_section(out, &section)?;
+    put_section(out, &strings_row(names - 18, at.strings, strings))?;
+    put_section(out, &strings_row(names - 10, at.names, names))
 }
 
 /// The pieces, joined to the file.

@@ -1,48 +1,43 @@
+//! The rows of the symbol table, and the strings that name them (docs/elf.md).
 ghost use Rattle.std.specs.Prelude.{◌≡◌, ◌≢◌, ◌+◌, ◌-◌, ◌*◌, ◌^◌, ◌<◌, ◌≤◌, [], ◌∷◌, ◌++◌, length, OnOk, IfOk, map, filter};
-ghost use Rattle.elf_write.specs.Layout.{word, half, zeros, aligned, padding, is_mapping, section_of, symbol_row_of, rows_of, is_wanted, wanted_rows, closed, name_offset, symbol_bytes, symbol_rows, strings_of, contents, program_bytes, program_rows, place_of};
+ghost use Rattle.eh_list.specs.Bytes.{zeros};
+ghost use Rattle.elf_image.specs.declared.symbol.TheConstants.{SYMBOL_SIZE};
+ghost use Rattle.elf_write.specs.Layout.{word, half, aligned, padding, is_mapping, section_of, symbol_row_of, rows_of, is_wanted, wanted_rows, closed, name_offset, symbol_bytes, symbol_rows, strings_of, contents, program_bytes, program_rows, place_of};
 
+use crate::layout::SHN_ABS;
 use crate::parts::{OwnSegment, OwnSymbol, SymbolKind};
-use elf_image::symbol::Symbol;
+use eh_list::bytes::{next_multiple, push_half, push_word, push_zeros};
+use elf_image::symbol::{SYMBOL_SIZE, Symbol};
 use std::alloc::{AllocError, Global};
 
 #[tactic(auto, unfolding(crate::specs::Layout::word))]
 pub(crate) fn put_word(out: &mut Vec<u8>, x: u32) -> Result<(), AllocError>
     ensures { OnOk result (out.new.items ≡ out.old.items ++ word x) }
 {
-    out.extend_from_slice(&x.to_le_bytes())
+    push_word(out, x)
 }
 
 #[tactic(auto, unfolding(crate::specs::Layout::half))]
 pub(crate) fn put_half(out: &mut Vec<u8>, x: u16) -> Result<(), AllocError>
     ensures { OnOk result (out.new.items ≡ out.old.items ++ half x) }
 {
-    out.extend_from_slice(&x.to_le_bytes())
+    push_half(out, x)
 }
 
 /// The next multiple of 4.
 pub(crate) fn aligned(n: usize) -> usize
-    requires { n + 3 < 2 ^ 64 }
+    requires { n + 4 ≤ 2 ^ 64 }
     ensures { result ≡ aligned n }
 {
-    (n + 3) / 4 * 4
-}
-
-#[tactic(auto, unfolding(crate::specs::Layout::zeros))]
-pub(crate) fn put_zeros(out: &mut Vec<u8>, count: usize) -> Result<(), AllocError>
-    ensures { OnOk result (out.new.items ≡ out.old.items ++ zeros count) }
-{
-    for _i in 0..count {
-        out.push(0)?;
-    }
-    Ok(())
+    next_multiple(n as u64, 4) as usize
 }
 
 /// Zeros up to the next multiple of 4 behind the offset `at`.
 pub(crate) fn put_padding(out: &mut Vec<u8>, at: usize) -> Result<(), AllocError>
-    requires { at + 3 < 2 ^ 64 }
+    requires { at + 4 ≤ 2 ^ 64 }
     ensures { OnOk result (out.new.items ≡ out.old.items ++ padding at) }
 {
-    put_zeros(out, aligned(at) - at)
+    push_zeros(out, aligned(at) - at)
 }
 
 /// The number of the section of the first segment that a value lies in or at the end of.
@@ -57,7 +52,7 @@ fn section_of(segments: &[OwnSegment], value: u32) -> u16
         }
         number += 1;
     }
-    0xfff1
+    SHN_ABS
 }
 
 fn symbol_row<'a>(segments: &[OwnSegment], s: &'a OwnSymbol) -> Symbol<'a>
@@ -164,10 +159,10 @@ fn put_symbol(out: &mut Vec<u8>, s: &Symbol, at: u32) -> Result<(), AllocError>
 #[tactic(auto, using(crate::proofs::Layouts::layouts))]
 pub(crate) fn table_of(alloc: Global, rows: &[Symbol]) -> Result<Vec<u8>, AllocError>
     requires { length (strings_of rows.now) < 2 ^ 32 }
-    ensures { IfOk result (λ v. v.items ≡ zeros 16 ++ symbol_rows 1 rows.now) }
+    ensures { IfOk result (λ v. v.items ≡ zeros SYMBOL_SIZE ++ symbol_rows 1 rows.now) }
 {
     let mut out = Vec::new(alloc);
-    put_zeros(&mut out, 16)?;
+    push_zeros(&mut out, SYMBOL_SIZE)?;
     let mut at = 1usize;
     for s in rows {
         put_symbol(&mut out, s, at as u32)?;

@@ -1,3 +1,5 @@
+//! Writing an image: the pieces of its file, joined, where they stand for an image (docs/elf.md).
+ghost use Rattle.elf_image.specs.declared.limits.TheConstants.{SEGMENT_LIMIT};
 ghost use Rattle.std.specs.Prelude.{◌≡◌, ◌≢◌, ◌+◌, ◌*◌, ◌^◌, ◌<◌, ◌≤◌, ◌++◌, length, Option, Some, None, Ok, Err, IfOk, IfErr, IfSome, IfNone, IsOk, OnOk};
 ghost use Rattle.elf_image.specs.Image.{image_of};
 ghost use Rattle.elf_image.specs.declared.fault.ImageFault.TheVariants.{OutOfMemory};
@@ -7,19 +9,21 @@ use crate::layout::{contents, place_of, program_rows, put_program, section_names
 use crate::parts::ImageParts;
 use crate::plan::{Plan, join, placed};
 use crate::rows::{push_rows, strings_of, table_of};
+use elf_image::format::{FILE_HEADER_SIZE, PROGRAM_HEADER_SIZE, PT_ARM_EXIDX, ProgramHeader};
+use elf_image::limits::SEGMENT_LIMIT;
 use elf_image::{ImageFault, read_image};
 use std::alloc::{AllocError, Global};
 
 /// The end of the program headers.
 fn base_of(parts: &ImageParts) -> usize
-    requires { length parts.now.segments ≤ 1024 }
+    requires { length parts.now.segments ≤ SEGMENT_LIMIT }
     ensures { result ≡ base_of parts.now }
 {
     let segments = parts.segments.as_slice().len();
     if parts.index.1 == 0 {
-        52 + 32 * segments
+        FILE_HEADER_SIZE as usize + PROGRAM_HEADER_SIZE as usize * segments
     } else {
-        52 + 32 * (segments + 1)
+        FILE_HEADER_SIZE as usize + PROGRAM_HEADER_SIZE as usize * (segments + 1)
     }
 }
 
@@ -33,7 +37,15 @@ fn programs(alloc: Global, base: usize, parts: &ImageParts) -> Result<Vec<u8>, A
     let mut out = program_rows(alloc, base, segments)?;
     if size != 0 {
         let place = place_of(address, size, base, segments);
-        put_program(&mut out, 0x7000_0001, place, address, size, size, 4)?;
+        let header = ProgramHeader {
+            kind: PT_ARM_EXIDX,
+            offset: place,
+            address,
+            file_size: size,
+            memory_size: size,
+            flags: 4,
+        };
+        put_program(&mut out, &header)?;
     }
     Ok(out)
 }
@@ -50,11 +62,11 @@ fn read_back(alloc: Global, bytes: &[u8]) -> Result<(), ImageFault>
 /// The pieces of the file of these parts, or None where the file has 2^32 bytes or more.
 #[tactic(auto, using(crate::proofs::Planning::planning), unfolding(crate::specs::Layout::plan_of))]
 fn plan_of(alloc: Global, parts: &ImageParts) -> Result<Option<Plan>, AllocError>
-    requires { length parts.now.segments ≤ 1024 }
+    requires { length parts.now.segments ≤ SEGMENT_LIMIT }
     ensures found { IfOk result (λ o. IfSome o (λ p. p ≡ plan_of parts.now)) }
     ensures programs { IfOk result (λ o. IfSome o (λ p. length p.programs < 2 ^ 20)) }
     ensures named { IfOk result (λ o. IfSome o (λ p. 26 ≤ length p.names)) }
-    ensures segments { IfOk result (λ o. IfSome o (λ p. p.segment_total ≤ 1024)) }
+    ensures segments { IfOk result (λ o. IfSome o (λ p. p.segment_total ≤ SEGMENT_LIMIT)) }
     ensures long { IfOk result (λ o. IfNone o (2 ^ 32 ≤ file_end (plan_of parts.now))) }
 {
     let segments = parts.segments.as_slice();
@@ -100,7 +112,7 @@ pub fn write_image(alloc: Global, parts: &ImageParts) -> Result<Vec<u8>, ImageFa
     // Want of memory alone is free.
     ensures refused { IfErr result (λ fault. fault ≢ OutOfMemory → written_of parts.now ≡ Err fault) }
 {
-    if parts.segments.as_slice().len() > 1024 {
+    if parts.segments.as_slice().len() > SEGMENT_LIMIT {
         return Err(ImageFault::TooLarge);
     }
     let Some(plan) = plan_of(alloc, parts)? else {

@@ -2,6 +2,6 @@ use Rattle.std.proofs.Common.{arith}
 use Rattle.elf_write.proofs.Layouts.{next_fits}
 use Rattle.elf_write.proofs.layout.section_rows.Goals as goal
 
-pub overflow_cast-at : goal.overflow_cast-at
-overflow_cast-at c =
+pub segment_row-requires-clause-at : goal.segment_row-requires-clause-at
+segment_row-requires-clause-at c =
     omega (arith, next_fits c.loop-s.end _ c.args.segments.now c.loop-s.s-index c.s-item.result c.loop-s-test.true c.s-item.is c.loop-s.invariant.0, c.requires.fits, c.aligned-at.ensures)

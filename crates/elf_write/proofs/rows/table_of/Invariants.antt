@@ -1,7 +1,8 @@
 use Rattle.std.proofs.Common.{◌≡◌, ◌+◌, ◌++◌, drop, length}
 use Rattle.std.specs.List.{flat_map}
 use Rattle.elf_image.specs.Symbols.{Symbol}
-use Rattle.elf_write.specs.Layout.{zeros, closed, strings_of, symbol_rows}
+use Rattle.eh_list.specs.Bytes.{zeros}
+use Rattle.elf_write.specs.Layout.{closed, strings_of, symbol_rows}
 use Rattle.elf_write.proofs.rows.table_of.Given as goal
 
 abbrev pub invariant-loop-s : goal.invariant-loop-s
