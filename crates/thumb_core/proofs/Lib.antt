@@ -1,4 +1,6 @@
 pub mod Listed
 pub mod Shifts
 pub mod Sound
+pub mod StoreLaws
 pub mod Follows
+pub mod Acts

@@ -1,9 +1,10 @@
-ghost use Rattle.std.specs.Prelude.{◌≡◌};
+ghost use Rattle.std.specs.Prelude.{◌≡◌, ℕ, ◌^◌, ◌<◌, slice_index};
 ghost use Rattle.thumb_isa.specs.Range.{InRange};
 ghost use Rattle.thumb_core.specs.Branch.{register_effect};
 ghost use Rattle.thumb_core.specs.Data.{data_effect};
-ghost use Rattle.thumb_core.specs.Laws.{AreSound, KeepsMap, OnTrap, Stands};
-ghost use Rattle.thumb_core.specs.Step.{step_of, effect};
+ghost use Rattle.thumb_core.specs.Laws.{AreSound, KeepsMap, Leaves, LeavesMemory, OnTrap, Stands};
+ghost use Rattle.thumb_core.specs.Step.{step_of, effect, instr_at};
+ghost use Rattle.thumb_core.specs.Stores.{KeepsApart, stores_at};
 
 use crate::access::{ldr_lit, mem_imm, mem_reg, mem_sp};
 use crate::alu::alu;
@@ -31,9 +32,18 @@ pub fn step<B: Bus>(regs: &mut Regs, bus: &mut B) -> Stepped
     ensures stands { Stands result regs.new }
     ensures sound { AreSound regs.old.r regs.old.pc → AreSound regs.new.r regs.new.pc }
     ensures memory { KeepsMap (B.memory bus.old) (B.memory bus.new) }
+    ensures apart { KeepsApart (stores_at (B.memory bus.old) regs.old) (B.memory bus.old) (B.memory bus.new) }
+    ensures leaves { Leaves (instr_at (B.memory bus.old) regs.old.pc) result regs.old (B.memory bus.old) regs.new }
+    ensures leaves_memory { LeavesMemory result (B.memory bus.old) (B.memory bus.new) }
 {
+    are_words(&regs.r);
     perform(regs, bus)
 }
+
+/// Each number in the registers is a word: so the addresses of an STM are.
+fn are_words(r: &[u32])
+    ensures { (k : ℕ) → slice_index r.now k < 2 ^ 32 }
+{}
 
 /// Fetches, decodes and executes.
 fn perform<B: Bus>(regs: &mut Regs, bus: &mut B) -> Stepped

@@ -1,0 +1,4 @@
+pub mod Search
+pub mod Table
+pub mod CutLaws
+pub mod RowLaws
