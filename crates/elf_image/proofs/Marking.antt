@@ -1,15 +1,16 @@
 -- Mapping symbols: the one of the greatest address at or below an address decides, there the last.
-use Rattle.std.proofs.Common.{◌≡◌, ◌⊎◌, ℕ, ◌+◌, ◌<◌, ◌≤◌, Bool, true, false, cond, nat_le, nat_lt, List, [], ◌∷◌, ◌++◌, fold, Option, Some, None, refl, sym, ◌∙◌, ap, subst, inl, inr, append_assoc, append-nil, arith}
+use Rattle.elf_image.proofs.Lookups.{both_true}
+use Rattle.std.proofs.Common.{suc, get_or, codes, nat_eq, length, ◌≡◌, ◌⊎◌, ℕ, ◌+◌, ◌/◌, ◌%◌, ◌<◌, ◌≤◌, ◌&&◌, ◌||◌, Bool, true, false, cond, nat_le, nat_lt, List, [], ◌∷◌, ◌++◌, fold, Option, Some, None, refl, sym, ◌∙◌, ap, subst, inl, inr, append_assoc, append-nil, arith}
 use Rattle.std.proofs.lemmas.Bool.Decides.{nat_tests}
 use Rattle.std.proofs.lemmas.Bool.{cases_lt, cases_eq, false≢true}
 use Rattle.std.proofs.lemmas.List.Elements.{All-cons, All-nil, All-append, All-push}
-use Rattle.std.specs.List.{All}
+use Rattle.std.specs.List.{starts_with, All}
 use Rattle.std.specs.Option.{IfSome, option_or}
 use Rattle.std.specs.Ordering.{nat_cmp}
 use Rattle.std.specs.BTreeMap.{insert_entry}
 use Rattle.elf_image.specs.Symbols.{Symbol}
-use Rattle.elf_image.specs.Marks.{is_mark, begins_code, with_mark, marks_of, marked}
-use Rattle.elf_image.specs.Laws.{Decides, IsMarkedBy}
+use Rattle.elf_image.specs.Marks.{is_mark_name, is_mark, begins_code, with_mark, marks_of, marked}
+use Rattle.elf_image.specs.Laws.{is_mapping_name, is_mapping, says_code, Decides, IsMarkedBy}
 use Rattle.elf_image.proofs.Entries.{cmp_less, cmp_equal, cmp_greater, Rising, rising_insert}
 
 le_true : (x y : ℕ) → x ≤ y → nat_le x y ≡ true
@@ -123,16 +124,159 @@ last_insert a low (x ∷ es) k v r =
       ]
     ]
 
+-- ---- the standard's words say what the reader asks
+
+eq_true : (x y : ℕ) → x ≡ y → nat_eq x y ≡ true
+eq_true x y h = grind (arith, nat_tests)
+
+eq_false : (x y : ℕ) → (x ≡ y → ⊥) → nat_eq x y ≡ false
+eq_false x y h = grind (arith, nat_tests)
+
+eq_flip : (x y : ℕ) → nat_eq x y ≡ nat_eq y x
+eq_flip x y =
+    elim (cases_eq x y) [
+      | inl same ↦ rw (eq_true x y same, eq_true y x (sym same)) refl
+      | inr other ↦ rw (eq_false x y other, eq_false y x (λ e. other (sym e))) refl
+    ]
+
+letter_two : (y : ℕ) → is_mark_name (36 ∷ y ∷ []) ≡ is_mapping_name (36 ∷ y ∷ [])
+letter_two y =
+    elim (cases_eq y 116) [
+      | inl t ↦ rw t refl
+      | inr not_t ↦ elim (cases_eq y 100) [
+        | inl d ↦ rw d refl
+        | inr not_d ↦ elim (cases_eq y 97) [
+          | inl a ↦ rw a refl
+          | inr not_a ↦
+              rw (eq_flip 116 y, eq_flip 100 y, eq_flip 97 y, eq_false y 116 not_t, eq_false y 100 not_d, eq_false y 97 not_a) refl
+        ]
+      ]
+    ]
+
+eq_two : (n : ℕ) → nat_eq (suc (suc (suc n))) 2 ≡ false
+eq_two n = eq_false (suc (suc (suc n))) 2 (omega arith)
+
+le_four : (n : ℕ) → nat_le 4 (suc (suc (suc (suc n)))) ≡ true
+le_four n = le_true 4 (suc (suc (suc (suc n)))) (omega arith)
+
+letter_more : (y z : ℕ) (more : List ℕ) → is_mark_name (36 ∷ y ∷ z ∷ more) ≡ is_mapping_name (36 ∷ y ∷ z ∷ more)
+letter_more y z [] =
+    elim (cases_eq y 116) [
+      | inl t ↦ rw t (dot z)
+      | inr not_t ↦ elim (cases_eq y 100) [
+        | inl d ↦ rw d (dot_d z)
+        | inr not_d ↦ elim (cases_eq y 97) [
+          | inl a ↦ rw a (dot_a z)
+          | inr not_a ↦ rw (eq_flip 116 y, eq_flip 100 y, eq_flip 97 y, eq_false y 116 not_t, eq_false y 100 not_d, eq_false y 97 not_a) refl
+        ]
+      ]
+    ]
+    where
+      dot : (z : ℕ) → is_mark_name (36 ∷ 116 ∷ z ∷ []) ≡ is_mapping_name (36 ∷ 116 ∷ z ∷ [])
+      dot z = elim (cases_eq z 46) [ | inl is ↦ rw is refl | inr other ↦ rw (eq_flip 46 z, eq_false z 46 other) refl ]
+      dot_d : (z : ℕ) → is_mark_name (36 ∷ 100 ∷ z ∷ []) ≡ is_mapping_name (36 ∷ 100 ∷ z ∷ [])
+      dot_d z = elim (cases_eq z 46) [ | inl is ↦ rw is refl | inr other ↦ rw (eq_flip 46 z, eq_false z 46 other) refl ]
+      dot_a : (z : ℕ) → is_mark_name (36 ∷ 97 ∷ z ∷ []) ≡ is_mapping_name (36 ∷ 97 ∷ z ∷ [])
+      dot_a z = elim (cases_eq z 46) [ | inl is ↦ rw is refl | inr other ↦ rw (eq_flip 46 z, eq_false z 46 other) refl ]
+letter_more y z (w ∷ more) =
+    elim (cases_eq y 116) [
+      | inl t ↦ rw t (dot z)
+      | inr not_t ↦ elim (cases_eq y 100) [
+        | inl d ↦ rw d (dot_d z)
+        | inr not_d ↦ elim (cases_eq y 97) [
+          | inl a ↦ rw a (dot_a z)
+          | inr not_a ↦ rw (eq_flip 116 y, eq_flip 100 y, eq_flip 97 y, eq_false y 116 not_t, eq_false y 100 not_d, eq_false y 97 not_a) refl
+        ]
+      ]
+    ]
+    where
+      dot : (z : ℕ) → is_mark_name (36 ∷ 116 ∷ z ∷ w ∷ more) ≡ is_mapping_name (36 ∷ 116 ∷ z ∷ w ∷ more)
+      dot z = elim (cases_eq z 46) [
+        | inl is ↦ rw (is, eq_two (suc (length more)), le_four (length more)) refl
+        | inr other ↦ rw (eq_flip 46 z, eq_false z 46 other, eq_two (suc (length more))) refl
+      ]
+      dot_d : (z : ℕ) → is_mark_name (36 ∷ 100 ∷ z ∷ w ∷ more) ≡ is_mapping_name (36 ∷ 100 ∷ z ∷ w ∷ more)
+      dot_d z = elim (cases_eq z 46) [
+        | inl is ↦ rw (is, eq_two (suc (length more)), le_four (length more)) refl
+        | inr other ↦ rw (eq_flip 46 z, eq_false z 46 other, eq_two (suc (length more))) refl
+      ]
+      dot_a : (z : ℕ) → is_mark_name (36 ∷ 97 ∷ z ∷ w ∷ more) ≡ is_mapping_name (36 ∷ 97 ∷ z ∷ w ∷ more)
+      dot_a z = elim (cases_eq z 46) [
+        | inl is ↦ rw (is, eq_two (suc (length more)), le_four (length more)) refl
+        | inr other ↦ rw (eq_flip 46 z, eq_false z 46 other, eq_two (suc (length more))) refl
+      ]
+
+name_is : (name : List ℕ) → is_mark_name name ≡ is_mapping_name name
+name_is [] = refl
+name_is (x ∷ []) =
+    elim (cases_eq x 36) [
+      | inl dollar ↦ rw dollar refl
+      | inr other ↦ rw (eq_false x 36 other, eq_false 36 x (λ e. other (sym e))) refl
+    ]
+name_is (x ∷ y ∷ []) =
+    elim (cases_eq x 36) [
+      | inl dollar ↦ rw dollar (letter_two y)
+      | inr other ↦ rw (eq_false x 36 other, eq_false 36 x (λ e. other (sym e))) refl
+    ]
+name_is (x ∷ y ∷ z ∷ more) =
+    elim (cases_eq x 36) [
+      | inl dollar ↦ rw dollar (letter_more y z more)
+      | inr other ↦ rw (eq_false x 36 other, eq_false 36 x (λ e. other (sym e))) refl
+    ]
+
+no_info : (n : ℕ) → nat_eq n 0 ≡ (nat_eq (n / 16) 0 && nat_eq (n % 16) 0)
+no_info n =
+    elim (cases_eq n 0) [
+      | inl none ↦ rw (eq_true n 0 none, eq_true (n / 16) 0 (omega arith), eq_true (n % 16) 0 (omega arith)) refl
+      | inr some ↦ elim (cases_eq (n / 16) 0) [
+        | inl low ↦ rw (eq_false n 0 some, eq_true (n / 16) 0 low, eq_false (n % 16) 0 (omega arith)) refl
+        | inr high ↦ rw (eq_false n 0 some, eq_false (n / 16) 0 high) refl
+      ]
+    ]
+
+mapping_is : (s : Symbol) → is_mark s ≡ is_mapping s
+mapping_is s = rw (no_info s.info, name_is s.name) refl
+
+and_more : (b c : Bool) → (b && c) ≡ true → (c && true) ≡ true
+and_more true true h = refl
+and_more true false h = absurd (false≢true h)
+and_more false c h = absurd (false≢true h)
+
+second : (y : ℕ) → nat_eq y 116 ≡ (nat_eq 116 y && true)
+second y =
+    elim (cases_eq y 116) [
+      | inl t ↦ rw t refl
+      | inr other ↦ rw (eq_flip 116 y, eq_false y 116 other) refl
+    ]
+
+eq_from : (x y : ℕ) → nat_eq x y ≡ true → x ≡ y
+eq_from x y h = grind (arith, nat_tests)
+
+code_name : (name : List ℕ) → is_mark_name name ≡ true → nat_eq (get_or name 1 0) 116 ≡ starts_with nat_eq name (codes "$t")
+code_name [] h = refl
+code_name (x ∷ []) h =
+    elim (cases_eq x 36) [
+      | inl dollar ↦ rw dollar refl
+      | inr other ↦ rw (eq_false 36 x (λ e. other (sym e))) refl
+    ]
+code_name (x ∷ y ∷ more) h =
+    let front = both_true (nat_eq x 36 && ((nat_eq y 116 || nat_eq y 100) || nat_eq y 97)) (nat_eq (length (x ∷ y ∷ more)) 2 || (nat_eq (get_or more 0 0) 46 && nat_le 4 (length (x ∷ y ∷ more)))) h in
+    let dollar = eq_from x 36 (both_true (nat_eq x 36) ((nat_eq y 116 || nat_eq y 100) || nat_eq y 97) front.0).0 in
+    rw dollar (second y)
+
+code_is : (s : Symbol) → is_mapping s ≡ true → begins_code s ≡ says_code s
+code_is s h = code_name s.name (both_true (is_mark_name s.name) true (ap (λ (b : Bool). b && true) (name_is s.name) ∙ and_more (nat_eq (s.info / 16) 0 && nat_eq (s.info % 16) 0) (is_mapping_name s.name) h)).0
+
 -- ---- all that were seen
 
 abbrev NotBelow : ℕ → Symbol → Type 0
-NotBelow a s = is_mark s ≡ true → a < s.value
+NotBelow a s = is_mapping s ≡ true → a < s.value
 
 abbrev AtMost : ℕ → Symbol → Symbol → Type 0
-AtMost a m s = is_mark s ≡ true → s.value ≤ a → s.value ≤ m.value
+AtMost a m s = is_mapping s ≡ true → s.value ≤ a → s.value ≤ m.value
 
 abbrev Below : ℕ → Symbol → Symbol → Type 0
-Below a m s = is_mark s ≡ true → s.value ≤ a → s.value < m.value
+Below a m s = is_mapping s ≡ true → s.value ≤ a → s.value < m.value
 
 all_with : {X : Type 0} (P Q : X → Type 0) (xs : List X) → ((x : X) → P x → Q x) → All P xs → All Q xs
 all_with P Q xs f h k d inside = f _ (h k d inside)
@@ -161,7 +305,7 @@ keeps a seen s o n (inl h) =
     )
 
 -- one more mapping symbol at or below the address
-decides_last : (a : ℕ) (seen : List Symbol) (s : Symbol) → is_mark s ≡ true → s.value ≤ a → All (AtMost a s) seen → Decides (seen ++ s ∷ []) a s
+decides_last : (a : ℕ) (seen : List Symbol) (s : Symbol) → is_mapping s ≡ true → s.value ≤ a → All (AtMost a s) seen → Decides (seen ++ s ∷ []) a s
 decides_last a seen s mark at h = record { before = seen; after = []; place = refl; mapping = mark; below = at; greatest = h; last = All-nil (Below a s) }
 
 all_before : (a : ℕ) (seen : List Symbol) (m s : Symbol) → Decides seen a m → m.value ≤ s.value → All (AtMost a s) seen
@@ -171,7 +315,7 @@ all_before a seen m s d h =
     (all_with (AtMost a m) (AtMost a s) d.before (λ t f mark at. omega (arith, f mark at)) d.greatest)
     (All-cons (AtMost a s) m d.after (λ mark at. h) (all_with (Below a m) (AtMost a s) d.after (λ t f mark at. omega (arith, f mark at)) d.last)))
 
-adds : (a : ℕ) (seen : List Symbol) (s : Symbol) (o : Option Entry) → is_mark s ≡ true → s.value ≤ a → Seen a seen o → Seen a (seen ++ s ∷ []) (newer s.value (begins_code s) o)
+adds : (a : ℕ) (seen : List Symbol) (s : Symbol) (o : Option Entry) → is_mapping s ≡ true → s.value ≤ a → Seen a seen o → Seen a (seen ++ s ∷ []) (newer s.value (begins_code s) o)
 adds a seen s o mark at (inr h) =
     rw h.1 (inl (s, decides_last a seen s mark at (all_with (NotBelow a) (AtMost a s) seen (λ t f is below. absurd (omega (arith, f is))) h.0), refl))
 adds a seen s o mark at (inl h) =
@@ -194,7 +338,7 @@ adds a seen s o mark at (inl h) =
       | inr more ↦ rw (h.2, lt_false s.value m.value more) (inl (s, decides_last a seen s mark at (all_before a seen m s d more), refl))
     ]
 
-step_mark : (a : ℕ) (seen : List Symbol) (es : List Entry) (s : Symbol) → is_mark s ≡ true → Rising 0 es → Seen a seen (last_at a es)
+step_mark : (a : ℕ) (seen : List Symbol) (es : List Entry) (s : Symbol) → is_mapping s ≡ true → Rising 0 es → Seen a seen (last_at a es)
     → Seen a (seen ++ s ∷ []) (last_at a (insert_entry nat_cmp es s.value (begins_code s)))
 step_mark a seen es s mark r h =
     elim (cases_lt a s.value) [
@@ -207,8 +351,8 @@ seen_step : (a : ℕ) (seen : List Symbol) (es : List Entry) (s : Symbol) → Ri
 seen_step a seen es s r h = by_test (is_mark s) refl
   where
     by_test : (b : Bool) → is_mark s ≡ b → Rising 0 (cond b (insert_entry nat_cmp es s.value (begins_code s)) es) × Seen a (seen ++ s ∷ []) (last_at a (cond b (insert_entry nat_cmp es s.value (begins_code s)) es))
-    by_test true e = (rising_insert 0 es s.value (begins_code s) (omega arith) r, step_mark a seen es s e r h)
-    by_test false e = (r, keeps a seen s (last_at a es) (λ is. absurd (false≢true (sym e ∙ is))) h)
+    by_test true e = (rising_insert 0 es s.value (begins_code s) (omega arith) r, step_mark a seen es s (sym (mapping_is s) ∙ e) r h)
+    by_test false e = (r, keeps a seen s (last_at a es) (λ is. absurd (false≢true (sym e ∙ mapping_is s ∙ is))) h)
 
 seen_all : (a : ℕ) (seen rest : List Symbol) (es : List Entry) → Rising 0 es → Seen a seen (last_at a es) → Rising 0 (fold with_mark es rest) × Seen a (seen ++ rest) (last_at a (fold with_mark es rest))
 seen_all a seen [] es r h = (r, subst (λ (xs : List Symbol). Seen a xs (last_at a es)) (sym (append-nil seen)) h)
@@ -222,7 +366,7 @@ unfolding marks_of
 marks_rising symbols = (seen_all 0 [] symbols [] tt (inr (All-nil (NotBelow 0), refl))).0
 
 marked_by : (a : ℕ) (symbols : List Symbol) (es : List Entry) → Seen a symbols (last_at a es) → IsMarkedBy symbols a (marked es a)
-marked_by a symbols es (inl h) = inl (h.0, h.1, marked_from a true es ∙ ap (says true) h.2)
+marked_by a symbols es (inl h) = inl (h.0, h.1, marked_from a true es ∙ ap (says true) h.2 ∙ code_is h.0 h.1.mapping)
 marked_by a symbols es (inr h) = inr (h.0, marked_from a true es ∙ ap (says true) h.1)
 
 pub marks_decide : (a : ℕ) (symbols : List Symbol) → IsMarkedBy symbols a (marked (marks_of symbols) a)

@@ -88,9 +88,39 @@ says_step segments s a true e h =
           rw (test_ne s.value (a + 1) other) (sym (starts_other a s (segment_at segments (s.value - 1)) apart))
     ]
 
+regroup : (f d o c : Bool) → ((((f && d) && true) && o) && c) ≡ ((((f && o) && d) && true) && c)
+regroup true true true c = refl
+regroup true true false c = refl
+regroup true false true c = refl
+regroup true false false c = refl
+regroup false d o c = refl
+
+no_value : (f g e c : Bool) → (((f && false) && e) && c) ≡ ((g && false) && c)
+no_value true true e c = refl
+no_value true false e c = refl
+no_value false true e c = refl
+no_value false false e c = refl
+
+parity : (v a : ℕ) → v ≡ a + 1 → nat_eq (a % 2) 0 ≡ nat_eq (v % 2) 1
+parity v a e =
+    elim (cases_eq (a % 2) 0) [
+      | inl even ↦ rw (test_eq (a % 2) 0 even, test_eq (v % 2) 1 (omega arith)) refl
+      | inr odd ↦ rw (test_ne (a % 2) 0 odd, test_ne (v % 2) 1 (omega arith)) refl
+    ]
+
+-- the standard's words say what the reader asks
+words : (segments : List Segment) (s : Symbol) (a : ℕ) → is_function_at segments a s ≡ ((is_thumb_function s && nat_eq s.value (a + 1)) && is_in_code segments a)
+words segments s a =
+    elim (cases_eq s.value (a + 1)) [
+      | inl here ↦
+          rw (test_eq s.value (a + 1) here, parity s.value a here)
+          (regroup (nat_eq (s.info % 16) 2) (not (nat_eq s.section 0)) (nat_eq (s.value % 2) 1) (is_in_code segments a))
+      | inr other ↦ rw (test_ne s.value (a + 1) other) (no_value (nat_eq (s.info % 16) 2 && not (nat_eq s.section 0)) (is_thumb_function s) (nat_eq (a % 2) 0) (is_in_code segments a))
+    ]
+
 says : (segments : List Segment) (s : Symbol) (a : ℕ) → RiseFrom 0 segments → is_function_at segments a s ≡ starts_at a (function_of_symbol segments s)
 unfolding function_of_symbol
-says segments s a h = says_step segments s a (is_thumb_function s) refl h
+says segments s a h = words segments s a ∙ says_step segments s a (is_thumb_function s) refl h
 
 -- ---- the first symbol at a start
 
@@ -282,7 +312,7 @@ found_step : (segments : List Segment) (symbols : List Symbol) (a : ℕ) (f : Fu
 found_step segments symbols a f None e p h = absurd cc
 found_step segments symbols a f (Some s) e p h =
     let d = draft_from segments s f h in
-    let front = both_true (is_thumb_function s && nat_eq s.value (a + 1)) (is_in_code segments a) p in
+    let front = both_true (is_thumb_function s && nat_eq s.value (a + 1)) (is_in_code segments a) (sym (words segments s a) ∙ p) in
     let at = both_true (is_thumb_function s) (nat_eq s.value (a + 1)) front.0 in
     record { symbol = s; first = e; draft = d.1; value = eq_from s.value (a + 1) at.1; odd = odd_value s d.0 }
 

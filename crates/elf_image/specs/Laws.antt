@@ -1,11 +1,12 @@
 -- What an image has, in the words of the standard ("ELF for the Arm Architecture"; docs/elf.md): laws above the definitions by which it is made.
-use Rattle.std.specs.Prelude.{◌≡◌, ◌≢◌, ◌⊎◌, ℕ, ◌+◌, ◌<◌, ◌≤◌, ◌==◌, not, ◌&&◌, Bool, true, List, ◌∷◌, ◌++◌, map, find, All, Some, Ok}
-use Rattle.std.specs.List.{list_any}
+use Rattle.std.specs.Prelude.{◌||◌, ◌/◌, ◌%◌, nat_eq, nat_lt, codes, [], length, ◌≡◌, ◌≢◌, ◌⊎◌, ℕ, ◌+◌, ◌<◌, ◌≤◌, ◌==◌, not, ◌&&◌, Bool, true, List, ◌∷◌, ◌++◌, map, find, All, Some, Ok}
+use Rattle.std.specs.List.{list_any, starts_with}
 use Rattle.std.specs.List.Sorted.{IsPermutation}
+use Rattle.eh_word.specs.Names.{same_bytes}
 use Rattle.elf_image.specs.Segments.{Segment, holds, segment_end, segment_of}
 use Rattle.elf_image.specs.Symbols.{Symbol}
-use Rattle.elf_image.specs.Functions.{Function, is_thumb_function, segment_at}
-use Rattle.elf_image.specs.Marks.{is_mark, begins_code, marked}
+use Rattle.elf_image.specs.Functions.{Function, segment_at}
+use Rattle.elf_image.specs.Marks.{marked}
 use Rattle.elf_image.specs.Image.{Image, IsSound, image_of, file_loads, file_symbols}
 
 -- ---- functions
@@ -14,9 +15,10 @@ use Rattle.elf_image.specs.Image.{Image, IsSound, image_of, file_loads, file_sym
 abbrev pub is_in_code : List Segment → ℕ → Bool
 is_in_code segments a = list_any (λ g. holds a g && (g.exec && not g.write)) segments
 
--- the symbol says that a function begins at the address
+-- the symbol says that a function begins at the address: it is defined (its section isn't SHN_UNDEF) and of type STT_FUNC, and its value
+-- is the even address with bit 0 set, as Thumb code has it
 abbrev pub is_function_at : List Segment → ℕ → Symbol → Bool
-is_function_at segments a s = is_thumb_function s && (s.value == a + 1) && is_in_code segments a
+is_function_at segments a s = (s.info % 16 == 2) && not (s.section == 0) && (s.value == a + 1) && (a % 2 == 0) && is_in_code segments a
 
 -- the function's end is the least of three: its start plus its size (for a size of 0 the segment's end), the next function's start,
 -- and the segment's end
@@ -42,20 +44,35 @@ pub record AreFunctionsOf (segments : List Segment) (symbols : List Symbol) (fun
 
 -- ---- mapping symbols
 
+abbrev pub mapping_names : List (List ℕ)
+mapping_names = codes "$t" ∷ codes "$d" ∷ codes "$a" ∷ []
+
+-- one of these names, or one with a dot and more behind it
+abbrev pub is_mapping_name : List ℕ → Bool
+is_mapping_name name = list_any (λ m. same_bytes name m || (starts_with nat_eq name (m ++ codes ".") && nat_lt (length m + 1) (length name))) mapping_names
+
+-- a local symbol (binding STB_LOCAL) of no type (STT_NOTYPE) of such a name
+abbrev pub is_mapping : Symbol → Bool
+is_mapping s = (s.info / 16 == 0) && (s.info % 16 == 0) && is_mapping_name s.name
+
+-- Thumb code begins at it
+abbrev pub says_code : Symbol → Bool
+says_code s = starts_with nat_eq s.name (codes "$t")
+
 -- of the mapping symbols at or below the address, this one has the greatest address, and of those at it stands last in the table
 pub record Decides (symbols : List Symbol) (a : ℕ) (m : Symbol) : Type 0 where
   pub before : List Symbol
   pub after : List Symbol
   pub place : symbols ≡ before ++ m ∷ after
-  pub mapping : is_mark m ≡ true
+  pub mapping : is_mapping m ≡ true
   pub below : m.value ≤ a
-  pub greatest : All (λ s. is_mark s ≡ true → s.value ≤ a → s.value ≤ m.value) before
-  pub last : All (λ s. is_mark s ≡ true → s.value ≤ a → s.value < m.value) after
+  pub greatest : All (λ s. is_mapping s ≡ true → s.value ≤ a → s.value ≤ m.value) before
+  pub last : All (λ s. is_mapping s ≡ true → s.value ≤ a → s.value < m.value) after
 
 -- an address is marked as that symbol says; where no mapping symbol is at or below it, as code
 abbrev pub IsMarkedBy : List Symbol → ℕ → Bool → Type 0
 IsMarkedBy symbols a code =
-    ((m : Symbol) × Decides symbols a m × (code ≡ begins_code m)) ⊎ (All (λ s. is_mark s ≡ true → a < s.value) symbols × (code ≡ true))
+    ((m : Symbol) × Decides symbols a m × (code ≡ says_code m)) ⊎ (All (λ s. is_mapping s ≡ true → a < s.value) symbols × (code ≡ true))
 
 -- ---- the laws
 
