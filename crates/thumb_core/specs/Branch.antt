@@ -25,6 +25,10 @@ passes cond regs =
     if cond == 10 then same_flag regs.n regs.v else (if cond == 11 then not (same_flag regs.n regs.v) else (
     if cond == 12 then not regs.z && same_flag regs.n regs.v else (regs.z || not (same_flag regs.n regs.v))))))))))))))
 
+-- a plain end, which leaves these registers
+abbrev pub done : Regs → Stepped × Regs
+done after = (Done, after)
+
 -- where a branch goes
 abbrev pub target_of : ℤ → Regs → ℕ
 target_of off regs = forward (pc_read regs) off
@@ -84,12 +88,12 @@ svc number size regs = (Gate number, with_next size regs)
 
 -- what an instruction of `size` bytes does that leaves the memory alone: those of this group, else those of the data
 abbrev pub register_effect : Instr → ℕ → Regs → Stepped × Regs
-register_effect (AddHigh d k) size regs = (Done, add_high d k size regs)
-register_effect (MovHigh d k) size regs = (Done, mov_high d k size regs)
-register_effect (BCond cond off) size regs = (Done, branch_if cond off size regs)
-register_effect (B off) size regs = (Done, branch off regs)
+register_effect (AddHigh d k) size regs = done (add_high d k size regs)
+register_effect (MovHigh d k) size regs = done (mov_high d k size regs)
+register_effect (BCond cond off) size regs = done (branch_if cond off size regs)
+register_effect (B off) size regs = done (branch off regs)
 register_effect (Bl off) size regs = bl off size regs
 register_effect (Blx k) size regs = blx k size regs
 register_effect (Bx k) size regs = bx k regs
 register_effect (Svc imm) size regs = svc imm size regs
-register_effect i size regs = (Done, with_next size (data_effect i regs))
+register_effect i size regs = done (with_next size (data_effect i regs))

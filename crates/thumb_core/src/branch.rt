@@ -1,5 +1,5 @@
 ghost use Rattle.std.specs.Prelude.{◌≡◌, ◌<◌};
-ghost use Rattle.thumb_core.specs.Branch.{passes, target_of, branch, branch_if, write_high, add_high, mov_high, call_to, bl, blx, bx, svc};
+ghost use Rattle.thumb_core.specs.Branch.{done, passes, target_of, branch, branch_if, write_high, add_high, mov_high, call_to, bl, blx, bx, svc};
 
 use crate::data::forward;
 use crate::regs::{CoreTrap, LR, PC, Regs, Stepped, even};
@@ -33,29 +33,38 @@ fn target_of(off: i32, regs: &Regs) -> u32
     forward(regs.pc_read(), off)
 }
 
-/// B.
-pub(crate) fn branch(off: i32, regs: &mut Regs)
+/// Goes to where a branch leads.
+fn branch(off: i32, regs: &mut Regs)
     ensures { regs.new ≡ branch off regs.old }
 {
     let target = target_of(off, regs);
     regs.go_to(target);
 }
 
+/// B.
+pub(crate) fn b(off: i32, regs: &mut Regs) -> Stepped
+    ensures { (result, regs.new) ≡ done (branch off regs.old) }
+{
+    branch(off, regs);
+    Stepped::Done
+}
+
 /// A branch under a condition.
-pub(crate) fn branch_if(cond: u8, off: i32, size: u32, regs: &mut Regs)
-    ensures { regs.new ≡ branch_if cond off size regs.old }
+pub(crate) fn branch_if(cond: u8, off: i32, size: u32, regs: &mut Regs) -> Stepped
+    ensures { (result, regs.new) ≡ done (branch_if cond off size regs.old) }
 {
     if passes(cond, regs) {
         branch(off, regs);
     } else {
         regs.advance(size);
     }
+    Stepped::Done
 }
 
 /// Writes a register, low or high; a write to pc is a branch.
-fn write_high(d: u8, x: u32, size: u32, regs: &mut Regs)
+fn write_high(d: u8, x: u32, size: u32, regs: &mut Regs) -> Stepped
     requires { d < 16 }
-    ensures { regs.new ≡ write_high d x size regs.old }
+    ensures { (result, regs.new) ≡ done (write_high d x size regs.old) }
 {
     if d == PC {
         regs.go_to(x);
@@ -63,26 +72,27 @@ fn write_high(d: u8, x: u32, size: u32, regs: &mut Regs)
         regs.put(d, x);
         regs.advance(size);
     }
+    Stepped::Done
 }
 
 /// ADD of two registers, low or high.
-pub(crate) fn add_high(d: u8, m: u8, size: u32, regs: &mut Regs)
+pub(crate) fn add_high(d: u8, m: u8, size: u32, regs: &mut Regs) -> Stepped
     requires d_in { d < 16 }
     requires m_in { m < 16 }
-    ensures { regs.new ≡ add_high d m size regs.old }
+    ensures { (result, regs.new) ≡ done (add_high d m size regs.old) }
 {
     let sum = regs.operand(d).wrapping_add(regs.operand(m));
-    write_high(d, sum, size, regs);
+    write_high(d, sum, size, regs)
 }
 
 /// MOV of two registers, low or high.
-pub(crate) fn mov_high(d: u8, m: u8, size: u32, regs: &mut Regs)
+pub(crate) fn mov_high(d: u8, m: u8, size: u32, regs: &mut Regs) -> Stepped
     requires d_in { d < 16 }
     requires m_in { m < 16 }
-    ensures { regs.new ≡ mov_high d m size regs.old }
+    ensures { (result, regs.new) ≡ done (mov_high d m size regs.old) }
 {
     let value = regs.operand(m);
-    write_high(d, value, size, regs);
+    write_high(d, value, size, regs)
 }
 
 /// A call: lr takes the next instruction's address with bit 0 set.
