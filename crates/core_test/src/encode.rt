@@ -1,5 +1,6 @@
-use crate::code::{Code, EncodeFault};
-use crate::encode::encode;
+//! Codes of instructions, and the faults of those that have none.
+use thumb_encode::code::{Code, EncodeFault};
+use thumb_encode::encode::encode;
 use thumb_isa::instr::Instr;
 
 /// The codes are those of LLVM 14's assembler for thumbv6m.

@@ -1,5 +1,6 @@
-use crate::decode::decode;
-use crate::instr::{Decoded, Instr};
+//! Decoding of data processing, shifts and register moves.
+use thumb_isa::decode::decode;
+use thumb_isa::instr::{Decoded, Instr};
 
 #[test]
 fn shifts_and_sums(rt: HostRuntime) {

@@ -1,5 +1,6 @@
-use crate::decode::decode;
-use crate::instr::{Decoded, Instr};
+//! Decoding of loads, stores and register lists.
+use thumb_isa::decode::decode;
+use thumb_isa::instr::{Decoded, Instr};
 
 #[test]
 fn loads_and_stores(rt: HostRuntime) {

@@ -1,5 +1,6 @@
-use crate::decode::{decode, is_wide};
-use crate::instr::{Decoded, Instr};
+//! Decoding of branches, calls, gates, hints and barriers.
+use thumb_isa::decode::{decode, is_wide};
+use thumb_isa::instr::{Decoded, Instr};
 
 #[test]
 fn branches_and_calls(rt: HostRuntime) {

@@ -1,5 +1,6 @@
-use crate::decode::decode;
-use crate::instr::Decoded;
+//! Halfwords that are no instruction of the profile.
+use thumb_isa::decode::decode;
+use thumb_isa::instr::Decoded;
 
 #[test]
 fn undefined_halfwords(rt: HostRuntime) {
