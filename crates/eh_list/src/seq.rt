@@ -66,6 +66,16 @@ impl<T: Drop> Seq<T> {
         self.items.push(item)?;
         Ok(())
     }
+
+    /// Adds elements behind these.
+    pub fn append(&mut self, more: Seq<T>) -> Result<(), AllocError>
+        ensures { OnOk result (self.new ≡ self.old ++ more) }
+    {
+        for item in more.items {
+            self.items.push(item)?;
+        }
+        Ok(())
+    }
 }
 
 impl Seq<u8> {

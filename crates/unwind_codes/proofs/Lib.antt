@@ -1,0 +1,5 @@
+pub mod Search
+pub mod Table
+pub mod CutLaws
+pub mod RowLaws
+pub mod CutSteps

@@ -1,0 +1,74 @@
+//! The rows of the exception index (IHI 0038, "Index table entries"): two words for each function. docs/unwind-bytecode.md states
+//! the rule.
+ghost use Rattle.std.specs.Prelude.{◌≡◌, ◌+◌, ◌^◌, ◌<◌, ◌%◌, nat_le};
+ghost use Rattle.unwind_codes.specs.Rows.{prel31_to, body_of, entry_of, second_word};
+
+use eh_word::prel31;
+
+/// The second word of a row that says that nothing unwinds through the function.
+pub const CANT_UNWIND: u32 = 1;
+/// The bytes of a row.
+pub const ROW_SIZE: u32 = 8;
+
+/// What a row of the index says of its function.
+#[derive(Clone, Copy, PartialEq, Eq, Debug)]
+pub enum EntryBody {
+    /// Nothing unwinds through it.
+    CantUnwind,
+    /// The entry itself, whose bit 31 is set.
+    Inline(u32),
+    /// The address of the entry in the exception table, in bytes.
+    Table(u32),
+}
+
+/// A row of the index.
+#[derive(Clone, Copy, PartialEq, Eq, Debug)]
+pub struct Entry {
+    /// The address of the function's first instruction, in bytes.
+    pub start: u32,
+    /// What the row says of it.
+    pub body: EntryBody,
+}
+
+/// The 31 bits that lead from a word at `place` to an address (R_ARM_PREL31).
+pub fn prel31_to(place: u32, target: u32) -> u32
+    ensures { result ≡ prel31_to place target }
+{
+    target.wrapping_sub(place) % 0x8000_0000
+}
+
+/// What the second word of a row says, where it stands at `place`: 1 is CantUnwind; a word with bit 31 set is the entry; any other
+/// leads to a table.
+pub fn body_of(place: u32, word: u32) -> EntryBody
+    ensures { result ≡ body_of place word }
+{
+    if word == CANT_UNWIND {
+        EntryBody::CantUnwind
+    } else if word >= 0x8000_0000 {
+        EntryBody::Inline(word)
+    } else {
+        EntryBody::Table(prel31(place, word))
+    }
+}
+
+/// The row whose two words stand at `place`. Bit 0 of the start is no part of the address, and bit 31 of the first word isn't read.
+pub fn entry_of(place: u32, first: u32, second: u32) -> Entry
+    ensures { result ≡ entry_of place first second }
+{
+    let start = prel31(place, first);
+    Entry {
+        start: start - start % 2,
+        body: body_of(place.wrapping_add(4), second),
+    }
+}
+
+/// The second word of a row, where it stands at `place`.
+pub fn second_word(place: u32, body: EntryBody) -> u32
+    ensures { result ≡ second_word place body }
+{
+    match body {
+        EntryBody::CantUnwind => CANT_UNWIND,
+        EntryBody::Inline(word) => word,
+        EntryBody::Table(address) => prel31_to(place, address),
+    }
+}
