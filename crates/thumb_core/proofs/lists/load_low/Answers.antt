@@ -1,8 +1,8 @@
 use Rattle.std.proofs.Common.{arith}
 use Rattle.std.proofs.lemmas.Grind.{common_steps}
 use Rattle.thumb_core.proofs.Listed.{listed_more}
-use Rattle.thumb_core.proofs.lists.load_list.Goals as goal
-use Rattle.thumb_core.proofs.lists.load_list.Goals.{then-list-k-eq1+in-Ok, else-list-k-eq1}
+use Rattle.thumb_core.proofs.lists.load_low.Goals as goal
+use Rattle.thumb_core.proofs.lists.load_low.Goals.{then-list-k-eq1+in-Ok, else-list-k-eq1}
 
 pub loop-k-preserved : goal.loop-k-preserved
 loop-k-preserved g c = elim c.if-list-k-eq1.branch [
