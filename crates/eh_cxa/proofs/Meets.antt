@@ -9,7 +9,8 @@ use Rattle.eh_cxa.specs.declared.globals.BarrierWords.{BarrierWords}
 use Rattle.eh_cxa.specs.declared.globals.CleanupWords.{CleanupWords}
 use Rattle.eh_cxa.specs.declared.globals.CxaFault.{CxaFault}
 use Rattle.eh_cxa.specs.declared.globals.CxaFault.TheVariants.{TooBig, PoolFull}
-use Rattle.eh_cxa.specs.declared.layout.TheConstants.{SLOTS, SLOT_BYTES, SLOT_WORDS, OBJECT_BYTES, STATE, SIZE, COUNT, CLEANUP_SP, BARRIER_OBJECT, BARRIER_POINTER}
+use Rattle.eh_cxa.specs.declared.layout.TheConstants.{SLOTS, SLOT_WORDS, OBJECT_BYTES, STATE, SIZE, COUNT, CLEANUP_SP, BARRIER_OBJECT, BARRIER_POINTER}
+use Rattle.eh_bus.specs.declared.map.TheConstants.{SLOT_SIZE}
 use Rattle.eh_cxa.specs.declared.state.TheConstants.{FREE, FRESH}
 use Rattle.eh_cxa.specs.declared.state.State.TheVariants.{Flying}
 use Rattle.eh_cxa.specs.States.{named, is_fresh, is_flying, is_caught, may_be_freed}
@@ -264,7 +265,7 @@ fresh_clear w s size k low high =
 
 -- all of its other words are 0
 pub allocate_clears : (m m' : Memory) (r : Result ℕ CxaFault) (size : ℕ) → IsMap m → size < 2 ^ 32 → (r, m') ≡ wrote (allocate_of (word m) size) m
-    → (s k : ℕ) → r ≡ Ok (object s) → s < SLOTS → 2 ≤ k → 4 * k < SLOT_BYTES → word m' s k ≡ 0
+    → (s k : ℕ) → r ≡ Ok (object s) → s < SLOTS → 2 ≤ k → 4 * k < SLOT_SIZE → word m' s k ≡ 0
 allocate_clears m m' r size map fit e s k is h low high = by_size (nat_lt OBJECT_BYTES size) e
   where
     by_slot : (o : Option ℕ) → first_slot (λ s. word m s STATE == FREE) ≡ o → (r, m') ≡ wrote (allocate_at size o) m → word m' s k ≡ 0

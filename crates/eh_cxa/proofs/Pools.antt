@@ -7,7 +7,8 @@ use Rattle.eh_bus.specs.Memory.{Memory, load, load_fault, fault_in, is_closed, i
 use Rattle.eh_bus.specs.Map.{IsMap}
 use Rattle.eh_bus.proofs.PartLaws.{parts, pool_fault, host_back, host_other}
 use Rattle.eh_bus.proofs.MapLaws.{host_is_map}
-use Rattle.eh_cxa.specs.declared.layout.TheConstants.{POOL, SLOTS, SLOT_BYTES, SLOT_WORDS, BARRIER_POINTER}
+use Rattle.eh_cxa.specs.declared.layout.TheConstants.{SLOTS, SLOT_WORDS, BARRIER_POINTER}
+use Rattle.eh_bus.specs.declared.map.TheConstants.{POOL_START, SLOT_SIZE}
 use Rattle.eh_cxa.specs.Words.{block_slot, object_slot, block, object, word, put, Pool, Write, with_word, with_all, put_all}
 
 pub slot_small : (a s : ℕ) → block_slot a ≡ Some s → s < SLOTS
@@ -53,10 +54,10 @@ unfolding word put
 put_agrees w m x map l h v a s k sl kh = by_cases (k == x.place) refl (s == x.slot) refl
   where
     at : ℕ → ℕ → ℕ
-    at s k = POOL + SLOT_BYTES * s + 4 * k
+    at s k = POOL_START + SLOT_SIZE * s + 4 * k
 
     by_cases : (b : Bool) → (k == x.place) ≡ b → (c : Bool) → (s == x.slot) ≡ c
-        → host_load (host_store m (POOL + SLOT_BYTES * x.slot + 4 * x.place) x.value) (POOL + SLOT_BYTES * s + 4 * k) ≡ cond (b && c) x.value (w s k)
+        → host_load (host_store m (POOL_START + SLOT_SIZE * x.slot + 4 * x.place) x.value) (POOL_START + SLOT_SIZE * s + 4 * k) ≡ cond (b && c) x.value (w s k)
     by_cases true p true q =
         let e : k ≡ x.place = grind (arith, nat_tests) in
         let f : s ≡ x.slot = grind (arith, nat_tests) in
@@ -93,7 +94,7 @@ open_word m s map h =
     let aligned : ((block s + 44) % 4 == 0) ≡ true = grind (arith, nat_tests) in
     let opened : is_open_word 4 (block s + 44) ≡ true = grind (arith, nat_tests) in
     let f : load_fault 4 a ≡ None = no_fault (block s + 44) aligned opened in
-    let place : block s + 44 ≡ POOL + SLOT_BYTES * s + 4 * BARRIER_POINTER = omega arith in
+    let place : block s + 44 ≡ POOL_START + SLOT_SIZE * s + 4 * BARRIER_POINTER = omega arith in
     rw (e ∙ f, place) refl
   where
     no_fault : (a : ℕ) → (a % 4 == 0) ≡ true → is_open_word 4 a ≡ true → load_fault 4 a ≡ None

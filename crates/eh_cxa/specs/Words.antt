@@ -2,19 +2,20 @@
 use Rattle.std.specs.Prelude.{ℕ, ◌+◌, ◌-◌, ◌*◌, ◌/◌, ◌%◌, ◌^◌, ◌==◌, ◌&&◌, nat_le, nat_lt, List, [], ◌∷◌, Option, Some, None, if◌then◌else◌}
 use Rattle.eh_bus.specs.Memory.{Memory, host_load, host_store}
 use Rattle.eh_cxa.specs.declared.globals.Globals.{Globals}
-use Rattle.eh_cxa.specs.declared.layout.TheConstants.{POOL, POOL_END, SLOT_BYTES, BLOCK, OBJECT}
+use Rattle.eh_cxa.specs.declared.layout.TheConstants.{BLOCK, OBJECT}
+use Rattle.eh_bus.specs.declared.map.TheConstants.{POOL_START, POOL_END, SLOT_SIZE}
 
 -- the control block and the object of a slot
 abbrev pub block : ℕ → ℕ
-block s = POOL + SLOT_BYTES * s + BLOCK
+block s = POOL_START + SLOT_SIZE * s + BLOCK
 
 abbrev pub object : ℕ → ℕ
-object s = POOL + SLOT_BYTES * s + OBJECT
+object s = POOL_START + SLOT_SIZE * s + OBJECT
 
 -- the slot of which this address is that many bytes from its start
 abbrev pub slot_from : ℕ → ℕ → Option ℕ
 slot_from offset a =
-    if nat_le (POOL + offset) a && (nat_lt a POOL_END && ((a - (POOL + offset)) % SLOT_BYTES == 0)) then Some ((a - (POOL + offset)) / SLOT_BYTES) else None
+    if nat_le (POOL_START + offset) a && (nat_lt a POOL_END && ((a - (POOL_START + offset)) % SLOT_SIZE == 0)) then Some ((a - (POOL_START + offset)) / SLOT_SIZE) else None
 
 -- the slot whose control block is at this address, and the one whose object is
 unfoldable pub block_slot : ℕ → Option ℕ
@@ -24,10 +25,10 @@ unfoldable pub object_slot : ℕ → Option ℕ
 object_slot a = slot_from OBJECT a
 
 unfoldable pub word : Memory → ℕ → ℕ → ℕ
-word m s k = host_load m (POOL + SLOT_BYTES * s + 4 * k)
+word m s k = host_load m (POOL_START + SLOT_SIZE * s + 4 * k)
 
 unfoldable pub put : Memory → ℕ → ℕ → ℕ → Memory
-put m s k v = host_store m (POOL + SLOT_BYTES * s + 4 * k) v
+put m s k v = host_store m (POOL_START + SLOT_SIZE * s + 4 * k) v
 
 -- ---- words as a function of slot and place
 

@@ -7,7 +7,8 @@ ghost use Rattle.eh_cxa.specs.Lists.{Record, Lists, Live, entry};
 ghost use Rattle.eh_cxa.specs.ListCalls.{allocate_list, free_list};
 ghost use Rattle.eh_cxa.specs.Stands.{Stands, Follows};
 ghost use Rattle.eh_cxa.specs.declared.globals.Globals.{Globals};
-ghost use Rattle.eh_cxa.specs.declared.layout.TheConstants.{SLOTS, SLOT_BYTES, STATE};
+ghost use Rattle.eh_cxa.specs.declared.layout.TheConstants.{SLOTS, STATE};
+ghost use Rattle.eh_bus.specs.declared.map.TheConstants.{SLOT_SIZE};
 ghost use Rattle.eh_cxa.specs.declared.state.TheConstants.{FREE};
 
 use crate::globals::CxaFault;
@@ -22,7 +23,7 @@ pub fn allocate<B: Bus>(bus: &mut B, size: u32) -> Result<u32, CxaFault>
     ensures words { (result, B.memory bus.new) ≡ wrote (allocate_of (word (B.memory bus.old)) size) (B.memory bus.old) }
     ensures lists { (g : Globals) (l : Lists) → Stands (word (B.memory bus.old)) g l → Follows (word (B.memory bus.new)) g result (allocate_list l size) }
     ensures lowest { (t : ℕ) → t < SLOTS → word (B.memory bus.old) t STATE ≡ FREE → MatchResult result (λ a. a ≤ object t) (λ e. e ≡ CxaFault.TooBig) }
-    ensures cleared { (s k : ℕ) → result ≡ Ok (object s) → s < SLOTS → 2 ≤ k → 4 * k < SLOT_BYTES → word (B.memory bus.new) s k ≡ 0 }
+    ensures cleared { (s k : ℕ) → result ≡ Ok (object s) → s < SLOTS → 2 ≤ k → 4 * k < SLOT_SIZE → word (B.memory bus.new) s k ≡ 0 }
 {
     allocate_words(bus, size)
 }

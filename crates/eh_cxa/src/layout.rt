@@ -1,31 +1,24 @@
 //! Where a slot of the pool lies and where its words stand: docs/exceptions.md; the control block's words are those of IHI 0038.
 
-/// The first address of the pool.
-pub const POOL: u32 = 0x3800_0000;
+use eh_bus::map::{CLOSED_SIZE, POOL_SIZE, SLOT_SIZE};
 
 /// How many slots the pool has, one behind the other.
-pub const SLOTS: u32 = 64;
-
-/// The bytes of a slot.
-pub const SLOT_BYTES: u32 = 512;
+pub const SLOTS: u32 = POOL_SIZE / SLOT_SIZE;
 
 /// The words of a slot.
-pub const SLOT_WORDS: u32 = 128;
+pub const SLOT_WORDS: u32 = SLOT_SIZE / 4;
 
 /// The words of a slot before its object: the header and the control block. They are closed to the guest.
-pub const CLOSED_WORDS: u32 = 32;
+pub const CLOSED_WORDS: u32 = CLOSED_SIZE / 4;
 
 /// Where the control block begins, in bytes from the slot's start. The header stands before it.
 pub const BLOCK: u32 = 40;
 
 /// Where the object begins, in bytes from the slot's start.
-pub const OBJECT: u32 = 128;
+pub const OBJECT: u32 = CLOSED_SIZE;
 
 /// The most bytes of an object.
-pub const OBJECT_BYTES: u32 = 384;
-
-/// The address behind the pool.
-pub const POOL_END: u32 = 0x3800_8000;
+pub const OBJECT_BYTES: u32 = SLOT_SIZE - OBJECT;
 
 // ---- the header, as words of the slot
 

@@ -4,9 +4,10 @@ ghost use Rattle.eh_cxa.specs.Words.{word, put, put_all, block, object, block_sl
 ghost use Rattle.eh_cxa.specs.Allocate.{zeros, first_slot};
 ghost use Rattle.eh_cxa.specs.States.{named};
 
-use crate::layout::{BLOCK, OBJECT, POOL, POOL_END, SLOT_BYTES, SLOT_WORDS, SLOTS, STATE};
+use crate::layout::{BLOCK, OBJECT, SLOT_WORDS, SLOTS, STATE};
 use crate::state::{FREE, State};
 use eh_bus::bus::Bus;
+use eh_bus::map::{POOL_END, POOL_START, SLOT_SIZE};
 
 /// The slot whose control block is at `ucb`; `None` for any other address, such as 0.
 #[tactic(auto, unfolding(crate::specs::Words::block_slot))]
@@ -15,8 +16,11 @@ pub fn slot_of_block(ucb: u32) -> Option<u32>
     ensures range { IfSome result (λ s. s < SLOTS) }
     ensures place { (s : ℕ) → s < SLOTS → (result ≡ Some s) ↔ (ucb ≡ block s) }
 {
-    if ucb >= POOL + BLOCK && ucb < POOL_END && (ucb - (POOL + BLOCK)) % SLOT_BYTES == 0 {
-        Some((ucb - (POOL + BLOCK)) / SLOT_BYTES)
+    if ucb >= POOL_START + BLOCK
+        && ucb < POOL_END
+        && (ucb - (POOL_START + BLOCK)) % SLOT_SIZE == 0
+    {
+        Some((ucb - (POOL_START + BLOCK)) / SLOT_SIZE)
     } else {
         None
     }
@@ -29,8 +33,8 @@ pub fn slot_of_object(at: u32) -> Option<u32>
     ensures range { IfSome result (λ s. s < SLOTS) }
     ensures place { (s : ℕ) → s < SLOTS → (result ≡ Some s) ↔ (at ≡ object s) }
 {
-    if at >= POOL + OBJECT && at < POOL_END && (at - (POOL + OBJECT)) % SLOT_BYTES == 0 {
-        Some((at - (POOL + OBJECT)) / SLOT_BYTES)
+    if at >= POOL_START + OBJECT && at < POOL_END && (at - (POOL_START + OBJECT)) % SLOT_SIZE == 0 {
+        Some((at - (POOL_START + OBJECT)) / SLOT_SIZE)
     } else {
         None
     }
@@ -41,7 +45,7 @@ pub(crate) fn block_of(slot: u32) -> u32
     requires { slot < SLOTS }
     ensures { result ≡ block slot }
 {
-    POOL + SLOT_BYTES * slot + BLOCK
+    POOL_START + SLOT_SIZE * slot + BLOCK
 }
 
 /// The object of the slot.
@@ -49,7 +53,7 @@ pub(crate) fn object_of(slot: u32) -> u32
     requires { slot < SLOTS }
     ensures { result ≡ object slot }
 {
-    POOL + SLOT_BYTES * slot + OBJECT
+    POOL_START + SLOT_SIZE * slot + OBJECT
 }
 
 /// A chain word; one that is no control block counts as 0.
@@ -69,7 +73,7 @@ pub(crate) fn get<B: Bus>(bus: &B, slot: u32, k: u32) -> u32
     requires place { k < SLOT_WORDS }
     ensures { result ≡ word (B.memory bus.now) slot k }
 {
-    bus.host_load32(POOL + SLOT_BYTES * slot + 4 * k)
+    bus.host_load32(POOL_START + SLOT_SIZE * slot + 4 * k)
 }
 
 /// The state of the slot.
@@ -87,7 +91,7 @@ pub(crate) fn set<B: Bus>(bus: &mut B, slot: u32, k: u32, value: u32)
     requires place { k < SLOT_WORDS }
     ensures { B.memory bus.new ≡ put (B.memory bus.old) slot k value }
 {
-    bus.host_store32(POOL + SLOT_BYTES * slot + 4 * k, value);
+    bus.host_store32(POOL_START + SLOT_SIZE * slot + 4 * k, value);
 }
 
 /// Clears all words of the slot.

@@ -171,13 +171,15 @@ letter_more y z [] =
         ]
       ]
     ]
-    where
-      dot : (z : ℕ) → is_mark_name (36 ∷ 116 ∷ z ∷ []) ≡ is_mapping_name (36 ∷ 116 ∷ z ∷ [])
-      dot z = elim (cases_eq z 46) [ | inl is ↦ rw is refl | inr other ↦ rw (eq_flip 46 z, eq_false z 46 other) refl ]
-      dot_d : (z : ℕ) → is_mark_name (36 ∷ 100 ∷ z ∷ []) ≡ is_mapping_name (36 ∷ 100 ∷ z ∷ [])
-      dot_d z = elim (cases_eq z 46) [ | inl is ↦ rw is refl | inr other ↦ rw (eq_flip 46 z, eq_false z 46 other) refl ]
-      dot_a : (z : ℕ) → is_mark_name (36 ∷ 97 ∷ z ∷ []) ≡ is_mapping_name (36 ∷ 97 ∷ z ∷ [])
-      dot_a z = elim (cases_eq z 46) [ | inl is ↦ rw is refl | inr other ↦ rw (eq_flip 46 z, eq_false z 46 other) refl ]
+  where
+    dot : (z : ℕ) → is_mark_name (36 ∷ 116 ∷ z ∷ []) ≡ is_mapping_name (36 ∷ 116 ∷ z ∷ [])
+    dot z = elim (cases_eq z 46) [ inl is ↦ rw is refl | inr other ↦ rw (eq_flip 46 z, eq_false z 46 other) refl ]
+
+    dot_d : (z : ℕ) → is_mark_name (36 ∷ 100 ∷ z ∷ []) ≡ is_mapping_name (36 ∷ 100 ∷ z ∷ [])
+    dot_d z = elim (cases_eq z 46) [ inl is ↦ rw is refl | inr other ↦ rw (eq_flip 46 z, eq_false z 46 other) refl ]
+
+    dot_a : (z : ℕ) → is_mark_name (36 ∷ 97 ∷ z ∷ []) ≡ is_mapping_name (36 ∷ 97 ∷ z ∷ [])
+    dot_a z = elim (cases_eq z 46) [ inl is ↦ rw is refl | inr other ↦ rw (eq_flip 46 z, eq_false z 46 other) refl ]
 letter_more y z (w ∷ more) =
     elim (cases_eq y 116) [
       | inl t ↦ rw t (dot z)
@@ -189,22 +191,24 @@ letter_more y z (w ∷ more) =
         ]
       ]
     ]
-    where
-      dot : (z : ℕ) → is_mark_name (36 ∷ 116 ∷ z ∷ w ∷ more) ≡ is_mapping_name (36 ∷ 116 ∷ z ∷ w ∷ more)
-      dot z = elim (cases_eq z 46) [
-        | inl is ↦ rw (is, eq_two (suc (length more)), le_four (length more)) refl
-        | inr other ↦ rw (eq_flip 46 z, eq_false z 46 other, eq_two (suc (length more))) refl
-      ]
-      dot_d : (z : ℕ) → is_mark_name (36 ∷ 100 ∷ z ∷ w ∷ more) ≡ is_mapping_name (36 ∷ 100 ∷ z ∷ w ∷ more)
-      dot_d z = elim (cases_eq z 46) [
-        | inl is ↦ rw (is, eq_two (suc (length more)), le_four (length more)) refl
-        | inr other ↦ rw (eq_flip 46 z, eq_false z 46 other, eq_two (suc (length more))) refl
-      ]
-      dot_a : (z : ℕ) → is_mark_name (36 ∷ 97 ∷ z ∷ w ∷ more) ≡ is_mapping_name (36 ∷ 97 ∷ z ∷ w ∷ more)
-      dot_a z = elim (cases_eq z 46) [
-        | inl is ↦ rw (is, eq_two (suc (length more)), le_four (length more)) refl
-        | inr other ↦ rw (eq_flip 46 z, eq_false z 46 other, eq_two (suc (length more))) refl
-      ]
+  where
+    dot : (z : ℕ) → is_mark_name (36 ∷ 116 ∷ z ∷ w ∷ more) ≡ is_mapping_name (36 ∷ 116 ∷ z ∷ w ∷ more)
+    dot z = elim (cases_eq z 46) [
+      | inl is ↦ rw (is, eq_two (suc (length more)), le_four (length more)) refl
+      | inr other ↦ rw (eq_flip 46 z, eq_false z 46 other, eq_two (suc (length more))) refl
+    ]
+
+    dot_d : (z : ℕ) → is_mark_name (36 ∷ 100 ∷ z ∷ w ∷ more) ≡ is_mapping_name (36 ∷ 100 ∷ z ∷ w ∷ more)
+    dot_d z = elim (cases_eq z 46) [
+      | inl is ↦ rw (is, eq_two (suc (length more)), le_four (length more)) refl
+      | inr other ↦ rw (eq_flip 46 z, eq_false z 46 other, eq_two (suc (length more))) refl
+    ]
+
+    dot_a : (z : ℕ) → is_mark_name (36 ∷ 97 ∷ z ∷ w ∷ more) ≡ is_mapping_name (36 ∷ 97 ∷ z ∷ w ∷ more)
+    dot_a z = elim (cases_eq z 46) [
+      | inl is ↦ rw (is, eq_two (suc (length more)), le_four (length more)) refl
+      | inr other ↦ rw (eq_flip 46 z, eq_false z 46 other, eq_two (suc (length more))) refl
+    ]
 
 name_is : (name : List ℕ) → is_mark_name name ≡ is_mapping_name name
 name_is [] = refl

@@ -1,8 +1,8 @@
 //! Images, as crates above see them: what each call tells (docs/elf.md).
-ghost use Rattle.std.specs.Prelude.{◌≡◌, ◌<◌, ◌≤◌, ◌&&◌, IfSome, if◌then◌else◌, length, find, Option, Some, None, option_map};
+ghost use Rattle.std.specs.Prelude.{option_copied, ◌≡◌, ◌<◌, ◌≤◌, ◌&&◌, IfSome, if◌then◌else◌, length, find, Option, Some, None, option_map};
 ghost use Rattle.std.specs.List.{list_any};
 ghost use Rattle.elf_image.specs.Segments.{RiseFrom, holds};
-ghost use Rattle.elf_image.specs.Functions.{FunctionsFrom};
+ghost use Rattle.elf_image.specs.Functions.{segment_at, FunctionsFrom};
 ghost use Rattle.elf_image.specs.Image.{segment_number, function_at, is_code_in, symbol_in, type_symbols_of, word_of, holds_word, word_in, IsSound};
 ghost use Rattle.eh_word.specs.Names.{same_bytes};
 
@@ -114,6 +114,14 @@ impl<'a> Image<'a> {
         ensures sound { IsSound self.now }
     {
         segment_number(&self.segments, a)
+    }
+
+    /// The segment that holds an address; None exactly where none does.
+    pub fn segment_at(&self, a: u32) -> Option<&Segment<'a>>
+        ensures found { option_copied result ≡ segment_at self.now.segments a }
+        ensures sound { IsSound self.now }
+    {
+        segment_at(&self.segments, a)
     }
 
     /// The functions, in rising order of their starts. None reaches into the next, each begins at an even address and lies

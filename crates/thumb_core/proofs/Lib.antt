@@ -4,3 +4,5 @@ pub mod Sound
 pub mod StoreLaws
 pub mod Follows
 pub mod Acts
+pub mod Loaded
+pub mod Popped

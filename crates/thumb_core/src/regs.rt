@@ -1,5 +1,5 @@
 ghost use Rattle.std.specs.Prelude.{◌≡◌, ◌<◌};
-ghost use Rattle.thumb_core.specs.Registers.{word_in, even, with_reg, with_pc, with_nz, with_flags, with_next, reg, pc_read, operand, base, all_of, with_all};
+ghost use Rattle.thumb_core.specs.Registers.{word_in, even, with_reg, with_pc, with_nz, with_flags, with_next, reg, pc_read, operand, base};
 
 use crate::arith::Sum;
 use eh_bus::fault::BusFault;
@@ -137,21 +137,5 @@ impl Regs {
     {
         let at = self.pc_read();
         at - at % 4
-    }
-
-    /// r0 to r14 and pc, in this order.
-    pub(crate) fn all(&self) -> [u32; 16]
-        ensures { result ≡ all_of self.now }
-    {
-        let mut all = [self.pc; 16];
-        all[..15].copy_from_slice(&self.r);
-        all
-    }
-
-    /// Takes the first fifteen of `all` as r0 to r14.
-    pub(crate) fn set_all(&mut self, all: &[u32; 16])
-        ensures { self.new ≡ with_all self.old all.now }
-    {
-        self.r.copy_from_slice(&all[..15]);
     }
 }

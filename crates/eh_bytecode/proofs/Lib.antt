@@ -1,0 +1,5 @@
+pub mod CodesLaws
+pub mod Cursor
+pub mod Numbers
+pub mod Lists
+pub mod Unwinds
