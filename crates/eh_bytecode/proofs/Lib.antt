@@ -3,3 +3,5 @@ pub mod Cursor
 pub mod Numbers
 pub mod Lists
 pub mod Unwinds
+pub mod Summing
+pub mod Near

@@ -7,7 +7,7 @@ use Rattle.unwind_codes.specs.declared.code.Code.TheVariants.{PopRange, PopRange
 use Rattle.unwind_codes.specs.Bytes.{IsCode}
 use Rattle.eh_bus.specs.declared.fault.BusFault.{BusFault}
 use Rattle.thumb_core.specs.Words.{load_words, loads_from, listed}
-use Rattle.unwind_codes.specs.Cut.{cut, cut_from}
+use Rattle.unwind_codes.specs.Cut.{Is, Bad, cut, cut_from}
 use Rattle.unwind_codes.specs.Meaning.{effect, Pops}
 use Rattle.unwind_codes.proofs.CutSteps.{front_within, cut_one, cut_bad, cut_nothing}
 use Rattle.eh_bytecode.specs.declared.frame.UnwindEnd.{UnwindEnd}
@@ -92,3 +92,17 @@ code_range_and_lr code last h is = let k : IsCode (PopRangeAndLr last) = subst I
 
 pub code_low : (code : Code) (mask : ℕ) → IsCode code → code ≡ PopLow mask → mask < 16
 code_low code mask h is = let k : IsCode (PopLow mask) = subst IsCode is h in k.0
+
+-- ---- where the codes go on, for any fold over them
+
+pub cut_code : (place : ℕ) (left : List ℕ) (code : Code) (size : ℕ) → Some (code, size) ≡ front left → cut_from place left ≡ Is code ∷ cut_from (place + size) (drop size left)
+cut_code place [] code size is = cc
+cut_code place (first ∷ more) code size is = cut_one place first more code size (sym is)
+
+pub cut_none : (place : ℕ) (left : List ℕ) → None ≡ front left → 0 < length left → cut_from place left ≡ Bad place ∷ []
+cut_none place [] is some = absurd (omega arith)
+cut_none place (first ∷ more) is some = cut_bad place first more (sym is)
+
+pub cut_empty : (place : ℕ) (left : List ℕ) → length left ≡ 0 → cut_from place left ≡ []
+cut_empty place [] none = cut_nothing place
+cut_empty place (first ∷ more) none = absurd (omega arith)

@@ -90,7 +90,7 @@ fn load_list<B: Bus>(list: u16, a: u32, r: &mut [u32; 16], bus: &B) -> Result<u3
 }
 
 /// The list of r4 to r4+n.
-fn range(last: u8) -> u16
+pub(crate) fn range(last: u8) -> u16
     requires { last < 8 }
     ensures { result ≡ 16 * (2 ^ (last + 1) - 1) }
 {

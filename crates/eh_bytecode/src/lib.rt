@@ -4,6 +4,8 @@
 
 pub mod codes;
 pub mod frame;
+pub mod recipe;
 
 pub use codes::{Codes, CodesFault};
 pub use frame::{UnwindEnd, Vrs, unwind};
+pub use recipe::{Recipe, RecipeFault, Src, summarise};
