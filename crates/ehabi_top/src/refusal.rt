@@ -1,7 +1,7 @@
 //! Why files give no image, and the lines that say so.
 ghost use Rattle.std.specs.Prelude.{◌≡◌, ◌≢◌, ◌≤◌, ◌++◌, length, codes, IfOk, true, false};
 ghost use Rattle.ehabi_top.specs.Building.{is_memory, is_link_memory, fault_line, wants_memory, refusal_of};
-ghost use Rattle.ehabi_top.specs.RefusalText.{source_what, source_place, encode_what, unwind_what, asm_what, asm_place, range_line, link_line};
+ghost use Rattle.ehabi_top.specs.RefusalText.{source_place, encode_what, unwind_what, asm_what, asm_place, range_line, link_line};
 ghost use Rattle.ehabi_top.specs.Loading.{IsOfCommand};
 ghost use Rattle.ehabi_top.specs.Writes.{Answers};
 
@@ -69,23 +69,6 @@ pub(crate) fn is_memory(fault: &BuildFault) -> bool
     }
 }
 
-fn source_what(what: SourceWhat) -> &'static [u8]
-    ensures name { result.now ≡ source_what what }
-    ensures short { length result.now ≤ 16 }
-{
-    match what {
-        SourceWhat::NotAscii => b"NotAscii",
-        SourceWhat::LineTooLong => b"LineTooLong",
-        SourceWhat::TooManyLines => b"TooManyLines",
-        SourceWhat::BadToken => b"BadToken",
-        SourceWhat::UnknownMnemonic => b"UnknownMnemonic",
-        SourceWhat::UnknownDirective => b"UnknownDirective",
-        SourceWhat::BadOperand => b"BadOperand",
-        SourceWhat::NumberRange => b"NumberRange",
-        SourceWhat::OutOfMemory => b"OutOfMemory",
-    }
-}
-
 fn encode_what(fault: EncodeFault) -> &'static [u8]
     ensures name { result.now ≡ encode_what fault }
     ensures short { length result.now ≤ 16 }
@@ -141,7 +124,7 @@ fn source_place(fault: SourceFault) -> Line
     append(&mut line, b":");
     append(&mut line, Buffer::new().format(fault.column).as_bytes());
     append(&mut line, b": ");
-    append(&mut line, source_what(fault.what));
+    append(&mut line, fault.what.name());
     append(&mut line, b"\n");
     line
 }
