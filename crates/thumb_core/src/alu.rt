@@ -8,20 +8,35 @@ use crate::shift::{self, rotation_of, shift_of};
 
 // The numbers of the operations of `Instr::Alu`, which are the opcode field of their encoding (DDI 0419, data processing).
 pub const AND: u8 = 0;
+
 pub const EOR: u8 = 1;
+
 pub const LSL: u8 = 2;
+
 pub const LSR: u8 = 3;
+
 pub const ASR: u8 = 4;
+
 pub const ADC: u8 = 5;
+
 pub const SBC: u8 = 6;
+
 pub const ROR: u8 = 7;
+
 pub const TST: u8 = 8;
+
 pub const RSB: u8 = 9;
+
 pub const CMP: u8 = 10;
+
 pub const CMN: u8 = 11;
+
 pub const ORR: u8 = 12;
+
 pub const MUL: u8 = 13;
+
 pub const BIC: u8 = 14;
+
 pub const MVN: u8 = 15;
 
 /// What an operation gives: the value, whether it is written to the register, and C and V.

@@ -4,7 +4,9 @@ ghost use Rattle.thumb_core.specs.Shift.{shift_of, left_shift, right_shift, sign
 
 // The numbers of the shifts of `Instr::ShiftImm`.
 pub const LSL: u8 = 0;
+
 pub const LSR: u8 = 1;
+
 pub const ASR: u8 = 2;
 
 /// LSL, LSR or ASR with the last bit that goes out. A shift by 0 leaves the carry.
