@@ -19,7 +19,7 @@ use Rattle.thumb_core.specs.Registers.{put, even, reg, operand, with_all, with_r
 use Rattle.thumb_core.specs.Data.{forward}
 use Rattle.thumb_core.specs.Words.{listed, words_in}
 use Rattle.thumb_core.specs.Outcome.{Outcome, with_memory}
-use Rattle.thumb_core.specs.Access.{store_end, load_end, store_reg, mem_reg, mem_imm, mem_sp}
+use Rattle.thumb_core.specs.Access.{store_end, loaded, store_reg, mem_reg, mem_imm, mem_sp}
 use Rattle.thumb_core.specs.Branch.{target_of, link_of, call_to, return_to, if_odd, register_effect}
 use Rattle.thumb_core.specs.Lists.{words_of, bytes_of, load_list, ldm_end, pop_to, pop_end}
 use Rattle.thumb_core.specs.Step.{effect, outcome_of, with_second, with_first, step_of, instr_of, instr_of_second, instr_of_first, instr_at}
@@ -85,9 +85,9 @@ register_acts i size regs m = record { apart = refl; leaves = tt; memory = tt }
 
 -- ---- loads and stores
 
-load_acts : (at : At) (answer : Result ℕ BusFault) (t : ℕ) (number : ℕ → ℕ) (size : ℕ) (regs : Regs) (m : Memory) → Acts at None regs m (load_end answer t number size regs m)
-load_acts at (Ok x) t number size regs m = record { apart = refl; leaves = tt; memory = tt }
-load_acts at (Err fault) t number size regs m = trap_acts at None _ regs m
+load_acts : (at : At) (answer : Result ℕ BusFault) (t size : ℕ) (regs : Regs) (m : Memory) → Acts at None regs m (with_memory (loaded answer t size regs) m)
+load_acts at (Ok x) t size regs m = record { apart = refl; leaves = tt; memory = tt }
+load_acts at (Err fault) t size regs m = trap_acts at None _ regs m
 
 store_acts :
     (at : At) (s : Span) (fault : Option BusFault) (segments : List Segment) (size : ℕ) (regs after : Regs) (m : Memory)
@@ -129,10 +129,10 @@ mem_reg_acts at op t n k size regs m =
     both P (op == 0) _ _ _ _ (reg_acts at 4 t a size regs m (inr (inr refl)) l) (
     both P (op == 1) _ _ _ _ (reg_acts at 2 t a size regs m (inr (inl refl)) l) (
     both P (op == 2) _ _ _ _ (reg_acts at 1 t a size regs m (inl refl) l) (
-    either (P None) (op == 3) _ _ (load_acts at _ t _ size regs m) (
-    either (P None) (op == 4) _ _ (load_acts at _ t _ size regs m) (
-    either (P None) (op == 5) _ _ (load_acts at _ t _ size regs m) (
-    either (P None) (op == 6) _ _ (load_acts at _ t _ size regs m) (load_acts at _ t _ size regs m)))))))
+    either (P None) (op == 3) _ _ (load_acts at _ t size regs m) (
+    either (P None) (op == 4) _ _ (load_acts at _ t size regs m) (
+    either (P None) (op == 5) _ _ (load_acts at _ t size regs m) (
+    either (P None) (op == 6) _ _ (load_acts at _ t size regs m) (load_acts at _ t size regs m)))))))
 
 mem_imm_acts : (at : At) (op t n : ℕ) (off : ℤ) (size : ℕ) (regs : Regs) (m : Memory) → Acts at (stores_of (MemImm op t n off) regs) regs m (mem_imm op t n off size regs m)
 mem_imm_acts at op t n off size regs m =
@@ -140,13 +140,13 @@ mem_imm_acts at op t n off size regs m =
     let P : Option Span → Outcome → Type 0 = λ s o. Acts at s regs m o in
     let l : a < 2 ^ 32 = forward_word (reg regs n) off in
     both P (op == 0) _ _ _ _ (reg_acts at 4 t a size regs m (inr (inr refl)) l) (
-    both P (op == 1) _ _ _ _ (load_acts at _ t _ size regs m) (
+    both P (op == 1) _ _ _ _ (load_acts at _ t size regs m) (
     both P (op == 2) _ _ _ _ (reg_acts at 1 t a size regs m (inl refl) l) (
-    both P (op == 3) _ _ _ _ (load_acts at _ t _ size regs m) (
-    both P (op == 4) _ _ _ _ (reg_acts at 2 t a size regs m (inr (inl refl)) l) (load_acts at _ t _ size regs m)))))
+    both P (op == 3) _ _ _ _ (load_acts at _ t size regs m) (
+    both P (op == 4) _ _ _ _ (reg_acts at 2 t a size regs m (inr (inl refl)) l) (load_acts at _ t size regs m)))))
 
 mem_sp_acts : (at : At) (is_load : Bool) (t : ℕ) (off : ℤ) (size : ℕ) (regs : Regs) (m : Memory) → Acts at (stores_of (MemSp is_load t off) regs) regs m (mem_sp is_load t off size regs m)
-mem_sp_acts at true t off size regs m = load_acts at _ t _ size regs m
+mem_sp_acts at true t off size regs m = load_acts at _ t size regs m
 mem_sp_acts at false t off size regs m = reg_acts at 4 t (forward (reg regs 13) off) size regs m (inr (inr refl)) (forward_word (reg regs 13) off)
 
 -- ---- lists
@@ -189,7 +189,7 @@ pop_acts mask size regs m (Ok r) e = go (bit_at mask 15 == 1) refl
 -- ---- a step
 
 effect_acts : (i : Instr) (size : ℕ) (regs : Regs) (m : Memory) → ((k : ℕ) → slice_index regs.r k < 2 ^ 32) → Acts (Some (i, size)) (stores_of i regs) regs m (effect i size regs m)
-effect_acts (LdrLit t off) size regs m small = load_acts _ _ t _ size regs m
+effect_acts (LdrLit t off) size regs m small = load_acts _ _ t size regs m
 effect_acts (MemReg op t n k) size regs m small = mem_reg_acts _ op t n k size regs m
 effect_acts (MemImm op t n off) size regs m small = mem_imm_acts _ op t n off size regs m
 effect_acts (MemSp is_load t off) size regs m small = mem_sp_acts _ is_load t off size regs m

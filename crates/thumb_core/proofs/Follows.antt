@@ -1,5 +1,5 @@
 -- What holds of every step, by the groups of instructions.
-use Rattle.std.proofs.Common.{◌≡◌, ℕ, ℤ, ◌+◌, ◌-◌, ◌*◌, ◌%◌, ◌^◌, ◌==◌, nat_le, Bool, true, false, List, cond, refl, ap, ◌∙◌, arith, Err, Ok, Result, Option, Some, None, length, get_or, slice_index, inl, inr}
+use Rattle.std.proofs.Common.{◌≡◌, ℕ, ℤ, ◌+◌, ◌-◌, ◌%◌, ◌^◌, ◌==◌, nat_le, Bool, true, false, List, cond, refl, ap, ◌∙◌, arith, Err, Ok, Result, Option, Some, None, length, get_or, slice_index, inl, inr}
 use Rattle.std.specs.Int.{bit_at}
 use Rattle.std.proofs.lemmas.Bool.Decides.{nat_tests}
 use Rattle.std.proofs.lemmas.Grind.{get_or-set_at}
@@ -17,14 +17,14 @@ use Rattle.thumb_core.specs.declared.regs.CoreTrap.TheVariants.{EvenTarget}
 use Rattle.thumb_core.specs.declared.regs.Stepped.{Stepped}
 use Rattle.thumb_core.specs.declared.regs.Stepped.TheVariants.{Done, Gate, Trap}
 use Rattle.thumb_core.specs.declared.alu.Answer.{Answer}
-use Rattle.thumb_core.specs.Arith.{sum_of, difference_of, sum_or_difference, sign_extension}
+use Rattle.thumb_core.specs.Arith.{sum_of, difference_of, sum_or_difference}
 use Rattle.thumb_core.specs.Shift.{shift_of}
 use Rattle.thumb_core.specs.Registers.{put, word_in, even, reg, operand, base, all_of, with_all, with_reg, with_pc, with_next}
 use Rattle.thumb_core.specs.Alu.{alu_of, with_answer}
 use Rattle.thumb_core.specs.Data.{forward, backward, extension_of, reversal_of, imm8, data_effect}
 use Rattle.thumb_core.specs.Words.{listed, loads_from}
 use Rattle.thumb_core.specs.Outcome.{plain_outcome, with_memory}
-use Rattle.thumb_core.specs.Access.{store_end, load_end, store_reg, load_reg, load_reg_signed, mem_reg, mem_imm, mem_sp}
+use Rattle.thumb_core.specs.Access.{store_end, loaded, signed, store_reg, load_reg, load_reg_signed, mem_reg, mem_imm, mem_sp}
 use Rattle.thumb_core.specs.Branch.{passes, target_of, branch, branch_if, write_high, link_of, call_to, return_to, if_odd, register_effect}
 use Rattle.thumb_core.specs.Lists.{words_of, bytes_of, load_list, ldm_end, pop_to, pop_end}
 use Rattle.thumb_core.specs.Step.{effect, outcome_of, with_second, with_first, step_of}
@@ -188,10 +188,9 @@ register_follows i size regs m = plain_follows size regs (data_effect i regs) m 
 
 -- ---- loads and stores
 
-load_follows : (answer : Result ℕ BusFault) (t : ℕ) (number : ℕ → ℕ) (size : ℕ) (regs : Regs) (m : Memory) → Follows regs m (load_end answer t number size regs m)
-load_follows (Ok x) t number size regs m =
-    plain_follows size regs (with_reg regs t (number x)) m m (same m) (λ s. words_put 15 regs.r t (number x) s.words)
-load_follows (Err fault) t number size regs m = trap_follows _ regs m
+load_follows : (answer : Result ℕ BusFault) (t size : ℕ) (regs : Regs) (m : Memory) → Follows regs m (with_memory (loaded answer t size regs) m)
+load_follows (Ok x) t size regs m = plain_follows size regs (with_reg regs t x) m m (same m) (λ s. words_put 15 regs.r t x s.words)
+load_follows (Err fault) t size regs m = trap_follows _ regs m
 
 -- a store that is done keeps the map
 store_follows :
@@ -238,10 +237,10 @@ reg_follows : (n t a size : ℕ) (regs : Regs) (m : Memory) → IsWidth n → Fo
 reg_follows n t a size regs m w = store_follows _ _ size regs regs m (store_memory n a (reg regs t % 256 ^ n) m w) (λ s. s.words)
 
 load_reg_follows : (n t a size : ℕ) (regs : Regs) (m : Memory) → Follows regs m (load_reg n t a size regs m)
-load_reg_follows n t a size regs m = load_follows (load n m a) t (λ x. x) size regs m
+load_reg_follows n t a size regs m = load_follows (load n m a) t size regs m
 
 load_signed_follows : (n t a size : ℕ) (regs : Regs) (m : Memory) → Follows regs m (load_reg_signed n t a size regs m)
-load_signed_follows n t a size regs m = load_follows (load n m a) t (λ x. sign_extension (8 * n) x) size regs m
+load_signed_follows n t a size regs m = load_follows (signed n (load n m a)) t size regs m
 
 mem_reg_follows : (op t n k size : ℕ) (regs : Regs) (m : Memory) → Follows regs m (mem_reg op t n k size regs m)
 mem_reg_follows op t n k size regs m =

@@ -1,5 +1,5 @@
 -- A POP and an LDM in two parts: the low registers, and pc's word behind them.
-use Rattle.std.proofs.Common.{◌≡◌, ℕ, suc, ◌+◌, ◌-◌, ◌*◌, ◌%◌, ◌^◌, ◌<◌, ◌==◌, true, false, List, [], ◌∷◌, ◌++◌, cond, refl, sym, ap, subst, ◌∙◌, arith, length, take, slice_index, Err, Ok, append-nil, length-append}
+use Rattle.std.proofs.Common.{◌≡◌, ℕ, ◌+◌, ◌%◌, ◌^◌, ◌<◌, List, [], ◌∷◌, ◌++◌, refl, ap, subst, ◌∙◌, arith, length, take, slice_index, Err, Ok, append-nil, length-append}
 use Rattle.std.specs.Int.{bit_at}
 use Rattle.std.proofs.Math.ListN.{length-set, set}
 use Rattle.std.proofs.Math.Seq.{take-append_seam}

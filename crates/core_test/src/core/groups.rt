@@ -1,50 +1,12 @@
 //! One program for each group of instructions, run on a memory of segments. The codes are put together by hand from the
 //! manual's encodings (DDI 0419).
 
-ghost use Rattle.std.specs.Prelude.{◌≤◌, length};
-
-use crate::regs::{CoreTrap, Regs, Stepped};
-use crate::step::step;
+use crate::core::{bus_of, go, start};
 use eh_bus::bus::Bus;
-use eh_bus::fault::{BusFault, BusMemory};
+use eh_bus::fault::BusFault;
 use eh_bus::flat::FlatBus;
-use eh_bus::segment::SegmentSpec;
-use std::alloc::Global;
 use std::test::Fail;
-
-/// A memory with this code at 0x8000.
-fn bus_of(alloc: Global, code: &[u8]) -> Result<FlatBus, BusMemory>
-    requires { length code.now ≤ 64 }
-{
-    let code = SegmentSpec {
-        start: 0x8000,
-        bytes: code,
-        size: code.len() as u32,
-        write: false,
-        exec: true,
-    };
-    FlatBus::build(alloc, &[code])
-}
-
-/// pc at 0x8000, sp at the end of the stack, all else zero.
-fn start() -> Regs {
-    let mut r = [0; 15];
-    r[13] = 0x4000_0000;
-    Regs {
-        r,
-        pc: 0x8000,
-        n: false,
-        z: false,
-        c: false,
-        v: false,
-    }
-}
-
-// These two say nothing of what they answer, so that the tests are proved with no look at a step.
-
-fn go(regs: &mut Regs, bus: &mut FlatBus) -> Stepped {
-    step(regs, bus)
-}
+use thumb_core::regs::{CoreTrap, Stepped};
 
 fn word(bus: &FlatBus, a: u32) -> Option<u32> {
     bus.load32(a).ok()
