@@ -1,5 +1,6 @@
+//! Why statements have no object, and which of several refusals is answered (docs/objects.md).
 ghost use Rattle.std.specs.Prelude.{◌≡◌};
-ghost use Rattle.asm_layout.specs.Faults.{number_of, is_before, first_with, first_of};
+ghost use Rattle.asm_layout.specs.Faults.{number_of, is_before, first_with, first_of, fault_if, first_of_all};
 
 use asm_unwind::UnwindFault;
 use std::alloc::AllocError;
@@ -89,5 +90,22 @@ pub fn first_of(so_far: Option<AsmFault>, fault: Option<AsmFault>) -> Option<Asm
     match fault {
         Some(fault) => first_with(so_far, fault),
         None => so_far,
+    }
+}
+
+/// The first of the refusals so far and one at a line, where it is refused.
+#[tactic(auto, unfolding(crate::specs::Faults::first_of_all))]
+pub fn first_if(
+    so_far: Option<AsmFault>,
+    refused: bool,
+    line: u32,
+    what: AsmWhat,
+) -> Option<AsmFault>
+    ensures { result ≡ first_of_all so_far (fault_if refused line what) }
+{
+    if refused {
+        first_with(so_far, AsmFault { line, what })
+    } else {
+        so_far
     }
 }

@@ -18,8 +18,6 @@ mod parts;
 mod refusal;
 pub mod relocation;
 mod symbols;
-#[cfg(test)]
-mod tests;
 mod value;
 
 pub use asm_layout::fault::{AsmFault, AsmWhat};

@@ -135,7 +135,7 @@ pub record Splits (m : Memory) (a w : ℕ) (ws : List ℕ) (m' : Memory) : Type 
   pub first : store 4 m a w ≡ (Ok tt, mid)
   pub rest : store_run mid ((a + 4) % 2 ^ 32) ws ≡ (Ok tt, m')
 
-run_fault_written : (gs : List ℕ) (ss : List Segment) (a b v : ℕ) (ws : List ℕ) → run_fault gs (written 4 ss b v) a ws ≡ run_fault gs ss a ws
+pub run_fault_written : (gs : List ℕ) (ss : List Segment) (a b v : ℕ) (ws : List ℕ) → run_fault gs (written 4 ss b v) a ws ≡ run_fault gs ss a ws
 run_fault_written gs ss a b v [] = refl
 run_fault_written gs ss a b v (w ∷ ws) = rw (written_fault 4 4 b a v (λ s. store_fault 4 gs s a) ss (λ s bs. refl), run_fault_written gs ss ((a + 4) % 2 ^ 32) b v ws)
 
@@ -152,13 +152,29 @@ splits m a w ws m' e = go (fault_in (λ s. store_fault 4 m.guards s a) 4 m.segme
     go None f (Some x) g e = absurd (let p : Err x ≡ Ok tt = ap (λ (p : Result (Unit {0}) BusFault × Memory). p.0) e in cc)
     go (Some x) f p g e = absurd (let p : Err x ≡ Ok tt = ap (λ (p : Result (Unit {0}) BusFault × Memory). p.0) e in cc)
 
+pub record Ran (m : Memory) (a : ℕ) (ws : List ℕ) (m' : Memory) : Type 0 where
+  pub after : m' ≡ record m { segments = run_written m.segments a ws }
+  pub passed : run_fault m.guards m.segments a ws ≡ None
+
+pub ran : (m : Memory) (a : ℕ) (ws : List ℕ) (m' : Memory) → store_run m a ws ≡ (Ok tt, m') → Ran m a ws m'
+ran m a ws m' e = go (run_fault m.guards m.segments a ws) refl e
+  where
+    go : (o : Option BusFault) → run_fault m.guards m.segments a ws ≡ o
+        → unless_fault o m (record m { segments = run_written m.segments a ws }) ≡ (Ok tt, m') → Ran m a ws m'
+    go None f e = record { after = sym (ap (λ (p : Result (Unit {0}) BusFault × Memory). p.1) e); passed = f }
+    go (Some x) f e = absurd (let p : Err x ≡ Ok tt = ap (λ (p : Result (Unit {0}) BusFault × Memory). p.0) e in cc)
+
 -- store_run changes segments alone
 pub run_done : (m : Memory) (a : ℕ) (ws : List ℕ) (m' : Memory) → store_run m a ws ≡ (Ok tt, m') → m' ≡ record m { segments = m'.segments }
-run_done m a ws m' e = go (run_fault m.guards m.segments a ws) e
+run_done m a ws m' e = let s = ran m a ws m' e in rw s.after refl
+
+-- a run that is refused changes nothing
+pub run_refused : (m : Memory) (a : ℕ) (ws : List ℕ) (x : BusFault) (m' : Memory) → store_run m a ws ≡ (Err x, m') → m' ≡ m
+run_refused m a ws x m' e = go (run_fault m.guards m.segments a ws) e
   where
-    go : (o : Option BusFault) → unless_fault o m (record m { segments = run_written m.segments a ws }) ≡ (Ok tt, m') → m' ≡ record m { segments = m'.segments }
-    go None e = let p : record m { segments = run_written m.segments a ws } ≡ m' = ap (λ (p : Result (Unit {0}) BusFault × Memory). p.1) e in rw (← p) refl
-    go (Some x) e = absurd (let p : Err x ≡ Ok tt = ap (λ (p : Result (Unit {0}) BusFault × Memory). p.0) e in cc)
+    go : (o : Option BusFault) → unless_fault o m (record m { segments = run_written m.segments a ws }) ≡ (Err x, m') → m' ≡ m
+    go None e = absurd (let p : Ok tt ≡ Err x = ap (λ (p : Result (Unit {0}) BusFault × Memory). p.0) e in cc)
+    go (Some y) e = sym (ap (λ (p : Result (Unit {0}) BusFault × Memory). p.1) e)
 
 pub run_keeps : (m : Memory) (a : ℕ) (ws : List ℕ) (m' : Memory) (g : ℕ) → store_run m a ws ≡ (Ok tt, m') → Has m.guards g → load 4 m' g ≡ load 4 m g
 run_keeps m a [] m' g e h = let p : m ≡ m' = ap (λ (p : Result (Unit {0}) BusFault × Memory). p.1) e in rw p

@@ -1,15 +1,18 @@
 -- What is built is a map.
-use Rattle.std.proofs.Common.{◌≡◌, ℕ, zero, suc, ◌+◌, ◌<◌, ◌≤◌, List, [], ◌∷◌, length, get_or, map, refl, arith}
+use Rattle.std.proofs.Common.{◌≡◌, ℕ, zero, suc, ◌+◌, ◌-◌, ◌<◌, ◌≤◌, List, [], ◌∷◌, length, get_or, map, take, refl, arith}
 use Rattle.std.specs.Prelude.{IsTrue, All}
-use Rattle.std.proofs.lemmas.List.{length-append}
-use Rattle.eh_bus.specs.Segment.{Segment, holds}
+use Rattle.std.proofs.lemmas.List.{length-append, take_more}
+use Rattle.std.proofs.lemmas.List.Elements.{All-append, All-push}
+use Rattle.eh_bus.specs.Segment.{Segment, AreBytes, holds}
 use Rattle.eh_bus.specs.Map.{AreSegments, AreApart, IsData}
-use Rattle.eh_bus.specs.Built.{CanBuild, Fits, built, segment_of, zeros_at, length-zeros}
+use Rattle.eh_bus.specs.Built.{CanBuild, Fits, built, segment_of, zeros_at}
+use Rattle.eh_list.specs.Bytes.{zeros, length-zeros}
 use Rattle.eh_bus.specs.declared.segment.SegmentSpec.{SegmentSpec}
 use Rattle.eh_bus.proofs.Kept.{inside}
+use Rattle.eh_bus.specs.declared.map.TheConstants.{IMAGE_END, POOL_SIZE, POOL_START, STACK_SIZE, STACK_START}
 
 abbrev Ends : Segment → Type 0
-Ends s = s.start + length s.bytes ≤ 0x30000000
+Ends s = s.start + length s.bytes ≤ IMAGE_END
 
 length-segment_of : (spec : SegmentSpec) → length spec.bytes.now ≤ spec.size → length (segment_of spec).bytes ≡ spec.size
 length-segment_of spec h = simp (length-append, length-zeros) (omega arith)
@@ -23,7 +26,7 @@ image_ends (s ∷ specs) f zero d h = fits_ends s (f 0 s (omega arith))
 image_ends (s ∷ specs) f (suc i) d h = image_ends specs (λ k e l. f (suc k) e (omega arith)) i d (omega arith)
 
 -- what is in a segment below the pool
-in_image : (s : Segment) (a : ℕ) → Ends s → IsTrue (holds s a 1) → a < 0x30000000
+in_image : (s : Segment) (a : ℕ) → Ends s → IsTrue (holds s a 1) → a < IMAGE_END
 in_image s a e h = let p = inside s a 1 h in omega (arith, p.low, p.high)
 
 in_zeros : (start size a : ℕ) → IsTrue (holds (zeros_at start size) a 1) → (start ≤ a) × (a < start + size)
@@ -33,20 +36,20 @@ in_zeros start size a h =
     (p.low, omega (arith, p.low, p.high))
 
 apart_all : (image : List Segment) → ((i : ℕ) (d : Segment) → i < length image → Ends (get_or image i d)) → AreApart image
-    → AreApart (zeros_at 0x3fff0000 0x10000 ∷ zeros_at 0x38000000 0x8000 ∷ image)
+    → AreApart (zeros_at STACK_START STACK_SIZE ∷ zeros_at POOL_START POOL_SIZE ∷ image)
 apart_all image e p a zero zero d h k x y = refl
-apart_all image e p a zero (suc zero) d h k x y = let s = in_zeros 0x3fff0000 0x10000 a x in let t = in_zeros 0x38000000 0x8000 a y in absurd (omega (arith, s.0, t.1))
-apart_all image e p a zero (suc (suc j)) d h k x y = let s = in_zeros 0x3fff0000 0x10000 a x in let t = in_image (get_or image j d) a (e j d (omega arith)) y in absurd (omega (arith, s.0))
-apart_all image e p a (suc zero) zero d h k x y = let s = in_zeros 0x3fff0000 0x10000 a y in let t = in_zeros 0x38000000 0x8000 a x in absurd (omega (arith, s.0, t.1))
+apart_all image e p a zero (suc zero) d h k x y = let s = in_zeros STACK_START STACK_SIZE a x in let t = in_zeros POOL_START POOL_SIZE a y in absurd (omega (arith, s.0, t.1))
+apart_all image e p a zero (suc (suc j)) d h k x y = let s = in_zeros STACK_START STACK_SIZE a x in let t = in_image (get_or image j d) a (e j d (omega arith)) y in absurd (omega (arith, s.0))
+apart_all image e p a (suc zero) zero d h k x y = let s = in_zeros STACK_START STACK_SIZE a y in let t = in_zeros POOL_START POOL_SIZE a x in absurd (omega (arith, s.0, t.1))
 apart_all image e p a (suc zero) (suc zero) d h k x y = refl
-apart_all image e p a (suc zero) (suc (suc j)) d h k x y = let s = in_zeros 0x38000000 0x8000 a x in let t = in_image (get_or image j d) a (e j d (omega arith)) y in absurd (omega (arith, s.0))
-apart_all image e p a (suc (suc i)) zero d h k x y = let s = in_zeros 0x3fff0000 0x10000 a y in let t = in_image (get_or image i d) a (e i d (omega arith)) x in absurd (omega (arith, s.0))
-apart_all image e p a (suc (suc i)) (suc zero) d h k x y = let s = in_zeros 0x38000000 0x8000 a y in let t = in_image (get_or image i d) a (e i d (omega arith)) x in absurd (omega (arith, s.0))
+apart_all image e p a (suc zero) (suc (suc j)) d h k x y = let s = in_zeros POOL_START POOL_SIZE a x in let t = in_image (get_or image j d) a (e j d (omega arith)) y in absurd (omega (arith, s.0))
+apart_all image e p a (suc (suc i)) zero d h k x y = let s = in_zeros STACK_START STACK_SIZE a y in let t = in_image (get_or image i d) a (e i d (omega arith)) x in absurd (omega (arith, s.0))
+apart_all image e p a (suc (suc i)) (suc zero) d h k x y = let s = in_zeros POOL_START POOL_SIZE a y in let t = in_image (get_or image i d) a (e i d (omega arith)) x in absurd (omega (arith, s.0))
 apart_all image e p a (suc (suc i)) (suc (suc j)) d h k x y = let s = p a i j d (omega arith) (omega arith) x y in omega arith
 
 image_at : (image : List Segment) → ((i : ℕ) (d : Segment) → i < length image → Ends (get_or image i d))
-    → (i : ℕ) (d : Segment) → 2 ≤ i → i < length (zeros_at 0x3fff0000 0x10000 ∷ zeros_at 0x38000000 0x8000 ∷ image)
-    → Ends (get_or (zeros_at 0x3fff0000 0x10000 ∷ zeros_at 0x38000000 0x8000 ∷ image) i d)
+    → (i : ℕ) (d : Segment) → 2 ≤ i → i < length (zeros_at STACK_START STACK_SIZE ∷ zeros_at POOL_START POOL_SIZE ∷ image)
+    → Ends (get_or (zeros_at STACK_START STACK_SIZE ∷ zeros_at POOL_START POOL_SIZE ∷ image) i d)
 image_at image e zero d l h = absurd (omega arith)
 image_at image e (suc zero) d l h = absurd (omega arith)
 image_at image e (suc (suc i)) d l h = e i d (omega arith)
@@ -54,11 +57,41 @@ image_at image e (suc (suc i)) d l h = e i d (omega arith)
 pub zeros_data : (start size : ℕ) → IsData (zeros_at start size) start size
 zeros_data start size = record { starts = refl; sized = length-zeros size; writes = refl; no_code = refl }
 
-pub built_segments : (specs : List SegmentSpec) → CanBuild specs → AreSegments (built specs).segments
-built_segments specs p = record {
+zeros_bytes : (n : ℕ) → AreBytes (zeros n)
+unfolding zeros
+zeros_bytes zero k d h = absurd (omega arith)
+zeros_bytes (suc n) zero d h = omega arith
+zeros_bytes (suc n) (suc k) d h = zeros_bytes n k d (omega arith)
+
+spec_bytes : (spec : SegmentSpec) → AreBytes spec.bytes.now → AreBytes (segment_of spec).bytes
+spec_bytes spec b = All-append (λ x. x < 256) _ _ b (zeros_bytes (spec.size - length spec.bytes.now))
+
+-- bytes that are given, and zeros, are bytes
+pub image_bytes : (specs : List SegmentSpec) → All (λ (spec : SegmentSpec). AreBytes spec.bytes.now) specs → All (λ (s : Segment). AreBytes s.bytes) (map segment_of specs)
+image_bytes [] b = λ i d h. absurd (omega arith)
+image_bytes (spec ∷ more) b = λ i d h. at i d h (image_bytes more (λ k e l. b (suc k) e (omega arith)))
+  where
+    at : (i : ℕ) (d : Segment) → i < length (segment_of spec ∷ map segment_of more) → All (λ (s : Segment). AreBytes s.bytes) (map segment_of more)
+        → AreBytes (get_or (segment_of spec ∷ map segment_of more) i d).bytes
+    at zero d h next = spec_bytes spec (b 0 spec (omega arith))
+    at (suc i) d h next = next i d (omega arith)
+
+all_bytes : (image : List Segment) → All (λ (s : Segment). AreBytes s.bytes) image → All (λ (s : Segment). AreBytes s.bytes) (zeros_at STACK_START STACK_SIZE ∷ zeros_at POOL_START POOL_SIZE ∷ image)
+all_bytes image b zero d h = zeros_bytes STACK_SIZE
+all_bytes image b (suc zero) d h = zeros_bytes POOL_SIZE
+all_bytes image b (suc (suc i)) d h = b i d (omega arith)
+
+pub built_segments : (specs : List SegmentSpec) → CanBuild specs → All (λ (s : Segment). AreBytes s.bytes) (map segment_of specs) → AreSegments (built specs).segments
+built_segments specs p b = record {
+  bytes = all_bytes (map segment_of specs) b;
   two = omega arith;
-  stack = λ d. zeros_data 0x3fff0000 0x10000;
-  pool = λ d. zeros_data 0x38000000 0x8000;
+  stack = λ d. zeros_data STACK_START STACK_SIZE;
+  pool = λ d. zeros_data POOL_START POOL_SIZE;
   image = image_at (map segment_of specs) (image_ends specs p.fit);
   apart = apart_all (map segment_of specs) (image_ends specs p.fit) p.apart;
 }
+
+-- one more of the given segments has bytes
+pub more_bytes : (specs : List SegmentSpec) (i : ℕ) (spec : SegmentSpec) → i < length specs → All (λ (s : SegmentSpec). AreBytes s.bytes.now) (take i specs)
+    → AreBytes (get_or specs i spec).bytes.now → All (λ (s : SegmentSpec). AreBytes s.bytes.now) (take (i + 1) specs)
+more_bytes specs i spec h b n = rw (take_more specs i spec h) (All-push (λ (s : SegmentSpec). AreBytes s.bytes.now) (take i specs) (get_or specs i spec) b n)

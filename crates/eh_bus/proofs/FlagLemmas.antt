@@ -5,18 +5,19 @@ use Rattle.std.proofs.lemmas.Bool.{ltb-true, ltb-false, eqb-true, eqb-false, le-
 use Rattle.eh_bus.specs.Guards.{inserted, RiseFrom, AreGuards}
 use Rattle.eh_bus.specs.Memory.{guard_hit, stays_guarded}
 use Rattle.eh_bus.specs.Flags.{flagged, AreFlags, clear_flags}
+use Rattle.eh_bus.specs.declared.map.TheConstants.{STACK_END, STACK_START, STACK_WORDS}
 
 lower : (low high : ℕ) (guards : List ℕ) → low ≤ high → RiseFrom high guards → RiseFrom low guards
 lower low high [] h r = omega arith
 lower low high (g ∷ more) h r = (omega (arith, r.0), r.1)
 
-pub flagged_rises : (low : ℕ) (flags : List Bool) → low % 4 ≡ 0 → low + 4 * length flags ≤ 0x40000000 → RiseFrom low (flagged low flags)
+pub flagged_rises : (low : ℕ) (flags : List Bool) → low % 4 ≡ 0 → low + 4 * length flags ≤ STACK_END → RiseFrom low (flagged low flags)
 flagged_rises low [] e h = omega arith
 flagged_rises low (true ∷ flags) e h = (omega arith, (e, flagged_rises (low + 4) flags (omega arith) (omega arith)))
 flagged_rises low (false ∷ flags) e h = lower low (low + 4) (flagged (low + 4) flags) (omega arith) (flagged_rises (low + 4) flags (omega arith) (omega arith))
 
-pub flags_rise : (flags : List Bool) → length flags ≡ 16384 → AreGuards (flagged 0x3fff0000 flags)
-flags_rise flags h = flagged_rises 0x3fff0000 flags refl (omega arith)
+pub flags_rise : (flags : List Bool) → length flags ≡ STACK_WORDS → AreGuards (flagged STACK_START flags)
+flags_rise flags h = flagged_rises STACK_START flags refl (omega arith)
 
 pub flagged_none : (low n : ℕ) → flagged low (clear_flags n) ≡ []
 unfolding clear_flags
@@ -33,8 +34,8 @@ length-clear : (n : ℕ) → length (clear_flags n) ≡ n
 unfolding clear_flags
 length-clear n = length-replicate n false
 
-pub clear_are : AreFlags (clear_flags 16384) 16384
-clear_are = record { whole = length-clear 16384; within = omega arith; clear = λ i h. get_or-clear 16384 i }
+pub clear_are : AreFlags (clear_flags STACK_WORDS) STACK_WORDS
+clear_are = record { whole = length-clear STACK_WORDS; within = omega arith; clear = λ i h. get_or-clear STACK_WORDS i }
 
 -- a filter of the flagged words clears their flags
 pub flagged_filter : (p : ℕ → Bool) (low : ℕ) (old new : List Bool) → length new ≡ length old
@@ -109,8 +110,8 @@ none_above low a n (true ∷ flags) h = go (nat_lt a (low + 4)) (nat_lt low (a +
     go false u e next = next
 none_above low a n (false ∷ flags) h = none_above (low + 4) a n flags (omega arith)
 
-pub hit_below : (a n : ℕ) (flags : List Bool) → a < 0x3fff0000 → a % 4 + n ≤ 4 → guard_hit (flagged 0x3fff0000 flags) a n ≡ None
-hit_below a n flags h k = none_above 0x3fff0000 a n flags (omega arith)
+pub hit_below : (a n : ℕ) (flags : List Bool) → a < STACK_START → a % 4 + n ≤ 4 → guard_hit (flagged STACK_START flags) a n ≡ None
+hit_below a n flags h k = none_above STACK_START a n flags (omega arith)
 
 -- the flag of the word that holds the access decides
 pub flagged_hit : (low a n i : ℕ) (flags : List Bool) → 0 < n → low + 4 * i ≤ a → a + n ≤ low + 4 * i + 4
@@ -141,21 +142,21 @@ flagged_hit low a n (suc i) (x ∷ flags) p h k =
     later false next = next
 
 -- the same where the access lies in one word, and the flag is told by its address
-pub stack_hit : (a n : ℕ) (flags : List Bool) → 0 < n → a % 4 + n ≤ 4 → 0x3fff0000 ≤ a
-    → guard_hit (flagged 0x3fff0000 flags) a n ≡ cond (get_or flags ((a - 0x3fff0000) / 4) false) (Some (a - a % 4)) None
+pub stack_hit : (a n : ℕ) (flags : List Bool) → 0 < n → a % 4 + n ≤ 4 → STACK_START ≤ a
+    → guard_hit (flagged STACK_START flags) a n ≡ cond (get_or flags ((a - STACK_START) / 4) false) (Some (a - a % 4)) None
 stack_hit a n flags p h k =
-    let e : 0x3fff0000 + 4 * ((a - 0x3fff0000) / 4) ≡ a - a % 4 = omega arith in
-    let low : 0x3fff0000 + 4 * ((a - 0x3fff0000) / 4) ≤ a = omega arith in
-    let high : a + n ≤ 0x3fff0000 + 4 * ((a - 0x3fff0000) / 4) + 4 = omega arith in
-    let hit = flagged_hit 0x3fff0000 a n ((a - 0x3fff0000) / 4) flags p low high in
+    let e : STACK_START + 4 * ((a - STACK_START) / 4) ≡ a - a % 4 = omega arith in
+    let low : STACK_START + 4 * ((a - STACK_START) / 4) ≤ a = omega arith in
+    let high : a + n ≤ STACK_START + 4 * ((a - STACK_START) / 4) + 4 = omega arith in
+    let hit = flagged_hit STACK_START a n ((a - STACK_START) / 4) flags p low high in
     rw e at hit
 
 -- setting the flag of the word at a puts it in
-pub stack_set : (a : ℕ) (flags : List Bool) → 0x3fff0000 ≤ a → a % 4 ≡ 0 → (a - 0x3fff0000) / 4 < length flags
-    → flagged 0x3fff0000 (set flags ((a - 0x3fff0000) / 4) true) ≡ inserted a (flagged 0x3fff0000 flags)
+pub stack_set : (a : ℕ) (flags : List Bool) → STACK_START ≤ a → a % 4 ≡ 0 → (a - STACK_START) / 4 < length flags
+    → flagged STACK_START (set flags ((a - STACK_START) / 4) true) ≡ inserted a (flagged STACK_START flags)
 stack_set a flags h e l =
-    let same : 0x3fff0000 + 4 * ((a - 0x3fff0000) / 4) ≡ a = omega arith in
-    let s = flagged_set 0x3fff0000 ((a - 0x3fff0000) / 4) flags l in
+    let same : STACK_START + 4 * ((a - STACK_START) / 4) ≡ a = omega arith in
+    let s = flagged_set STACK_START ((a - STACK_START) / 4) flags l in
     rw same at s
 
 pub set_are : (i lowest : ℕ) (flags : List Bool) → AreFlags flags lowest → AreFlags (set flags i true) (min lowest i)
@@ -165,7 +166,7 @@ set_are i lowest flags f = record {
   clear = λ k h. let ne : k ≢ i = omega arith in let l : k < lowest = omega arith in rw get_or-set_other (f.clear k l);
 }
 
-pub release_are : (lowest end : ℕ) (old new : List Bool) → AreFlags old lowest → length new ≡ length old → end ≤ 16384
+pub release_are : (lowest end : ℕ) (old new : List Bool) → AreFlags old lowest → length new ≡ length old → end ≤ STACK_WORDS
     → ((i : ℕ) → i < end → get_or new i false ≡ false)
     → ((i : ℕ) → end ≤ i → get_or new i false ≡ get_or old i false)
     → AreFlags new (max lowest end)
@@ -179,11 +180,11 @@ release_are lowest end old new f l w c r = record {
     go i h true t = c i (ltb-true _ _ t)
     go i h false t = let b = ltb-false _ _ t in let s : i < lowest = omega arith in r i b ∙ f.clear i s
 
-stays : (a g : ℕ) → a ≤ g → stays_guarded (0x3fff0000, 0x40000000) a g ≡ true
+stays : (a g : ℕ) → a ≤ g → stays_guarded (STACK_START, STACK_END) a g ≡ true
 stays a g h = rw (le-leb a g h)
 
-stays_not : (a g : ℕ) → g < a → 0x3fff0000 ≤ g → stays_guarded (0x3fff0000, 0x40000000) a g ≡ false
-stays_not a g h l = rw (lt-leb a g h, le-ltb g 0x3fff0000 l)
+stays_not : (a g : ℕ) → g < a → STACK_START ≤ g → stays_guarded (STACK_START, STACK_END) a g ≡ false
+stays_not a g h l = rw (lt-leb a g h, le-ltb g STACK_START l)
 
 and_false : (b : Bool) → (b && false) ≡ false
 and_false true = refl
@@ -194,26 +195,26 @@ and_true true = refl
 and_true false = refl
 
 pub stack_release : (a lowest end : ℕ) (old new : List Bool) → AreFlags old lowest → length new ≡ length old
-    → ((i : ℕ) → i < end → 0x3fff0000 + 4 * i < a)
-    → ((i : ℕ) → end ≤ i → i < 16384 → a ≤ 0x3fff0000 + 4 * i)
+    → ((i : ℕ) → i < end → STACK_START + 4 * i < a)
+    → ((i : ℕ) → end ≤ i → i < STACK_WORDS → a ≤ STACK_START + 4 * i)
     → ((i : ℕ) → i < end → get_or new i false ≡ false)
     → ((i : ℕ) → end ≤ i → get_or new i false ≡ get_or old i false)
-    → flagged 0x3fff0000 new ≡ filter (stays_guarded (0x3fff0000, 0x40000000) a) (flagged 0x3fff0000 old)
+    → flagged STACK_START new ≡ filter (stays_guarded (STACK_START, STACK_END) a) (flagged STACK_START old)
 stack_release a lowest end old new f l below rest c r =
-    flagged_filter (stays_guarded (0x3fff0000, 0x40000000) a) 0x3fff0000 old new l (λ i h. go i h (nat_lt i end) refl)
+    flagged_filter (stays_guarded (STACK_START, STACK_END) a) STACK_START old new l (λ i h. go i h (nat_lt i end) refl)
   where
     go : (i : ℕ) → i < length old → (t : Bool) → nat_lt i end ≡ t
-        → get_or new i false ≡ (get_or old i false && stays_guarded (0x3fff0000, 0x40000000) a (0x3fff0000 + 4 * i))
+        → get_or new i false ≡ (get_or old i false && stays_guarded (STACK_START, STACK_END) a (STACK_START + 4 * i))
     go i h true t =
         let b = ltb-true _ _ t in
         let o = below i b in
-        rw (c i b, stays_not a (0x3fff0000 + 4 * i) o (omega arith)) (sym (and_false (get_or old i false)))
+        rw (c i b, stays_not a (STACK_START + 4 * i) o (omega arith)) (sym (and_false (get_or old i false)))
     go i h false t =
         let b = ltb-false _ _ t in
         let o = rest i b (let w = f.whole in omega arith) in
-        rw (r i b, stays a (0x3fff0000 + 4 * i) o) (sym (and_true (get_or old i false)))
+        rw (r i b, stays a (STACK_START + 4 * i) o) (sym (and_true (get_or old i false)))
 
-pub inserted_rises : (low a : ℕ) (guards : List ℕ) → low ≤ a → a % 4 ≡ 0 → a < 0x40000000 → RiseFrom low guards → RiseFrom low (inserted a guards)
+pub inserted_rises : (low a : ℕ) (guards : List ℕ) → low ≤ a → a % 4 ≡ 0 → a < STACK_END → RiseFrom low guards → RiseFrom low (inserted a guards)
 inserted_rises low a [] h e b r = (h, (e, omega arith))
 inserted_rises low a (g ∷ more) h e b r = by_order (nat_lt g a) refl (inserted_rises (g + 4) a more)
   where
@@ -224,7 +225,7 @@ inserted_rises low a (g ∷ more) h e b r = by_order (nat_lt g a) refl (inserted
         let other = eqb-false g a s in
         (h, (e, (omega (arith, r.1), r.1)))
 
-    by_order : (t : Bool) → nat_lt g a ≡ t → (g + 4 ≤ a → a % 4 ≡ 0 → a < 0x40000000 → RiseFrom (g + 4) more → RiseFrom (g + 4) (inserted a more))
+    by_order : (t : Bool) → nat_lt g a ≡ t → (g + 4 ≤ a → a % 4 ≡ 0 → a < STACK_END → RiseFrom (g + 4) more → RiseFrom (g + 4) (inserted a more))
         → RiseFrom low (cond t (g ∷ inserted a more) (cond (g == a) (g ∷ more) (a ∷ g ∷ more)))
     by_order true o next = (r.0, (r.1.0, next (let below = ltb-true g a o in omega (arith, r.1)) e b r.1.1))
     by_order false o next = by_equal (g == a) refl o

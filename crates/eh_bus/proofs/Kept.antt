@@ -1,12 +1,13 @@
 -- What a write leaves of the map.
-use Rattle.std.proofs.Common.{◌≡◌, ℕ, zero, suc, ◌+◌, ◌-◌, ◌%◌, ◌^◌, ◌≤◌, Bool, true, false, cond, List, [], ◌∷◌, length, get_or, refl, ap, ◌∙◌, arith}
+use Rattle.std.proofs.Common.{◌≡◌, ℕ, zero, suc, ◌+◌, ◌-◌, ◌%◌, ◌^◌, ◌<◌, ◌≤◌, Bool, true, false, cond, List, [], ◌∷◌, length, get_or, refl, ap, ◌∙◌, arith}
 use Rattle.std.proofs.lemmas.Bool.{and_parts, leb-true}
 use Rattle.std.proofs.lemmas.List.{length-append, length-take, length-drop}
-use Rattle.std.specs.Prelude.{IsTrue}
+use Rattle.std.specs.Prelude.{IsTrue, All}
 use Rattle.byteorder.specs.Numbers.{length-bytes_low_first}
-use Rattle.eh_bus.specs.Segment.{Segment, holds, with_number_at}
+use Rattle.eh_bus.specs.Segment.{Segment, AreBytes, holds, with_number_at}
 use Rattle.eh_bus.specs.Memory.{written, run_written}
 use Rattle.eh_bus.specs.Map.{AreSegments, IsData}
+use Rattle.eh_bus.proofs.ByteLaws.{with_bytes}
 
 pub record Inside (s : Segment) (a n : ℕ) : Type 0 where
   pub low : s.start ≤ a
@@ -55,9 +56,11 @@ same_data s t start size e d =
 same_holds : (s t : Segment) (a n : ℕ) → SameSpan s t → IsTrue (holds t a n) → IsTrue (holds s a n)
 same_holds s t a n e h = rw (e.start, e.size) at h
 
--- the facts on the segments of a bus speak of their places and rights alone
-pub kept_by : (ss ts : List Segment) → length ts ≡ length ss → ((i : ℕ) (d : Segment) → SameSpan (get_or ss i d) (get_or ts i d)) → AreSegments ss → AreSegments ts
-kept_by ss ts l same p = record {
+-- the facts on the segments of a bus speak of their places and rights, and of bytes
+pub kept_by : (ss ts : List Segment) → length ts ≡ length ss → ((i : ℕ) (d : Segment) → SameSpan (get_or ss i d) (get_or ts i d)) → All (λ (s : Segment). AreBytes s.bytes) ts
+    → AreSegments ss → AreSegments ts
+kept_by ss ts l same b p = record {
+  bytes = b;
   two = rw l p.two;
   stack = λ d. same_data _ _ _ _ (same 0 d) (p.stack d);
   pool = λ d. same_data _ _ _ _ (same 1 d) (p.pool d);
@@ -65,8 +68,20 @@ kept_by ss ts l same p = record {
   apart = λ b i j d h k x y. p.apart b i j d (rw l at h) (rw l at k) (same_holds _ _ b 1 (same i d) x) (same_holds _ _ b 1 (same j d) y);
 }
 
+written_bytes : (n a v : ℕ) (ss : List Segment) → All (λ (s : Segment). AreBytes s.bytes) ss → All (λ (s : Segment). AreBytes s.bytes) (written n ss a v)
+written_bytes n a v [] b = b
+written_bytes n a v (s ∷ more) b = λ i d h. at_a (holds s a n) i d h (λ j l. written_bytes n a v more (λ k e m. b (suc k) e (omega arith)) j d l)
+  where
+    at_a : (t : Bool) (i : ℕ) (d : Segment) → i < length (cond t (with_number_at n s a v ∷ more) (s ∷ written n more a v))
+        → ((j : ℕ) → j < length (written n more a v) → AreBytes (get_or (written n more a v) j d).bytes)
+        → AreBytes (get_or (cond t (with_number_at n s a v ∷ more) (s ∷ written n more a v)) i d).bytes
+    at_a true zero d h next = with_bytes n a v s (b 0 s (omega arith))
+    at_a true (suc j) d h next = b (suc j) d (omega arith)
+    at_a false zero d h next = b 0 s (omega arith)
+    at_a false (suc j) d h next = next j (omega arith)
+
 pub kept : (n a v : ℕ) (ss : List Segment) → AreSegments ss → AreSegments (written n ss a v)
-kept n a v ss p = kept_by ss (written n ss a v) (length_written n a v ss) (written_span n a v ss) p
+kept n a v ss p = kept_by ss (written n ss a v) (length_written n a v ss) (written_span n a v ss) (written_bytes n a v ss p.bytes) p
 
 pub run_kept : (words : List ℕ) (a : ℕ) (ss : List Segment) → AreSegments ss → AreSegments (run_written ss a words)
 run_kept [] a ss p = p

@@ -1,18 +1,19 @@
 -- Stores keep the map, and code is fetched as before.
 use Rattle.std.proofs.Common.{◌≡◌, ℕ, ◌%◌, Bool, true, false, not, ◌&&◌, ◌==◌, nat_lt, ◌⊎◌, inl, inr, cond, List, [], ◌∷◌, Some, None, Ok, length, get_or, zero, suc, ◌+◌, ◌^◌, ◌<◌, ◌≤◌, Result, refl, sym, ap, ◌∙◌, arith, lit≤, if◌then◌else◌}
-use Rattle.eh_bus.specs.Segment.{Segment, holds, number_at, with_number_at}
-use Rattle.eh_bus.specs.Memory.{Memory, fault_in, number_in, written, store, store_run, loads, fetch, fetch_fault, or_fault, store_fault, host_store, guarded, released, stays_guarded}
+use Rattle.eh_bus.specs.Segment.{Segment, AreBytes, holds, number_at, with_number_at}
+use Rattle.eh_bus.specs.Memory.{Memory, fault_in, number_in, written, store, store_run, loads, fetch, fetches, fetch_fault, or_fault, store_fault, host_store, guarded, released, stays_guarded}
 use Rattle.std.proofs.lemmas.Bool.{ltb-true, ltb-false}
-use Rattle.std.specs.Prelude.{IsTrue}
-use Rattle.eh_bus.specs.Map.{SameMap, SameSegment, CodeIsFixed, AreApart, AreSegments, IsMap, flat_home}
+use Rattle.std.specs.Prelude.{IsTrue, All}
+use Rattle.eh_bus.specs.Map.{SameMap, SameSegment, CodeIsFixed, AreApart, IsMap, IsFixed, Keeps, flat_home}
 use Rattle.eh_bus.specs.Built.{CanBuild, built}
 use Rattle.eh_bus.specs.declared.segment.SegmentSpec.{SegmentSpec}
-use Rattle.eh_bus.proofs.BuiltLemmas.{built_segments}
+use Rattle.eh_bus.proofs.BuiltLemmas.{built_segments, image_bytes}
 use Rattle.eh_bus.proofs.FlagLemmas.{inserted_rises, filter_rises}
 use Rattle.eh_bus.specs.declared.fault.BusFault.{BusFault}
 use Rattle.eh_bus.specs.declared.fault.BusFault.TheVariants.{NotExecutable, Unaligned, ReadOnly}
-use Rattle.eh_bus.proofs.Kept.{Inside, inside, SameSpan, length_with, kept, kept_by}
-use Rattle.eh_bus.proofs.AccessLaws.{passes, stored, splits, run_done}
+use Rattle.eh_bus.proofs.Kept.{Inside, inside, length_with, kept, run_kept}
+use Rattle.eh_bus.proofs.AccessLaws.{passes, stored, splits, ran}
+use Rattle.eh_bus.specs.declared.map.TheConstants.{STACK_END, STACK_START}
 
 pub map_refl : (ss : List Segment) → SameMap ss ss
 map_refl [] = tt
@@ -75,10 +76,6 @@ fetch_same m m' a p x = fetched a m.segments m'.segments p x
 
 -- ---- what a read-only segment holds is loaded as before
 
--- the segment that holds these bytes may not be written
-abbrev pub IsFixed : ℕ → List Segment → ℕ → Type 0
-IsFixed n segments a = fault_in (λ s. if s.write then Some (ReadOnly a) else None) n segments a ≡ None
-
 pub fixed_loads : (n a : ℕ) (ss ts : List Segment) → SameMap ss ts → IsFixed n ss a → loads n ts a ≡ loads n ss a
 fixed_loads n a [] [] p x = refl
 fixed_loads n a [] (t ∷ ts) p x = absurd p
@@ -95,6 +92,27 @@ fixed_loads n a (s ∷ ss) (t ∷ ts) p x =
     go true b h false w x next = rw (h, b, (p.0).start, (p.0).fixed w) refl
     go false b h w o x next = rw (h, b) (next x)
 
+-- and so it is fetched
+pub fixed_fetches : (a : ℕ) (ss ts : List Segment) → SameMap ss ts → IsFixed 2 ss a → fetches ts a ≡ fetches ss a
+fixed_fetches a [] [] p x = refl
+fixed_fetches a [] (t ∷ ts) p x = absurd p
+fixed_fetches a (s ∷ ss) [] p x = absurd p
+fixed_fetches a (s ∷ ss) (t ∷ ts) p x =
+    let q = p.0 in
+    let h : holds t a 2 ≡ holds s a 2 = rw (q.start, q.size) refl in
+    go (holds s a 2) refl h s.write refl x (fixed_fetches a ss ts p.1)
+  where
+    go : (b : Bool) → holds s a 2 ≡ b → holds t a 2 ≡ holds s a 2 → (w : Bool) → s.write ≡ w
+        → cond b (cond w (Some (ReadOnly a)) None) (fault_in (λ s. if s.write then Some (ReadOnly a) else None) 2 ss a) ≡ None
+        → (IsFixed 2 ss a → fetches ts a ≡ fetches ss a) → fetches (t ∷ ts) a ≡ fetches (s ∷ ss) a
+    go true b h true w x next = absurd (cc)
+    go true b h false w x next = rw (h, b, (p.0).exec, (p.0).start, (p.0).fixed w) refl
+    go false b h w o x next = rw (h, b) (next x)
+
+-- so all that keeps the map keeps what read-only segments give
+pub keeps : (m m' : Memory) → SameMap m.segments m'.segments → m'.home ≡ m.home → Keeps m m'
+keeps m m' p h = record { map = p; home = h; loads = λ n a x. fixed_loads n a _ _ p x; fetches = λ a x. fixed_fetches a _ _ p x }
+
 -- ---- the facts of every bus stay
 
 pub length_map : (ss ts : List Segment) → SameMap ss ts → length ts ≡ length ss
@@ -110,31 +128,25 @@ map_at (s ∷ ss) [] p i d = absurd p
 map_at (s ∷ ss) (t ∷ ts) p zero d = p.0
 map_at (s ∷ ss) (t ∷ ts) p (suc i) d = map_at ss ts p.1 i d
 
-span : (s t : Segment) → SameSegment s t → SameSpan s t
-span s t e = record { start = e.start; size = e.size; write = e.write; exec = e.exec }
-
-pub same_segments : (ss ts : List Segment) → SameMap ss ts → AreSegments ss → AreSegments ts
-same_segments ss ts p x = kept_by ss ts (length_map ss ts p) (λ i d. span _ _ (map_at ss ts p i d)) x
-
 pub store_is_map : (n : ℕ) (m : Memory) (a v : ℕ) (m' : Memory) → store n m a v ≡ (Ok tt, m') → IsMap m → IsMap m'
 store_is_map n m a v m' e x = let s = stored n m a v m' e in rw s.after (record { segments = kept n a v m.segments x.segments; guards = x.guards; home = x.home })
 
 pub run_is_map : (m : Memory) (a : ℕ) (ws : List ℕ) (m' : Memory) → store_run m a ws ≡ (Ok tt, m') → IsMap m → IsMap m'
 run_is_map m a ws m' e x =
-    let s : AreSegments m'.segments = same_segments _ _ (run_map m a ws m' e) x.segments in
-    rw (run_done m a ws m' e) (record { segments = s; guards = x.guards; home = x.home })
+    let s = ran m a ws m' e in
+    rw s.after (record { segments = run_kept ws a m.segments x.segments; guards = x.guards; home = x.home })
 
 pub host_is_map : (m : Memory) (a v : ℕ) → IsMap m → IsMap (host_store m a v)
 host_is_map m a v x = record { segments = kept 4 a v m.segments x.segments; guards = x.guards; home = x.home }
 
-pub guarded_is_map : (m : Memory) (a : ℕ) → a % 4 ≡ 0 → 0x3fff0000 ≤ a → a < 0x40000000 → IsMap m → IsMap (guarded m a)
-guarded_is_map m a e l h x = record { segments = x.segments; guards = inserted_rises 0x3fff0000 a m.guards l e h x.guards; home = x.home }
+pub guarded_is_map : (m : Memory) (a : ℕ) → a % 4 ≡ 0 → STACK_START ≤ a → a < STACK_END → IsMap m → IsMap (guarded m a)
+guarded_is_map m a e l h x = record { segments = x.segments; guards = inserted_rises STACK_START a m.guards l e h x.guards; home = x.home }
 
 pub released_is_map : (m : Memory) (a : ℕ) → IsMap m → IsMap (released m a)
-released_is_map m a x = record { segments = x.segments; guards = filter_rises (stays_guarded m.home a) 0x3fff0000 m.guards x.guards; home = x.home }
+released_is_map m a x = record { segments = x.segments; guards = filter_rises (stays_guarded m.home a) STACK_START m.guards x.guards; home = x.home }
 
-pub built_is_map : (specs : List SegmentSpec) → CanBuild specs → IsMap (built specs)
-built_is_map specs p = record { segments = built_segments specs p; guards = lit≤ tt; home = flat_home }
+pub built_is_map : (specs : List SegmentSpec) → CanBuild specs → All (λ (spec : SegmentSpec). AreBytes spec.bytes.now) specs → IsMap (built specs)
+built_is_map specs p b = record { segments = built_segments specs p (image_bytes specs b); guards = lit≤ tt; home = flat_home }
 
 -- ---- segments that are apart
 

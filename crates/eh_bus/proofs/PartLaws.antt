@@ -8,8 +8,9 @@ use Rattle.eh_bus.specs.Lists.{Has}
 use Rattle.eh_bus.specs.Guards.{RiseFrom}
 use Rattle.eh_bus.specs.Place.{IsWidth}
 use Rattle.eh_bus.specs.Map.{AreSegments, IsData, IsMap, SameMap}
-use Rattle.eh_bus.specs.Built.{built, segment_of, zeros_at, zeros}
-use Rattle.eh_bus.specs.Memory.{Memory, fault_in, number_in, written, loads, load, store, store_run, load_fault, store_fault, guard_hit, is_closed, host_load, host_store}
+use Rattle.eh_bus.specs.Built.{GivesImage, built, segment_of, zeros_at}
+use Rattle.eh_list.specs.Bytes.{zeros}
+use Rattle.eh_bus.specs.Memory.{Memory, fault_in, number_in, written, loads, load, fetch, fetches, store, store_run, load_fault, store_fault, guard_hit, is_closed, host_load, host_store}
 use Rattle.eh_bus.specs.declared.fault.BusFault.{BusFault}
 use Rattle.eh_bus.specs.declared.fault.BusFault.TheVariants.{SavedSlot}
 use Rattle.eh_bus.specs.declared.segment.SegmentSpec.{SegmentSpec}
@@ -18,6 +19,7 @@ use Rattle.eh_bus.proofs.WordLaws.{written_other, written_same, written_fault}
 use Rattle.eh_bus.proofs.AccessLaws.{passes, stored, splits, fault_some}
 use Rattle.eh_bus.proofs.MapLaws.{map_refl}
 use Rattle.eh_bus.proofs.BuiltLemmas.{zeros_data}
+use Rattle.eh_bus.specs.declared.map.TheConstants.{CLOSED_SIZE, IMAGE_END, POOL_END, POOL_SIZE, POOL_START, SLOT_SIZE, STACK_END, STACK_SIZE, STACK_START}
 
 -- the segments of a bus, taken apart
 pub record Parts (ss : List Segment) : Type 0 where
@@ -25,8 +27,8 @@ pub record Parts (ss : List Segment) : Type 0 where
   pub pool : Segment
   pub image : List Segment
   pub is : ss ≡ stack ∷ pool ∷ image
-  pub stack_at : IsData stack 0x3fff0000 0x10000
-  pub pool_at : IsData pool 0x38000000 0x8000
+  pub stack_at : IsData stack STACK_START STACK_SIZE
+  pub pool_at : IsData pool POOL_START POOL_SIZE
 
 pub parts : (ss : List Segment) → AreSegments ss → Parts ss
 parts [] p = absurd (let t = p.two in omega arith)
@@ -41,16 +43,16 @@ data_misses s start size a n d l = rw (d.starts, lt-leb start a l) refl
 
 -- ---- the pool
 
-pub in_pool : (ss : List Segment) (p : Parts ss) (n a : ℕ) → 0x38000000 ≤ a → a + n ≤ 0x38008000 → 0 < n → number_in n ss a ≡ number_at n p.pool a
+pub in_pool : (ss : List Segment) (p : Parts ss) (n a : ℕ) → POOL_START ≤ a → a + n ≤ POOL_END → 0 < n → number_in n ss a ≡ number_at n p.pool a
 in_pool ss p n a l h z =
-    rw (p.is, data_misses p.stack 0x3fff0000 0x10000 a n p.stack_at (omega arith), data_holds p.pool 0x38000000 0x8000 a n p.pool_at l (omega arith)) refl
+    rw (p.is, data_misses p.stack STACK_START STACK_SIZE a n p.stack_at (omega arith), data_holds p.pool POOL_START POOL_SIZE a n p.pool_at l (omega arith)) refl
 
-pub pool_fault : (ss : List Segment) (p : Parts ss) (f : Segment → Option BusFault) (n a : ℕ) → 0x38000000 ≤ a → a + n ≤ 0x38008000 → 0 < n → fault_in f n ss a ≡ f p.pool
+pub pool_fault : (ss : List Segment) (p : Parts ss) (f : Segment → Option BusFault) (n a : ℕ) → POOL_START ≤ a → a + n ≤ POOL_END → 0 < n → fault_in f n ss a ≡ f p.pool
 pool_fault ss p f n a l h z =
-    rw (p.is, data_misses p.stack 0x3fff0000 0x10000 a n p.stack_at (omega arith), data_holds p.pool 0x38000000 0x8000 a n p.pool_at l (omega arith)) refl
+    rw (p.is, data_misses p.stack STACK_START STACK_SIZE a n p.stack_at (omega arith), data_holds p.pool POOL_START POOL_SIZE a n p.pool_at l (omega arith)) refl
 
 -- a word that the host stored is loaded back
-pub host_back : (m : Memory) (a v : ℕ) → AreSegments m.segments → 0x38000000 ≤ a → a + 4 ≤ 0x38008000 → v < 2 ^ 32 → host_load (host_store m a v) a ≡ v
+pub host_back : (m : Memory) (a v : ℕ) → AreSegments m.segments → POOL_START ≤ a → a + 4 ≤ POOL_END → v < 2 ^ 32 → host_load (host_store m a v) a ≡ v
 host_back m a v x l h s =
     let p = parts m.segments x in
     written_same 4 a v (λ d. None) m.segments s (pool_fault m.segments p (λ d. None) 4 a l h (omega arith))
@@ -64,11 +66,11 @@ pub host_apart : (k : ℕ) (m : Memory) (a v b : ℕ) → Apart a 4 b k → load
 host_apart k m a v b o = rw (written_fault 4 k a b v (λ s. load_fault k b) m.segments (λ s bs. refl), written_other 4 k a b v m.segments o) refl
 
 -- the host's stores keep the map
-pub host_map : (m : Memory) (a v : ℕ) → AreSegments m.segments → 0x38000000 ≤ a → a + 4 ≤ 0x38008000 → SameMap m.segments (host_store m a v).segments
+pub host_map : (m : Memory) (a v : ℕ) → AreSegments m.segments → POOL_START ≤ a → a + 4 ≤ POOL_END → SameMap m.segments (host_store m a v).segments
 host_map m a v x l h =
     let p = parts m.segments x in
-    let t = data_holds p.pool 0x38000000 0x8000 a 4 p.pool_at l (omega arith) in
-    rw (p.is, data_misses p.stack 0x3fff0000 0x10000 a 4 p.stack_at (omega arith), t) (
+    let t = data_holds p.pool POOL_START POOL_SIZE a 4 p.pool_at l (omega arith) in
+    rw (p.is, data_misses p.stack STACK_START STACK_SIZE a 4 p.stack_at (omega arith), t) (
       record { start = refl; size = refl; write = refl; exec = refl; fixed = λ e. refl },
       (
         record { start = refl; size = length_with 4 a v p.pool t; write = refl; exec = refl; fixed = λ e. absurd (let g : true ≡ false = sym (p.pool_at).writes ∙ e in cc) },
@@ -93,15 +95,15 @@ open_apart n a b w f x = go (nat_le b a) refl (nat_lt a (b + 4)) refl
 
 -- a word of the closed part
 pub record IsClosedWord (b : ℕ) : Type 0 where
-  pub low : 0x38000000 ≤ b
-  pub high : b < 0x38008000
-  pub closed : b % 512 < 128
+  pub low : POOL_START ≤ b
+  pub high : b < POOL_END
+  pub closed : b % SLOT_SIZE < CLOSED_SIZE
   pub aligned : b % 4 ≡ 0
 
 closed_byte : (b a : ℕ) → IsClosedWord b → b ≤ a → a < b + 4 → is_closed a ≡ true
 closed_byte b a c l h =
     let low = c.low in let high = c.high in let closed = c.closed in let aligned = c.aligned in
-    rw (le-leb 0x38000000 a (omega arith), lt-ltb a 0x38008000 (omega arith), lt-ltb (a % 512) 128 (omega arith)) refl
+    rw (le-leb POOL_START a (omega arith), lt-ltb a POOL_END (omega arith), lt-ltb (a % SLOT_SIZE) CLOSED_SIZE (omega arith)) refl
 
 pub closed_apart : (n a b : ℕ) → a % 4 + n ≤ 4 → is_closed a ≡ false → IsClosedWord b → Apart a n b 4
 closed_apart n a b w e c = open_apart n a b w c.aligned (λ l h. let f : true ≡ false = sym (closed_byte b a c l h) ∙ e in cc)
@@ -122,20 +124,20 @@ run_leaves_closed m a (w ∷ ws) m' b e c =
 
 -- ---- the stack
 
-pub stack_fault : (ss : List Segment) (p : Parts ss) (f : Segment → Option BusFault) (n a : ℕ) → 0x3fff0000 ≤ a → a + n ≤ 0x40000000 → fault_in f n ss a ≡ f p.stack
-stack_fault ss p f n a l h = rw (p.is, data_holds p.stack 0x3fff0000 0x10000 a n p.stack_at l h) refl
+pub stack_fault : (ss : List Segment) (p : Parts ss) (f : Segment → Option BusFault) (n a : ℕ) → STACK_START ≤ a → a + n ≤ STACK_END → fault_in f n ss a ≡ f p.stack
+stack_fault ss p f n a l h = rw (p.is, data_holds p.stack STACK_START STACK_SIZE a n p.stack_at l h) refl
 
-open_above : (a : ℕ) → 0x38008000 ≤ a → is_closed a ≡ false
-open_above a h = rw (le-leb 0x38000000 a (omega arith), le-ltb a 0x38008000 h) refl
+open_above : (a : ℕ) → POOL_END ≤ a → is_closed a ≡ false
+open_above a h = rw (le-leb POOL_START a (omega arith), le-ltb a POOL_END h) refl
 
 -- the words of the stack can be loaded
-pub stack_loads : (ss : List Segment) → AreSegments ss → (a : ℕ) → 0x3fff0000 ≤ a → a + 4 ≤ 0x40000000 → a % 4 ≡ 0 → (v : ℕ) × (loads 4 ss a ≡ Ok v)
+pub stack_loads : (ss : List Segment) → AreSegments ss → (a : ℕ) → STACK_START ≤ a → a + 4 ≤ STACK_END → a % 4 ≡ 0 → (v : ℕ) × (loads 4 ss a ≡ Ok v)
 stack_loads ss x a l h e =
     let p = parts ss x in
     (number_in 4 ss a, rw (stack_fault ss p (λ s. load_fault 4 a) 4 a l h, e, open_above a (omega arith)) refl)
 
 -- and stored where no guard stands
-pub stack_stores : (n : ℕ) (m : Memory) (a v : ℕ) → AreSegments m.segments → 0x3fff0000 ≤ a → a + n ≤ 0x40000000 → (a % n == 0) ≡ true → guard_hit m.guards a n ≡ None
+pub stack_stores : (n : ℕ) (m : Memory) (a v : ℕ) → AreSegments m.segments → STACK_START ≤ a → a + n ≤ STACK_END → (a % n == 0) ≡ true → guard_hit m.guards a n ≡ None
     → store n m a v ≡ (Ok tt, record m { segments = written n m.segments a v })
 stack_stores n m a v x l h e g =
     let p = parts m.segments x in
@@ -160,11 +162,11 @@ hit_one low (x ∷ more) a n g r h z w l u = go (nat_lt a (x + 4)) refl (nat_lt 
         above low (y ∷ ys) r (inl e) = omega (arith, r.0)
         above low (y ∷ ys) r (inr k) = let o = above (y + 4) ys r.1.1 k in omega (arith, r.0)
 
-pub guard_places : (low : ℕ) (gs : List ℕ) (g : ℕ) → RiseFrom low gs → Has gs g → (low ≤ g) × (g % 4 ≡ 0) × (g + 4 ≤ 0x40000000)
+pub guard_places : (low : ℕ) (gs : List ℕ) (g : ℕ) → RiseFrom low gs → Has gs g → (low ≤ g) × (g % 4 ≡ 0) × (g + 4 ≤ STACK_END)
 guard_places low [] g r h = absurd h
 guard_places low (x ∷ more) g r (inl e) = let t = top (x + 4) more r.1.1 in (omega (arith, r.0), rw (← e) r.1.0, omega arith)
   where
-    top : (low : ℕ) (gs : List ℕ) → RiseFrom low gs → low ≤ 0x40000000
+    top : (low : ℕ) (gs : List ℕ) → RiseFrom low gs → low ≤ STACK_END
     top low [] r = r
     top low (y ∷ ys) r = let o = top (y + 4) ys r.1.1 in omega (arith, r.0)
 guard_places low (x ∷ more) g r (inr k) = let p = guard_places (x + 4) more g r.1.1 k in (omega (arith, r.0, p.0), p.1, p.2)
@@ -173,18 +175,22 @@ guard_places low (x ∷ more) g r (inr k) = let p = guard_places (x + 4) more g 
 pub guarded_refused : (n : ℕ) (m : Memory) (a v g : ℕ) → IsMap m → IsWidth n → (a % n == 0) ≡ true → Has m.guards g → g ≤ a → a < g + 4 → store n m a v ≡ (Err (SavedSlot g), m)
 guarded_refused n m a v g x w e h l u =
     let p = parts m.segments x.segments in
-    let q = guard_places 0x3fff0000 m.guards g x.guards h in
+    let q = guard_places STACK_START m.guards g x.guards h in
     let one = one_word n a w e in
-    let hit = hit_one 0x3fff0000 m.guards a n g x.guards h one.0 one.1 l u in
-    let low : 0x3fff0000 ≤ a = omega (arith, q.0) in
-    let high : a + n ≤ 0x40000000 = omega (arith, q.1, q.2, one.1) in
+    let hit = hit_one STACK_START m.guards a n g x.guards h one.0 one.1 l u in
+    let low : STACK_START ≤ a = omega (arith, q.0) in
+    let high : a + n ≤ STACK_END = omega (arith, q.1, q.2, one.1) in
     rw (stack_fault m.segments p (λ s. store_fault n m.guards s a) n a low high, e, (p.stack_at).writes, hit) refl
 
 -- ---- the image
 
-pub image_loads : (ss : List Segment) (p : Parts ss) (n a : ℕ) → a < 0x30000000 → loads n ss a ≡ loads n p.image a
+pub image_loads : (ss : List Segment) (p : Parts ss) (n a : ℕ) → a < IMAGE_END → loads n ss a ≡ loads n p.image a
 image_loads ss p n a h =
-    rw (p.is, data_misses p.stack 0x3fff0000 0x10000 a n p.stack_at (omega arith), data_misses p.pool 0x38000000 0x8000 a n p.pool_at (omega arith)) refl
+    rw (p.is, data_misses p.stack STACK_START STACK_SIZE a n p.stack_at (omega arith), data_misses p.pool POOL_START POOL_SIZE a n p.pool_at (omega arith)) refl
+
+pub image_fetches : (ss : List Segment) (p : Parts ss) (a : ℕ) → a < IMAGE_END → fetches ss a ≡ fetches p.image a
+image_fetches ss p a h =
+    rw (p.is, data_misses p.stack STACK_START STACK_SIZE a 2 p.stack_at (omega arith), data_misses p.pool POOL_START POOL_SIZE a 2 p.pool_at (omega arith)) refl
 
 -- ---- zeros
 
@@ -203,28 +209,44 @@ zeros_number n i size = zero_from 0 n (drop i (zeros size)) (λ k. rw (get_or-dr
 
 -- ---- what was just built
 
-pub built_pool : (specs : List SegmentSpec) (a : ℕ) → 0x38000000 ≤ a → a + 4 ≤ 0x38008000 → host_load (built specs) a ≡ 0
+pub built_pool : (specs : List SegmentSpec) (a : ℕ) → POOL_START ≤ a → a + 4 ≤ POOL_END → host_load (built specs) a ≡ 0
 built_pool specs a l h =
     rw (
-      data_misses (zeros_at 0x3fff0000 0x10000) 0x3fff0000 0x10000 a 4 (zeros_data 0x3fff0000 0x10000) (omega arith),
-      data_holds (zeros_at 0x38000000 0x8000) 0x38000000 0x8000 a 4 (zeros_data 0x38000000 0x8000) l (omega arith),
+      data_misses (zeros_at STACK_START STACK_SIZE) STACK_START STACK_SIZE a 4 (zeros_data STACK_START STACK_SIZE) (omega arith),
+      data_holds (zeros_at POOL_START POOL_SIZE) POOL_START POOL_SIZE a 4 (zeros_data POOL_START POOL_SIZE) l (omega arith),
     )
-    (zeros_number 4 (a - 0x38000000) 0x8000)
+    (zeros_number 4 (a - POOL_START) POOL_SIZE)
 
-pub built_stack : (specs : List SegmentSpec) (a : ℕ) → 0x3fff0000 ≤ a → a + 4 ≤ 0x40000000 → a % 4 ≡ 0 → load 4 (built specs) a ≡ Ok 0
+pub built_stack : (specs : List SegmentSpec) (a : ℕ) → STACK_START ≤ a → a + 4 ≤ STACK_END → a % 4 ≡ 0 → load 4 (built specs) a ≡ Ok 0
 built_stack specs a l h e =
     rw (
-      data_holds (zeros_at 0x3fff0000 0x10000) 0x3fff0000 0x10000 a 4 (zeros_data 0x3fff0000 0x10000) l (omega arith),
+      data_holds (zeros_at STACK_START STACK_SIZE) STACK_START STACK_SIZE a 4 (zeros_data STACK_START STACK_SIZE) l (omega arith),
       e,
       open_above a (omega arith),
-      zeros_number 4 (a - 0x3fff0000) 0x10000,
+      zeros_number 4 (a - STACK_START) STACK_SIZE,
     )
     refl
 
-pub built_image : (specs : List SegmentSpec) (n a : ℕ) → a < 0x30000000 → load n (built specs) a ≡ loads n (map segment_of specs) a
+pub built_image : (specs : List SegmentSpec) (n a : ℕ) → a < IMAGE_END → load n (built specs) a ≡ loads n (map segment_of specs) a
 built_image specs n a h =
     rw (
-      data_misses (zeros_at 0x3fff0000 0x10000) 0x3fff0000 0x10000 a n (zeros_data 0x3fff0000 0x10000) (omega arith),
-      data_misses (zeros_at 0x38000000 0x8000) 0x38000000 0x8000 a n (zeros_data 0x38000000 0x8000) (omega arith),
+      data_misses (zeros_at STACK_START STACK_SIZE) STACK_START STACK_SIZE a n (zeros_data STACK_START STACK_SIZE) (omega arith),
+      data_misses (zeros_at POOL_START POOL_SIZE) POOL_START POOL_SIZE a n (zeros_data POOL_START POOL_SIZE) (omega arith),
     )
     refl
+
+pub built_fetch : (specs : List SegmentSpec) (a : ℕ) → a < IMAGE_END → fetch (built specs) a ≡ fetches (map segment_of specs) a
+built_fetch specs a h =
+    rw (
+      data_misses (zeros_at STACK_START STACK_SIZE) STACK_START STACK_SIZE a 2 (zeros_data STACK_START STACK_SIZE) (omega arith),
+      data_misses (zeros_at POOL_START POOL_SIZE) POOL_START POOL_SIZE a 2 (zeros_data POOL_START POOL_SIZE) (omega arith),
+    )
+    refl
+
+pub gives_image : (specs : List SegmentSpec) → GivesImage specs (built specs)
+gives_image specs = record {
+  loads = λ n a h. built_image specs n a h;
+  fetches = λ a h. built_fetch specs a h;
+  pool = λ a l h. built_pool specs a l h;
+  stack = λ a l h e. built_stack specs a l h e;
+}

@@ -16,7 +16,7 @@ little_same i (suc n) xs ys h =
     let more = little_same (suc i) n xs ys (λ k l. let e = h (suc k) (omega arith) in let s : i + suc k ≡ suc i + k = omega arith in rw s at e) in
     rw (first, more)
 
-other_byte : (i n k : ℕ) (new bs : List ℕ) → length new ≡ n → i + n ≤ length bs → ((k < i) ⊎ (i + n ≤ k))
+pub other_byte : (i n k : ℕ) (new bs : List ℕ) → length new ≡ n → i + n ≤ length bs → ((k < i) ⊎ (i + n ≤ k))
     → get_or (take i bs ++ (new ++ drop (i + n) bs)) k 0 ≡ get_or bs k 0
 other_byte i n k new bs e h o = grind (arith, places)
 
@@ -36,7 +36,7 @@ number_same n a v s h l =
     let e : length (take i s.bytes) ≡ i = length-take-le i s.bytes (omega (arith, p.high)) in
     rw (drop_at (take i s.bytes) (little_bytes n v ++ drop (i + n) s.bytes) i e) (little_number-reads_back n v _ l)
 
-holds_with : (n m a b v : ℕ) (s : Segment) → holds s a n ≡ true → holds (with_number_at n s a v) b m ≡ holds s b m
+pub holds_with : (n m a b v : ℕ) (s : Segment) → holds s a n ≡ true → holds (with_number_at n s a v) b m ≡ holds s b m
 holds_with n m a b v s h = rw (length_with n a v s h)
 
 pub written_other : (n m a b v : ℕ) (ss : List Segment) → Apart a n b m → number_in m (written n ss a v) b ≡ number_in m ss b

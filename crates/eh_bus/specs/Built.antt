@@ -1,17 +1,11 @@
 -- The memory that is built of given segments.
-use Rattle.std.specs.Prelude.{◌≡◌, ℕ, ◌+◌, ◌-◌, ◌≤◌, true, false, List, [], ◌∷◌, ◌++◌, length, map, sum_by, replicate, All}
-use Rattle.std.proofs.lemmas.List.{length-replicate}
+use Rattle.std.specs.Prelude.{◌≡◌, ℕ, ◌+◌, ◌-◌, ◌%◌, ◌<◌, ◌≤◌, Ok, true, false, List, [], ◌∷◌, ◌++◌, length, map, sum_by, All}
+pub use Rattle.eh_list.specs.Bytes.{zeros, length-zeros}
 use Rattle.eh_bus.specs.Segment.{Segment}
-use Rattle.eh_bus.specs.Memory.{Memory}
+use Rattle.eh_bus.specs.Memory.{Memory, load, loads, fetch, fetches, host_load}
 use Rattle.eh_bus.specs.Map.{AreApart}
 use Rattle.eh_bus.specs.declared.segment.SegmentSpec.{SegmentSpec}
-
-unfoldable pub zeros : ℕ → List ℕ
-zeros n = replicate n 0
-
-pub length-zeros : (n : ℕ) → length (zeros n) ≡ n
-unfolding zeros
-length-zeros n = length-replicate n 0
+use Rattle.eh_bus.specs.declared.map.TheConstants.{IMAGE_END, MAX_IMAGE_SIZE, POOL_END, POOL_SIZE, POOL_START, STACK_END, STACK_SIZE, STACK_START}
 
 -- the bytes that are given, and zeros behind them up to the size
 abbrev pub segment_of : SegmentSpec → Segment
@@ -29,16 +23,23 @@ zeros_at start size = record { start = start; bytes = zeros size; write = true; 
 -- the stack, the pool, and the given segments; no word is guarded
 abbrev pub built : List SegmentSpec → Memory
 built specs = record {
-  segments = zeros_at 0x3fff0000 0x10000 ∷ zeros_at 0x38000000 0x8000 ∷ map segment_of specs;
+  segments = zeros_at STACK_START STACK_SIZE ∷ zeros_at POOL_START POOL_SIZE ∷ map segment_of specs;
   guards = [];
-  home = (0x3fff0000, 0x40000000);
+  home = (STACK_START, STACK_END);
 }
 
 -- what can be built: bytes that fit, below the pool, apart, at most 1,048,576 bytes in all
 abbrev pub Fits : SegmentSpec → Type 0
-Fits spec = (length spec.bytes.now ≤ spec.size) × (spec.start + spec.size ≤ 0x30000000)
+Fits spec = (length spec.bytes.now ≤ spec.size) × (spec.start + spec.size ≤ IMAGE_END)
 
 pub record CanBuild (specs : List SegmentSpec) : Type 0 where
   pub fit : All Fits specs
   pub apart : AreApart (map segment_of specs)
-  pub few : sum_by (λ (spec : SegmentSpec). spec.size) specs ≤ 1048576
+  pub few : sum_by (λ (spec : SegmentSpec). spec.size) specs ≤ MAX_IMAGE_SIZE
+
+-- what such a memory gives: below the pool loads and fetches are those of the image's segments, and pool and stack are zeros
+pub record GivesImage (specs : List SegmentSpec) (m : Memory) : Type 0 where
+  pub loads : (n a : ℕ) → a < IMAGE_END → load n m a ≡ loads n (map segment_of specs) a
+  pub fetches : (a : ℕ) → a < IMAGE_END → fetch m a ≡ fetches (map segment_of specs) a
+  pub pool : (a : ℕ) → POOL_START ≤ a → a + 4 ≤ POOL_END → host_load m a ≡ 0
+  pub stack : (a : ℕ) → STACK_START ≤ a → a + 4 ≤ STACK_END → a % 4 ≡ 0 → load 4 m a ≡ Ok 0

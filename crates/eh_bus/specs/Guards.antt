@@ -1,6 +1,7 @@
 -- The guarded words of the stack: addresses of words, strictly rising.
 use Rattle.std.specs.Prelude.{◌≡◌, ℕ, ◌+◌, ◌%◌, ◌≤◌, ◌==◌, nat_lt, List, [], ◌∷◌, if◌then◌else◌}
 use Rattle.std.specs.Coded.{×_prop, le_prop, Coded-set, coded_ℕ}
+use Rattle.eh_bus.specs.declared.map.TheConstants.{STACK_END, STACK_START}
 
 -- with the word at a
 abbrev pub inserted : ℕ → List ℕ → List ℕ
@@ -14,16 +15,16 @@ insert_all (a ∷ more) guards = inserted a (insert_all more guards)
 
 -- words from low on, one above the other, that end by the end of the stack
 abbrev pub RiseFrom : ℕ → List ℕ → Type 0
-RiseFrom low [] = low ≤ 0x40000000
+RiseFrom low [] = low ≤ STACK_END
 RiseFrom low (g ∷ more) = (low ≤ g) × ((g % 4 ≡ 0) × RiseFrom (g + 4) more)
 
 -- words of the stack, strictly rising
 abbrev pub AreGuards : List ℕ → Type 0
-AreGuards guards = RiseFrom 0x3fff0000 guards
+AreGuards guards = RiseFrom STACK_START guards
 
 RiseFrom-prop : (low : ℕ) (guards : List ℕ) → IsProp (RiseFrom low guards)
 RiseFrom-prop low [] = le_prop
 RiseFrom-prop low (g ∷ more) = ×_prop le_prop (×_prop (Coded-set coded_ℕ _ _) (RiseFrom-prop (g + 4) more))
 
 pub AreGuards-prop : (guards : List ℕ) → IsProp (AreGuards guards)
-AreGuards-prop guards = RiseFrom-prop 0x3fff0000 guards
+AreGuards-prop guards = RiseFrom-prop STACK_START guards

@@ -3,6 +3,7 @@ pub mod Segment
 pub mod Guards
 pub mod Memory
 pub mod Map
+pub mod Undo
 pub mod Built
 pub mod Place
 pub mod Flags

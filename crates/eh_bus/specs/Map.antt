@@ -1,9 +1,11 @@
 -- The map that every bus has, and what no call changes of it.
-use Rattle.std.specs.Prelude.{◌≡◌, ℕ, ◌+◌, ◌%◌, ◌<◌, ◌≤◌, true, false, ◌&&◌, List, [], ◌∷◌, length, slice_index_or, IsTrue}
+use Rattle.std.specs.Prelude.{◌≡◌, ℕ, ◌+◌, ◌%◌, ◌<◌, ◌≤◌, true, false, ◌&&◌, List, [], ◌∷◌, length, slice_index_or, IsTrue, All, Some, None, if◌then◌else◌}
 use Rattle.std.proofs.Common.{refl, lit<, lit≤}
-use Rattle.eh_bus.specs.Segment.{Segment, holds}
+use Rattle.eh_bus.specs.Segment.{Segment, AreBytes, holds}
 use Rattle.eh_bus.specs.Guards.{AreGuards}
-use Rattle.eh_bus.specs.Memory.{Memory}
+use Rattle.eh_bus.specs.Memory.{Memory, fault_in, load, fetch}
+use Rattle.eh_bus.specs.declared.fault.BusFault.TheVariants.{ReadOnly}
+use Rattle.eh_bus.specs.declared.map.TheConstants.{IMAGE_END, POOL_SIZE, POOL_START, STACK_END, STACK_SIZE, STACK_START}
 
 -- a segment of this place and size that may be written and not executed
 pub record IsData (s : Segment) (start size : ℕ) : Type 0 where
@@ -21,22 +23,23 @@ AreApart segments =
 -- the segments of a bus: the stack, the pool, and the image's below both
 pub record AreSegments (segments : List Segment) : Type 0 where
   pub two : 2 ≤ length segments
-  pub stack : (d : Segment) → IsData (slice_index_or segments 0 d) 0x3fff0000 0x10000
-  pub pool : (d : Segment) → IsData (slice_index_or segments 1 d) 0x38000000 0x8000
+  pub stack : (d : Segment) → IsData (slice_index_or segments 0 d) STACK_START STACK_SIZE
+  pub pool : (d : Segment) → IsData (slice_index_or segments 1 d) POOL_START POOL_SIZE
   pub image :
       (i : ℕ) (d : Segment) → 2 ≤ i → i < length segments
-      → (slice_index_or segments i d).start + length (slice_index_or segments i d).bytes ≤ 0x30000000
+      → (slice_index_or segments i d).start + length (slice_index_or segments i d).bytes ≤ IMAGE_END
   pub apart : AreApart segments
+  pub bytes : All (λ (s : Segment). AreBytes s.bytes) segments
 
 -- a running stack, within the stack
 pub record IsHome (home : ℕ × ℕ) : Type 0 where
-  pub low : 0x3fff0000 ≤ home.0
+  pub low : STACK_START ≤ home.0
   pub rises : home.0 < home.1
-  pub high : home.1 ≤ 0x40000000
+  pub high : home.1 ≤ STACK_END
   pub low_aligned : home.0 % 4 ≡ 0
   pub high_aligned : home.1 % 4 ≡ 0
 
-pub flat_home : IsHome (0x3fff0000, 0x40000000)
+pub flat_home : IsHome (STACK_START, STACK_END)
 flat_home = record { low = lit≤ tt; rises = lit< tt; high = lit≤ tt; low_aligned = refl; high_aligned = refl }
 
 -- what holds of the memory of every bus
@@ -59,6 +62,18 @@ SameMap [] [] = Unit {0}
 SameMap (s ∷ ss) (t ∷ ts) = SameSegment s t × SameMap ss ts
 SameMap [] (t ∷ ts) = ⊥
 SameMap (s ∷ ss) [] = ⊥
+
+-- the segment that holds the n bytes from a on may not be written
+abbrev pub IsFixed : ℕ → List Segment → ℕ → Type 0
+IsFixed n segments a = fault_in (λ s. if s.write then Some (ReadOnly a) else None) n segments a ≡ None
+
+-- what no call of a bus changes: where segments lie, their rights and the running stack, and what a segment that may
+-- not be written gives to loads and fetches, whatever the other segments may be
+pub record Keeps (old new : Memory) : Type 0 where
+  pub map : SameMap old.segments new.segments
+  pub home : new.home ≡ old.home
+  pub loads : (n a : ℕ) → IsFixed n old.segments a → load n new a ≡ load n old a
+  pub fetches : (a : ℕ) → IsFixed 2 old.segments a → fetch new a ≡ fetch old a
 
 -- no segment may be both written and executed
 abbrev pub CodeIsFixed : List Segment → Type 0

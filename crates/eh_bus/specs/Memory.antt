@@ -4,6 +4,7 @@ use Rattle.eh_bus.specs.Segment.{Segment, holds, number_at, with_number_at}
 use Rattle.eh_bus.specs.Guards.{inserted}
 use Rattle.eh_bus.specs.declared.fault.BusFault.{BusFault}
 use Rattle.eh_bus.specs.declared.fault.BusFault.TheVariants.{Unmapped, Unaligned, ReadOnly, SavedSlot, Protected, NotExecutable}
+use Rattle.eh_bus.specs.declared.map.TheConstants.{CLOSED_SIZE, OPEN_WORD, POOL_END, POOL_START, SLOT_SIZE}
 
 pub record Memory : Type 0 where
   -- in a fixed order; no two share an address
@@ -15,11 +16,11 @@ pub record Memory : Type 0 where
 
 -- the pool has 64 slots of 512 bytes; the first 128 bytes of a slot are closed to the guest
 abbrev pub is_closed : ℕ → Bool
-is_closed a = nat_le 0x38000000 a && (nat_lt a 0x38008000 && nat_lt (a % 512) 128)
+is_closed a = nat_le POOL_START a && (nat_lt a POOL_END && nat_lt (a % SLOT_SIZE) CLOSED_SIZE)
 
 -- but the word at byte 84 of a slot, word 2 of its barrier, may be loaded
 abbrev pub is_open_word : ℕ → ℕ → Bool
-is_open_word n a = nat_le 84 (a % 512) && nat_le (a % 512 + n) 88
+is_open_word n a = nat_le OPEN_WORD (a % SLOT_SIZE) && nat_le (a % SLOT_SIZE + n) (OPEN_WORD + 4)
 
 -- the first guarded word that has a byte among the n from a on
 abbrev pub guard_hit : List ℕ → ℕ → ℕ → Option ℕ

@@ -1,5 +1,5 @@
 -- A run of bytes at an address, with its rights.
-use Rattle.std.specs.Prelude.{ℕ, ◌+◌, ◌-◌, ◌≤◌, ◌⊎◌, Bool, ◌&&◌, nat_le, List, length, take, drop, ◌++◌}
+use Rattle.std.specs.Prelude.{ℕ, ◌+◌, ◌-◌, ◌<◌, ◌≤◌, ◌⊎◌, Bool, ◌&&◌, nat_le, List, length, take, drop, ◌++◌, All}
 use Rattle.byteorder.specs.Endian.{little_number, little_bytes}
 
 pub record Segment : Type 0 where
@@ -7,6 +7,10 @@ pub record Segment : Type 0 where
   pub bytes : List ℕ
   pub write : Bool
   pub exec : Bool
+
+-- every number of the list is a byte
+abbrev pub AreBytes : List ℕ → Type 0
+AreBytes bytes = All (λ b. b < 256) bytes
 
 -- all of the n bytes from address a on lie in the segment
 abbrev pub holds : Segment → ℕ → ℕ → Bool

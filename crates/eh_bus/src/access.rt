@@ -1,3 +1,4 @@
+//! Which segment an access lies in, and which fault it has, in the order of docs/memory-map.md.
 ghost use Rattle.std.specs.Prelude.{◌≡◌, ℕ, ◌+◌, ◌*◌, ◌%◌, ◌^◌, ◌<◌, ◌≤◌, ◌==◌, length, Some, None, IfOk, IfErr, Option, IsTrue};
 ghost use Rattle.eh_bus.specs.Segment.{holds, number_at};
 ghost use Rattle.eh_bus.specs.Memory.{load_fault, store_fault, fetch_fault, fault_in, number_in, is_closed, is_open_word, run_fault, run_written, written};
@@ -6,6 +7,7 @@ ghost use Rattle.eh_bus.specs.Place.{IsPlace, IsWidth};
 
 use crate::fault::BusFault;
 use crate::guards::Guards;
+use crate::map::{CLOSED_SIZE, OPEN_WORD, POOL_END, POOL_START, SLOT_SIZE};
 use crate::segment::Segment;
 use crate::segments::Segments;
 
@@ -13,7 +15,7 @@ use crate::segments::Segments;
 fn is_closed(a: u32) -> bool
     ensures { result ≡ is_closed a }
 {
-    (0x3800_0000..0x3800_8000).contains(&a) && a % 512 < 128
+    (POOL_START..POOL_END).contains(&a) && a % SLOT_SIZE < CLOSED_SIZE
 }
 
 /// Whether the `n` bytes from `a` on lie in word 2 of a slot's barrier, which may be loaded.
@@ -21,7 +23,7 @@ fn is_open_word(n: u32, a: u32) -> bool
     requires { n ≤ 4 }
     ensures { result ≡ is_open_word n a }
 {
-    84 <= a % 512 && a % 512 + n <= 88
+    OPEN_WORD <= a % SLOT_SIZE && a % SLOT_SIZE + n <= OPEN_WORD + 4
 }
 
 /// Whether `a` is a multiple of the access's size.

@@ -1,3 +1,4 @@
+//! Why an access is refused; docs/memory-map.md says when.
 ghost use Rattle.std.specs.Prelude.{◌≡◌};
 ghost use Rattle.eh_bus.specs.declared.fault.BusMemory.TheVariants.{OutOfMemory};
 

@@ -6,5 +6,6 @@ pub mod bus;
 pub mod fault;
 pub mod flat;
 mod guards;
+pub mod map;
 pub mod segment;
 mod segments;

@@ -1,7 +1,9 @@
+//! A segment: bytes at an address with their rights, and the numbers in them, lowest byte first.
 ghost use Rattle.std.specs.Prelude.{◌≡◌, ℕ, ◌+◌, ◌-◌, ◌*◌, ◌%◌, ◌^◌, ◌<◌, ◌≤◌, ◌∷◌, [], length, take, drop, ◌++◌, IsTrue, IfOk};
 ghost use Rattle.byteorder.specs.Endian.{little_bytes};
-ghost use Rattle.eh_bus.specs.Segment.{holds, number_at, with_number_at};
+ghost use Rattle.eh_bus.specs.Segment.{AreBytes, holds, number_at, with_number_at};
 ghost use Rattle.eh_bus.specs.Built.{segment_of, zeros_at};
+ghost use Rattle.eh_list.specs.Bytes.{zeros};
 
 use byteorder::{ByteOrder, LittleEndian};
 use std::alloc::{AllocError, Global};
@@ -47,19 +49,17 @@ impl Segment {
     }
 
     /// The segment that is asked for.
-    #[tactic(auto, unfolding(crate::specs::Built::zeros))]
     pub(crate) fn of(alloc: Global, spec: &SegmentSpec) -> Result<Self, AllocError>
         requires { length spec.now.bytes.now ≤ spec.now.size }
-        ensures { IfOk result (λ s. s ≡ segment_of spec.now) }
+        ensures segment { IfOk result (λ s. s ≡ segment_of spec.now) }
+        ensures bytes { AreBytes spec.now.bytes.now }
     {
-        let mut bytes = Vec::with_capacity(alloc, spec.size as usize)?;
-        bytes.extend_from_slice(spec.bytes)?;
-        bytes.resize(spec.size as usize, 0)?;
+        let bytes = filled(alloc, spec.bytes, spec.size as usize)?;
         Ok(Segment::new(spec.start, bytes, spec.write, spec.exec))
     }
 
     /// Zeros that may be written and not executed.
-    #[tactic(auto, unfolding(crate::specs::Built::zeros))]
+    #[tactic(auto, unfolding(eh_list::specs::Bytes::zeros))]
     pub(crate) fn zeros(alloc: Global, start: u32, size: u32) -> Result<Self, AllocError>
         ensures { IfOk result (λ s. s ≡ zeros_at start size) }
     {
@@ -127,6 +127,19 @@ impl Segment {
     {
         put32(&mut self.bytes, (a - self.start) as usize, v);
     }
+}
+
+/// These bytes, and zeros behind them up to the size.
+#[tactic(auto, unfolding(eh_list::specs::Bytes::zeros))]
+fn filled(alloc: Global, given: &[u8], size: usize) -> Result<Vec<u8>, AllocError>
+    requires { length given.now ≤ size }
+    ensures filled { IfOk result (λ all. all.items ≡ given.now ++ zeros (size - length given.now)) }
+    ensures bytes { AreBytes given.now }
+{
+    let mut bytes = Vec::with_capacity(alloc, size)?;
+    bytes.extend_from_slice(given)?;
+    bytes.resize(size, 0)?;
+    Ok(bytes)
 }
 
 fn put8(bytes: &mut [u8], at: usize, v: u8)

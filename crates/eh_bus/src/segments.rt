@@ -1,13 +1,16 @@
-ghost use Rattle.std.specs.Prelude.{◌≡◌, ℕ, ◌+◌, ◌-◌, ◌%◌, ◌^◌, ◌<◌, ◌≤◌, ◌∷◌, [], length, take, map, ◌++◌, slice_index_or, Option, Some, IfSome, IfNone, IfOk};
+//! The segments of a bus in one vector, searched from the front.
+ghost use Rattle.std.specs.Prelude.{◌≡◌, ℕ, ◌+◌, ◌-◌, ◌%◌, ◌^◌, ◌<◌, ◌≤◌, ◌∷◌, [], length, take, map, ◌++◌, slice_index_or, Option, Some, IfSome, IfNone, IfOk, All};
 ghost use Rattle.std.specs.List.{position_from};
-ghost use Rattle.eh_bus.specs.Segment.{Segment as Bytes, holds};
+ghost use Rattle.eh_bus.specs.Segment.{Segment as Bytes, AreBytes, holds};
 ghost use Rattle.eh_bus.specs.Memory.{fault_in, written};
 ghost use Rattle.eh_bus.specs.Built.{CanBuild, built};
 ghost use Rattle.eh_bus.specs.Map.{AreSegments};
+ghost use Rattle.eh_bus.specs.declared.segment.SegmentSpec.{SegmentSpec as Spec};
 ghost use Rattle.eh_bus.specs.Place.{IsPlace};
 ghost use Rattle.eh_bus.specs.declared.fault.BusFault.{BusFault};
 ghost use Rattle.eh_bus.specs.declared.fault.BusFault.TheVariants.{Unmapped};
 
+use crate::map::{POOL_SIZE, POOL_START, STACK_SIZE, STACK_START};
 use crate::segment::{Segment, SegmentSpec};
 use std::alloc::{AllocError, Global};
 use std::marker::Model;
@@ -31,11 +34,12 @@ impl Segments {
     /// The stack and the pool, zeros both, and the segments that are asked for.
     pub(crate) fn build(alloc: Global, specs: &[SegmentSpec]) -> Result<Self, AllocError>
         requires { CanBuild specs.now }
-        ensures { IfOk result (λ segments. segments ≡ (built specs.now).segments) }
+        ensures built { IfOk result (λ segments. segments ≡ (built specs.now).segments) }
+        ensures bytes { IfOk result (λ segments. All (λ (spec : Spec). AreBytes spec.bytes.now) specs.now) }
     {
         let mut all = Vec::new(alloc);
-        all.push(Segment::zeros(alloc, 0x3FFF_0000, 0x1_0000)?)?;
-        all.push(Segment::zeros(alloc, 0x3800_0000, 0x8000)?)?;
+        all.push(Segment::zeros(alloc, STACK_START, STACK_SIZE)?)?;
+        all.push(Segment::zeros(alloc, POOL_START, POOL_SIZE)?)?;
         for spec in specs {
             all.push(Segment::of(alloc, spec)?)?;
         }

@@ -5,12 +5,13 @@ use Rattle.asm_read.specs.declared.statement.Stmt.{Stmt}
 use Rattle.asm_object.specs.declared.object.Object.{Object}
 use Rattle.asm_object.specs.declared.object.Reloc.{Reloc}
 use Rattle.asm_object.specs.Objects.{object_of}
-use Rattle.eh_link.specs.Layout.{bytes_in}
-use Rattle.eh_link.specs.FieldLaw.{field_size, StandsAlone}
+use Rattle.asm_object.specs.Relocations.{field_size}
+use Rattle.asm_object.specs.ObjectLaw.{bytes_at}
+use Rattle.eh_link.specs.FieldLaw.{StandsAlone}
 
 pub record StandsWholeAndAlone (object : Object) (before : List Reloc) (reloc : Reloc) (after : List Reloc) : Type 0 where
   pub alone : StandsAlone reloc.section reloc (before ++ after)
-  pub whole : reloc.offset + field_size reloc ≤ length (bytes_in reloc.section object)
+  pub whole : reloc.offset + field_size reloc ≤ length (bytes_at reloc.section object)
 
 abbrev pub AssembledFieldsStandAlone : Type 0
 AssembledFieldsStandAlone =

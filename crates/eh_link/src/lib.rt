@@ -16,8 +16,6 @@ mod names;
 mod places;
 mod segments;
 mod symbols;
-#[cfg(test)]
-mod tests;
 
 pub use fault::LinkFault;
 pub use linking::link;

@@ -1,5 +1,5 @@
 -- Zeros and multiples.
-use Rattle.std.specs.Prelude.{◌≡◌, ℕ, ◌+◌, ◌-◌, ◌*◌, ◌/◌, List, length, replicate}
+use Rattle.std.specs.Prelude.{◌≡◌, ℕ, ◌+◌, ◌-◌, ◌*◌, ◌/◌, ◌%◌, List, length, replicate}
 use Rattle.std.proofs.lemmas.List.{length-replicate}
 
 -- n zero bytes
@@ -13,3 +13,7 @@ length-zeros n = length-replicate n 0
 -- the least multiple of a step that is not below n
 abbrev pub next_multiple : ℕ → ℕ → ℕ
 next_multiple n step = (n + (step - 1)) / step * step
+
+-- how many bytes stand between n and the next multiple of a step
+abbrev pub gap : ℕ → ℕ → ℕ
+gap n step = (step - n % step) % step

@@ -1,7 +1,7 @@
 //! Zeros, multiples, and numbers of 2 and 4 bytes, the lowest byte first.
 ghost use Rattle.std.specs.Prelude.{◌≡◌, ◌+◌, ◌^◌, ◌<◌, ◌≤◌, ◌++◌, OnOk, OnErr};
 ghost use Rattle.byteorder.specs.Endian.{little_bytes};
-ghost use Rattle.eh_list.specs.Bytes.{zeros, next_multiple};
+ghost use Rattle.eh_list.specs.Bytes.{zeros, next_multiple, gap};
 
 use std::alloc::AllocError;
 
@@ -12,6 +12,23 @@ pub fn next_multiple(n: u64, step: u64) -> u64
     ensures { result ≡ next_multiple n step }
 {
     (n + (step - 1)) / step * step
+}
+
+/// The same of a number of 32 bits.
+pub fn next_multiple_32(n: u32, step: u32) -> u32
+    requires some { 0 < step }
+    requires fits { n + step ≤ 2 ^ 32 }
+    ensures { result ≡ next_multiple n step }
+{
+    (n + (step - 1)) / step * step
+}
+
+/// How many bytes stand between `n` and the next multiple of `step`.
+pub fn gap(n: u64, step: u64) -> u64
+    requires { 0 < step }
+    ensures { result ≡ gap n step }
+{
+    (step - n % step) % step
 }
 
 /// Adds `count` zero bytes at the end. Without memory nothing is added.

@@ -1,7 +1,8 @@
 //! The outside of the program: files, a source of bytes and a sink of bytes, each with a count of its faults.
 //!
 //! A call answers `Failed` only where the count of its object rose in that call, so that whoever is told of a failure can
-//! look for its cause. A count that stands at the greatest `u64` stays there and counts as risen.
+//! look for its cause. A count that stands at the greatest `u64` stays there and counts as risen. A call that succeeds or
+//! finds no memory leaves the count as it was. The rules are those of docs/outside.md.
 #![tactic(auto)]
 
 ghost use Rattle.std.specs.Prelude.{◌≡◌, ℕ, ◌<◌, ◌≤◌, List, length, IfOk, IfSome, OnOk, OnErr, Option};

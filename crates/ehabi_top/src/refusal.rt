@@ -1,12 +1,13 @@
-// Why files give no image, and the lines that say so.
+//! Why files give no image, and the lines that say so.
 ghost use Rattle.std.specs.Prelude.{◌≡◌, ◌≢◌, ◌≤◌, ◌++◌, length, codes, IfOk, true, false};
 ghost use Rattle.ehabi_top.specs.Building.{is_memory, is_link_memory, fault_line, wants_memory, refusal_of};
 ghost use Rattle.ehabi_top.specs.RefusalText.{source_what, source_place, encode_what, unwind_what, asm_what, asm_place, range_line, link_line};
-ghost use Rattle.ehabi_top.specs.Report.{is_settled};
+ghost use Rattle.ehabi_top.specs.Loading.{IsOfCommand};
 ghost use Rattle.ehabi_top.specs.Writes.{Answers};
 
 use crate::answer::{answer_both, answer_missing, answer_text, answer_three, answer_too_long};
 use crate::line::{Line, append, hex8, image_fault_line};
+use crate::status::REFUSED;
 use crate::stop::Stop;
 use asm_layout::{AsmFault, AsmWhat};
 use asm_read::{SourceFault, SourceWhat};
@@ -171,7 +172,7 @@ fn range_line(place: u32) -> Line
 /// Ends with the line of objects that can't be linked.
 fn answer_link<O: Sink>(out: &mut O, fault: &LinkFault) -> Result<u8, Stop>
     requires { is_link_memory fault.now ≡ false }
-    ensures { Answers (link_line fault.now) 3 result (O.written out.old) (O.written out.new) (O.faults out.old) (O.faults out.new) }
+    ensures { Answers (link_line fault.now) REFUSED result (O.written out.old) (O.written out.new) (O.faults out.old) (O.faults out.new) }
 {
     match fault {
         LinkFault::Duplicate(name) => answer_three(
@@ -179,18 +180,22 @@ fn answer_link<O: Sink>(out: &mut O, fault: &LinkFault) -> Result<u8, Stop>
             b"link: Duplicate ",
             name.bytes(),
             b"\n",
-            3,
+            REFUSED,
         ),
         LinkFault::Undefined(name) => answer_three(
             out,
             b"link: Undefined ",
             name.bytes(),
             b"\n",
-            3,
+            REFUSED,
         ),
-        LinkFault::NoEntry => answer_text(out, b"link: NoEntry\n", 3),
-        LinkFault::TooLarge => answer_text(out, b"link: TooLarge\n", 3),
-        LinkFault::RelocationRange(place) => answer_text(out, range_line(*place).as_slice(), 3),
+        LinkFault::NoEntry => answer_text(out, b"link: NoEntry\n", REFUSED),
+        LinkFault::TooLarge => answer_text(out, b"link: TooLarge\n", REFUSED),
+        LinkFault::RelocationRange(place) => answer_text(
+            out,
+            range_line(*place).as_slice(),
+            REFUSED,
+        ),
         LinkFault::OutOfMemory => unreachable!(),
     }
 }
@@ -198,17 +203,26 @@ fn answer_link<O: Sink>(out: &mut O, fault: &LinkFault) -> Result<u8, Stop>
 // Ends with the line of sources that give no image.
 fn answer_fault<O: Sink>(out: &mut O, fault: &BuildFault) -> Result<u8, Stop>
     requires { is_memory fault.now ≡ false }
-    ensures { Answers (fault_line fault.now) 3 result (O.written out.old) (O.written out.new) (O.faults out.old) (O.faults out.new) }
+    ensures { Answers (fault_line fault.now) REFUSED result (O.written out.old) (O.written out.new) (O.faults out.old) (O.faults out.new) }
 {
     match fault {
         BuildFault::InSource(name, fault) => {
-            answer_both(out, name.as_bytes(), source_place(*fault).as_slice(), 3)
+            answer_both(
+                out,
+                name.as_bytes(),
+                source_place(*fault).as_slice(),
+                REFUSED,
+            )
         }
         BuildFault::InObject(name, fault) => {
-            answer_both(out, name.as_bytes(), asm_place(*fault).as_slice(), 3)
+            answer_both(out, name.as_bytes(), asm_place(*fault).as_slice(), REFUSED)
         }
         BuildFault::InLink(fault) => answer_link(out, fault),
-        BuildFault::InImage(fault) => answer_text(out, image_fault_line(*fault).as_slice(), 3),
+        BuildFault::InImage(fault) => answer_text(
+            out,
+            image_fault_line(*fault).as_slice(),
+            REFUSED,
+        ),
         BuildFault::OutOfMemory => unreachable!(),
     }
 }
@@ -217,7 +231,7 @@ fn answer_fault<O: Sink>(out: &mut O, fault: &BuildFault) -> Result<u8, Stop>
 pub(crate) fn answer_files_fault<O: Sink>(out: &mut O, fault: &FilesFault) -> Result<u8, Stop>
     requires { wants_memory fault.now ≡ false }
     ensures line { Answers (refusal_of fault.now).line (refusal_of fault.now).status result (O.written out.old) (O.written out.new) (O.faults out.old) (O.faults out.new) }
-    ensures status { IfOk result (λ status. (is_settled status ≡ true) × (status ≤ 10) × (status ≢ 2)) }
+    ensures status { IsOfCommand (refusal_of fault.now).status }
 {
     match fault {
         FilesFault::Missing(name) => answer_missing(out, name),

@@ -31,7 +31,7 @@ passes_step : {X : Type 0} (p : X → Bool) (x : X) (o : Option X) (b : Bool) �
 passes_step p x o true e h = e
 passes_step p x o false e h = h
 
-find_passes : {X : Type 0} (p : X → Bool) (xs : List X) → IfSome (find p xs) (λ y. p y ≡ true)
+pub find_passes : {X : Type 0} (p : X → Bool) (xs : List X) → IfSome (find p xs) (λ y. p y ≡ true)
 find_passes p [] = tt
 find_passes p (x ∷ xs) = passes_step p x (find p xs) (p x) refl (find_passes p xs)
 
@@ -79,7 +79,7 @@ started_put : (es : List (ℕ × Function)) (o : Option Function) → IfSome o (
 started_put es None some h = h
 started_put es (Some f) some h = started_unless (is_some (lookup (is_at (nat_cmp f.start)) es)) es (insert_entry nat_cmp es f.start f) h (started_insert es f some h)
 
-started_fold : (segments : List Segment) (es : List (ℕ × Function)) (symbols : List Symbol) → AreStarted es
+pub started_fold : (segments : List Segment) (es : List (ℕ × Function)) (symbols : List Symbol) → AreStarted es
     → AreStarted (fold (λ (entries : List (ℕ × Function)) (s : Symbol). put_first entries (function_of_symbol segments s)) es symbols)
 started_fold segments es [] h = h
 started_fold segments es (s ∷ symbols) h =
@@ -95,7 +95,7 @@ ended_from low e (f ∷ es) above h s =
     let rest = ended_from (min e.1.end f.1.start) f es (omega (arith, h.2.0)) h.2 (sorted_tail nat_cmp e.0 (keys_of (f ∷ es)) s) in
     (omega (arith, h.0), omega (arith, h.0, h.1, h.2.0), rest)
 
-ended_all : (es : List (ℕ × Function)) → AreStarted es → IsStrictlySortedBy nat_cmp (keys_of es) → FunctionsFrom 0 (ended (values_of es))
+pub ended_all : (es : List (ℕ × Function)) → AreStarted es → IsStrictlySortedBy nat_cmp (keys_of es) → FunctionsFrom 0 (ended (values_of es))
 ended_all [] h s = tt
 ended_all (e ∷ es) h s = ended_from 0 e es (omega arith) h s
 

@@ -1,4 +1,5 @@
 pub mod Listed
+pub mod Entries
 pub mod Overlaps
 pub mod Rising
 pub mod Search
@@ -9,3 +10,7 @@ pub mod Ended
 pub mod Reading
 pub mod Building
 pub mod Outcome
+pub mod Accepted
+pub mod Starts
+pub mod Marking
+pub mod Sound

@@ -14,7 +14,7 @@ use Rattle.elf_image.specs.Marks.{marked}
 use Rattle.elf_image.specs.Image.{holds_word}
 use Rattle.std.proofs.lemmas.Bool.{false≢true}
 use Rattle.std.specs.List.{list_any}
-use Rattle.elf_image.proofs.Search.{find_range, position_range, marked_last, Ascend}
+use Rattle.elf_image.proofs.Search.{position_range, marked_last, Ascend}
 use Rattle.elf_image.proofs.Ascending.{segments_apart, functions_apart}
 
 test_zero : (k : ℕ) → k ≡ 0 → nat_eq k 0 ≡ true
@@ -32,22 +32,55 @@ test_ge x y h = grind (arith, nat_tests)
 abbrev pub no_segment : Segment
 no_segment = record { start = 0; bytes = []; size = 0; write = false; exec = false }
 
-pub segment_none : (xs : List Segment) (a k : ℕ) → RiseFrom 0 xs → k ≡ prefix_len (λ s. nat_le s.start a) xs → k ≡ 0 → segment_at xs a ≡ None
+pub segment_none : (xs : List Segment) (a k : ℕ) → RiseFrom 0 xs → k ≡ prefix_len (λ s. nat_le s.start a) xs → k ≡ 0 → position_from (holds a) 0 xs ≡ None
 segment_none xs a k h e z =
-    find_range (λ s. s.start) segment_end 0 a xs (segments_apart 0 xs h) no_segment
-    ∙ rw (← e, test_zero k z) refl
+    position_range (λ s. s.start) segment_end 0 a 0 xs (segments_apart 0 xs h) no_segment ∙ rw (← e, test_zero k z) refl
 
 pub segment_some : (xs : List Segment) (a k : ℕ) (d : Segment) → RiseFrom 0 xs → k ≡ prefix_len (λ s. nat_le s.start a) xs → (k ≡ 0 → ⊥)
-    → a < segment_end (get_or xs (k - 1) d) → segment_at xs a ≡ Some (get_or xs (k - 1) d)
+    → a < segment_end (get_or xs (k - 1) d) → position_from (holds a) 0 xs ≡ Some (k - 1)
 segment_some xs a k d h e some inside =
-    find_range (λ s. s.start) segment_end 0 a xs (segments_apart 0 xs h) d
-    ∙ rw (← e, test_some k some, test_lt a (segment_end (get_or xs (k - 1) d)) inside) refl
+    position_range (λ s. s.start) segment_end 0 a 0 xs (segments_apart 0 xs h) d
+    ∙ rw (← e, test_some k some, test_lt a (segment_end (get_or xs (k - 1) d)) inside, zero-add) refl
 
 pub segment_past : (xs : List Segment) (a k : ℕ) (d : Segment) → RiseFrom 0 xs → k ≡ prefix_len (λ s. nat_le s.start a) xs → (k ≡ 0 → ⊥)
-    → segment_end (get_or xs (k - 1) d) ≤ a → segment_at xs a ≡ None
+    → segment_end (get_or xs (k - 1) d) ≤ a → position_from (holds a) 0 xs ≡ None
 segment_past xs a k d h e some past =
-    find_range (λ s. s.start) segment_end 0 a xs (segments_apart 0 xs h) d
+    position_range (λ s. s.start) segment_end 0 a 0 xs (segments_apart 0 xs h) d
     ∙ rw (← e, test_some k some, test_ge a (segment_end (get_or xs (k - 1) d)) past) refl
+
+pub ruleset segment_numbers = (segment_none, segment_some, segment_past)
+
+-- the one at that number
+abbrev pub Located : (Segment → Bool) → ℕ → List Segment → Option ℕ → Option Segment → Type 0
+Located p n xs None found = found ≡ None
+Located p n xs (Some i) found = (n ≤ i) × (i < n + length xs) × ((d : Segment) → found ≡ Some (get_or xs (i - n) d))
+
+located_more : (p : Segment → Bool) (n : ℕ) (x : Segment) (xs : List Segment) (o : Option ℕ) (found : Option Segment) → Located p (n + 1) xs o found → Located p n (x ∷ xs) o found
+located_more p n x xs None found h = h
+located_more p n x xs (Some i) found h =
+    let e : i - n ≡ suc (i - (n + 1)) = omega (arith, h.0) in
+    (omega (arith, h.0), (omega (arith, h.1)), λ d. rw e (h.2 d))
+
+located : (p : Segment → Bool) (n : ℕ) (xs : List Segment) → Located p n xs (position_from p n xs) (find p xs)
+located p n [] = refl
+located p n (x ∷ xs) = by_test (p x) (located p (n + 1) xs)
+  where
+    by_test : (b : Bool) → Located p (n + 1) xs (position_from p (n + 1) xs) (find p xs) → Located p n (x ∷ xs) (cond b (Some n) (position_from p (n + 1) xs)) (cond b (Some x) (find p xs))
+    by_test true h = let z : n - n ≡ 0 = omega arith in (omega arith, omega arith, λ d. rw z refl)
+    by_test false h = located_more p n x xs (position_from p (n + 1) xs) (find p xs) h
+
+located_at : (p : Segment → Bool) (xs : List Segment) (o : Option ℕ) → o ≡ position_from p 0 xs → Located p 0 xs o (find p xs)
+located_at p xs o e = rw e (located p 0 xs)
+
+pub segment_nowhere : (xs : List Segment) (a : ℕ) (o : Option ℕ) → o ≡ position_from (holds a) 0 xs → o ≡ None → segment_at xs a ≡ None
+segment_nowhere xs a None e n = located_at (holds a) xs None e
+segment_nowhere xs a (Some i) e n = absurd cc
+
+pub segment_there : (xs : List Segment) (a i : ℕ) (d : Segment) → Some i ≡ position_from (holds a) 0 xs → segment_at xs a ≡ Some (get_or xs i d)
+segment_there xs a i d e = let z : i - 0 ≡ i = omega arith in rw z at ((located_at (holds a) xs (Some i) e).2 d)
+
+pub segment_inside : (xs : List Segment) (a i : ℕ) → Some i ≡ position_from (holds a) 0 xs → i < length xs
+segment_inside xs a i e = omega (arith, (located_at (holds a) xs (Some i) e).1)
 
 below_top : (low : ℕ) (xs : List Segment) → RiseFrom low xs → low ≤ 0x30000000
 below_top low [] h = h
@@ -58,7 +91,7 @@ segment_fits low [] i d h inside = absurd (omega arith)
 segment_fits low (s ∷ xs) zero d h inside = below_top (s.start + s.size) xs h.3
 segment_fits low (s ∷ xs) (suc i) d h inside = segment_fits (s.start + s.size) xs i d h.3 (omega arith)
 
-pub ruleset segment_lookups = (segment_none, segment_some, segment_past, segment_fits)
+pub ruleset segment_lookups = (segment_nowhere, segment_there, segment_fits)
 
 -- ---- functions
 
@@ -150,11 +183,11 @@ rise_lower : (low high : ℕ) (xs : List Segment) → low ≤ high → RiseFrom 
 rise_lower low high [] e h = omega (arith, h)
 rise_lower low high (s ∷ xs) e h = (omega (arith, h.0), h.1, h.2, h.3)
 
-find_holder : (p : Segment → Bool) (a : ℕ) (xs : List Segment) → Narrows p a → RiseFrom 0 xs → find p xs ≡ filtered p (segment_at xs a)
+pub find_holder : (p : Segment → Bool) (a : ℕ) (xs : List Segment) → Narrows p a → RiseFrom 0 xs → find p xs ≡ filtered p (segment_at xs a)
 find_holder p a [] n h = refl
 find_holder p a (s ∷ xs) n h = one_holder p a s xs (holds a s) refl n h (find_holder p a xs n (rise_lower 0 (s.start + s.size) xs (omega arith) h.3))
 
-both_true : (b c : Bool) → (b && c) ≡ true → (b ≡ true) × (c ≡ true)
+pub both_true : (b c : Bool) → (b && c) ≡ true → (b ≡ true) × (c ≡ true)
 both_true true c h = (refl, h)
 both_true false c h = absurd (false≢true h)
 
@@ -175,11 +208,11 @@ word_narrows a s short h =
 code_narrows : (a : ℕ) → Narrows (λ s. holds a s && s.exec) a
 code_narrows a s short h = (both_true (holds a s) s.exec h).0
 
-any_step : (b m : Bool) (s : Segment) (rest : Option Segment) → m ≡ is_some rest → (b || m) ≡ is_some (cond b (Some s) rest)
+any_step : {X : Type 0} (b m : Bool) (s : X) (rest : Option X) → m ≡ is_some rest → (b || m) ≡ is_some (cond b (Some s) rest)
 any_step true m s rest h = refl
 any_step false m s rest h = h
 
-any_is_some : (p : Segment → Bool) (xs : List Segment) → list_any p xs ≡ is_some (find p xs)
+pub any_is_some : {X : Type 0} (p : X → Bool) (xs : List X) → list_any p xs ≡ is_some (find p xs)
 any_is_some p [] = refl
 any_is_some p (s ∷ xs) = any_step (p s) (list_any p xs) s (find p xs) (any_is_some p xs)
 
@@ -203,7 +236,7 @@ found_step : (a : ℕ) (x s : Segment) (rest : Option Segment) (b : Bool) → ho
 found_step a x s rest true e ih f = let same : x ≡ s = cc in ap (holds a) (sym same) ∙ e
 found_step a x s rest false e ih f = ih f
 
-holds_found : (a : ℕ) (xs : List Segment) (s : Segment) → segment_at xs a ≡ Some s → holds a s ≡ true
+pub holds_found : (a : ℕ) (xs : List Segment) (s : Segment) → segment_at xs a ≡ Some s → holds a s ≡ true
 holds_found a [] s h = absurd cc
 holds_found a (x ∷ xs) s h = found_step a x s (segment_at xs a) (holds a x) refl (holds_found a xs s) h
 

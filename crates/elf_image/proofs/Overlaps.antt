@@ -86,7 +86,7 @@ any_push : (p : ProgramHeader → Bool) (xs : List ProgramHeader) (h : ProgramHe
 any_push p [] h = refl
 any_push p (x ∷ xs) h = rw (any_push p xs h) (or_swap (p x) (p h) (list_any p xs))
 
-overlap_push : (xs : List ProgramHeader) (h : ProgramHeader) → some_overlap (xs ++ h ∷ []) ≡ (list_any (overlap h) xs || some_overlap xs)
+pub overlap_push : (xs : List ProgramHeader) (h : ProgramHeader) → some_overlap (xs ++ h ∷ []) ≡ (list_any (overlap h) xs || some_overlap xs)
 overlap_push [] h = refl
 overlap_push (x ∷ xs) h =
     rw (any_push (overlap x) xs h, overlap_push xs h, overlap_sym x h) (or_four (overlap h x) (list_any (overlap x) xs) (list_any (overlap h) xs) (some_overlap xs))
@@ -129,7 +129,7 @@ twice_step Greater v x rest more h i found = rw (i found) (or-true (overlap v x)
 overlap_same : (v x : ProgramHeader) → v.address ≡ x.address → 0 < v.memory_size → 0 < x.memory_size → overlap v x ≡ true
 overlap_same v x e some other = grind (arith, nat_tests)
 
-twice_any : (es : List (ℕ × ProgramHeader)) (v : ProgramHeader) → AreKeyed es → 0 < v.memory_size → is_some (lookup (is_at (nat_cmp v.address)) es) ≡ true
+pub twice_any : (es : List (ℕ × ProgramHeader)) (v : ProgramHeader) → AreKeyed es → 0 < v.memory_size → is_some (lookup (is_at (nat_cmp v.address)) es) ≡ true
     → list_any (overlap v) (values_of es) ≡ true
 twice_any [] v h some found = absurd cc
 twice_any (e ∷ es) v h some found =
@@ -141,7 +141,7 @@ or_kept true b c d h e = refl
 or_kept false b c d h e = rw (h e) (or-true c)
 
 -- two overlap as soon as some of the first do
-overlap_kept : (xs ys : List ProgramHeader) → some_overlap xs ≡ true → some_overlap (xs ++ ys) ≡ true
+pub overlap_kept : (xs ys : List ProgramHeader) → some_overlap xs ≡ true → some_overlap (xs ++ ys) ≡ true
 overlap_kept [] ys h = absurd cc
 overlap_kept (x ∷ xs) ys h =
     rw (list_any-append (overlap x) xs ys) (or_kept (list_any (overlap x) xs) (some_overlap xs) (list_any (overlap x) ys) (some_overlap (xs ++ ys)) (overlap_kept xs ys) h)

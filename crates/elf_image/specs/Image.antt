@@ -1,5 +1,5 @@
 -- What the bytes of an ELF file stand for.
-use Rattle.std.specs.Prelude.{ℕ, ◌+◌, ◌-◌, ◌%◌, ◌==◌, not, ◌&&◌, ◌||◌, ◌≤◌, nat_le, nat_lt, nat_eq, Bool, List, [], ◌∷◌, length, map, filter, find, drop, sum_by, Option, Some, None, option_map, Result, Ok, Err, codes}
+use Rattle.std.specs.Prelude.{◌≡◌, ◌≢◌, ◌⊎◌, true, false, All, Contains, ℕ, ◌+◌, ◌-◌, ◌%◌, ◌==◌, not, ◌&&◌, ◌||◌, ◌≤◌, nat_le, nat_lt, nat_eq, Bool, List, [], ◌∷◌, length, map, filter, find, drop, sum_by, Option, Some, None, option_map, Result, Ok, Err, codes}
 use Rattle.std.specs.List.{list_any, starts_with, position_from}
 use Rattle.std.specs.List.Sorted.{IsStrictlySortedBy}
 use Rattle.std.specs.Ordering.{nat_cmp}
@@ -8,10 +8,10 @@ use Rattle.byteorder.specs.Endian.{little_number}
 use Rattle.eh_word.specs.Names.{same_bytes}
 use Rattle.elf_image.specs.Format.{first_of, when, part, entry_field, program_headers, section_headers}
 use Rattle.elf_image.specs.Header.{header_refusal, table_refusal}
-use Rattle.elf_image.specs.Segments.{Segment, holds, is_load, segment_refusal, segments_of, RiseFrom}
+use Rattle.elf_image.specs.Segments.{Segment, holds, segment_end, is_load, segment_refusal, segments_of, RiseFrom}
 use Rattle.elf_image.specs.Index.{is_index, index_refusal, index_of}
 use Rattle.elf_image.specs.Symbols.{Symbol, tables_of, tables_refusal, symbol_count, symbols_of}
-use Rattle.elf_image.specs.Functions.{Function, function_of_symbol, functions_of, is_inside, FunctionsFrom}
+use Rattle.elf_image.specs.Functions.{Function, segment_at, function_of_symbol, functions_of, is_inside, FunctionsFrom}
 use Rattle.elf_image.specs.Marks.{marks_of, marked}
 use Rattle.elf_image.specs.declared.fault.ImageFault.{ImageFault}
 use Rattle.elf_image.specs.declared.fault.ImageFault.TheVariants.{TooLarge, Entry}
@@ -137,15 +137,49 @@ image_of bytes = unless_refused (refusal_of bytes)
 
 -- ---- what holds of every image
 
--- at most 1,024 segments with at most 1,048,576 bytes of memory, rising below 0x30000000; functions and marks rise
+-- a function: its start is even, and its range lies whole in one read-only segment that may be executed
+pub record IsWithinCode (segments : List Segment) (f : Function) : Type 0 where
+  pub even : f.start % 2 ≡ 0
+  pub named : All (λ b. b ≢ 0) f.name
+  pub segment : Segment
+  pub holder : segment_at segments f.start ≡ Some segment
+  pub exec : segment.exec ≡ true
+  pub read_only : segment.write ≡ false
+  pub within : f.end ≤ segment_end segment
+
+-- the bytes stand at the address, a multiple of 4, in the file's bytes of one read-only segment
+pub record StandsAt (segments : List Segment) (start : ℕ) (bytes : List ℕ) : Type 0 where
+  pub aligned : start % 4 ≡ 0
+  pub segment : Segment
+  pub there : Contains segments segment
+  pub read_only : segment.write ≡ false
+  pub above : segment.start ≤ start
+  pub below : start + length bytes ≤ segment.start + length segment.bytes
+  pub same : bytes ≡ part segment.bytes (start - segment.start) (length bytes)
+
+-- there is no index, or its bytes stand at its address
+abbrev pub IndexStands : List Segment → ℕ → List ℕ → Type 0
+IndexStands segments start bytes = ((start ≡ 0) × (bytes ≡ [])) ⊎ StandsAt segments start bytes
+
+-- at most 1,024 segments with at most 1,048,576 bytes of memory, rising below 0x30000000; at most 4,096 functions, rising, each in
+-- code, one of them at the even entry; marks rise; the index stands in a read-only segment
 pub record IsSound (image : Image) : Type 0 where
   pub rise : RiseFrom 0 image.segments
   pub memory : sum_by (λ s. s.size) image.segments ≤ 1048576
   pub count : length image.segments ≤ 1024
   pub functions : FunctionsFrom 0 image.functions
+  pub function_count : length image.functions ≤ 4096
+  pub within : All (IsWithinCode image.segments) image.functions
+  pub entry_even : image.entry % 2 ≡ 0
+  pub entry_begins : list_any (λ f. f.start == image.entry) image.functions ≡ true
   pub marks : IsStrictlySortedBy nat_cmp (keys_of image.marks)
+  pub index : IndexStands image.segments image.index_start image.index_bytes
 
 -- ---- what an image tells
+
+-- the number of the segment that holds an address
+abbrev pub segment_number : Image → ℕ → Option ℕ
+segment_number image a = position_from (holds a) 0 image.segments
 
 -- the number of the function that holds an address
 abbrev pub function_at : Image → ℕ → Option ℕ

@@ -8,3 +8,4 @@ pub mod Functions
 pub mod Marks
 pub mod Image
 pub mod Inside
+pub mod Laws

@@ -1,5 +1,5 @@
 -- The symbol table and its strings.
-use Rattle.std.specs.Prelude.{ℕ, ◌+◌, ◌*◌, ◌/◌, ◌==◌, not, Bool, if◌then◌else◌, List, [], ◌∷◌, length, drop, map, find, slice_index, slice_index_or, nat_lt, take_while, Option, Some, None, option_and_then}
+use Rattle.std.specs.Prelude.{◌≢◌, All, ℕ, ◌+◌, ◌*◌, ◌/◌, ◌==◌, not, Bool, if◌then◌else◌, List, [], ◌∷◌, length, drop, map, find, slice_index, slice_index_or, nat_lt, take_while, Option, Some, None, option_and_then}
 use Rattle.std.specs.List.{range_with_len, slice_get, prefix_len}
 use Rattle.elf_image.specs.Format.{field, missing, first_of}
 use Rattle.elf_image.specs.declared.fault.ImageFault.{ImageFault}
@@ -13,6 +13,10 @@ pub record Symbol : Type 0 where
   -- the type in the low four bits, the binding above them
   pub info : ℕ
   pub section : ℕ
+
+-- a name has no zero byte, as every name of a table of strings
+abbrev pub HasPlainName : Symbol → Type 0
+HasPlainName s = All (λ b. b ≢ 0) s.name
 
 -- ---- where they are
 

@@ -6,6 +6,7 @@ ghost use Rattle.std.specs.Map.{values_of, keys_of};
 ghost use Rattle.elf_image.specs.Segments.{RiseFrom, segment_end};
 ghost use Rattle.elf_image.specs.Functions.{Function as Range, is_thumb_function, segment_at, function_of_symbol, functions_by_start, next_start, ended, functions_of, FunctionsFrom, is_inside};
 
+use crate::holder::segment_at;
 use crate::segment::Segment;
 use crate::symbol::Symbol;
 use std::alloc::{AllocError, Global};
@@ -26,34 +27,6 @@ impl<'a> Model for Function<'a> {
     ghost Value = { Range };
 
     ghost view = { λ f. record { name = f.name.now; start = f.start; end = f.end } };
-}
-
-/// How many segments begin at `a` or below.
-fn segments_up_to(segments: &[Segment], a: u32) -> usize
-    requires { RiseFrom 0 segments.now }
-    ensures count { result ≡ prefix_len (λ s. nat_le s.start a) segments.now }
-    ensures within { result ≤ length segments.now }
-{
-    segments.partition_point(|s| s.start <= a)
-}
-
-/// The segment that holds an address.
-#[tactic(auto, using(crate::proofs::Lookups::segment_lookups))]
-pub(crate) fn segment_at<'b, 'a>(segments: &'b [Segment<'a>], a: u32) -> Option<&'b Segment<'a>>
-    requires { RiseFrom 0 segments.now }
-    ensures found { option_copied result ≡ segment_at segments.now a }
-    ensures fits { IfSome result (λ s. segment_end s.now ≤ 0x30000000) }
-{
-    let count = segments_up_to(segments, a);
-    if count == 0 {
-        return None;
-    }
-    let segment = &segments[count - 1];
-    if u64::from(a) < u64::from(segment.start) + u64::from(segment.size) {
-        Some(segment)
-    } else {
-        None
-    }
 }
 
 fn is_thumb_function(s: &Symbol) -> bool

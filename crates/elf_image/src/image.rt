@@ -1,11 +1,13 @@
-ghost use Rattle.std.specs.Prelude.{◌≡◌, ◌≤◌, ◌&&◌, if◌then◌else◌, length, find, Option, Some, None, option_map};
+//! Images, as crates above see them: what each call tells (docs/elf.md).
+ghost use Rattle.std.specs.Prelude.{option_copied, ◌≡◌, ◌<◌, ◌≤◌, ◌&&◌, IfSome, if◌then◌else◌, length, find, Option, Some, None, option_map};
 ghost use Rattle.std.specs.List.{list_any};
 ghost use Rattle.elf_image.specs.Segments.{RiseFrom, holds};
-ghost use Rattle.elf_image.specs.Functions.{FunctionsFrom};
-ghost use Rattle.elf_image.specs.Image.{function_at, is_code_in, symbol_in, type_symbols_of, word_of, holds_word, word_in, IsSound};
+ghost use Rattle.elf_image.specs.Functions.{segment_at, FunctionsFrom};
+ghost use Rattle.elf_image.specs.Image.{segment_number, function_at, is_code_in, symbol_in, type_symbols_of, word_of, holds_word, word_in, IsSound};
 ghost use Rattle.eh_word.specs.Names.{same_bytes};
 
-use crate::function::{Function, function_number, segment_at};
+use crate::function::{Function, function_number};
+use crate::holder::{segment_at, segment_number};
 use crate::mark::marked;
 use crate::named::Named;
 use crate::segment::Segment;
@@ -105,7 +107,26 @@ impl<'a> Image<'a> {
         &self.segments
     }
 
-    /// The functions, in rising order of their starts. None reaches into the next.
+    /// The number of the segment that holds an address; None exactly where none does.
+    pub fn segment_of(&self, a: u32) -> Option<usize>
+        ensures number { result ≡ segment_number self.now a }
+        ensures inside { IfSome result (λ i. i < length self.now.segments) }
+        ensures sound { IsSound self.now }
+    {
+        segment_number(&self.segments, a)
+    }
+
+    /// The segment that holds an address; None exactly where none does.
+    pub fn segment_at(&self, a: u32) -> Option<&Segment<'a>>
+        ensures found { option_copied result ≡ segment_at self.now.segments a }
+        ensures sound { IsSound self.now }
+    {
+        segment_at(&self.segments, a)
+    }
+
+    /// The functions, in rising order of their starts. None reaches into the next, each begins at an even address and lies
+    /// whole in one read-only segment that may be executed, and one begins at the entry. They are at most 4,096. No name
+    /// has a zero byte.
     pub fn functions(&self) -> &[Function<'a>]
         ensures functions { result.now ≡ self.now.functions }
         ensures sound { IsSound self.now }
@@ -143,16 +164,18 @@ impl<'a> Image<'a> {
         &self.type_symbols
     }
 
-    /// The address of the exception index; 0 without one.
+    /// The address of the exception index, a multiple of 4; 0 without one.
     pub fn index_start(&self) -> u32
-        ensures { result ≡ self.now.index_start }
+        ensures start { result ≡ self.now.index_start }
+        ensures sound { IsSound self.now }
     {
         self.index_start
     }
 
-    /// The bytes of the exception index; none without one.
+    /// The bytes of the exception index, which stand in one read-only segment; none without one.
     pub fn index_bytes(&self) -> &'a [u8]
-        ensures { result.now ≡ self.now.index_bytes }
+        ensures bytes { result.now ≡ self.now.index_bytes }
+        ensures sound { IsSound self.now }
     {
         self.index_bytes
     }

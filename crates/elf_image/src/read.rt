@@ -1,10 +1,10 @@
-ghost use Rattle.std.specs.Prelude.{◌≡◌, ◌≢◌, ◌+◌, ◌*◌, ◌^◌, ◌<◌, ◌≤◌, [], ◌∷◌, length, sum_by, Option, Some, None, Ok, Err, filter, IfOk, IfErr};
+ghost use Rattle.std.specs.Prelude.{◌≡◌, ◌≢◌, All, ◌+◌, ◌*◌, ◌^◌, ◌<◌, ◌≤◌, [], ◌∷◌, length, sum_by, Option, Some, None, Ok, Err, filter, IfOk, IfErr};
 ghost use Rattle.elf_image.specs.Format.{missing, program_headers, program_offset, program_count, section_offset, section_count, section_headers, first_of};
 ghost use Rattle.elf_image.specs.Segments.{RiseFrom, segment_refusal, segments_of, is_load};
 ghost use Rattle.elf_image.specs.Index.{is_index, index_refusal, index_of};
-ghost use Rattle.elf_image.specs.Symbols.{tables_of, tables_refusal, symbol_count, symbols_of};
+ghost use Rattle.elf_image.specs.Symbols.{HasPlainName, tables_of, tables_refusal, symbol_count, symbols_of};
 ghost use Rattle.elf_image.specs.Functions.{functions_of};
-ghost use Rattle.elf_image.specs.Image.{Image as Parts, image_with, image_of, size_refusal, count_refusal, entry_refusal, build_refusal, file_tables, file_table, strings_in, file_symbols};
+ghost use Rattle.elf_image.specs.Image.{Image as Parts, IndexStands, image_with, image_of, size_refusal, count_refusal, entry_refusal, build_refusal, file_tables, file_table, strings_in, file_symbols};
 ghost use Rattle.elf_image.specs.declared.fault.ImageFault.TheVariants.{OutOfMemory};
 
 use crate::fault::ImageFault;
@@ -88,6 +88,8 @@ fn build<'a>(
     requires rise { RiseFrom 0 segments.items }
     requires memory { sum_by (λ s. s.size) segments.items ≤ 1048576 }
     requires count { length segments.items ≤ 1024 }
+    requires index { IndexStands segments.items index.0 index.1.now }
+    requires plain { All HasPlainName symbols.now }
     ensures accepted { IfOk result (λ image. build_refusal field (functions_of segments.entry.items symbols.now) ≡ None) }
     ensures image { IfOk result (λ image. image ≡ image_with field segments.entry.items (index.entry.0, index.entry.1.now) symbols.now) }
     ensures refused { IfErr result (λ fault. fault ≢ OutOfMemory → build_refusal field (functions_of segments.entry.items symbols.now) ≡ Some fault) }

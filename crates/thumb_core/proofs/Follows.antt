@@ -1,5 +1,5 @@
 -- What holds of every step, by the groups of instructions.
-use Rattle.std.proofs.Common.{◌≡◌, ℕ, ℤ, ◌+◌, ◌-◌, ◌*◌, ◌%◌, ◌^◌, ◌==◌, nat_le, Bool, true, false, List, cond, refl, ap, ◌∙◌, arith, Err, Ok, Result, Option, Some, None, length, get_or, slice_index}
+use Rattle.std.proofs.Common.{◌≡◌, ℕ, ℤ, ◌+◌, ◌-◌, ◌%◌, ◌^◌, ◌==◌, nat_le, Bool, true, false, List, cond, refl, ap, ◌∙◌, arith, Err, Ok, Result, Option, Some, None, length, get_or, slice_index, inl, inr}
 use Rattle.std.specs.Int.{bit_at}
 use Rattle.std.proofs.lemmas.Bool.Decides.{nat_tests}
 use Rattle.std.proofs.lemmas.Grind.{get_or-set_at}
@@ -17,20 +17,21 @@ use Rattle.thumb_core.specs.declared.regs.CoreTrap.TheVariants.{EvenTarget}
 use Rattle.thumb_core.specs.declared.regs.Stepped.{Stepped}
 use Rattle.thumb_core.specs.declared.regs.Stepped.TheVariants.{Done, Gate, Trap}
 use Rattle.thumb_core.specs.declared.alu.Answer.{Answer}
-use Rattle.thumb_core.specs.Arith.{sum_of, difference_of, sum_or_difference, sign_extension}
+use Rattle.thumb_core.specs.Arith.{sum_of, difference_of, sum_or_difference}
 use Rattle.thumb_core.specs.Shift.{shift_of}
 use Rattle.thumb_core.specs.Registers.{put, word_in, even, reg, operand, base, all_of, with_all, with_reg, with_pc, with_next}
 use Rattle.thumb_core.specs.Alu.{alu_of, with_answer}
 use Rattle.thumb_core.specs.Data.{forward, backward, extension_of, reversal_of, imm8, data_effect}
 use Rattle.thumb_core.specs.Words.{listed, loads_from}
 use Rattle.thumb_core.specs.Outcome.{plain_outcome, with_memory}
-use Rattle.thumb_core.specs.Access.{store_end, load_end, store_reg, load_reg, load_reg_signed, mem_reg, mem_imm, mem_sp}
+use Rattle.thumb_core.specs.Access.{store_end, loaded, signed, store_reg, load_reg, load_reg_signed, mem_reg, mem_imm, mem_sp}
 use Rattle.thumb_core.specs.Branch.{passes, target_of, branch, branch_if, write_high, link_of, call_to, return_to, if_odd, register_effect}
 use Rattle.thumb_core.specs.Lists.{words_of, bytes_of, load_list, ldm_end, pop_to, pop_end}
 use Rattle.thumb_core.specs.Step.{effect, outcome_of, with_second, with_first, step_of}
 use Rattle.thumb_core.specs.Laws.{AreWords, AreSound, KeepsMap, Follows}
 use Rattle.eh_bus.proofs.AccessLaws.{store_keeps, run_keeps}
 use Rattle.eh_bus.proofs.MapLaws.{map_refl, store_map, run_map}
+use Rattle.thumb_core.proofs.StoreLaws.{IsWidth, store_closed, run_closed}
 use Rattle.thumb_core.proofs.Sound.{words_put, words_load, words_all, words_take, sound_pc}
 
 -- what holds of both values holds of the one that a test chooses
@@ -42,7 +43,7 @@ even_next : (x : ℕ) → even (x % 2 ^ 32) % 2 ≡ 0
 even_next x = omega arith
 
 same : (m : Memory) → KeepsMap m m
-same m = record { map = map_refl m.segments; guards = refl; home = refl; guarded = λ g h. refl }
+same m = record { map = map_refl m.segments; guards = refl; home = refl; guarded = λ g h. refl; closed = λ a l c. refl }
 
 -- ---- the ways in which an instruction ends
 
@@ -187,10 +188,9 @@ register_follows i size regs m = plain_follows size regs (data_effect i regs) m 
 
 -- ---- loads and stores
 
-load_follows : (answer : Result ℕ BusFault) (t : ℕ) (number : ℕ → ℕ) (size : ℕ) (regs : Regs) (m : Memory) → Follows regs m (load_end answer t number size regs m)
-load_follows (Ok x) t number size regs m =
-    plain_follows size regs (with_reg regs t (number x)) m m (same m) (λ s. words_put 15 regs.r t (number x) s.words)
-load_follows (Err fault) t number size regs m = trap_follows _ regs m
+load_follows : (answer : Result ℕ BusFault) (t size : ℕ) (regs : Regs) (m : Memory) → Follows regs m (with_memory (loaded answer t size regs) m)
+load_follows (Ok x) t size regs m = plain_follows size regs (with_reg regs t x) m m (same m) (λ s. words_put 15 regs.r t x s.words)
+load_follows (Err fault) t size regs m = trap_follows _ regs m
 
 -- a store that is done keeps the map
 store_follows :
@@ -204,12 +204,19 @@ store_follows None segments size regs after m memory keeps =
 
 store_memory :
     (n a v : ℕ) (m : Memory)
+    → IsWidth n
     → fault_in (λ s. store_fault n m.guards s a) n m.segments a ≡ None
     → KeepsMap m (record m { segments = written n m.segments a v })
-store_memory n a v m none =
+store_memory n a v m w none =
     let new : Memory = record m { segments = written n m.segments a v } in
     let done : store n m a v ≡ (Ok tt, new) = ap (λ f. unless_fault f m new) none in
-    record { map = store_map n m a v new done; guards = refl; home = refl; guarded = λ g h. store_keeps n m a v new g done h }
+    record {
+      map = store_map n m a v new done;
+      guards = refl;
+      home = refl;
+      guarded = λ g h. store_keeps n m a v new g done h;
+      closed = λ g l c. store_closed n m a v new g w done l c;
+    }
 
 run_memory :
     (a : ℕ) (words : List ℕ) (m : Memory)
@@ -218,23 +225,29 @@ run_memory :
 run_memory a words m none =
     let new : Memory = record m { segments = run_written m.segments a words } in
     let done : store_run m a words ≡ (Ok tt, new) = ap (λ f. unless_fault f m new) none in
-    record { map = run_map m a words new done; guards = refl; home = refl; guarded = λ g h. run_keeps m a words new g done h }
+    record {
+      map = run_map m a words new done;
+      guards = refl;
+      home = refl;
+      guarded = λ g h. run_keeps m a words new g done h;
+      closed = λ g l c. run_closed m a words new g done l c;
+    }
 
-reg_follows : (n t a size : ℕ) (regs : Regs) (m : Memory) → Follows regs m (store_reg n t a size regs m)
-reg_follows n t a size regs m = store_follows _ _ size regs regs m (store_memory n a (reg regs t % 256 ^ n) m) (λ s. s.words)
+reg_follows : (n t a size : ℕ) (regs : Regs) (m : Memory) → IsWidth n → Follows regs m (store_reg n t a size regs m)
+reg_follows n t a size regs m w = store_follows _ _ size regs regs m (store_memory n a (reg regs t % 256 ^ n) m w) (λ s. s.words)
 
 load_reg_follows : (n t a size : ℕ) (regs : Regs) (m : Memory) → Follows regs m (load_reg n t a size regs m)
-load_reg_follows n t a size regs m = load_follows (load n m a) t (λ x. x) size regs m
+load_reg_follows n t a size regs m = load_follows (load n m a) t size regs m
 
 load_signed_follows : (n t a size : ℕ) (regs : Regs) (m : Memory) → Follows regs m (load_reg_signed n t a size regs m)
-load_signed_follows n t a size regs m = load_follows (load n m a) t (λ x. sign_extension (8 * n) x) size regs m
+load_signed_follows n t a size regs m = load_follows (signed n (load n m a)) t size regs m
 
 mem_reg_follows : (op t n k size : ℕ) (regs : Regs) (m : Memory) → Follows regs m (mem_reg op t n k size regs m)
 mem_reg_follows op t n k size regs m =
     let a = (reg regs n + reg regs k) % 2 ^ 32 in
-    either (λ o. Follows regs m o) (op == 0) _ _ (reg_follows 4 t a size regs m) (
-    either (λ o. Follows regs m o) (op == 1) _ _ (reg_follows 2 t a size regs m) (
-    either (λ o. Follows regs m o) (op == 2) _ _ (reg_follows 1 t a size regs m) (
+    either (λ o. Follows regs m o) (op == 0) _ _ (reg_follows 4 t a size regs m (inr (inr refl))) (
+    either (λ o. Follows regs m o) (op == 1) _ _ (reg_follows 2 t a size regs m (inr (inl refl))) (
+    either (λ o. Follows regs m o) (op == 2) _ _ (reg_follows 1 t a size regs m (inl refl)) (
     either (λ o. Follows regs m o) (op == 3) _ _ (load_signed_follows 1 t a size regs m) (
     either (λ o. Follows regs m o) (op == 4) _ _ (load_reg_follows 4 t a size regs m) (
     either (λ o. Follows regs m o) (op == 5) _ _ (load_reg_follows 2 t a size regs m) (
@@ -244,17 +257,17 @@ mem_reg_follows op t n k size regs m =
 mem_imm_follows : (op t n : ℕ) (off : ℤ) (size : ℕ) (regs : Regs) (m : Memory) → Follows regs m (mem_imm op t n off size regs m)
 mem_imm_follows op t n off size regs m =
     let a = forward (reg regs n) off in
-    either (λ o. Follows regs m o) (op == 0) _ _ (reg_follows 4 t a size regs m) (
+    either (λ o. Follows regs m o) (op == 0) _ _ (reg_follows 4 t a size regs m (inr (inr refl))) (
     either (λ o. Follows regs m o) (op == 1) _ _ (load_reg_follows 4 t a size regs m) (
-    either (λ o. Follows regs m o) (op == 2) _ _ (reg_follows 1 t a size regs m) (
+    either (λ o. Follows regs m o) (op == 2) _ _ (reg_follows 1 t a size regs m (inl refl)) (
     either (λ o. Follows regs m o) (op == 3) _ _ (load_reg_follows 1 t a size regs m) (
-    either (λ o. Follows regs m o) (op == 4) _ _ (reg_follows 2 t a size regs m)
+    either (λ o. Follows regs m o) (op == 4) _ _ (reg_follows 2 t a size regs m (inr (inl refl)))
     (load_reg_follows 2 t a size regs m)))))
 
 mem_sp_follows : (is_load : Bool) (t : ℕ) (off : ℤ) (size : ℕ) (regs : Regs) (m : Memory) → Follows regs m (mem_sp is_load t off size regs m)
 mem_sp_follows is_load t off size regs m =
     let a = forward (reg regs 13) off in
-    either (λ o. Follows regs m o) is_load _ _ (load_reg_follows 4 t a size regs m) (reg_follows 4 t a size regs m)
+    either (λ o. Follows regs m o) is_load _ _ (load_reg_follows 4 t a size regs m) (reg_follows 4 t a size regs m (inr (inr refl)))
 
 -- ---- lists
 

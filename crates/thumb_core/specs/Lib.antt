@@ -9,4 +9,5 @@ pub mod Branch
 pub mod Words
 pub mod Lists
 pub mod Step
+pub mod Stores
 pub mod Laws

@@ -1,5 +1,5 @@
 -- One instruction: the effect of each, and a step from the memory's halfwords to an outcome.
-use Rattle.std.specs.Prelude.{ℕ, ◌+◌, ◌%◌, ◌^◌, nat_le, Result, Ok, Err, if◌then◌else◌}
+use Rattle.std.specs.Prelude.{ℕ, ◌+◌, ◌%◌, ◌^◌, nat_le, Option, Some, None, Result, Ok, Err, if◌then◌else◌}
 use Rattle.thumb_isa.specs.declared.instr.Instr.{Instr}
 use Rattle.thumb_isa.specs.declared.instr.Instr.TheVariants.{LdrLit, MemReg, MemImm, MemSp, Push, Pop, Stm, Ldm}
 use Rattle.thumb_isa.specs.declared.instr.Decoded.{Decoded}
@@ -49,3 +49,23 @@ with_first (Err fault) regs m = fault_outcome fault regs m
 -- the instruction at pc
 abbrev pub step_of : Regs → Memory → Outcome
 step_of regs m = with_first (fetch m regs.pc) regs m
+
+-- ---- the instruction that stands at an address, with its size: none where a halfword can't be fetched or is none
+
+abbrev pub instr_of : Decoded → Option (Instr × ℕ)
+instr_of (Is i size) = Some (i, size)
+instr_of Undefined = None
+instr_of Unpredictable = None
+instr_of NotInProfile = None
+
+abbrev pub instr_of_second : Result ℕ BusFault → ℕ → Option (Instr × ℕ)
+instr_of_second (Ok second) first = instr_of (decoded_of first second)
+instr_of_second (Err fault) first = None
+
+abbrev pub instr_of_first : Result ℕ BusFault → Memory → ℕ → Option (Instr × ℕ)
+instr_of_first (Ok first) m a =
+    if nat_le 0xe800 first then instr_of_second (fetch m ((a + 2) % 2 ^ 32)) first else instr_of (decoded_of first 0)
+instr_of_first (Err fault) m a = None
+
+abbrev pub instr_at : Memory → ℕ → Option (Instr × ℕ)
+instr_at m a = instr_of_first (fetch m a) m a

@@ -1,7 +1,11 @@
-use Rattle.std.proofs.Common.{◌∙◌, sym}
+use Rattle.std.proofs.Common.{ℕ, List, ◌∙◌, sym, subst}
 use Rattle.std.proofs.lemmas.Result.{err_from_is_err_and}
 use Rattle.elf_image.proofs.Outcome.{refused_header, refused_table, known, exit_segments, exit_index, exit_tables, ready, finish_image, finish_refused}
 use Rattle.elf_image.proofs.Lookups.{sum_fits}
+use Rattle.elf_image.proofs.Sound.{index_stands, plain_symbols}
+use Rattle.elf_image.specs.Index.{is_index}
+use Rattle.elf_image.specs.Image.{IndexStands}
+use Rattle.std.specs.List.{filter}
 use Rattle.elf_image.proofs.read.read_image.Goals as goal
 
 pub returns-in-Some-clause-refused : goal.returns-in-Some-clause-refused
@@ -61,3 +65,13 @@ returns-clause-refused c =
     let r = ready c.args.bytes.now c.deref.result.now c.in_ok-segments.segments.items _ c.in_ok-table.table.now c.in_ok-table.strings.now c.deref-5.result.now c.word.result k i j
     c.in_ok-table.ensures.accepted c.in_ok-table.ensures.table c.in_ok-table.ensures.strings size (c.deref-5.ensures.value ∙ c.in_ok-symbols.ensures) c.word.ensures in
     finish_refused c.args.bytes.now c.in_ok-segments.segments.items _ c.deref-5.result.now c.word.result r c.build.result c.build.ensures.refused
+
+pub build-requires-clause-index : goal.build-requires-clause-index
+build-requires-clause-index c =
+    let i = rw (c.deref-2.ensures.value, c.deref-3.ensures.value) at c.in_ok-index.ensures.accepted in
+    let j = rw (c.deref-2.ensures.value, c.deref-3.ensures.value) at c.in_ok-index.ensures.index in
+    subst (λ (x : ℕ × List ℕ). IndexStands c.in_ok-segments.segments.items x.0 x.1) (sym j)
+    (index_stands (filter is_index c.in_ok-headers.headers.items) c.in_ok-segments.segments.items i)
+
+pub build-requires-clause-plain : goal.build-requires-clause-plain
+build-requires-clause-plain c = rw (c.deref-5.ensures.value, c.in_ok-symbols.ensures) (plain_symbols c.in_ok-table.table.now c.in_ok-table.strings.now)

@@ -1,0 +1,5 @@
+pub mod Rows
+pub mod Places
+pub mod Refusal
+pub mod Covering
+pub mod Laws
