@@ -10,7 +10,7 @@ use Rattle.thumb_isa.specs.declared.instr.Instr.TheVariants.{Bx, Blx, LdrLit, Me
 use Rattle.thumb_isa.specs.declared.instr.Decoded.{Decoded}
 use Rattle.thumb_isa.specs.declared.instr.Decoded.TheVariants.{Is, Undefined, Unpredictable, NotInProfile}
 use Rattle.thumb_isa.specs.Rows.{decoded_of}
-use Rattle.thumb_core.specs.declared.regs.TheConstants.{SP, PC}
+use Rattle.thumb_core.specs.declared.regs.TheConstants.{SP, LR, PC}
 use Rattle.thumb_core.specs.declared.regs.Regs.{Regs}
 use Rattle.thumb_core.specs.declared.regs.CoreTrap.{CoreTrap}
 use Rattle.thumb_core.specs.declared.regs.CoreTrap.TheVariants.{EvenTarget}
@@ -27,6 +27,7 @@ use Rattle.thumb_core.specs.Step.{effect, outcome_of, with_second, with_first, s
 use Rattle.thumb_core.specs.Stores.{Span, span, SameApart, KeepsApart, stores_of, stores_of_some}
 use Rattle.thumb_core.specs.Laws.{Popped, Acts}
 use Rattle.thumb_core.proofs.PopLaws.{last_word, sp_behind, kept_register}
+use Rattle.thumb_core.proofs.Follows.{either}
 use Rattle.thumb_core.proofs.StoreLaws.{IsWidth, store_same, run_same}
 
 -- fifteen words
@@ -55,7 +56,7 @@ call_acts at target size regs m =
     let same : even (target % 2 ^ 32) ≡ even (even (target % 2 ^ 32) % 2 ^ 32) = omega arith in
     record {
       apart = refl;
-      leaves = ap (λ (x : ℕ). record (with_reg regs 14 (link_of size regs)) { pc = x }) same;
+      leaves = ap (λ (x : ℕ). record (with_reg regs LR (link_of size regs)) { pc = x }) same;
       memory = refl;
     }
 
@@ -74,10 +75,6 @@ odd_acts at target regs p m f = go (target % 2 == 0)
 both : {A : Type 0} {C : Type 0} (P : A → C → Type 0) (b : Bool) (x y : A) (v w : C) → P x v → P y w → P (cond b x y) (cond b v w)
 both P true x y v w px py = px
 both P false x y v w px py = py
-
-either : {A : Type 0} (P : A → Type 0) (b : Bool) (x y : A) → P x → P y → P (cond b x y)
-either P true x y px py = px
-either P false x y px py = py
 
 -- ---- instructions that leave the memory
 
@@ -154,7 +151,7 @@ mem_imm_acts at op t n off size regs m =
 
 mem_sp_acts : (at : At) (is_load : Bool) (t : ℕ) (off : ℤ) (size : ℕ) (regs : Regs) (m : Memory) → Acts at (stores_of (MemSp is_load t off) regs) regs m (mem_sp is_load t off size regs m)
 mem_sp_acts at true t off size regs m = load_acts at _ t size regs m
-mem_sp_acts at false t off size regs m = reg_acts at 4 t (forward (reg regs 13) off) size regs m (inr (inr refl)) (forward_word (reg regs 13) off)
+mem_sp_acts at false t off size regs m = reg_acts at 4 t (forward (reg regs SP) off) size regs m (inr (inr refl)) (forward_word (reg regs SP) off)
 
 -- ---- lists
 
@@ -198,8 +195,8 @@ effect_acts (LdrLit t off) size regs m small = load_acts _ _ t size regs m
 effect_acts (MemReg op t n k) size regs m small = mem_reg_acts _ op t n k size regs m
 effect_acts (MemImm op t n off) size regs m small = mem_imm_acts _ op t n off size regs m
 effect_acts (MemSp is_load t off) size regs m small = mem_sp_acts _ is_load t off size regs m
-effect_acts (Push list) size regs m small = run_acts _ ((reg regs 13 + (2 ^ 32 - bytes_of list)) % 2 ^ 32) list size regs _ m (low_sum (reg regs 13) (2 ^ 32 - bytes_of list))
-effect_acts (Pop list) size regs m small = pop_acts list size regs m small.count (load_list list (reg regs 13) regs m) refl
+effect_acts (Push list) size regs m small = run_acts _ ((reg regs SP + (2 ^ 32 - bytes_of list)) % 2 ^ 32) list size regs _ m (low_sum (reg regs SP) (2 ^ 32 - bytes_of list))
+effect_acts (Pop list) size regs m small = pop_acts list size regs m small.count (load_list list (reg regs SP) regs m) refl
 effect_acts (Stm n list) size regs m small = run_acts _ (reg regs n) list size regs _ m (small.words n)
 effect_acts (Ldm n list) size regs m small = ldm_acts _ (load_list list (reg regs n) regs m) n list size regs m
 effect_acts i size regs m small = register_acts i size regs m

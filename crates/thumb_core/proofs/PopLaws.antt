@@ -9,6 +9,7 @@ use Rattle.std.proofs.lemmas.Grind.{get_or-set_at}
 use Rattle.eh_bus.specs.Segment.{Segment}
 use Rattle.eh_bus.specs.Memory.{Memory, loads}
 use Rattle.eh_bus.specs.declared.fault.BusFault.{BusFault}
+use Rattle.thumb_core.specs.declared.regs.TheConstants.{SP, PC}
 use Rattle.thumb_core.specs.declared.regs.Regs.{Regs}
 use Rattle.thumb_core.specs.Registers.{put, word_in, all_of}
 use Rattle.thumb_core.specs.Words.{numbers, listed, load_words, loads_from, ◌>>=◌}
@@ -69,7 +70,7 @@ filter_both p (x ∷ xs) ys = go (p x) (filter_both p xs ys)
 unfoldable front_of : ℕ → List ℕ
 front_of mask = filter (λ k. bit_at mask k == 1) (0 ∷ 1 ∷ 2 ∷ 3 ∷ 4 ∷ 5 ∷ 6 ∷ 7 ∷ 8 ∷ 9 ∷ 10 ∷ 11 ∷ 12 ∷ 13 ∷ 14 ∷ [])
 
-listed_front : (mask : ℕ) → bit_at mask 15 ≡ 1 → listed mask ≡ front_of mask ++ (15 ∷ [])
+listed_front : (mask : ℕ) → bit_at mask PC ≡ 1 → listed mask ≡ front_of mask ++ (15 ∷ [])
 unfolding listed front_of
 listed_front mask set =
     filter_both (λ k. bit_at mask k == 1) (0 ∷ 1 ∷ 2 ∷ 3 ∷ 4 ∷ 5 ∷ 6 ∷ 7 ∷ 8 ∷ 9 ∷ 10 ∷ 11 ∷ 12 ∷ 13 ∷ 14 ∷ []) (15 ∷ [])
@@ -80,10 +81,10 @@ pub record Last (mask a : ℕ) (m : Memory) (words : List ℕ) : Type 0 where
   pub loaded : loads 4 m.segments ((a + (bytes_of mask - 4)) % 2 ^ 32) ≡ Ok word
   pub last : get_or words 15 0 ≡ word % 2 ^ 32
 
-last_bytes : (mask : ℕ) → bit_at mask 15 ≡ 1 → 0 + 4 * length (front_of mask) ≡ bytes_of mask - 4
+last_bytes : (mask : ℕ) → bit_at mask PC ≡ 1 → 0 + 4 * length (front_of mask) ≡ bytes_of mask - 4
 last_bytes mask set = rw (listed_front mask set, length-append) (omega arith)
 
-pub last_word : (mask a : ℕ) (regs : Regs) (m : Memory) (words : List ℕ) → length regs.r ≡ 15 → bit_at mask 15 ≡ 1 → load_list mask a regs m ≡ Ok words → Last mask a m words
+pub last_word : (mask a : ℕ) (regs : Regs) (m : Memory) (words : List ℕ) → length regs.r ≡ 15 → bit_at mask PC ≡ 1 → load_list mask a regs m ≡ Ok words → Last mask a m words
 last_word mask a regs m words count set e =
     front (load_words m.segments a (loads_from 0 (front_of mask)) (all_of regs)) refl
     (rw (listed_front mask set, load_both m.segments a 0 (front_of mask) (15 ∷ []) (all_of regs), last_bytes mask set) at e)
@@ -95,7 +96,7 @@ last_word mask a regs m words count set e =
         record {
           word = x;
           loaded = l;
-          last = rw (← same) (get_or-set_at after 15 15 (word_in 15 x) 0 refl (omega arith));
+          last = rw (← same) (get_or-set_at after 15 15 (word_in PC x) 0 refl (omega arith));
         }
     pc_word after size (Err fault) l e = absurd (cc)
 
@@ -116,20 +117,20 @@ unfolding listed
 list_keeps mask a k regs m words clear e = load_misses m.segments a 0 k (filter (λ j. bit_at mask j == 1) numbers) (all_of regs) words (listed_misses mask k numbers clear) e
 
 pub kept_register : (mask a k v : ℕ) (regs : Regs) (m : Memory) (words : List ℕ) → length regs.r ≡ 15 → load_list mask a regs m ≡ Ok words → k ≢ 13 → bit_at mask k ≡ 0
-    → get_or (take 15 (put words 13 v)) k 0 ≡ get_or regs.r k 0
+    → get_or (take 15 (put words SP v)) k 0 ≡ get_or regs.r k 0
 kept_register mask a k v regs m words count e other clear = by (cases_lt k 15)
   where
-    size : length (take 15 (put words 13 v)) ≡ 15
-    size = rw (length-take 15 (put words 13 v), length-set words 13 (word_in 13 v), list_length mask a regs m words count e) refl
+    size : length (take 15 (put words SP v)) ≡ 15
+    size = rw (length-take 15 (put words SP v), length-set words 13 (word_in SP v), list_length mask a regs m words count e) refl
 
-    by : (k < 15) ⊎ (15 ≤ k) → get_or (take 15 (put words 13 v)) k 0 ≡ get_or regs.r k 0
+    by : (k < 15) ⊎ (15 ≤ k) → get_or (take 15 (put words SP v)) k 0 ≡ get_or regs.r k 0
     by (inl low) =
-        get_or-take 15 (put words 13 v) k 0 low ∙ get_or-set_other words 13 k (word_in 13 v) 0 other
+        get_or-take 15 (put words SP v) k 0 low ∙ get_or-set_other words 13 k (word_in SP v) 0 other
         ∙ list_keeps mask a k regs m words clear e ∙ get_or_append_left regs.r (regs.pc ∷ []) 0 k (rw count low)
-    by (inr high) = get_or_past (take 15 (put words 13 v)) k 0 (rw size high) ∙ sym (get_or_past regs.r k 0 (rw count high))
+    by (inr high) = get_or_past (take 15 (put words SP v)) k 0 (rw size high) ∙ sym (get_or_past regs.r k 0 (rw count high))
 
 pub sp_behind : (mask a v : ℕ) (regs : Regs) (m : Memory) (words : List ℕ) → length regs.r ≡ 15 → load_list mask a regs m ≡ Ok words
-    → get_or (take 15 (put words 13 v)) 13 0 ≡ word_in 13 v
+    → get_or (take 15 (put words SP v)) 13 0 ≡ word_in SP v
 sp_behind mask a v regs m words count e =
     let size = list_length mask a regs m words count e in
-    get_or-take 15 (put words 13 v) 13 0 (omega arith) ∙ get_or-set_at words 13 13 (word_in 13 v) 0 refl (omega arith)
+    get_or-take 15 (put words SP v) 13 0 (omega arith) ∙ get_or-set_at words 13 13 (word_in SP v) 0 refl (omega arith)
