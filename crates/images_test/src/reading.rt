@@ -1,35 +1,9 @@
-// A file by hand from the standard: one segment at 0x8000 with 14 bytes of code, and the function `_start` there.
-use crate::fault::ImageFault;
-use crate::read::read_image;
+//! Reading images: the file by hand, and its variants with the refusals that docs/elf.md lists.
+use crate::file::{FILE, changed};
+use elf_image::fault::ImageFault;
+use elf_image::read::read_image;
 use std::alloc::{AllocError, Global};
 use std::test::Fail;
-
-static FILE: [u8; 376] = [
-    127, 69, 76, 70, 1, 1, 1, 0, 0, 0, 0, 0, 0, 0, 0, 0, 2, 0, 40, 0, 1, 0, 0, 0, 1, 128, 0, 0, 52,
-    0, 0, 0, 176, 0, 0, 0, 0, 0, 0, 5, 52, 0, 32, 0, 1, 0, 40, 0, 5, 0, 4, 0, 1, 0, 0, 0, 84, 0, 0,
-    0, 0, 128, 0, 0, 0, 128, 0, 0, 14, 0, 0, 0, 14, 0, 0, 0, 5, 0, 0, 0, 4, 0, 0, 0, 3, 33, 65, 32,
-    1, 223, 1, 57, 251, 209, 0, 32, 0, 223, 0, 0, 0, 0, 0, 0, 0, 0, 0, 0, 0, 0, 0, 0, 0, 0, 0, 0,
-    1, 0, 0, 0, 1, 128, 0, 0, 14, 0, 0, 0, 18, 0, 1, 0, 0, 95, 115, 116, 97, 114, 116, 0, 0, 46,
-    115, 101, 103, 48, 0, 46, 115, 121, 109, 116, 97, 98, 0, 46, 115, 116, 114, 116, 97, 98, 0, 46,
-    115, 104, 115, 116, 114, 116, 97, 98, 0, 0, 0, 0, 0, 0, 0, 0, 0, 0, 0, 0, 0, 0, 0, 0, 0, 0, 0,
-    0, 0, 0, 0, 0, 0, 0, 0, 0, 0, 0, 0, 0, 0, 0, 0, 0, 0, 0, 0, 0, 0, 0, 0, 0, 1, 0, 0, 0, 1, 0, 0,
-    0, 6, 0, 0, 0, 0, 128, 0, 0, 84, 0, 0, 0, 14, 0, 0, 0, 0, 0, 0, 0, 0, 0, 0, 0, 4, 0, 0, 0, 0,
-    0, 0, 0, 7, 0, 0, 0, 2, 0, 0, 0, 0, 0, 0, 0, 0, 0, 0, 0, 100, 0, 0, 0, 32, 0, 0, 0, 3, 0, 0, 0,
-    1, 0, 0, 0, 4, 0, 0, 0, 16, 0, 0, 0, 15, 0, 0, 0, 3, 0, 0, 0, 0, 0, 0, 0, 0, 0, 0, 0, 132, 0,
-    0, 0, 8, 0, 0, 0, 0, 0, 0, 0, 0, 0, 0, 0, 4, 0, 0, 0, 0, 0, 0, 0, 23, 0, 0, 0, 3, 0, 0, 0, 0,
-    0, 0, 0, 0, 0, 0, 0, 140, 0, 0, 0, 33, 0, 0, 0, 0, 0, 0, 0, 0, 0, 0, 0, 4, 0, 0, 0, 0, 0, 0, 0,
-];
-
-/// The file with bytes from a place on replaced.
-fn changed(alloc: Global, file: &[u8], at: usize, with: &[u8]) -> Result<Vec<u8>, AllocError> {
-    let mut bytes = Vec::from_slice(alloc, file)?;
-    for (i, b) in with.iter().enumerate() {
-        if at < bytes.len() && i < bytes.len() - at {
-            bytes[at + i] = *b;
-        }
-    }
-    Ok(bytes)
-}
 
 #[test]
 fn reads_an_image(rt: HostRuntime) -> Result<(), Fail> {
