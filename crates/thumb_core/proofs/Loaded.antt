@@ -1,5 +1,5 @@
 -- A mask's low eight registers, and the one above them that a PUSH or a POP may name.
-use Rattle.std.proofs.Common.{◌≡◌, ℕ, zero, suc, ◌+◌, ◌-◌, ◌*◌, ◌/◌, ◌%◌, ◌^◌, ◌<◌, ◌≤◌, ◌==◌, Bool, true, false, List, [], ◌∷◌, ◌++◌, cond, refl, sym, ap, ◌∙◌, arith, length, Err, Ok, Result, ◌⊎◌, inl, inr}
+use Rattle.std.proofs.Common.{◌≡◌, ℕ, zero, suc, ◌+◌, ◌*◌, ◌%◌, ◌^◌, ◌<◌, ◌≤◌, ◌==◌, Bool, true, false, List, [], ◌∷◌, ◌++◌, cond, refl, sym, ap, ◌∙◌, arith, length, Err, Ok, Result, ◌⊎◌, inl, inr}
 use Rattle.std.specs.List.{filter}
 use Rattle.std.specs.Int.{bit_at}
 use Rattle.std.proofs.Math.ListN.{length-set}
@@ -10,8 +10,8 @@ use Rattle.eh_bus.specs.Segment.{Segment}
 use Rattle.eh_bus.specs.Memory.{Memory, loads}
 use Rattle.eh_bus.specs.declared.fault.BusFault.{BusFault}
 use Rattle.thumb_core.specs.declared.regs.Regs.{Regs}
-use Rattle.thumb_core.specs.Registers.{put, word_in, all_of}
-use Rattle.thumb_core.specs.Words.{Load, numbers, listed, words_in, load_words, loads_from, ◌>>=◌}
+use Rattle.thumb_core.specs.Registers.{put, word_in}
+use Rattle.thumb_core.specs.Words.{numbers, listed, load_words, loads_from, ◌>>=◌}
 use Rattle.thumb_core.specs.Lists.{load_list}
 use Rattle.thumb_core.proofs.Listed.{numbers_from, listed_from, listed_all, listed_none, listed_more, listed_end}
 
@@ -61,9 +61,24 @@ with_pc_high mask l =
     let z12 : bit_at mask 12 ≡ 0 = omega arith in
     let z13 : bit_at mask 13 ≡ 0 = omega arith in
     let z14 : bit_at mask 14 ≡ 0 = omega arith in
-    rw (listed_more 8 mask (omega arith), z8, listed_more 9 mask (omega arith), z9, listed_more 10 mask (omega arith), z10,
-        listed_more 11 mask (omega arith), z11, listed_more 12 mask (omega arith), z12, listed_more 13 mask (omega arith), z13,
-        listed_more 14 mask (omega arith), z14, listed_more 15 mask (omega arith), listed_none mask) refl
+    rw (
+      listed_more 8 mask (omega arith),
+      z8,
+      listed_more 9 mask (omega arith),
+      z9,
+      listed_more 10 mask (omega arith),
+      z10,
+      listed_more 11 mask (omega arith),
+      z11,
+      listed_more 12 mask (omega arith),
+      z12,
+      listed_more 13 mask (omega arith),
+      z13,
+      listed_more 14 mask (omega arith),
+      z14,
+      listed_more 15 mask (omega arith),
+      listed_none mask,
+    ) refl
 
 -- what a mask of eight registers and lr has above the eight
 pub with_lr_high : (mask : ℕ) → mask < 2 ^ 15 → mask % 2 ^ 14 < 2 ^ 8 → listed_from 8 mask ≡ cond (bit_at mask 14 == 1) (14 ∷ []) []
@@ -74,9 +89,22 @@ with_lr_high mask h l =
     let z11 : bit_at mask 11 ≡ 0 = omega arith in
     let z12 : bit_at mask 12 ≡ 0 = omega arith in
     let z13 : bit_at mask 13 ≡ 0 = omega arith in
-    rw (listed_more 8 mask (omega arith), z8, listed_more 9 mask (omega arith), z9, listed_more 10 mask (omega arith), z10,
-        listed_more 11 mask (omega arith), z11, listed_more 12 mask (omega arith), z12, listed_more 13 mask (omega arith), z13,
-        listed_more 14 mask (omega arith), listed_end mask h) refl
+    rw (
+      listed_more 8 mask (omega arith),
+      z8,
+      listed_more 9 mask (omega arith),
+      z9,
+      listed_more 10 mask (omega arith),
+      z10,
+      listed_more 11 mask (omega arith),
+      z11,
+      listed_more 12 mask (omega arith),
+      z12,
+      listed_more 13 mask (omega arith),
+      z13,
+      listed_more 14 mask (omega arith),
+      listed_end mask h,
+    ) refl
 
 -- ---- words loaded
 
@@ -114,8 +142,8 @@ load_front segments base at [] r t count below = refl
 load_front segments base at (k ∷ more) r t count below =
     let inside : k < length r = omega (arith, below.0) in
     go (loads 4 segments ((base + at) % 2 ^ 32)) (λ x.
-        rw (set-append_left r t k (word_in k x) inside)
-        (load_front segments base (at + 4) more (put r k x) t (length-set r k (word_in k x) ∙ count) below.1))
+    rw (set-append_left r t k (word_in k x) inside)
+    (load_front segments base (at + 4) more (put r k x) t (length-set r k (word_in k x) ∙ count) below.1))
   where
     go : (loaded : Result ℕ BusFault)
         → ((x : ℕ) → load_words segments base (loads_from (at + 4) more) (put (r ++ t) k x) ≡ (load_words segments base (loads_from (at + 4) more) (put r k x) >>= λ after. Ok (after ++ t)))
@@ -125,7 +153,7 @@ load_front segments base at (k ∷ more) r t count below =
     go (Err fault) next = refl
 
 -- loads of two lists, one after the other
-load_both :
+pub load_both :
     (segments : List Segment) (base at : ℕ) (ks js r : List ℕ)
     → load_words segments base (loads_from at (ks ++ js)) r
     ≡ (load_words segments base (loads_from at ks) r >>= λ after. load_words segments base (loads_from (at + 4 * length ks) js) after)
@@ -136,7 +164,7 @@ load_both segments base at (k ∷ more) js r =
   where
     go : (loaded : Result ℕ BusFault)
         → ((x : ℕ) → load_words segments base (loads_from (at + 4) (more ++ js)) (put r k x)
-            ≡ (load_words segments base (loads_from (at + 4) more) (put r k x) >>= λ after. load_words segments base (loads_from (at + 4 + 4 * length more) js) after))
+        ≡ (load_words segments base (loads_from (at + 4) more) (put r k x) >>= λ after. load_words segments base (loads_from (at + 4 + 4 * length more) js) after))
         → (loaded >>= λ x. load_words segments base (loads_from (at + 4) (more ++ js)) (put r k x))
         ≡ ((loaded >>= λ x. load_words segments base (loads_from (at + 4) more) (put r k x)) >>= λ after. load_words segments base (loads_from (at + 4 + 4 * length more) js) after)
     go (Ok x) next = next x
@@ -149,11 +177,14 @@ pub load_list_low :
     (mask a : ℕ) (regs : Regs) (m : Memory) → length regs.r ≡ 15
     → load_list mask a regs m
     ≡ (load_words m.segments a (loads_from 0 (listed (mask % 2 ^ 8))) regs.r
-        >>= λ r. load_words m.segments a (loads_from (4 * length (listed (mask % 2 ^ 8))) (listed_from 8 mask)) (r ++ (regs.pc ∷ [])))
+    >>= λ r. load_words m.segments a (loads_from (4 * length (listed (mask % 2 ^ 8))) (listed_from 8 mask)) (r ++ (regs.pc ∷ [])))
 load_list_low mask a regs m count =
     let low = listed (mask % 2 ^ 8) in
-    rw (listed_low mask, load_both m.segments a 0 low (listed_from 8 mask) (regs.r ++ (regs.pc ∷ [])),
-        load_front m.segments a 0 low regs.r (regs.pc ∷ []) count (listed_below (mask % 2 ^ 8) (omega arith)))
+    rw (
+      listed_low mask,
+      load_both m.segments a 0 low (listed_from 8 mask) (regs.r ++ (regs.pc ∷ [])),
+      load_front m.segments a 0 low regs.r (regs.pc ∷ []) count (listed_below (mask % 2 ^ 8) (omega arith)),
+    )
     (go (load_words m.segments a (loads_from 0 low) regs.r))
   where
     go : (loaded : Result (List ℕ) BusFault)

@@ -1,27 +1,58 @@
+//! Branches, calls, returns, and the instructions that may write pc (docs/core.md, "Branches").
 ghost use Rattle.std.specs.Prelude.{◌≡◌, ◌<◌};
-ghost use Rattle.thumb_core.specs.Branch.{done, passes, target_of, branch, branch_if, write_high, add_high, mov_high, call_to, bl, blx, bx, svc};
+ghost use Rattle.thumb_core.specs.Outcome.{done};
+ghost use Rattle.thumb_core.specs.Branch.{passes, target_of, branch, branch_if, write_high, add_high, mov_high, call_to, bl, blx, bx, svc};
 
 use crate::data::forward;
 use crate::regs::{CoreTrap, LR, PC, Regs, Stepped, even};
+
+// The numbers of the conditions of `Instr::BCond` (DDI 0419, the table of condition codes).
+pub const EQ: u8 = 0;
+
+pub const NE: u8 = 1;
+
+pub const CS: u8 = 2;
+
+pub const CC: u8 = 3;
+
+pub const MI: u8 = 4;
+
+pub const PL: u8 = 5;
+
+pub const VS: u8 = 6;
+
+pub const VC: u8 = 7;
+
+pub const HI: u8 = 8;
+
+pub const LS: u8 = 9;
+
+pub const GE: u8 = 10;
+
+pub const LT: u8 = 11;
+
+pub const GT: u8 = 12;
+
+pub const LE: u8 = 13;
 
 /// Whether a condition holds.
 fn passes(cond: u8, regs: &Regs) -> bool
     ensures { result ≡ passes cond regs.now }
 {
     match cond {
-        0 => regs.z,
-        1 => !regs.z,
-        2 => regs.c,
-        3 => !regs.c,
-        4 => regs.n,
-        5 => !regs.n,
-        6 => regs.v,
-        7 => !regs.v,
-        8 => regs.c && !regs.z,
-        9 => !regs.c || regs.z,
-        10 => regs.n == regs.v,
-        11 => regs.n != regs.v,
-        12 => !regs.z && regs.n == regs.v,
+        EQ => regs.z,
+        NE => !regs.z,
+        CS => regs.c,
+        CC => !regs.c,
+        MI => regs.n,
+        PL => !regs.n,
+        VS => regs.v,
+        VC => !regs.v,
+        HI => regs.c && !regs.z,
+        LS => !regs.c || regs.z,
+        GE => regs.n == regs.v,
+        LT => regs.n != regs.v,
+        GT => !regs.z && regs.n == regs.v,
         _ => regs.z || regs.n != regs.v,
     }
 }

@@ -1,7 +1,10 @@
-ghost use Rattle.std.specs.Prelude.{◌≡◌, ◌<◌};
+//! Registers, flags, and what a step answers (docs/core.md, "Registers" and "What a step answers").
+ghost use Rattle.std.specs.Prelude.{◌≡◌, ◌+◌, ◌%◌, ◌^◌, ◌<◌};
+ghost use Rattle.thumb_core.specs.Data.{forward};
 ghost use Rattle.thumb_core.specs.Registers.{word_in, even, with_reg, with_pc, with_nz, with_flags, with_next, reg, pc_read, operand, base};
 
 use crate::arith::Sum;
+use crate::data::forward;
 use eh_bus::fault::BusFault;
 
 /// The number of the stack pointer.
@@ -114,6 +117,23 @@ impl Regs {
         ensures { result ≡ reg self.now k }
     {
         self.r[k as usize]
+    }
+
+    /// The address some bytes beyond the one in a register.
+    pub(crate) fn at(&self, k: u8, off: i32) -> u32
+        requires { k < 15 }
+        ensures { result ≡ forward (reg self.now k) off }
+    {
+        forward(self.reg(k), off)
+    }
+
+    /// The address that is the sum of two registers.
+    pub(crate) fn sum(&self, n: u8, m: u8) -> u32
+        requires n_in { n < 15 }
+        requires m_in { m < 15 }
+        ensures { result ≡ (reg self.now n + reg self.now m) % 2 ^ 32 }
+    {
+        self.reg(n).wrapping_add(self.reg(m))
     }
 
     /// pc as an operand: the instruction's address plus 4.

@@ -1,18 +1,19 @@
+//! A step: fetches, decodes and does the instruction at pc (docs/core.md, "One step, in order").
 ghost use Rattle.std.specs.Prelude.{◌≡◌, ℕ, ◌^◌, ◌<◌, slice_index};
 ghost use Rattle.thumb_isa.specs.Range.{InRange};
 ghost use Rattle.thumb_core.specs.Laws.{AreSound, KeepsMap, Leaves, LeavesMemory, OnTrap, Stands};
 ghost use Rattle.thumb_core.specs.Step.{step_of, effect, instr_at};
 ghost use Rattle.thumb_core.specs.Stores.{KeepsApart, stores_at};
 
-use crate::access::{ldr_lit, mem_imm, mem_reg, mem_sp};
+use crate::access::{load_word, mem_imm, mem_reg, mem_sp};
 use crate::alu::alu;
 use crate::branch::{add_high, b, bl, blx, branch_if, bx, mov_high, svc};
 use crate::data::{
-    add_rd_sp, add_sp, add_sub_imm, add_sub_reg, adr, cmp_high, extend, imm8, rev, shift_imm,
-    sub_sp,
+    add_sub_imm, add_sub_reg, backward, cmp_high, extension_of, forward, imm8, reversal_of,
+    shift_imm,
 };
 use crate::lists::{ldm, pop, push, stm};
-use crate::regs::{CoreTrap, Regs, Stepped};
+use crate::regs::{CoreTrap, Regs, SP, Stepped};
 use eh_bus::bus::Bus;
 use thumb_isa::decode::{decode, is_wide};
 use thumb_isa::instr::{Decoded, Instr};
@@ -22,6 +23,7 @@ use thumb_isa::instr::{Decoded, Instr};
 /// A first halfword that begins a wide encoding makes the second one be fetched, at pc + 2, before anything is decoded.
 /// So the traps are, in this order: the fault of the first fetch, that of the second; what the halfwords are where they
 /// are no instruction; and the instruction's own, an even target or the first fault of its loads and stores.
+#[inline(always)]
 pub fn step<B: Bus>(regs: &mut Regs, bus: &mut B) -> Stepped
     ensures effect { (result, regs.new, B.memory bus.new) ≡ step_of regs.old (B.memory bus.old) }
 
@@ -44,6 +46,7 @@ fn are_words(r: &[u32])
 {}
 
 /// Fetches, decodes and executes.
+#[inline(always)]
 fn perform<B: Bus>(regs: &mut Regs, bus: &mut B) -> Stepped
     ensures { (result, regs.new, B.memory bus.new) ≡ step_of regs.old (B.memory bus.old) }
 {
@@ -68,6 +71,7 @@ fn perform<B: Bus>(regs: &mut Regs, bus: &mut B) -> Stepped
 }
 
 /// Does an instruction: the one match by instruction. What the arms of data leave goes on behind the instruction.
+#[inline(always)]
 fn execute<B: Bus>(i: Instr, size: u32, regs: &mut Regs, bus: &mut B) -> Stepped
     requires { InRange i }
     ensures { (result, regs.new, B.memory bus.new) ≡ effect i size regs.old (B.memory bus.old) }
@@ -79,12 +83,12 @@ fn execute<B: Bus>(i: Instr, size: u32, regs: &mut Regs, bus: &mut B) -> Stepped
         Instr::Imm8 { op, d, imm } => imm8(op, d, imm, regs),
         Instr::Alu { op, d, m } => alu(op, d, m, regs),
         Instr::CmpHigh { n, m } => cmp_high(n, m, regs),
-        Instr::Adr { d, off } => adr(d, off, regs),
-        Instr::AddRdSp { d, off } => add_rd_sp(d, off, regs),
-        Instr::AddSp { off } => add_sp(off, regs),
-        Instr::SubSp { off } => sub_sp(off, regs),
-        Instr::Extend { op, d, m } => extend(op, d, m, regs),
-        Instr::Rev { op, d, m } => rev(op, d, m, regs),
+        Instr::Adr { d, off } => regs.put(d, forward(regs.base(), off)),
+        Instr::AddRdSp { d, off } => regs.put(d, regs.at(SP, off)),
+        Instr::AddSp { off } => regs.put(SP, regs.at(SP, off)),
+        Instr::SubSp { off } => regs.put(SP, backward(regs.reg(SP), off)),
+        Instr::Extend { op, d, m } => regs.put(d, extension_of(op, regs.reg(m))),
+        Instr::Rev { op, d, m } => regs.put(d, reversal_of(op, regs.reg(m))),
         Instr::Hint { .. } => {}
         Instr::Barrier { .. } => {}
         Instr::AddHigh { d, m } => return add_high(d, m, size, regs),
@@ -95,10 +99,12 @@ fn execute<B: Bus>(i: Instr, size: u32, regs: &mut Regs, bus: &mut B) -> Stepped
         Instr::Blx { m } => return blx(m, size, regs),
         Instr::Bx { m } => return bx(m, regs),
         Instr::Svc { imm } => return svc(imm, size, regs),
-        Instr::LdrLit { t, off } => return ldr_lit(t, off, size, regs, bus),
-        Instr::MemReg { op, t, n, m } => return mem_reg(op, t, n, m, size, regs, bus),
-        Instr::MemImm { op, t, n, off } => return mem_imm(op, t, n, off, size, regs, bus),
-        Instr::MemSp { load, t, off } => return mem_sp(load, t, off, size, regs, bus),
+        Instr::LdrLit { t, off } => {
+            return load_word(t, forward(regs.base(), off), size, regs, bus);
+        }
+        Instr::MemReg { op, t, n, m } => return mem_reg(op, t, regs.sum(n, m), size, regs, bus),
+        Instr::MemImm { op, t, n, off } => return mem_imm(op, t, regs.at(n, off), size, regs, bus),
+        Instr::MemSp { load, t, off } => return mem_sp(load, t, regs.at(SP, off), size, regs, bus),
         Instr::Push { list } => return push(list, size, regs, bus),
         Instr::Pop { list } => return pop(list, size, regs, bus),
         Instr::Stm { n, list } => return stm(n, list, size, regs, bus),

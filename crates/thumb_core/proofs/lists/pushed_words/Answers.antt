@@ -1,7 +1,7 @@
 use Rattle.std.proofs.Common.{◌≡◌, refl, arith, length-append}
 use Rattle.std.specs.Int.{bit_at}
 use Rattle.std.proofs.lemmas.Grind.{common_steps}
-use Rattle.thumb_core.proofs.Popped.{pushed_none, pushed_lr, take_word}
+use Rattle.thumb_core.proofs.Popped.{pushed_lr, take_word}
 use Rattle.thumb_core.proofs.lists.pushed_words.Goals as goal
 
 pub returns-clause-count : goal.returns-clause-count
