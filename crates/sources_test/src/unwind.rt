@@ -1,7 +1,8 @@
-use crate::{EntryWords, FrameText, UnwindDirective, UnwindFault, new_frame};
+//! Unwind directives: rows, bytes by hand, and refusals (docs/unwind-directives.md).
 use UnwindDirective::{
     CantUnwind, FnEnd, FnStart, HandlerData, Pad, PersonalityIndex, Save, SetFp,
 };
+use asm_unwind::{EntryWords, FrameText, UnwindDirective, UnwindFault, new_frame};
 use std::alloc::Global;
 use std::test::Fail;
 
