@@ -23,7 +23,6 @@ use thumb_isa::instr::{Decoded, Instr};
 /// A first halfword that begins a wide encoding makes the second one be fetched, at pc + 2, before anything is decoded.
 /// So the traps are, in this order: the fault of the first fetch, that of the second; what the halfwords are where they
 /// are no instruction; and the instruction's own, an even target or the first fault of its loads and stores.
-#[inline(always)]
 pub fn step<B: Bus>(regs: &mut Regs, bus: &mut B) -> Stepped
     ensures effect { (result, regs.new, B.memory bus.new) ≡ step_of regs.old (B.memory bus.old) }
 
@@ -46,7 +45,6 @@ fn are_words(r: &[u32])
 {}
 
 /// Fetches, decodes and executes.
-#[inline(always)]
 fn perform<B: Bus>(regs: &mut Regs, bus: &mut B) -> Stepped
     ensures { (result, regs.new, B.memory bus.new) ≡ step_of regs.old (B.memory bus.old) }
 {
@@ -71,7 +69,6 @@ fn perform<B: Bus>(regs: &mut Regs, bus: &mut B) -> Stepped
 }
 
 /// Does an instruction: the one match by instruction. What the arms of data leave goes on behind the instruction.
-#[inline(always)]
 fn execute<B: Bus>(i: Instr, size: u32, regs: &mut Regs, bus: &mut B) -> Stepped
     requires { InRange i }
     ensures { (result, regs.new, B.memory bus.new) ≡ effect i size regs.old (B.memory bus.old) }
