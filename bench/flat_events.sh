@@ -3,11 +3,10 @@
 # Prints a line each: the loop, the events, the seconds, the events per second.
 set -eu
 top=$(cd "$(dirname "$0")/.." && pwd)
+. "$top/bench/flat_loops.sh"
 work=$(mktemp -d)
 trap 'rm -rf "$work"' EXIT
 "$top/ehabi_run" >/dev/null || true
-
-bytes() { printf "$(printf '%s' "$1" | sed 's/../\\x&/g')"; }
 
 measure() {
     local name=$1 file=$2 events=$3 begun ended
@@ -19,16 +18,10 @@ measure() {
         'BEGIN { printf "%s: %d events in %.2f s, %.1f million a second\n", name, events, ns / 1e9, events * 1000 / ns }'
 }
 
-# subs r0, #1; b back to it
-bytes 0138fde7 >"$work/count"
+write_loops "$work"
 measure counting "$work/count" 50000000
 measure counting "$work/count" 100000000
-# mov r1, sp; subs r1, #8; then str r0, [r1]; ldr r2, [r1]; adds r0, #1; b back to the store
-bytes 694608390860 >"$work/memory"
-bytes 0a680130fbe7 >>"$work/memory"
 measure 'loads and stores' "$work/memory" 50000000
 measure 'loads and stores' "$work/memory" 100000000
-# bl to the function below; b back to it; push {r4, lr}; pop {r4, pc}
-bytes 00f001f8fce710b510bd >"$work/calls"
 measure 'calls, push and pop' "$work/calls" 25000000
 measure 'calls, push and pop' "$work/calls" 50000000

@@ -20,11 +20,12 @@ use Rattle.asm_layout.specs.declared.fault.AsmFault.{AsmFault}
 use Rattle.asm_layout.specs.declared.place.Place.{Place}
 use Rattle.asm_layout.specs.declared.labels.Label.{Label}
 use Rattle.asm_layout.specs.declared.walk.Walk.{Walk}
-use Rattle.asm_layout.specs.Faults.{first_of_all}
+use Rattle.asm_layout.specs.declared.fault.AsmWhat.TheVariants.{DuplicateLabel}
+use Rattle.asm_layout.specs.Faults.{fault_if, first_of_all}
 use Rattle.asm_layout.proofs.FaultLaws.{first_behind}
 use Rattle.asm_layout.specs.Walks.{start, next, here}
 use Rattle.asm_layout.specs.Labels.{Named, named, find, is_among, label_unless, new_labels, labels_from, labelled, named_in, size_between, size_by, size_from, typed_by, function_from, global_by, label_faults, names_behind, duplicates_from}
-use Rattle.asm_layout.specs.LabelSteps.{fresh, sized, entry_behind, labels_behind, defines_again, duplicate_if, entry_typed, entry_global, described_by, described}
+use Rattle.asm_layout.specs.LabelSteps.{fresh, sized, entry_behind, labels_behind, defines_again, entry_typed, entry_global, described_by, described}
 
 abbrev Entry : Type 0
 Entry = List ℕ × Label
@@ -297,8 +298,8 @@ map-described-none es = map_itself _ (λ e. refl) es
 names-named_in : (es : List Entry) → map (λ (l : Named). l.name) (named_in es) ≡ keys_of es
 names-named_in es = map_after (λ (l : Named). l.name) (λ (e : Entry). named e.0 e.1.place) es
 
-pub label_faults-are : (es : List Entry) (line : ℕ) (kind : StmtKind) → label_faults (keys_of es) line kind ≡ duplicate_if (defines_again (named_in es) kind) line
-label_faults-are es line (DefinesLabel name) = ap (λ names. duplicate_if (list_any (same_bytes name) names) line) (sym (names-named_in es))
+pub label_faults-are : (es : List Entry) (line : ℕ) (kind : StmtKind) → label_faults (keys_of es) line kind ≡ fault_if (defines_again (named_in es) kind) line DuplicateLabel
+label_faults-are es line (DefinesLabel name) = ap (λ names. fault_if (list_any (same_bytes name) names) line DuplicateLabel) (sym (names-named_in es))
 label_faults-are es line _ = refl
 
 keys_of-behind : (labels : List Named) (kind : StmtKind) (place : Place) (es : List Entry) → keys_of (map (entry_behind labels kind place) es) ≡ keys_of es
@@ -318,10 +319,10 @@ names_behind-are es kind place =
 
 -- one statement on
 pub first_duplicate-more : (so_far : Option AsmFault) (es : List Entry) (s : Stmt) (place : Place) (more : List Stmt)
-    → first_of_all (first_of_all so_far (duplicate_if (defines_again (named_in es) s.kind) s.line)) (duplicates_from (keys_of (labels_behind es s.kind place)) more) ≡ first_of_all so_far (duplicates_from (keys_of es) (s ∷ more))
+    → first_of_all (first_of_all so_far (fault_if (defines_again (named_in es) s.kind) s.line DuplicateLabel)) (duplicates_from (keys_of (labels_behind es s.kind place)) more) ≡ first_of_all so_far (duplicates_from (keys_of es) (s ∷ more))
 unfolding duplicates_from
 first_duplicate-more so_far es s place more =
-    sym (first_behind so_far (duplicate_if (defines_again (named_in es) s.kind) s.line) (duplicates_from (keys_of (labels_behind es s.kind place)) more))
+    sym (first_behind so_far (fault_if (defines_again (named_in es) s.kind) s.line DuplicateLabel) (duplicates_from (keys_of (labels_behind es s.kind place)) more))
     ∙ (λ j. first_of_all so_far (sym (label_faults-are es s.line s.kind) j ++ duplicates_from (sym (names_behind-are es s.kind place) j) more))
 
 -- labels with their sizes and with what directives say are labels with all that is said of them

@@ -1,4 +1,4 @@
--- The refusals of statements, and which of them is answered.
+-- The refusals of statements, and which of them is answered (docs/objects.md).
 use Rattle.std.specs.Prelude.{ℕ, ◌==◌, ◌&&◌, ◌||◌, Bool, nat_lt, if◌then◌else◌, List, [], ◌∷◌, Option, Some, None}
 use Rattle.asm_layout.specs.declared.fault.AsmFault.{AsmFault}
 use Rattle.asm_layout.specs.declared.fault.AsmWhat.{AsmWhat}
@@ -34,6 +34,10 @@ first_with (Some first) fault = if is_before fault first then Some fault else So
 abbrev pub first_of : Option AsmFault → Option AsmFault → Option AsmFault
 first_of so_far None = so_far
 first_of so_far (Some fault) = first_with so_far fault
+
+-- a refusal at a line, where it is refused
+abbrev pub fault_if : Bool → ℕ → AsmWhat → List AsmFault
+fault_if refused line what = if refused then fault_at line what ∷ [] else []
 
 -- the first of a list of refusals: none comes before it, and of those as early it stands first in the list
 unfoldable pub first_of_all : Option AsmFault → List AsmFault → Option AsmFault

@@ -1,5 +1,5 @@
--- What one statement says of the labels so far.
-use Rattle.std.specs.Prelude.{ℕ, Bool, false, ◌||◌, if◌then◌else◌, List, [], ◌∷◌, ◌++◌, map, Option}
+-- What one statement says of the labels so far (docs/objects.md, "Names").
+use Rattle.std.specs.Prelude.{ℕ, Bool, false, ◌||◌, if◌then◌else◌, List, [], ◌++◌, map, Option}
 use Rattle.std.specs.List.{list_any}
 use Rattle.eh_word.specs.Names.{same_bytes}
 use Rattle.asm_read.specs.declared.statement.Stmt.{Stmt}
@@ -8,9 +8,6 @@ use Rattle.asm_read.specs.declared.statement.StmtKind.TheVariants as stmt
 use Rattle.asm_unwind.specs.declared.entry.EntryWords.{EntryWords}
 use Rattle.asm_layout.specs.declared.place.Place.{Place}
 use Rattle.asm_layout.specs.declared.labels.Label.{Label}
-use Rattle.asm_layout.specs.declared.fault.AsmFault.{AsmFault}
-use Rattle.asm_layout.specs.declared.fault.AsmWhat.TheVariants.{DuplicateLabel}
-use Rattle.asm_layout.specs.Faults.{fault_at}
 use Rattle.asm_layout.specs.Walks.{start}
 use Rattle.asm_layout.specs.Labels.{Named, is_among, new_labels, named_in, size_by, size_from, typed_by, function_from, global_by}
 
@@ -43,9 +40,6 @@ labels_behind so_far kind place =
 abbrev pub defines_again : List Named → StmtKind → Bool
 defines_again labels (stmt.Label name) = is_among name labels
 defines_again labels _ = false
-
-abbrev pub duplicate_if : Bool → ℕ → List AsmFault
-duplicate_if again line = if again then fault_at line DuplicateLabel ∷ [] else []
 
 abbrev pub entry_typed : List ℕ → Bool → List ℕ × Label → List ℕ × Label
 entry_typed name function entry =

@@ -1,4 +1,4 @@
--- The labels of a source, and what its directives say of them.
+-- The labels of a source, and what its directives say of them (docs/objects.md, "Names" and "Symbols").
 use Rattle.std.specs.Prelude.{ℕ, ◌-◌, Bool, true, false, if◌then◌else◌, List, [], ◌∷◌, ◌++◌, map, Option, Some, None}
 use Rattle.std.specs.List.{list_any}
 use Rattle.eh_word.specs.Names.{same_bytes}
@@ -10,7 +10,7 @@ use Rattle.asm_layout.specs.declared.place.Place.{Place}
 use Rattle.asm_layout.specs.declared.labels.Label.{Label}
 use Rattle.asm_layout.specs.declared.fault.AsmFault.{AsmFault}
 use Rattle.asm_layout.specs.declared.fault.AsmWhat.TheVariants.{DuplicateLabel, SectionTooLarge}
-use Rattle.asm_layout.specs.Faults.{fault_at}
+use Rattle.asm_layout.specs.Faults.{fault_if}
 use Rattle.asm_layout.specs.Sizes.{is_too_large}
 use Rattle.asm_layout.specs.declared.walk.Walk.{Walk}
 use Rattle.asm_layout.specs.Walks.{start, next, here, same_section, sizes_with_pool}
@@ -100,7 +100,7 @@ named_in labels = map (λ label. named label.0 label.1.place) labels
 -- a label whose name an earlier one has
 abbrev pub label_faults : List (List ℕ) → ℕ → StmtKind → List AsmFault
 label_faults names line (stmt.Label name) =
-    if list_any (same_bytes name) names then fault_at line DuplicateLabel ∷ [] else []
+    fault_if (list_any (same_bytes name) names) line DuplicateLabel
 label_faults names line _ = []
 
 -- the names behind a statement, each once
@@ -113,12 +113,9 @@ duplicates_from names [] = []
 duplicates_from names (stmt ∷ more) =
     label_faults names stmt.line stmt.kind ++ duplicates_from (names_behind names stmt.kind) more
 
-abbrev pub size_faults : Bool → ℕ → List AsmFault
-size_faults too_large line = if too_large then fault_at line SectionTooLarge ∷ [] else []
-
 -- a line behind which a section is too large; behind the last one the pool at the end of the text counts too
 unfoldable pub too_large_from : List (Option EntryWords) → Walk → ℕ → List Stmt → List AsmFault
-too_large_from entries walk last [] = size_faults (is_too_large (sizes_with_pool walk)) last
+too_large_from entries walk last [] = fault_if (is_too_large (sizes_with_pool walk)) last SectionTooLarge
 too_large_from entries walk last (stmt ∷ more) =
-    size_faults (is_too_large (next entries walk stmt.kind).at.sizes) stmt.line
+    fault_if (is_too_large (next entries walk stmt.kind).at.sizes) stmt.line SectionTooLarge
     ++ too_large_from entries (next entries walk stmt.kind) stmt.line more

@@ -1,5 +1,6 @@
--- How many bytes statements have, and where sections end. Sums stop at 2^64 - 1, far above what a section may have.
-use Rattle.std.specs.Prelude.{ℕ, ◌+◌, ◌-◌, ◌*◌, ◌%◌, ◌^◌, ◌||◌, ℤ, pos, negsuc, Bool, true, false, nat_lt, min, if◌then◌else◌, length, Option, Some}
+-- How many bytes statements have, and where sections end (docs/objects.md). Sums stop at 2^64 - 1, far above what a section may have.
+use Rattle.std.specs.Prelude.{ℕ, ◌+◌, ◌-◌, ◌*◌, ◌^◌, ◌||◌, ℤ, pos, negsuc, Bool, true, false, nat_lt, min, if◌then◌else◌, length, Option, Some}
+use Rattle.eh_list.specs.Bytes.{gap}
 use Rattle.asm_read.specs.declared.statement.StmtKind.{StmtKind}
 use Rattle.asm_read.specs.declared.statement.StmtKind.TheVariants as stmt
 use Rattle.asm_unwind.specs.declared.entry.EntryWords.{EntryWords}
@@ -7,6 +8,7 @@ use Rattle.asm_unwind.specs.declared.entry.EntryWords.TheVariants as entry
 use Rattle.asm_layout.specs.declared.place.Section.{Section}
 use Rattle.asm_layout.specs.declared.place.Section.TheVariants.{Text, Rodata, Extab, Init, Bss}
 use Rattle.asm_layout.specs.declared.walk.Sizes.{Sizes}
+use Rattle.asm_layout.specs.declared.walk.TheConstants.{MOST_BYTES}
 
 abbrev pub sum_64 : ℕ → ℕ → ℕ
 sum_64 a b = min (a + b) (2 ^ 64 - 1)
@@ -14,10 +16,6 @@ sum_64 a b = min (a + b) (2 ^ 64 - 1)
 -- a length times the size of an element
 abbrev pub times : ℕ → ℕ → ℕ
 times len size = min (len * size) (2 ^ 64 - 1)
-
--- how many bytes stand between a place and the next multiple
-abbrev pub filling : ℕ → ℕ → ℕ
-filling place multiple = (multiple - place % multiple) % multiple
 
 -- the number that `.align n` makes places a multiple of; 1 outside 0 to 3
 abbrev pub multiple : ℤ → ℕ
@@ -71,7 +69,7 @@ size kind = if is_instruction kind then 2 else 0
 
 -- the bytes that a function's table takes behind a place of the exception tables
 abbrev pub table_size : ℕ → Option EntryWords → ℕ
-table_size place (Some (entry.Table words)) = sum_64 (filling place 4) (times (length words) 4)
+table_size place (Some (entry.Table words)) = sum_64 (gap place 4) (times (length words) 4)
 table_size place _ = 0
 
 abbrev pub size_in : Sizes → Section → ℕ
@@ -92,5 +90,5 @@ sizes_grown sizes Bss by = record sizes { bss = sum_64 sizes.bss by }
 -- a section has more than 1,048,576 bytes
 abbrev pub is_too_large : Sizes → Bool
 is_too_large sizes =
-    nat_lt 1048576 sizes.text || nat_lt 1048576 sizes.rodata || nat_lt 1048576 sizes.extab
-    || nat_lt 1048576 sizes.init || nat_lt 1048576 sizes.bss
+    nat_lt MOST_BYTES sizes.text || nat_lt MOST_BYTES sizes.rodata || nat_lt MOST_BYTES sizes.extab
+    || nat_lt MOST_BYTES sizes.init || nat_lt MOST_BYTES sizes.bss

@@ -1,5 +1,6 @@
--- Where each statement stands.
+-- Where each statement stands (docs/objects.md).
 use Rattle.std.specs.Prelude.{ℕ, ◌+◌, ◌-◌, ◌^◌, ◌==◌, ◌&&◌, ◌||◌, not, Bool, true, false, nat_lt, if◌then◌else◌, List, [], ◌∷◌, ◌++◌, length, Option, Some, None, unwrap_or, slice_get}
+use Rattle.eh_list.specs.Bytes.{gap}
 use Rattle.asm_read.specs.declared.statement.Stmt.{Stmt}
 use Rattle.asm_read.specs.declared.statement.StmtKind.{StmtKind}
 use Rattle.asm_read.specs.declared.statement.StmtKind.TheVariants as stmt
@@ -14,7 +15,7 @@ use Rattle.asm_layout.specs.declared.walk.Cursor.{Cursor}
 use Rattle.asm_layout.specs.declared.walk.Walk.{Walk}
 use Rattle.asm_layout.specs.Words.{word_of}
 use Rattle.asm_layout.specs.SameWords.{same_word}
-use Rattle.asm_layout.specs.Sizes.{sum_64, times, filling, multiple, size, table_size, size_in, sizes_grown}
+use Rattle.asm_layout.specs.Sizes.{sum_64, times, multiple, size, table_size, size_in, sizes_grown}
 
 abbrev pub same_section : Section → Section → Bool
 same_section Text Text = true
@@ -76,7 +77,7 @@ cursor_behind entries at stmt.Rodata = within at Rodata
 cursor_behind entries at stmt.FnStart = started entries at
 cursor_behind entries at stmt.FnEnd = ended at
 cursor_behind entries at stmt.HandlerData = handling at
-cursor_behind entries at (stmt.Align n) = grown at (filling (size_in at.sizes at.section) (multiple n))
+cursor_behind entries at (stmt.Align n) = grown at (gap (size_in at.sizes at.section) (multiple n))
 cursor_behind entries at kind = grown at (size kind)
 
 abbrev pub is_empty : List Word → Bool
@@ -84,13 +85,13 @@ is_empty words = length words == 0
 
 -- where a pool that ends here begins: at the next multiple of 4
 abbrev pub pool_place : Walk → ℕ
-pool_place walk = sum_64 walk.at.sizes.text (filling walk.at.sizes.text 4)
+pool_place walk = sum_64 walk.at.sizes.text (gap walk.at.sizes.text 4)
 
 -- the sizes with the pool that ends here; a pool without words is nothing
 abbrev pub sizes_with_pool : Walk → Sizes
 sizes_with_pool walk =
     if is_empty walk.pool then walk.at.sizes
-    else sizes_grown walk.at.sizes Text (sum_64 (filling walk.at.sizes.text 4) (times (length walk.pool) 4))
+    else sizes_grown walk.at.sizes Text (sum_64 (gap walk.at.sizes.text 4) (times (length walk.pool) 4))
 
 abbrev pub is_in_text : Cursor → Bool
 is_in_text at = same_section at.section Text

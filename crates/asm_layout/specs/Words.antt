@@ -1,5 +1,6 @@
--- What words stand for.
-use Rattle.std.specs.Prelude.{ℕ, ◌-◌, ◌%◌, ◌^◌, ℤ, pos, negsuc}
+-- What words stand for (docs/objects.md).
+use Rattle.std.specs.Prelude.{ℕ, ◌-◌, ◌%◌, ◌^◌, ℤ, pos, negsuc, nat_eq, Bool, List, codes}
+use Rattle.std.specs.List.{starts_with}
 use Rattle.asm_read.specs.declared.statement.Expr.{Expr}
 use Rattle.asm_read.specs.declared.statement.Expr.TheVariants as expr
 use Rattle.asm_layout.specs.declared.word.Word.{Word}
@@ -19,3 +20,7 @@ word_of (expr.Prel31 name) = Prel31 name
 word_of (expr.Prel31Ref name) = Prel31Ref name
 word_of (expr.Target2 name) = Target2 name
 word_of (expr.Rel name) = Rel name
+
+-- a name that begins with `.L`
+abbrev pub is_local : List ℕ → Bool
+is_local name = starts_with nat_eq name (codes ".L")

@@ -1,3 +1,4 @@
+//! The functions of a source by their unwind directives (docs/unwind-directives.md).
 ghost use Rattle.std.specs.Prelude.{◌≡◌, ◌++◌, [], ◌∷◌, Some, None, IfOk, OnOk};
 ghost use Rattle.asm_unwind.specs.Entries.{entry_words_of};
 ghost use Rattle.asm_layout.specs.declared.fault.AsmWhat.TheVariants as AsmWhat;
@@ -7,6 +8,7 @@ ghost use Rattle.asm_layout.specs.Functions.{field_of, directive_of, no_frame, n
 use crate::fault::{AsmFault, AsmWhat, first_with};
 use asm_read::{Stmt, StmtKind};
 use asm_unwind::{EntryWords, FrameText, UnwindDirective, UnwindFault, new_frame};
+use eh_list::Seq;
 use std::alloc::{AllocError, Global};
 use std::marker::Model;
 use std::mem;
@@ -43,30 +45,7 @@ fn directive_of(kind: &StmtKind) -> Option<UnwindDirective>
 }
 
 /// The entries of functions, each None where the directives say none; contracts see their list.
-#[derive(Drop)]
-pub struct Entries {
-    entries: Vec<Option<EntryWords>>,
-}
-
-impl Model for Entries {
-    ghost use Rattle.std.specs.Prelude.{List, Option};
-    ghost use Rattle.asm_unwind.specs.declared.entry.EntryWords.{EntryWords};
-
-    ghost Value = { List (Option EntryWords) };
-
-    ghost view = { λ entries. entries.entries.items };
-}
-
-impl Entries {
-    ghost use Rattle.std.specs.Prelude.{◌≡◌};
-
-    /// The entries in order.
-    pub fn as_slice(&self) -> &[Option<EntryWords>]
-        ensures { result.now ≡ self.now }
-    {
-        self.entries.as_slice()
-    }
-}
+pub type Entries = Seq<Option<EntryWords>>;
 
 /// The functions of a source: the entry of each in the order of the text, and the first refusal among their directives.
 #[derive(Drop)]
@@ -110,11 +89,11 @@ impl Functions {
         let ended = mem::replace(&mut opened.frame, new_frame(alloc));
         opened.start = None;
         match ended.finish() {
-            Ok(entry) => self.entries.entries.push(Some(entry))?,
+            Ok(entry) => self.entries.push(Some(entry))?,
             Err((UnwindFault::OutOfMemory, _frame)) => return Err(AllocError),
             Err((fault, _frame)) => {
                 self.refuse(line, fault);
-                self.entries.entries.push(None)?;
+                self.entries.push(None)?;
             }
         }
         Ok(())
@@ -165,9 +144,7 @@ pub fn functions_of(alloc: Global, stmts: &[Stmt]) -> Result<Functions, AllocErr
     ensures first { IfOk result (λ functions. functions.first ≡ first_of_all None (unwind_faults_of stmts.now)) }
 {
     let mut functions = Functions {
-        entries: Entries {
-            entries: Vec::new(alloc),
-        },
+        entries: Seq::new(alloc),
         first: None,
     };
     let mut opened = Open {

@@ -1,17 +1,18 @@
+//! The labels of a source, what directives say of them, and where pools stand (docs/objects.md).
 ghost use Rattle.std.specs.Prelude.{◌≡◌, [], ◌++◌, map, IfOk, OnOk, None, Some};
 ghost use Rattle.asm_read.specs.declared.statement.StmtKind.TheVariants.{Size};
 ghost use Rattle.asm_layout.specs.Faults.{first_of_all};
-ghost use Rattle.asm_layout.specs.Sizes.{is_too_large};
-ghost use Rattle.asm_layout.specs.Walks.{start, pools_from, walk_behind};
-ghost use Rattle.asm_layout.specs.Labels.{find, is_among, size_between, label_unless, labels_of, labelled, named_in, duplicates_from, size_faults, too_large_from};
-ghost use Rattle.asm_layout.specs.LabelSteps.{fresh, sized, entry_behind, labels_behind, defines_again, duplicate_if, entry_typed, entry_global, described_by, described};
+ghost use Rattle.asm_layout.specs.Walks.{start, pools_if, pools_from, walk_behind};
+ghost use Rattle.asm_layout.specs.Labels.{find, is_among, size_between, label_unless, labels_of, labelled, named_in, duplicates_from, too_large_from};
+ghost use Rattle.asm_layout.specs.LabelSteps.{fresh, sized, entry_behind, labels_behind, defines_again, entry_typed, entry_global, described_by, described};
 
-use crate::fault::{AsmFault, AsmWhat, first_with};
+use crate::fault::{AsmFault, AsmWhat, first_if};
 use crate::place::Place;
-use crate::walk::{Sizes, Walk};
+use crate::walk::Walk;
 use crate::word::copied;
 use asm_read::{Stmt, StmtKind};
 use asm_unwind::EntryWords;
+use eh_list::Seq;
 use eh_word::Name;
 use indexmap::IndexMap;
 use std::alloc::{AllocError, Global};
@@ -160,47 +161,16 @@ impl Labels {
 }
 
 /// Offsets in the text, which contracts see as their list.
-#[derive(Drop)]
-pub struct Offsets {
-    offsets: Vec<u64>,
-}
+pub type Offsets = Seq<u64>;
 
-impl Model for Offsets {
-    ghost use Rattle.std.specs.Prelude.{List, ℕ};
-
-    ghost Value = { List ℕ };
-
-    ghost view = { λ offsets. offsets.offsets.items };
-}
-
-impl Offsets {
-    ghost use Rattle.std.specs.Prelude.{◌≡◌, [], ◌++◌, OnOk};
-    ghost use Rattle.asm_layout.specs.Walks.{pools_if};
-
-    fn new(alloc: Global) -> Offsets
-        ensures { result ≡ [] }
-    {
-        Offsets {
-            offsets: Vec::new(alloc),
-        }
+/// Adds the offset of a pool where it ends.
+fn push_if(pools: &mut Offsets, ends: bool, walk: &Walk) -> Result<(), AllocError>
+    ensures { OnOk result (pools.new ≡ pools.old ++ pools_if ends walk.now) }
+{
+    if ends {
+        pools.push(walk.pool_place())?;
     }
-
-    /// Adds the offset of a pool where it ends.
-    fn push_if(&mut self, ends: bool, walk: &Walk) -> Result<(), AllocError>
-        ensures { OnOk result (self.new ≡ self.old ++ pools_if ends walk.now) }
-    {
-        if ends {
-            self.offsets.push(walk.pool_place())?;
-        }
-        Ok(())
-    }
-
-    /// The offsets in order.
-    pub fn as_slice(&self) -> &[u64]
-        ensures { result.now ≡ self.now }
-    {
-        self.offsets.as_slice()
-    }
+    Ok(())
 }
 
 /// Where labels and pools stand, and what is refused of them.
@@ -239,36 +209,10 @@ fn defined_in(
     let mut walk = Walk::new(alloc);
     for stmt in stmts {
         let again = labels.take(alloc, &stmt.kind, walk.at.here())?;
-        duplicate = with_duplicate(duplicate, again, stmt.line);
+        duplicate = first_if(duplicate, again, stmt.line, AsmWhat::DuplicateLabel);
         walk.advance(alloc, stmt, entries)?;
     }
     Ok(Defined { labels, duplicate })
-}
-
-/// The first of the refusals so far and a label at a line whose name may be there again.
-#[tactic(auto, unfolding(crate::specs::Faults::first_of_all))]
-fn with_duplicate(so_far: Option<AsmFault>, again: bool, line: u32) -> Option<AsmFault>
-    ensures { result ≡ first_of_all so_far (duplicate_if again line) }
-{
-    let what = AsmWhat::DuplicateLabel;
-    if again {
-        first_with(so_far, AsmFault { line, what })
-    } else {
-        so_far
-    }
-}
-
-/// The first of the refusals so far and a section that may be too large behind a line.
-#[tactic(auto, unfolding(crate::specs::Faults::first_of_all))]
-fn with_sizes(so_far: Option<AsmFault>, sizes: Sizes, line: u32) -> Option<AsmFault>
-    ensures { result ≡ first_of_all so_far (size_faults (is_too_large sizes) line) }
-{
-    let what = AsmWhat::SectionTooLarge;
-    if sizes.is_too_large() {
-        first_with(so_far, AsmFault { line, what })
-    } else {
-        so_far
-    }
 }
 
 /// Where pools stand, and how large sections are.
@@ -290,21 +234,23 @@ fn extents_of(
     ensures too_large { IfOk result (λ extents.
         extents.too_large ≡ first_of_all None (too_large_from entries.now start 0 stmts.now)) }
 {
-    let mut pools = Offsets::new(alloc);
+    let mut pools = Seq::new(alloc);
     let mut too_large = None;
     let mut last = 0;
     let mut walk = Walk::new(alloc);
     for stmt in stmts {
-        pools.push_if(walk.ends_pool(&stmt.kind), &walk)?;
+        push_if(&mut pools, walk.ends_pool(&stmt.kind), &walk)?;
         walk.advance(alloc, stmt, entries)?;
-        too_large = with_sizes(too_large, walk.at.sizes, stmt.line);
+        let is_large = walk.at.sizes.is_too_large();
+        too_large = first_if(too_large, is_large, stmt.line, AsmWhat::SectionTooLarge);
         last = stmt.line;
     }
-    pools.push_if(walk.pool.len() > 0, &walk)?;
+    push_if(&mut pools, walk.pool.len() > 0, &walk)?;
+    let is_large = walk.sizes_with_pool().is_too_large();
     Ok(Extents {
         pools,
         bss: walk.at.sizes.bss,
-        too_large: with_sizes(too_large, walk.sizes_with_pool(), last),
+        too_large: first_if(too_large, is_large, last, AsmWhat::SectionTooLarge),
     })
 }
 

@@ -1,3 +1,7 @@
+//! Sections and places in them (docs/objects.md).
+ghost use Rattle.std.specs.Prelude.{◌≡◌};
+ghost use Rattle.asm_layout.specs.Walks.{same_section};
+
 /// A section of an object.
 #[derive(Clone, Copy, PartialEq, Eq, Debug)]
 pub enum Section {
@@ -16,4 +20,11 @@ pub enum Section {
 pub struct Place {
     pub section: Section,
     pub offset: u64,
+}
+
+/// Whether two sections are one.
+pub fn same_section(a: Section, b: Section) -> bool
+    ensures { result ≡ same_section a b }
+{
+    a == b
 }

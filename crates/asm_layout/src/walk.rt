@@ -1,6 +1,7 @@
-ghost use Rattle.std.specs.Prelude.{◌≡◌, ◌<◌, Some, option_map, length, slice_get, not, IfOk, OnOk};
+//! The walk over statements: where the next one stands, and the pool that is to come (docs/objects.md).
+ghost use Rattle.std.specs.Prelude.{◌≡◌, ◌<◌, Some, option_map, length, slice_get, not, IfOk, OnOk, OnErr};
 ghost use Rattle.std.specs.List.{position_or_len};
-ghost use Rattle.asm_layout.specs.Sizes.{times, filling, multiple, size, is_instruction, size_in, sizes_grown, is_too_large, table_size};
+ghost use Rattle.asm_layout.specs.Sizes.{times, multiple, size, is_instruction, size_in, sizes_grown, is_too_large, table_size};
 ghost use Rattle.asm_layout.specs.SameWords.{same_word};
 ghost use Rattle.asm_layout.specs.Walks.{entry_at, here, start, started, ended, handling, within, grown, cursor_behind, pool_with, ends_pool, pool_place, sizes_with_pool, next};
 
@@ -8,6 +9,7 @@ use crate::place::{Place, Section};
 use crate::word::{Word, word_of};
 use asm_read::{Stmt, StmtKind};
 use asm_unwind::EntryWords;
+use eh_list::bytes::gap;
 use indexmap::IndexSet;
 use std::alloc::{AllocError, Global};
 use std::marker::Model;
@@ -23,7 +25,7 @@ pub struct Sizes {
 }
 
 /// The most bytes of a section.
-const MOST_BYTES: u64 = 1_048_576;
+pub const MOST_BYTES: u64 = 1_048_576;
 
 impl Sizes {
     const NONE: Sizes = Sizes {
@@ -71,14 +73,6 @@ impl Sizes {
             || self.init > MOST_BYTES
             || self.bss > MOST_BYTES
     }
-}
-
-/// How many bytes stand between a place and the next multiple.
-pub fn filling(place: u64, multiple: u64) -> u64
-    requires { 0 < multiple }
-    ensures { result ≡ filling place multiple }
-{
-    (multiple - place % multiple) % multiple
 }
 
 /// The number that `.align n` makes places a multiple of; 1 outside 0 to 3.
@@ -196,10 +190,7 @@ fn table_size(place: u64, entry: &EntryWords) -> u64
     ensures { result ≡ table_size place (Some entry.now) }
 {
     match entry {
-        EntryWords::Table(words) => filling(place, 4).saturating_add(times(
-            words.as_slice().len(),
-            4,
-        )),
+        EntryWords::Table(words) => gap(place, 4).saturating_add(times(words.as_slice().len(), 4)),
         EntryWords::CantUnwind | EntryWords::Inline(_) => 0,
     }
 }
@@ -278,7 +269,7 @@ impl Cursor {
             StmtKind::FnStart => self.started(entries),
             StmtKind::FnEnd => self.ended(),
             StmtKind::HandlerData => self.handling(),
-            StmtKind::Align(n) => self.grown(filling(self.place(), multiple(*n))),
+            StmtKind::Align(n) => self.grown(gap(self.place(), multiple(*n))),
             _ => self.grown(size(kind)),
         }
     }
@@ -309,10 +300,11 @@ impl Pool {
         }
     }
 
-    /// The place of a word in the pool; it goes last where it isn't there.
+    /// The place of a word in the pool; it goes last where it isn't there. Without memory the pool stays as it is.
     pub fn put(&mut self, word: Word) -> Result<usize, AllocError>
         ensures index { IfOk result (λ index. index ≡ position_or_len (same_word word) self.old) }
         ensures pool { OnOk result (self.new ≡ pool_with self.old word) }
+        ensures err { OnErr result (self.new ≡ self.old) }
     {
         let (index, _) = self.words.insert_full(word)?;
         Ok(index)
@@ -365,7 +357,7 @@ impl Walk {
         self.at
             .sizes
             .text
-            .saturating_add(filling(self.at.sizes.text, 4))
+            .saturating_add(gap(self.at.sizes.text, 4))
     }
 
     /// The sizes with the pool that ends here, which is nothing where it has no words.
@@ -375,18 +367,19 @@ impl Walk {
         if self.pool.len() == 0 {
             return self.at.sizes;
         }
-        let by = filling(self.at.sizes.text, 4).saturating_add(times(self.pool.len(), 4));
+        let by = gap(self.at.sizes.text, 4).saturating_add(times(self.pool.len(), 4));
         self.at.sizes.grown(Section::Text, by)
     }
 
-    /// Goes behind a statement.
+    /// Goes behind a statement. Without memory the walk stays where it is.
     pub fn advance(
         &mut self,
         alloc: Global,
         stmt: &Stmt,
         entries: &[Option<EntryWords>],
     ) -> Result<(), AllocError>
-        ensures { OnOk result (self.new ≡ next entries.now self.old stmt.now.kind) }
+        ensures ok { OnOk result (self.new ≡ next entries.now self.old stmt.now.kind) }
+        ensures err { OnErr result (self.new ≡ self.old) }
     {
         match &stmt.kind {
             StmtKind::Pool => {

@@ -1,5 +1,6 @@
+//! Words as values, and the names in them (docs/objects.md).
 ghost use Rattle.std.specs.Prelude.{◌≡◌, ◌%◌, ◌^◌, IfOk};
-ghost use Rattle.asm_layout.specs.Words.{low_word, word_of};
+ghost use Rattle.asm_layout.specs.Words.{low_word, is_local, word_of};
 
 use asm_read::Expr;
 use eh_word::Name;
@@ -18,14 +19,21 @@ pub enum Word {
 }
 
 /// A number modulo 2^32.
-pub fn low_word(n: i64) -> u32
+pub fn low_number(n: i128) -> u32
     ensures { result ≡ low_word n }
 {
     if n >= 0 {
-        (n as u64 % 0x1_0000_0000) as u32
+        (n as u128 % 0x1_0000_0000) as u32
     } else {
-        0xffff_ffff - ((-1 - n) as u64 % 0x1_0000_0000) as u32
+        0xffff_ffff - ((-1 - n) as u128 % 0x1_0000_0000) as u32
     }
+}
+
+/// The same of a number of 64 bits.
+fn low_word(n: i64) -> u32
+    ensures { result ≡ low_word n }
+{
+    low_number(i128::from(n))
 }
 
 /// A place or size modulo 2^32.
@@ -40,6 +48,13 @@ pub fn copied(alloc: Global, name: &Name) -> Result<Name, AllocError>
     ensures { IfOk result (λ n. n ≡ name.now) }
 {
     Ok(Name::of_vec(Vec::from_slice(alloc, name.bytes())?))
+}
+
+/// Whether a name is local: it begins with `.L`.
+pub fn is_local(name: &Name) -> bool
+    ensures { result ≡ is_local name.now }
+{
+    name.bytes().starts_with(b".L")
 }
 
 /// The word that an expression gives.

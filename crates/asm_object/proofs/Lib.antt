@@ -9,3 +9,4 @@ mod Unnamed
 pub mod ObjectLaws
 pub mod LabelLaws
 pub mod LoadLaws
+pub mod ByteLemmas

@@ -23,7 +23,8 @@ use Rattle.asm_layout.specs.Words.{word_of}
 use Rattle.asm_layout.specs.SameWords.{same_word}
 use Rattle.asm_layout.specs.Functions.{entries_of, no_frame}
 use Rattle.asm_layout.specs.Labels.{Named, labels_of}
-use Rattle.asm_layout.specs.Sizes.{sum_64, times, filling, is_too_large}
+use Rattle.asm_layout.specs.Sizes.{sum_64, times, is_too_large}
+use Rattle.eh_list.specs.Bytes.{gap}
 use Rattle.asm_layout.specs.Walks.{start, here, same_section, next, is_empty, is_in_text, ends_pool, pool_with, pool_place, coming_pool, sizes_with_pool, walk_behind}
 use Rattle.asm_layout.proofs.LayoutLaws.{same_bytes-true}
 use Rattle.asm_object.specs.Bytes.{word_bytes, filling_bytes}
@@ -136,7 +137,7 @@ pool_has : (labels : List Named) (walk : Walk) (word : Word) (at : ℕ) (rest al
 pool_has labels walk word at rest all h small is = by (is_empty walk.pool) refl small is
   where
     fill : ℕ
-    fill = filling walk.at.sizes.text 4
+    fill = gap walk.at.sizes.text 4
 
     filled : is_empty walk.pool ≡ false
     filled = ap is_empty h.split ∙ grind (arith, nat_tests, length-append h.front (word ∷ h.back))
@@ -145,8 +146,8 @@ pool_has labels walk word at rest all h small is = by (is_empty walk.pool) refl 
     words = ap (words_bytes labels) h.split ∙ flat_map-append (λ w. word_bytes (held labels w)) h.front (word ∷ h.back)
 
     by : (b : Bool) → is_empty walk.pool ≡ b
-        → (cond b walk.at.sizes (record walk.at.sizes { text = sum_64 walk.at.sizes.text (sum_64 (filling walk.at.sizes.text 4) (times (length walk.pool) 4)) })).text ≤ 1048576
-        → all ≡ bytes_in Text (cond b [] (filling_piece (place_at Text walk.at.sizes.text) (filling walk.at.sizes.text 4) ∷ words_piece labels (place_at Text (pool_place walk)) walk.pool ∷ [])) ++ rest
+        → (cond b walk.at.sizes (record walk.at.sizes { text = sum_64 walk.at.sizes.text (sum_64 (gap walk.at.sizes.text 4) (times (length walk.pool) 4)) })).text ≤ 1048576
+        → all ≡ bytes_in Text (cond b [] (filling_piece (place_at Text walk.at.sizes.text) (gap walk.at.sizes.text 4) ∷ words_piece labels (place_at Text (pool_place walk)) walk.pool ∷ [])) ++ rest
         → WordThere labels walk.at.sizes.text (pool_place walk) all word at
     by true e small is = absurd (true≢false (sym e ∙ filled))
     by false e small is = record {

@@ -1,4 +1,5 @@
 -- The linker's fields of an object stand one behind the other, whole in their sections.
+use Rattle.asm_layout.specs.declared.fault.AsmWhat.TheVariants.{SectionTooLarge}
 use Rattle.std.proofs.Common.{◌≡◌, ℕ, ℤ, ◌==◌, ◌+◌, ◌-◌, ◌*◌, ◌^◌, ◌≤◌, ◌<◌, min, ◌&&◌, Bool, true, false, cond, List, [], ◌∷◌, ◌++◌, length, map, Option, Some, None, Ok, refl, sym, ap, ◌∙◌, arith, append-nil, length-append, subst}
 use Rattle.std.specs.List.{filter, list_all, list_any}
 use Rattle.std.proofs.lemmas.Bool.{true≢false}
@@ -22,10 +23,11 @@ use Rattle.asm_layout.specs.declared.walk.Sizes.{Sizes}
 use Rattle.asm_layout.specs.declared.walk.Walk.{Walk}
 use Rattle.asm_layout.specs.declared.word.Word.{Word}
 use Rattle.asm_layout.specs.declared.word.Word.TheVariants as word
-use Rattle.asm_layout.specs.Faults.{first_of_all}
+use Rattle.asm_layout.specs.Faults.{first_of_all, fault_if}
 use Rattle.asm_layout.specs.Functions.{Frame, directive_of, next_frame, new_entries, ended_entry, entries_from, entries_of, no_frame, unwind_faults_of}
-use Rattle.asm_layout.specs.Labels.{Named, labels_of, duplicates_from, size_faults, too_large_from}
-use Rattle.asm_layout.specs.Sizes.{is_instruction, sum_64, times, filling, multiple, size, size_in, sizes_grown, is_too_large}
+use Rattle.asm_layout.specs.Labels.{Named, labels_of, duplicates_from, too_large_from}
+use Rattle.asm_layout.specs.Sizes.{is_instruction, sum_64, times, multiple, size, size_in, sizes_grown, is_too_large}
+use Rattle.eh_list.specs.Bytes.{gap}
 use Rattle.asm_layout.specs.Walks.{start, next, coming_pool, here, same_section, is_empty, is_in_text, entry_at, pool_place, sizes_with_pool, walk_behind}
 use Rattle.asm_layout.specs.Words.{word_of}
 use Rattle.asm_object.specs.declared.object.Object.{Object}
@@ -35,7 +37,8 @@ use Rattle.asm_object.specs.Values.{Linked, linked, link_of}
 use Rattle.asm_object.specs.Pieces.{Piece, place_at, relocs_of, word_relocs, filling_piece, words_piece, pool_pieces, table_pieces, set_pieces, own_piece, instruction_piece, data_piece, data_relocs, pieces_at, pieces_from, word_place, relocs_in, bytes_in}
 use Rattle.asm_object.specs.Refusals.{refusal}
 use Rattle.asm_object.specs.Objects.{refusals_from, faults_of, joined, object_unless, object_of}
-use Rattle.asm_object.specs.ObjectLaw.{field_size, kinds, StandInOrder, FieldsStandInOrder, RelocsGoBySection, RelocsHaveKinds, relocs_at, bytes_at}
+use Rattle.asm_object.specs.ObjectLaw.{kinds, StandInOrder, FieldsStandInOrder, RelocsGoBySection, RelocsHaveKinds, relocs_at, bytes_at}
+use Rattle.asm_object.specs.Relocations.{field_size}
 use Rattle.asm_layout.proofs.FirstLaws.{law_of_none}
 use Rattle.asm_object.proofs.PlaceLaws.{Fewer, SameEnd, is_ordinary, ordinary_sizes, ordinary_sets, own_stands, special_counts, not_large, none_parts, law_of_ends}
 
@@ -72,7 +75,7 @@ taken stmts object e = by (first_of_all None (faults_of stmts)) refl e
         let same : object ≡ joined stmts = cc in
         taken_by stmts object same (law_of_none (faults_of stmts) f)
 
-size_none : (b : Bool) (line : ℕ) → size_faults b line ≡ [] → b ≡ false
+size_none : (b : Bool) (line : ℕ) → fault_if b line SectionTooLarge ≡ [] → b ≡ false
 size_none true line e = absurd (cc)
 size_none false line e = refl
 
@@ -81,7 +84,7 @@ pub ends_small : (entries : List (Option EntryWords)) (walk : Walk) (last : ℕ)
 unfolding too_large_from walk_behind
 ends_small entries walk last [] e = size_none _ last e
 ends_small entries walk last (stmt ∷ more) e =
-    ends_small entries (next entries walk stmt.kind) stmt.line more (both_none (size_faults (is_too_large (next entries walk stmt.kind).at.sizes) stmt.line) _ e).1
+    ends_small entries (next entries walk stmt.kind) stmt.line more (both_none (fault_if (is_too_large (next entries walk stmt.kind).at.sizes) stmt.line SectionTooLarge) _ e).1
 
 one_at_most : (frame : Frame) (directive : UnwindDirective) (refusal : Option UnwindFault) → length (ended_entry frame directive refusal) ≤ 1
 one_at_most frame FnEnd None = omega arith
@@ -201,7 +204,7 @@ pool_stands : (labels : List Named) (walk : Walk) (s : Section) → size_in (siz
 pool_stands labels walk s h = by (is_empty walk.pool) s h
   where
     fill : ℕ
-    fill = filling walk.at.sizes.text 4
+    fill = gap walk.at.sizes.text 4
 
     words : min (walk.at.sizes.text + min (fill + min (length walk.pool * 4) (2 ^ 64 - 1)) (2 ^ 64 - 1)) (2 ^ 64 - 1) ≤ 1048576
         → StandInOrder walk.at.sizes.text (word_relocs Text (pool_place walk) walk.pool ++ []) (min (walk.at.sizes.text + min (fill + min (length walk.pool * 4) (2 ^ 64 - 1)) (2 ^ 64 - 1)) (2 ^ 64 - 1))
@@ -214,10 +217,10 @@ pool_stands labels walk s h = by (is_empty walk.pool) s h
         (words_stand Text (pool_place walk) walk.pool (omega (arith, end, h)))))
 
     by : (b : Bool) (s : Section)
-        → size_in (cond b walk.at.sizes (sizes_grown walk.at.sizes Text (sum_64 (filling walk.at.sizes.text 4) (times (length walk.pool) 4)))) s ≤ 1048576
+        → size_in (cond b walk.at.sizes (sizes_grown walk.at.sizes Text (sum_64 (gap walk.at.sizes.text 4) (times (length walk.pool) 4)))) s ≤ 1048576
         → StandInOrder (size_in walk.at.sizes s)
-        (relocs_in s (cond b [] (filling_piece (place_at Text walk.at.sizes.text) (filling walk.at.sizes.text 4) ∷ words_piece labels (place_at Text (pool_place walk)) walk.pool ∷ [])))
-        (size_in (cond b walk.at.sizes (sizes_grown walk.at.sizes Text (sum_64 (filling walk.at.sizes.text 4) (times (length walk.pool) 4)))) s)
+        (relocs_in s (cond b [] (filling_piece (place_at Text walk.at.sizes.text) (gap walk.at.sizes.text 4) ∷ words_piece labels (place_at Text (pool_place walk)) walk.pool ∷ [])))
+        (size_in (cond b walk.at.sizes (sizes_grown walk.at.sizes Text (sum_64 (gap walk.at.sizes.text 4) (times (length walk.pool) 4)))) s)
     by true s h = omega arith
     by false Text h = words h
     by false _ h = omega arith
@@ -273,7 +276,7 @@ special_stand entries labels walk word stmt.HandlerData s few o h =
     none_stand _ _ _ (unlinked s (own_piece labels stmt.HandlerData (here walk.at) word) [] refl) (grows _ _ _ (special_counts entries labels walk word stmt.HandlerData s few o) h)
 special_stand entries labels walk word (stmt.Align n) s few o h =
     none_stand _ _ _ (last_unlinked s (set_pieces entries labels walk (stmt.Align n)) (own_piece labels (stmt.Align n) (here walk.at) word) refl
-    ∙ unlinked s (filling_piece (here walk.at) (filling (here walk.at).offset (multiple n))) [] refl)
+    ∙ unlinked s (filling_piece (here walk.at) (gap (here walk.at).offset (multiple n))) [] refl)
     (grows _ _ _ (special_counts entries labels walk word (stmt.Align n) s few o) h)
 special_stand entries labels walk word stmt.FnStart s few o h =
     none_stand _ _ _
@@ -395,7 +398,7 @@ own_own labels kind place word = by (is_instruction kind)
 pool_own : (labels : List Named) (walk : Walk) → AllOwn (pool_pieces labels walk)
 pool_own labels walk = by (is_empty walk.pool)
   where
-    by : (b : Bool) → AllOwn (cond b [] (filling_piece (place_at Text walk.at.sizes.text) (filling walk.at.sizes.text 4) ∷ words_piece labels (place_at Text (pool_place walk)) walk.pool ∷ []))
+    by : (b : Bool) → AllOwn (cond b [] (filling_piece (place_at Text walk.at.sizes.text) (gap walk.at.sizes.text 4) ∷ words_piece labels (place_at Text (pool_place walk)) walk.pool ∷ []))
     by true = tt
     by false = (tt, (of_words Text (pool_place walk) walk.pool, tt))
 

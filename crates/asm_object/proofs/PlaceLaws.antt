@@ -28,7 +28,8 @@ use Rattle.asm_layout.specs.declared.walk.Sizes.{Sizes}
 use Rattle.asm_layout.specs.declared.walk.Walk.{Walk}
 use Rattle.asm_layout.specs.Words.{word_of}
 use Rattle.asm_layout.specs.SameWords.{same_word}
-use Rattle.asm_layout.specs.Sizes.{sum_64, times, filling, multiple, natural, is_instruction, size, table_size, size_in, sizes_grown, is_too_large}
+use Rattle.asm_layout.specs.Sizes.{sum_64, times, multiple, natural, is_instruction, size, table_size, size_in, sizes_grown, is_too_large}
+use Rattle.eh_list.specs.Bytes.{gap, zeros, length-zeros}
 use Rattle.asm_layout.specs.Walks.{start, next, here, pool_place, ended, handling, started, entry_at, same_section, is_empty, is_in_text, ends_pool, walk_behind, coming_pool, sizes_with_pool}
 use Rattle.asm_layout.specs.declared.fault.AsmFault.{AsmFault}
 use Rattle.asm_layout.specs.declared.fault.AsmWhat.{AsmWhat}
@@ -64,9 +65,9 @@ filled_length count =
     odd true e = grind (arith, nat_tests)
     odd false e = grind (arith, nat_tests)
 
-filling_length : (b : Bool) (count : ℕ) → length (cond b (filling_bytes count) (replicate count 0)) ≡ count
+filling_length : (b : Bool) (count : ℕ) → length (cond b (filling_bytes count) (zeros count)) ≡ count
 filling_length true count = filled_length count
-filling_length false count = length-replicate count 0
+filling_length false count = length-zeros count
 
 -- ---- codes: a result that is no refusal has so many bytes
 
@@ -178,7 +179,7 @@ own_size labels (stmt.Bytes bytes) place word load e =
     capped (length bytes * 1) _ (each_has (λ byte. byte_bytes (low_or_zero (number labels byte))) 1 (λ byte. refl) bytes)
 own_size labels (stmt.Ascii text) place word load e = capped (length text * 1) (length text) (omega arith)
 own_size labels (stmt.Asciz text) place word load e = omega (arith, length-append text (0 ∷ []))
-own_size labels (stmt.Space n) place word load e = ap (λ k. min k (2 ^ 64 - 1)) (sym (length-replicate (natural n) 0))
+own_size labels (stmt.Space n) place word load e = ap (λ k. min k (2 ^ 64 - 1)) (sym (length-zeros (natural n)))
 own_size labels (stmt.Udf imm) place word load e = refl
 own_size labels (stmt.LdrPool t value) place word load e = has_code (instruction labels (stmt.LdrPool t value) place.offset word) 2 refl (load refl)
 own_size labels (stmt.CmpReg n m) place word load e =
@@ -251,7 +252,7 @@ pool_counts : (labels : List Named) (walk : Walk) (s : Section)
 pool_counts labels walk s = by (is_empty walk.pool) s
   where
     fill : ℕ
-    fill = filling walk.at.sizes.text 4
+    fill = gap walk.at.sizes.text 4
 
     text : SameEnd (min (walk.at.sizes.text + min (fill + min (length walk.pool * 4) (2 ^ 64 - 1)) (2 ^ 64 - 1)) (2 ^ 64 - 1))
         (walk.at.sizes.text + length (filling_bytes fill ++ (words_bytes labels walk.pool ++ [])))
@@ -261,8 +262,8 @@ pool_counts labels walk s = by (is_empty walk.pool) s
         ∙ ap (λ n. fill + n) (length-append (words_bytes labels walk.pool) [] ∙ plus_none (length (words_bytes labels walk.pool)) ∙ words_length labels walk.pool))
 
     by : (b : Bool) (s : Section) → SameEnd
-        (size_in (cond b walk.at.sizes (sizes_grown walk.at.sizes Text (sum_64 (filling walk.at.sizes.text 4) (times (length walk.pool) 4)))) s)
-        (size_in walk.at.sizes s + length (bytes_in s (cond b [] (filling_piece (place_at Text walk.at.sizes.text) (filling walk.at.sizes.text 4) ∷ words_piece labels (place_at Text (pool_place walk)) walk.pool ∷ []))))
+        (size_in (cond b walk.at.sizes (sizes_grown walk.at.sizes Text (sum_64 (gap walk.at.sizes.text 4) (times (length walk.pool) 4)))) s)
+        (size_in walk.at.sizes s + length (bytes_in s (cond b [] (filling_piece (place_at Text walk.at.sizes.text) (gap walk.at.sizes.text 4) ∷ words_piece labels (place_at Text (pool_place walk)) walk.pool ∷ []))))
     by true s = omega arith
     by false Text = text
     by false _ = omega arith
@@ -270,11 +271,11 @@ pool_counts labels walk s = by (is_empty walk.pool) s
 table_counts : (sizes : Sizes) (entry : Option EntryWords) (s : Section)
     → SameEnd (size_in (sizes_grown sizes Extab (table_size sizes.extab entry)) s) (size_in sizes s + length (bytes_in s (table_pieces sizes.extab entry)))
 table_counts sizes (Some (entry.Table words)) s =
-    grown_counts sizes Extab s (table_size sizes.extab (Some (entry.Table words))) (replicate (filling sizes.extab 4) 0 ++ flat_map word_bytes words)
-    (table (filling sizes.extab 4) words)
+    grown_counts sizes Extab s (table_size sizes.extab (Some (entry.Table words))) (zeros (gap sizes.extab 4) ++ flat_map word_bytes words)
+    (table (gap sizes.extab 4) words)
   where
-    table : (fill : ℕ) (words : List ℕ) → SameEnd (min (fill + min (length words * 4) (2 ^ 64 - 1)) (2 ^ 64 - 1)) (length (replicate fill 0 ++ flat_map word_bytes words))
-    table fill words = omega (arith, length-append (replicate fill 0) (flat_map word_bytes words), length-replicate {A = ℕ} fill 0, each_has word_bytes 4 (λ word. refl) words)
+    table : (fill : ℕ) (words : List ℕ) → SameEnd (min (fill + min (length words * 4) (2 ^ 64 - 1)) (2 ^ 64 - 1)) (length (zeros fill ++ flat_map word_bytes words))
+    table fill words = omega (arith, length-append (zeros fill) (flat_map word_bytes words), length-zeros fill, each_has word_bytes 4 (λ word. refl) words)
 table_counts sizes (Some entry.CantUnwind) s = no_table sizes s
 table_counts sizes (Some (entry.Inline word)) s = no_table sizes s
 table_counts sizes None s = no_table sizes s
@@ -386,8 +387,8 @@ special_counts entries labels walk word stmt.FnEnd s few o =
 special_counts entries labels walk word stmt.HandlerData s few o =
     ap (λ sizes. min (size_in sizes s) (2 ^ 64 - 1)) (handling_sizes walk) ∙ none_counts (size_in walk.at.sizes s) (same_section walk.at.section s)
 special_counts entries labels walk word (stmt.Align n) s few o =
-    grown_counts walk.at.sizes walk.at.section s (filling (here walk.at).offset (multiple n)) (filling_piece (here walk.at) (filling (here walk.at).offset (multiple n))).bytes
-    (ap (λ k. min k (2 ^ 64 - 1)) (sym (filling_length (same_section walk.at.section Text) (filling (here walk.at).offset (multiple n)))))
+    grown_counts walk.at.sizes walk.at.section s (gap (here walk.at).offset (multiple n)) (filling_piece (here walk.at) (gap (here walk.at).offset (multiple n))).bytes
+    (ap (λ k. min k (2 ^ 64 - 1)) (sym (filling_length (same_section walk.at.section Text) (gap (here walk.at).offset (multiple n)))))
     ∙ ap (λ k. min (size_in walk.at.sizes s + k) (2 ^ 64 - 1)) (sym (last_none s (set_pieces entries labels walk (stmt.Align n)) (own_piece labels (stmt.Align n) (here walk.at) word) refl))
 special_counts entries labels walk word stmt.Pool s few o =
     ended_pool (is_in_text walk.at)
@@ -437,9 +438,9 @@ grown_text sizes _ by = omega arith
 with_pool_text : (walk : Walk) → min walk.at.sizes.text (2 ^ 64 - 1) ≤ (sizes_with_pool walk).text
 with_pool_text walk = by (is_empty walk.pool)
   where
-    by : (b : Bool) → min walk.at.sizes.text (2 ^ 64 - 1) ≤ (cond b walk.at.sizes (sizes_grown walk.at.sizes Text (sum_64 (filling walk.at.sizes.text 4) (times (length walk.pool) 4)))).text
+    by : (b : Bool) → min walk.at.sizes.text (2 ^ 64 - 1) ≤ (cond b walk.at.sizes (sizes_grown walk.at.sizes Text (sum_64 (gap walk.at.sizes.text 4) (times (length walk.pool) 4)))).text
     by true = omega arith
-    by false = grown_text walk.at.sizes Text (sum_64 (filling walk.at.sizes.text 4) (times (length walk.pool) 4))
+    by false = grown_text walk.at.sizes Text (sum_64 (gap walk.at.sizes.text 4) (times (length walk.pool) 4))
 
 same_text : (n m : ℕ) → n ≡ m → min m (2 ^ 64 - 1) ≤ n
 same_text n m e = omega (arith, e)
@@ -467,7 +468,7 @@ next_text entries walk kind = by (is_ordinary kind) refl
     special stmt.FnStart o = same_text _ walk.at.sizes.text (started_text entries walk)
     special stmt.FnEnd o = same_text _ walk.at.sizes.text (ap (λ (sizes : Sizes). sizes.text) (ended_sizes walk))
     special stmt.HandlerData o = same_text _ walk.at.sizes.text (ap (λ (sizes : Sizes). sizes.text) (handling_sizes walk))
-    special (stmt.Align n) o = grown_text walk.at.sizes walk.at.section (filling (size_in walk.at.sizes walk.at.section) (multiple n))
+    special (stmt.Align n) o = grown_text walk.at.sizes walk.at.section (gap (size_in walk.at.sizes walk.at.section) (multiple n))
     special stmt.Pool o = pool (is_in_text walk.at)
       where
         pool : (b : Bool) → min walk.at.sizes.text (2 ^ 64 - 1) ≤ (cond b (record { at = record walk.at { sizes = sizes_with_pool walk }; pool = [] }) walk).at.sizes.text
@@ -491,7 +492,7 @@ end_text entries walk (stmt ∷ more) = onward _ (next entries walk stmt.kind).a
 record Behind (place pool : ℕ) : Type 0 where
   text : ℕ
   behind : min place (2 ^ 64 - 1) ≤ text
-  begins : pool ≡ sum_64 text (filling text 4)
+  begins : pool ≡ sum_64 text (gap text 4)
 
 pool_behind : (entries : List (Option EntryWords)) (walk : Walk) (stmts : List Stmt) → Behind walk.at.sizes.text (coming_pool entries walk stmts)
 unfolding coming_pool
@@ -529,7 +530,7 @@ load_code t n h k m =
 rounded : (n : ℕ) → n + (4 - n % 4) % 4 ≡ (n + 3) / 4 * 4
 rounded n = omega arith
 
-word_there : (place text index pool word : ℕ) → place + 2 ≤ 1048576 → place + 2 ≤ text → pool ≡ sum_64 text (filling text 4)
+word_there : (place text index pool word : ℕ) → place + 2 ≤ 1048576 → place + 2 ≤ text → pool ≡ sum_64 text (gap text 4)
     → word ≡ sum_64 pool (times index 4) → word - base place ≤ 1020 → (base place ≤ word) × ((word - base place) % 4 ≡ 0)
 word_there place text index pool word small behind p w near =
     let from : base place ≡ (place + 4) / 4 * 4 = omega arith in
@@ -559,7 +560,7 @@ text_grown sizes Text by e = refl
 text_grown sizes _ by e = absurd (true≢false (sym e))
 
 load_there : (t place index pool word text : ℕ) → nat_lt t 8 ≡ true → word ≡ sum_64 pool (times index 4) → nat_lt 1020 (word - base place) ≡ false
-    → place + 2 ≤ 1048576 → place + 2 ≤ text → pool ≡ sum_64 text (filling text 4) → result_err (encoded_of (LdrLit t (literal word place))) ≡ None
+    → place + 2 ≤ 1048576 → place + 2 ≤ text → pool ≡ sum_64 text (gap text 4) → result_err (encoded_of (LdrLit t (literal word place))) ≡ None
 load_there t place index pool word text r w near small behind p =
     let close : word - base place ≤ 1020 = grind (arith, nat_tests) in
     let there = word_there place text index pool word small behind p w close in

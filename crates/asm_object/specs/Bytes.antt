@@ -1,16 +1,18 @@
--- The bytes of numbers and instructions, the lowest byte first.
+-- The bytes of numbers and instructions, the lowest byte first (docs/objects.md; DDI 0419).
 use Rattle.std.specs.Prelude.{ℕ, ◌/◌, ◌%◌, ◌==◌, if◌then◌else◌, List, [], ◌∷◌, ◌++◌, replicate, flat_map}
+use Rattle.byteorder.specs.Endian.{little_bytes}
+use Rattle.asm_object.specs.declared.bytes.TheConstants.{FILLER}
 use Rattle.thumb_encode.specs.declared.code.Code.{Code}
 use Rattle.thumb_encode.specs.declared.code.Code.TheVariants.{Half, Pair}
 
 abbrev pub byte_bytes : ℕ → List ℕ
-byte_bytes n = n % 256 ∷ []
+byte_bytes n = little_bytes 1 n
 
 abbrev pub half_bytes : ℕ → List ℕ
-half_bytes n = n % 256 ∷ (n / 256 % 256) ∷ []
+half_bytes n = little_bytes 2 n
 
 abbrev pub word_bytes : ℕ → List ℕ
-word_bytes n = half_bytes n ++ half_bytes (n / 65536)
+word_bytes n = little_bytes 4 n
 
 abbrev pub code_bytes : Code → List ℕ
 code_bytes (Half half) = half_bytes half
@@ -18,7 +20,7 @@ code_bytes (Pair first second) = half_bytes first ++ half_bytes second
 
 -- so many halfwords of `mov r8, r8`
 abbrev pub fillers : ℕ → List ℕ
-fillers count = flat_map half_bytes (replicate count 0x46c0)
+fillers count = flat_map half_bytes (replicate count FILLER)
 
 -- what fills a text: one zero byte where the number of bytes is odd, and then instructions
 abbrev pub filling_bytes : ℕ → List ℕ

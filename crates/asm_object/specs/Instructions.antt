@@ -9,6 +9,7 @@ use Rattle.asm_layout.specs.declared.place.Place.{Place}
 use Rattle.asm_layout.specs.Sizes.{sum_64}
 use Rattle.asm_layout.specs.Walks.{same_section}
 use Rattle.asm_layout.specs.Labels.{Named, find}
+use Rattle.asm_object.specs.declared.relocation.TheConstants.{R_ARM_THM_CALL, R_ARM_THM_JUMP11, R_ARM_THM_JUMP8}
 use Rattle.asm_object.specs.Values.{Linked, linked}
 
 -- a number as a field without sign takes it; one too large for every field where it isn't one of 32 bits
@@ -123,9 +124,9 @@ abbrev pub linked_unless : Option ℕ → ℕ → List ℕ → Option Linked
 linked_unless (Some _) kind name = None
 linked_unless None kind name = linked kind name (negsuc 3)
 
--- what the linker puts into a branch: R_ARM_THM_CALL, R_ARM_THM_JUMP11, R_ARM_THM_JUMP8
+-- what the linker puts into a branch (IHI 0044), if anything
 abbrev pub branch_link : List Named → StmtKind → Option Linked
-branch_link labels (stmt.Bl name) = linked_unless (text_place labels name) 10 name
-branch_link labels (stmt.B name) = linked_unless (text_place labels name) 102 name
-branch_link labels (stmt.BCond _ name) = linked_unless (text_place labels name) 103 name
+branch_link labels (stmt.Bl name) = linked_unless (text_place labels name) R_ARM_THM_CALL name
+branch_link labels (stmt.B name) = linked_unless (text_place labels name) R_ARM_THM_JUMP11 name
+branch_link labels (stmt.BCond _ name) = linked_unless (text_place labels name) R_ARM_THM_JUMP8 name
 branch_link labels _ = None

@@ -1,4 +1,5 @@
 pub mod Bytes
+pub mod Relocations
 pub mod Values
 pub mod Links
 pub mod Instructions

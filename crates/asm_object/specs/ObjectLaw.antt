@@ -1,7 +1,7 @@
 -- What holds of every object that statements stand for. The linker's fields stand in the order of the sections, and in a section
 -- one behind the other, each whole in the section's bytes, so that no two share a byte; each has a kind of the standard (IHI 0044).
 -- A label's symbol stands where the statements before it end. Of statements there are fewer than 2^64.
-use Rattle.std.specs.Prelude.{◌≡◌, ◌+◌, ◌^◌, ◌<◌, ◌≤◌, ◌==◌, ◌||◌, if◌then◌else◌, true, ℕ, List, [], ◌∷◌, ◌++◌, length, Option, Some, None, Ok}
+use Rattle.std.specs.Prelude.{◌≡◌, ◌+◌, ◌^◌, ◌<◌, ◌≤◌, ◌==◌, if◌then◌else◌, true, ℕ, List, [], ◌∷◌, ◌++◌, length, Option, Some, None, Ok}
 use Rattle.std.specs.List.{filter, list_all, list_any}
 use Rattle.eh_word.specs.Names.{same_bytes}
 use Rattle.asm_read.specs.declared.statement.Stmt.{Stmt}
@@ -14,11 +14,9 @@ use Rattle.asm_layout.specs.Walks.{start, here, same_section, walk_behind}
 use Rattle.asm_object.specs.declared.object.Object.{Object}
 use Rattle.asm_object.specs.declared.object.ObjSymbol.{ObjSymbol}
 use Rattle.asm_object.specs.declared.object.Reloc.{Reloc}
+use Rattle.asm_object.specs.declared.relocation.TheConstants.{R_ARM_ABS32, R_ARM_REL32, R_ARM_THM_CALL, R_ARM_TARGET2, R_ARM_PREL31, R_ARM_THM_JUMP11, R_ARM_THM_JUMP8}
+use Rattle.asm_object.specs.Relocations.{field_size}
 use Rattle.asm_object.specs.Objects.{object_of}
-
--- how many bytes a relocation's field has (IHI 0044): two for R_ARM_THM_JUMP11 and R_ARM_THM_JUMP8, else four
-abbrev pub field_size : Reloc → ℕ
-field_size reloc = if reloc.kind == 102 || reloc.kind == 103 then 2 else 4
 
 -- fields from an offset on and up to another one, one behind the other
 abbrev pub StandInOrder : ℕ → List Reloc → ℕ → Type 0
@@ -51,9 +49,9 @@ RelocsGoBySection =
     → object_of stmts ≡ Ok object
     → object.relocs ≡ relocs_at Text object ++ relocs_at Rodata object ++ relocs_at Extab object ++ relocs_at Init object
 
--- R_ARM_ABS32, R_ARM_REL32, R_ARM_THM_CALL, R_ARM_TARGET2, R_ARM_PREL31, R_ARM_THM_JUMP11, R_ARM_THM_JUMP8
+-- the kinds of a source's relocations
 abbrev pub kinds : List ℕ
-kinds = 2 ∷ 3 ∷ 10 ∷ 41 ∷ 42 ∷ 102 ∷ 103 ∷ []
+kinds = R_ARM_ABS32 ∷ R_ARM_REL32 ∷ R_ARM_THM_CALL ∷ R_ARM_TARGET2 ∷ R_ARM_PREL31 ∷ R_ARM_THM_JUMP11 ∷ R_ARM_THM_JUMP8 ∷ []
 
 -- each relocation has one of these kinds
 abbrev pub RelocsHaveKinds : Type 0

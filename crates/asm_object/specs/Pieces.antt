@@ -1,5 +1,5 @@
--- The bytes of statements, each piece at its place, and what the linker fills in them.
-use Rattle.std.specs.Prelude.{ℕ, ◌+◌, ◌%◌, ◌^◌, ◌==◌, ◌&&◌, not, ℤ, pos, negsuc, Bool, true, false, nat_lt, if◌then◌else◌, List, [], ◌∷◌, ◌++◌, map, replicate, flat_map, length, Option, Some, None, Result, Ok, Err}
+-- The bytes of statements, each piece at its place, and what the linker fills in them (docs/objects.md, "Sections and places").
+use Rattle.std.specs.Prelude.{ℕ, ◌+◌, ◌%◌, ◌^◌, ◌==◌, ◌&&◌, not, ℤ, pos, negsuc, Bool, true, false, nat_lt, if◌then◌else◌, List, [], ◌∷◌, ◌++◌, map, flat_map, length, Option, Some, None, Result, Ok, Err}
 use Rattle.std.specs.List.{position_or_len}
 use Rattle.asm_read.specs.declared.statement.Stmt.{Stmt}
 use Rattle.asm_read.specs.declared.statement.StmtKind.{StmtKind}
@@ -21,7 +21,8 @@ use Rattle.asm_layout.specs.declared.place.Place.{Place}
 use Rattle.asm_layout.specs.declared.word.Word.{Word}
 use Rattle.asm_layout.specs.Words.{word_of}
 use Rattle.asm_layout.specs.SameWords.{same_word}
-use Rattle.asm_layout.specs.Sizes.{sum_64, times, filling, multiple, natural, is_instruction}
+use Rattle.asm_layout.specs.Sizes.{sum_64, times, multiple, natural, is_instruction}
+use Rattle.eh_list.specs.Bytes.{gap, zeros}
 use Rattle.asm_object.specs.Bytes.{byte_bytes, half_bytes, word_bytes, code_bytes, filling_bytes}
 use Rattle.asm_layout.specs.declared.walk.Walk.{Walk}
 use Rattle.asm_layout.specs.Walks.{next, here, entry_at, is_empty, is_in_text, pool_place, coming_pool, same_section}
@@ -72,19 +73,19 @@ bytes_piece place code bytes = record { place = place; code = code; bytes = byte
 -- a text is filled with instructions, and this counts as code; another section with zeros
 abbrev pub filling_piece : Place → ℕ → Piece
 filling_piece place count =
-    bytes_piece place true (if same_section place.section Text then filling_bytes count else replicate count 0)
+    bytes_piece place true (if same_section place.section Text then filling_bytes count else zeros count)
 
 -- the pool that ends here, at a multiple of 4; nothing without words
 abbrev pub pool_pieces : List Named → Walk → List Piece
 pool_pieces labels walk =
     if is_empty walk.pool then []
-    else filling_piece (place_at Text walk.at.sizes.text) (filling walk.at.sizes.text 4)
+    else filling_piece (place_at Text walk.at.sizes.text) (gap walk.at.sizes.text 4)
     ∷ words_piece labels (place_at Text (pool_place walk)) walk.pool ∷ []
 
 -- the words of a function's table, at a multiple of 4
 abbrev pub table_pieces : ℕ → Option EntryWords → List Piece
 table_pieces place (Some (entry.Table words)) =
-    bytes_piece (place_at Extab place) false (replicate (filling place 4) 0 ++ flat_map word_bytes words) ∷ []
+    bytes_piece (place_at Extab place) false (zeros (gap place 4) ++ flat_map word_bytes words) ∷ []
 table_pieces place _ = []
 
 abbrev pub bytes_of_code : Result Code EncodeFault → List ℕ
@@ -127,7 +128,7 @@ data_bytes labels (stmt.Halves exprs) = flat_map (λ expr. half_bytes (low_or_ze
 data_bytes labels (stmt.Bytes exprs) = flat_map (λ expr. byte_bytes (low_or_zero (number labels expr))) exprs
 data_bytes labels (stmt.Ascii text) = text
 data_bytes labels (stmt.Asciz text) = text ++ 0 ∷ []
-data_bytes labels (stmt.Space n) = replicate (natural n) 0
+data_bytes labels (stmt.Space n) = zeros (natural n)
 data_bytes labels _ = []
 
 -- the relocations of a statement that is data: those of its words
@@ -146,7 +147,7 @@ data_piece labels kind place = record {
 -- what a statement fills, and the pool or table that stands where it does
 abbrev pub set_pieces : List (Option EntryWords) → List Named → Walk → StmtKind → List Piece
 set_pieces entries labels walk (stmt.Align n) =
-    filling_piece (here walk.at) (filling (here walk.at).offset (multiple n)) ∷ []
+    filling_piece (here walk.at) (gap (here walk.at).offset (multiple n)) ∷ []
 set_pieces entries labels walk stmt.Pool = if is_in_text walk.at then pool_pieces labels walk else []
 set_pieces entries labels walk stmt.FnStart =
     if walk.at.inside then [] else table_pieces walk.at.sizes.extab (entry_at entries walk.at.functions)
@@ -216,7 +217,7 @@ abbrev pub row_of : Walk → Option EntryWords → List IndexRow
 row_of walk None = []
 row_of walk (Some words) = record {
   offset = walk.at.sizes.text % 2 ^ 32;
-  entry = row_entry (sum_64 walk.at.sizes.extab (filling walk.at.sizes.extab 4)) words;
+  entry = row_entry (sum_64 walk.at.sizes.extab (gap walk.at.sizes.extab 4)) words;
 } ∷ []
 
 abbrev pub new_rows : List (Option EntryWords) → Walk → StmtKind → List IndexRow

@@ -1,17 +1,14 @@
--- What names, words and numbers stand for.
-use Rattle.std.specs.Prelude.{ℕ, ◌-◌, ◌^◌, ℤ, pos, negsuc, ◌+ℤ◌, ◌-ℤ◌, ◌==◌, ◌&&◌, slice_index_or, Bool, true, nat_lt, if◌then◌else◌, List, Option, Some, None, is_some}
+-- What names, words and numbers stand for (docs/objects.md; IHI 0044).
+use Rattle.std.specs.Prelude.{ℕ, ◌-◌, ◌^◌, ℤ, pos, negsuc, ◌+ℤ◌, ◌-ℤ◌, Bool, true, nat_lt, if◌then◌else◌, List, Option, Some, None, is_some}
 use Rattle.asm_read.specs.declared.statement.Expr.{Expr}
 use Rattle.asm_read.specs.declared.statement.Expr.TheVariants as expr
 use Rattle.asm_layout.specs.declared.place.Place.{Place}
 use Rattle.asm_layout.specs.declared.word.Word.{Word}
 use Rattle.asm_layout.specs.declared.word.Word.TheVariants as word
-use Rattle.asm_layout.specs.Words.{low_word}
+use Rattle.asm_layout.specs.Words.{low_word, is_local}
+use Rattle.asm_object.specs.declared.relocation.TheConstants.{R_ARM_ABS32, R_ARM_REL32, R_ARM_TARGET2, R_ARM_PREL31}
 use Rattle.asm_layout.specs.Walks.{same_section}
 use Rattle.asm_layout.specs.Labels.{Named, find}
-
--- a name that begins with `.L`
-abbrev pub is_local : List ℕ → Bool
-is_local name = (slice_index_or name 0 0 == 46) && (slice_index_or name 1 0 == 76)
 
 -- a local name has a label
 abbrev pub is_known : List Named → List ℕ → Bool
@@ -68,12 +65,12 @@ pub record Linked : Type 0 where
 abbrev pub linked : ℕ → List ℕ → ℤ → Option Linked
 linked kind name addend = Some (record { kind = kind; name = name; addend = addend })
 
--- R_ARM_ABS32, R_ARM_REL32, R_ARM_TARGET2, R_ARM_PREL31
+-- what the linker puts into a word, if anything
 abbrev pub link_of : Word → Option Linked
 link_of (word.Num _) = None
 link_of (word.Diff _ _ _) = None
-link_of (word.Of name n) = linked 2 name (signed n)
-link_of (word.Rel name) = linked 3 name (pos 0)
-link_of (word.Target2 name) = linked 41 name (pos 0)
-link_of (word.Prel31 name) = linked 42 name (pos 0)
-link_of (word.Prel31Ref name) = linked 42 name (pos 0)
+link_of (word.Of name n) = linked R_ARM_ABS32 name (signed n)
+link_of (word.Rel name) = linked R_ARM_REL32 name (pos 0)
+link_of (word.Target2 name) = linked R_ARM_TARGET2 name (pos 0)
+link_of (word.Prel31 name) = linked R_ARM_PREL31 name (pos 0)
+link_of (word.Prel31Ref name) = linked R_ARM_PREL31 name (pos 0)

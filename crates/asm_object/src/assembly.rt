@@ -1,3 +1,4 @@
+//! Statements to their object: refusals first, then sections, rows, symbols and relocations (docs/objects.md).
 ghost use Rattle.std.specs.Prelude.{◌≡◌, ◌⊎◌, MatchResult, IfOk, OnOk, option_map, None, Ok, Err};
 ghost use Rattle.asm_layout.specs.Faults.{fault_at, out_of_memory, first_of_all};
 ghost use Rattle.asm_layout.specs.Walks.{start, pools_from};
@@ -9,7 +10,7 @@ ghost use Rattle.asm_object.specs.Built.{first_place, places_behind, with_word, 
 
 use crate::object::{IndexRows, Object};
 use crate::part::Part;
-use crate::parts::{Marked, Sections, push_row};
+use crate::parts::{Marked, Sections, Stand, push_row};
 use crate::refusal::refusal;
 use crate::symbols::{relocs, symbols};
 use asm_layout::fault::{AsmFault, first_of};
@@ -120,7 +121,8 @@ fn sections_of(
     let mut pools = layout.pools.as_slice();
     for stmt in stmts {
         let word = pool_word(alloc, &mut walk, pools, &stmt.kind)?;
-        sections.push(alloc, &layout.labels, entries, &walk, word, &stmt.kind)?;
+        let stand = Stand { walk: &walk, word };
+        sections.push(alloc, &layout.labels, entries, stand, &stmt.kind)?;
         pools = places_behind(pools, walk.ends_pool(&stmt.kind));
         walk.advance(alloc, stmt, entries)?;
     }

@@ -1,9 +1,10 @@
+//! Bytes of instructions and of what fills a text (docs/objects.md; DDI 0419).
 ghost use Rattle.std.specs.Prelude.{◌≡◌, ◌<◌, ◌++◌, OnOk, replicate};
-ghost use Rattle.asm_layout.specs.Sizes.{filling};
+ghost use Rattle.eh_list.specs.Bytes.{gap};
 ghost use Rattle.asm_object.specs.Bytes.{byte_bytes, half_bytes, word_bytes, code_bytes, filling_bytes};
 
 use crate::object::Octets;
-use asm_layout::walk::filling;
+use eh_list::bytes::gap;
 use std::alloc::AllocError;
 use thumb_encode::code::Code;
 
@@ -15,19 +16,11 @@ pub fn push_byte(bytes: &mut Octets, n: u32) -> Result<(), AllocError>
 }
 
 /// Adds the low two bytes of a number, the lowest first.
+#[tactic(auto, using(crate::proofs::ByteLemmas::low_half))]
 pub fn push_half(bytes: &mut Octets, n: u32) -> Result<(), AllocError>
     ensures { OnOk result (bytes.new ≡ bytes.old ++ half_bytes n) }
 {
-    bytes.push((n % 256) as u8)?;
-    bytes.push((n / 256 % 256) as u8)
-}
-
-/// Adds the bytes of a word, the lowest first.
-pub fn push_word(bytes: &mut Octets, n: u32) -> Result<(), AllocError>
-    ensures { OnOk result (bytes.new ≡ bytes.old ++ word_bytes n) }
-{
-    push_half(bytes, n)?;
-    push_half(bytes, n / 65536)
+    bytes.push_half((n % 0x1_0000) as u16)
 }
 
 /// Adds the halfwords of an instruction.
@@ -43,25 +36,15 @@ pub fn push_code(bytes: &mut Octets, code: Code) -> Result<(), AllocError>
     }
 }
 
-/// Adds zeros.
-pub fn push_zeros(bytes: &mut Octets, count: u64) -> Result<(), AllocError>
-    ensures { OnOk result (bytes.new ≡ bytes.old ++ replicate count 0) }
-{
-    for _i in 0..count {
-        bytes.push(0)?;
-    }
-    Ok(())
-}
-
 /// The instruction that fills the text: `mov r8, r8`.
-const FILLER: u32 = 0x46c0;
+pub const FILLER: u32 = 0x46c0;
 
 /// Fills a text to the next multiple: one zero byte from an odd place on, and then instructions.
 pub fn push_filling(bytes: &mut Octets, place: u64, multiple: u64) -> Result<(), AllocError>
     requires { 0 < multiple }
-    ensures { OnOk result (bytes.new ≡ bytes.old ++ filling_bytes (filling place multiple)) }
+    ensures { OnOk result (bytes.new ≡ bytes.old ++ filling_bytes (gap place multiple)) }
 {
-    let count = filling(place, multiple);
+    let count = gap(place, multiple);
     if count % 2 == 1 {
         bytes.push(0)?;
     }

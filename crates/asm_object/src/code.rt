@@ -1,3 +1,4 @@
+//! The instructions of statements, and where their labels lead (docs/objects.md; DDI 0419).
 ghost use Rattle.std.specs.Prelude.{◌≡◌};
 ghost use Rattle.asm_layout.specs.Labels.{named_in};
 ghost use Rattle.asm_object.specs.Links.{linked_now};

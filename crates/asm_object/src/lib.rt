@@ -1,4 +1,4 @@
-//! Objects of statements: the assembler of the source language, without its reader.
+//! Objects of statements: the assembler of the source language, without its reader (docs/objects.md).
 #![tactic(auto)]
 
 ghost use Rattle.asm_object.specs.PlaceLaw.{
@@ -18,8 +18,6 @@ mod parts;
 mod refusal;
 pub mod relocation;
 mod symbols;
-#[cfg(test)]
-mod tests;
 mod value;
 
 pub use asm_layout::fault::{AsmFault, AsmWhat};

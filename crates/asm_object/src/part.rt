@@ -1,3 +1,4 @@
+//! A section as it grows: its bytes, and what the linker fills in them (docs/objects.md).
 ghost use Rattle.std.specs.Prelude.{◌≡◌, ◌++◌, [], flat_map, map, OnOk};
 ghost use Rattle.asm_layout.specs.Labels.{named_in};
 ghost use Rattle.asm_layout.specs.Words.{word_of};
@@ -8,14 +9,14 @@ ghost use Rattle.asm_object.specs.Instructions.{branch_link};
 ghost use Rattle.asm_object.specs.Pieces.{relocs_of, word_relocs, words_bytes, udf_half, instruction_bytes, data_bytes, data_relocs};
 ghost use Rattle.asm_object.specs.Built.{part_with, no_part};
 
-use crate::bytes::{push_byte, push_code, push_half, push_word, push_zeros};
+use crate::bytes::{push_byte, push_code, push_half};
 use crate::code::{branch_link, instruction};
 use crate::object::{Octets, Reloc, Relocs};
-use crate::value::{Link, held, link_of, low_number, number};
+use crate::value::{Link, held, link_of, number};
 use asm_layout::labels::Labels;
 use asm_layout::place::{Place, Section};
 use asm_layout::walk::Pool;
-use asm_layout::word::{Word, copied, low_part, word_of};
+use asm_layout::word::{Word, copied, low_number, low_part, word_of};
 use asm_read::{Expr, StmtKind};
 use std::alloc::{AllocError, Global};
 use thumb_encode::encode::encode;
@@ -100,7 +101,7 @@ impl Part {
     ) -> Result<(), AllocError>
         ensures { OnOk result (self.new ≡ part_with self.old (word_bytes (held (named_in labels.now) word.now)) (relocs_of at (link_of word.now))) }
     {
-        push_word(&mut self.bytes, held(labels, word))?;
+        self.bytes.push_word(held(labels, word))?;
         push_link(alloc, &mut self.relocs, at, link_of(word))
     }
 
@@ -172,7 +173,7 @@ impl Part {
                 self.bytes.extend_from_slice(text.bytes())?;
                 self.bytes.push(0)
             }
-            StmtKind::Space(n) => push_zeros(&mut self.bytes, u64::try_from(*n).unwrap_or(0)),
+            StmtKind::Space(n) => self.bytes.push_zeros(usize::try_from(*n).unwrap_or(0)),
             _ => Ok(()),
         }
     }

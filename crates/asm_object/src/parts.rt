@@ -1,19 +1,21 @@
+//! The sections of an object as they grow, statement by statement (docs/objects.md).
 ghost use Rattle.std.specs.Prelude.{◌≡◌, ◌<◌, ◌++◌, ◌∷◌, [], nat_lt, length, flat_map, OnOk};
 ghost use Rattle.asm_layout.specs.Labels.{named_in};
-ghost use Rattle.asm_layout.specs.Sizes.{filling};
+ghost use Rattle.eh_list.specs.Bytes.{gap};
 ghost use Rattle.asm_object.specs.Bytes.{word_bytes};
 ghost use Rattle.asm_object.specs.Pieces.{place_at, words_piece, filling_piece, pool_pieces, table_pieces, instruction_piece, data_piece, set_pieces, own_piece, pieces_at, row_entry, row_of, new_rows};
 ghost use Rattle.asm_object.specs.Built.{marked, text_with, with_piece, with_pieces, no_sections};
 
-use crate::bytes::{push_filling, push_word, push_zeros};
+use crate::bytes::push_filling;
 use crate::object::{IndexRow, IndexRows, Mark, Marks, Octets, RowEntry};
 use crate::part::Part;
 use asm_layout::labels::Labels;
 use asm_layout::place::{Place, Section};
-use asm_layout::walk::{Pool, Walk, entry_at, filling, is_instruction, multiple};
+use asm_layout::walk::{Pool, Walk, entry_at, is_instruction, multiple};
 use asm_layout::word::low_part;
 use asm_read::StmtKind;
 use asm_unwind::EntryWords;
+use eh_list::bytes::gap;
 use std::alloc::{AllocError, Global};
 
 /// The text so far, with a mark at each change between code and words.
@@ -78,7 +80,7 @@ impl Marked {
     /// Fills to the next multiple, from the place of the next byte on.
     fn push_filling(&mut self, place: u64, multiple: u64) -> Result<(), AllocError>
         requires { 0 < multiple }
-        ensures { OnOk result (self.new ≡ text_with self.old (filling_piece (place_at Section.Text place) (filling place multiple))) }
+        ensures { OnOk result (self.new ≡ text_with self.old (filling_piece (place_at Section.Text place) (gap place multiple))) }
     {
         let before = self.part.bytes.len();
         push_filling(&mut self.part.bytes, place, multiple)?;
@@ -99,6 +101,13 @@ impl Marked {
         self.part.push_pool(alloc, labels, from, pool)?;
         self.mark(before, from, false)
     }
+}
+
+/// Where a statement stands: the walk before it, and the place of its pool word, 0 without one.
+#[derive(Clone, Copy)]
+pub struct Stand<'a> {
+    pub walk: &'a Walk,
+    pub word: u64,
 }
 
 /// The sections of an object so far.
@@ -187,14 +196,14 @@ impl Sections {
     /// Fills a section to the next multiple.
     fn push_filling(&mut self, at: Place, multiple: u64) -> Result<(), AllocError>
         requires { 0 < multiple }
-        ensures { OnOk result (self.new ≡ with_piece self.old (filling_piece at (filling at.offset multiple))) }
+        ensures { OnOk result (self.new ≡ with_piece self.old (filling_piece at (gap at.offset multiple))) }
     {
-        let count = filling(at.offset, multiple);
+        let count = gap(at.offset, multiple);
         match at.section {
             Section::Text => self.text.push_filling(at.offset, multiple),
-            Section::Rodata => push_zeros(&mut self.rodata.bytes, count),
-            Section::Extab => push_zeros(&mut self.extab.bytes, count),
-            Section::Init => push_zeros(&mut self.init.bytes, count),
+            Section::Rodata => self.rodata.bytes.push_zeros(count as usize),
+            Section::Extab => self.extab.bytes.push_zeros(count as usize),
+            Section::Init => self.init.bytes.push_zeros(count as usize),
             Section::Bss => Ok(()),
         }
     }
@@ -222,7 +231,7 @@ impl Sections {
     {
         match entry {
             EntryWords::Table(words) => {
-                push_zeros(&mut self.extab.bytes, filling(place, 4))?;
+                self.extab.bytes.push_zeros(gap(place, 4) as usize)?;
                 push_table_words(&mut self.extab.bytes, words.as_slice())
             }
             _ => Ok(()),
@@ -260,20 +269,19 @@ impl Sections {
         }
     }
 
-    /// Adds what a statement gives where the walk stands; `word` is the place of its pool word.
+    /// Adds what a statement gives where it stands.
     pub fn push(
         &mut self,
         alloc: Global,
         labels: &Labels,
         entries: &[Option<EntryWords>],
-        walk: &Walk,
-        word: u64,
+        stand: Stand<'_>,
         kind: &StmtKind,
     ) -> Result<(), AllocError>
-        ensures { OnOk result (self.new ≡ with_pieces self.old (pieces_at entries.now (named_in labels.now) walk.now word kind.now)) }
+        ensures { OnOk result (self.new ≡ with_pieces self.old (pieces_at entries.now (named_in labels.now) stand.entry.walk.now stand.entry.word kind.now)) }
     {
-        self.push_set(alloc, labels, entries, walk, kind)?;
-        self.push_own(alloc, labels, walk.at.here(), word, kind)
+        self.push_set(alloc, labels, entries, stand.walk, kind)?;
+        self.push_own(alloc, labels, stand.walk.at.here(), stand.word, kind)
     }
 }
 
@@ -282,7 +290,7 @@ fn push_table_words(bytes: &mut Octets, words: &[u32]) -> Result<(), AllocError>
     ensures { OnOk result (bytes.new ≡ bytes.old ++ flat_map word_bytes words.now) }
 {
     for word in words {
-        push_word(bytes, *word)?;
+        bytes.push_word(*word)?;
     }
     Ok(())
 }
@@ -325,7 +333,7 @@ fn row_of(walk: &Walk, entry: &EntryWords) -> IndexRow
     ensures { result ∷ [] ≡ row_of walk.now (Some entry.now) }
 {
     let place = walk.at.sizes.extab;
-    let table = place.saturating_add(filling(place, 4));
+    let table = place.saturating_add(gap(place, 4));
     IndexRow {
         offset: low_part(walk.at.sizes.text),
         entry: row_entry(entry, table),

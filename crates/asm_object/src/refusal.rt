@@ -1,3 +1,4 @@
+//! Why a statement is refused at its place (docs/objects.md, in the order of its table).
 ghost use Rattle.std.specs.Prelude.{◌≡◌};
 ghost use Rattle.asm_layout.specs.Labels.{named_in};
 ghost use Rattle.asm_object.specs.Values.{number};

@@ -1,3 +1,4 @@
+//! The symbols and relocations of an object (docs/objects.md).
 ghost use Rattle.std.specs.Prelude.{◌≡◌, ◌++◌, map, IfOk};
 ghost use Rattle.asm_object.specs.Objects.{symbol_of};
 

@@ -1,24 +1,17 @@
+//! What names and words stand for, and what the linker puts into words (docs/objects.md; IHI 0044).
 ghost use Rattle.std.specs.Prelude.{◌≡◌, ◌^◌, pos, neg_ℤ, ◌<ℤ◌, IfSome};
-ghost use Rattle.asm_layout.specs.Words.{low_word};
 ghost use Rattle.asm_layout.specs.Labels.{named_in};
-ghost use Rattle.asm_object.specs.Values.{is_local, is_known, distance, is_word_known, number, held, signed, link_of};
+ghost use Rattle.asm_object.specs.Values.{is_known, distance, is_word_known, number, held, signed, link_of};
 ghost use Rattle.asm_object.specs.Links.{linked_now};
 
 use crate::relocation::{R_ARM_ABS32, R_ARM_PREL31, R_ARM_REL32, R_ARM_TARGET2};
 use asm_layout::labels::Labels;
-use asm_layout::word::Word;
+use asm_layout::word::{Word, is_local, low_number};
 use asm_read::Expr;
 use eh_word::Name;
 
 /// Bit 31.
 const TOP_BIT: u32 = 0x8000_0000;
-
-/// Whether a name is local: it begins with `.L`.
-fn is_local(name: &Name) -> bool
-    ensures { result ≡ is_local name.now }
-{
-    matches!(name.bytes(), [b'.', b'L', ..])
-}
 
 /// Whether a name may be used: a local one has a label.
 pub fn is_known(labels: &Labels, name: &Name) -> bool
@@ -66,17 +59,6 @@ pub fn number(labels: &Labels, expr: &Expr) -> Option<i128>
             None => None,
         },
         _ => None,
-    }
-}
-
-/// A number modulo 2^32.
-pub fn low_number(n: i128) -> u32
-    ensures { result ≡ low_word n }
-{
-    if n >= 0 {
-        (n as u128 % 0x1_0000_0000) as u32
-    } else {
-        0xffff_ffff - ((-1 - n) as u128 % 0x1_0000_0000) as u32
     }
 }
 

@@ -3,6 +3,7 @@ use Rattle.std.proofs.Common.{◌≡◌, ℕ, ◌+◌, ◌==◌, not, ◌<◌, �
 use Rattle.std.proofs.lemmas.List.{append-nil}
 use Rattle.std.specs.List.{prefix_len}
 use Rattle.std.proofs.lemmas.Bool.Decides.{nat_tests}
+use Rattle.asm_read.specs.declared.read.TheConstants.{MOST_LINES}
 use Rattle.asm_read.specs.declared.statement.Stmt.{Stmt}
 use Rattle.asm_read.specs.declared.fault.SourceFault.{SourceFault}
 use Rattle.asm_read.specs.Fault.{fault_at}
@@ -47,15 +48,15 @@ then_step : (out new : List Stmt) (line more : Result (List Stmt) SourceFault) �
 then_step out new (Ok s) more h = added_added out s more ∙ ap (λ x. added x more) (let e : out ++ s ≡ new = cc in e)
 then_step out new (Err f) more h = cc
 
-read_cons : (n : ℕ) (line : List ℕ) (lines : List (List ℕ)) → n ≤ 200000 → read_lines n (line ∷ lines) ≡ then_added (line_of n line) (read_lines (n + 1) lines)
+read_cons : (n : ℕ) (line : List ℕ) (lines : List (List ℕ)) → n ≤ MOST_LINES → read_lines n (line ∷ lines) ≡ then_added (line_of n line) (read_lines (n + 1) lines)
 unfolding read_lines
 read_cons n line lines h = grind (arith, nat_tests)
 
-read_over : (n : ℕ) (line : List ℕ) (lines : List (List ℕ)) → 200000 < n → read_lines n (line ∷ lines) ≡ Err (fault_at n 1 (excess line))
+read_over : (n : ℕ) (line : List ℕ) (lines : List (List ℕ)) → MOST_LINES < n → read_lines n (line ∷ lines) ≡ Err (fault_at n 1 (excess line))
 unfolding read_lines
 read_over n line lines h = grind (arith, nat_tests)
 
-pub read_step : (out new : List Stmt) (n : ℕ) (text : List ℕ) → 0 < length text → n ≤ 200000 → added out (line_of n (take (prefix_len is_inside text) text)) ≡ Ok new → added out (read_lines n (lines_of text)) ≡ added new (read_lines (n + 1) (lines_of (drop (prefix_len is_inside text + 1) text)))
+pub read_step : (out new : List Stmt) (n : ℕ) (text : List ℕ) → 0 < length text → n ≤ MOST_LINES → added out (line_of n (take (prefix_len is_inside text) text)) ≡ Ok new → added out (read_lines n (lines_of text)) ≡ added new (read_lines (n + 1) (lines_of (drop (prefix_len is_inside text + 1) text)))
 read_step out new n text some few h =
     ap (λ ls. added out (read_lines n ls)) (lines_step text some)
     ∙ ap (added out) (read_cons n (take (prefix_len is_inside text) text) (lines_of (drop (prefix_len is_inside text + 1) text)) few)
@@ -64,13 +65,13 @@ read_step out new n text some few h =
 err_step : (out : List Stmt) (line more : Result (List Stmt) SourceFault) (f : SourceFault) → line ≡ Err f → added out (then_added line more) ≡ Err f
 err_step out line more f h = rw h refl
 
-pub read_fault : (out : List Stmt) (n : ℕ) (text : List ℕ) (f : SourceFault) → 0 < length text → n ≤ 200000 → line_of n (take (prefix_len is_inside text) text) ≡ Err f → added out (read_lines n (lines_of text)) ≡ Err f
+pub read_fault : (out : List Stmt) (n : ℕ) (text : List ℕ) (f : SourceFault) → 0 < length text → n ≤ MOST_LINES → line_of n (take (prefix_len is_inside text) text) ≡ Err f → added out (read_lines n (lines_of text)) ≡ Err f
 read_fault out n text f some few h =
     ap (λ ls. added out (read_lines n ls)) (lines_step text some)
     ∙ ap (added out) (read_cons n (take (prefix_len is_inside text) text) (lines_of (drop (prefix_len is_inside text + 1) text)) few)
     ∙ err_step out (line_of n (take (prefix_len is_inside text) text)) (read_lines (n + 1) (lines_of (drop (prefix_len is_inside text + 1) text))) f h
 
-pub read_excess : (out : List Stmt) (n : ℕ) (text : List ℕ) → 0 < length text → 200000 < n → added out (read_lines n (lines_of text)) ≡ Err (fault_at n 1 (excess (take (prefix_len is_inside text) text)))
+pub read_excess : (out : List Stmt) (n : ℕ) (text : List ℕ) → 0 < length text → MOST_LINES < n → added out (read_lines n (lines_of text)) ≡ Err (fault_at n 1 (excess (take (prefix_len is_inside text) text)))
 read_excess out n text some many =
     ap (λ ls. added out (read_lines n ls)) (lines_step text some)
     ∙ ap (added out) (read_over n (take (prefix_len is_inside text) text) (lines_of (drop (prefix_len is_inside text + 1) text)) many)
@@ -89,15 +90,15 @@ unfolding read_of
 read_start text = added_none (read_lines 1 (lines_of text))
 
 -- the same with the length of the line, and the text behind it, under names
-pub read_next : (out new : List Stmt) (n : ℕ) (text rest : List ℕ) (len : ℕ) → 0 < length text → n ≤ 200000 → len ≡ prefix_len is_inside text → rest ≡ drop (len + 1) text → added out (line_of n (take len text)) ≡ Ok new → added out (read_lines n (lines_of text)) ≡ added new (read_lines (n + 1) (lines_of rest))
+pub read_next : (out new : List Stmt) (n : ℕ) (text rest : List ℕ) (len : ℕ) → 0 < length text → n ≤ MOST_LINES → len ≡ prefix_len is_inside text → rest ≡ drop (len + 1) text → added out (line_of n (take len text)) ≡ Ok new → added out (read_lines n (lines_of text)) ≡ added new (read_lines (n + 1) (lines_of rest))
 read_next out new n text rest len some few el er h =
     read_step out new n text some few (subst (λ (k : ℕ). added out (line_of n (take k text)) ≡ Ok new) el h)
     ∙ ap (λ r. added new (read_lines (n + 1) (lines_of r))) (ap (λ k. drop (k + 1) text) (sym el) ∙ sym er)
 
-pub read_refused : (out : List Stmt) (n : ℕ) (text : List ℕ) (len : ℕ) (f : SourceFault) → 0 < length text → n ≤ 200000 → len ≡ prefix_len is_inside text → line_of n (take len text) ≡ Err f → added out (read_lines n (lines_of text)) ≡ Err f
+pub read_refused : (out : List Stmt) (n : ℕ) (text : List ℕ) (len : ℕ) (f : SourceFault) → 0 < length text → n ≤ MOST_LINES → len ≡ prefix_len is_inside text → line_of n (take len text) ≡ Err f → added out (read_lines n (lines_of text)) ≡ Err f
 read_refused out n text len f some few el h =
     read_fault out n text f some few (subst (λ (k : ℕ). line_of n (take k text) ≡ Err f) el h)
 
-pub read_many : (out : List Stmt) (n : ℕ) (text : List ℕ) (len : ℕ) → 0 < length text → 200000 < n → len ≡ prefix_len is_inside text → added out (read_lines n (lines_of text)) ≡ Err (fault_at n 1 (excess (take len text)))
+pub read_many : (out : List Stmt) (n : ℕ) (text : List ℕ) (len : ℕ) → 0 < length text → MOST_LINES < n → len ≡ prefix_len is_inside text → added out (read_lines n (lines_of text)) ≡ Err (fault_at n 1 (excess (take len text)))
 read_many out n text len some many el =
     read_excess out n text some many ∙ ap (λ k. Err (fault_at n 1 (excess (take k text)))) (sym el)

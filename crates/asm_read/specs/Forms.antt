@@ -4,6 +4,8 @@
 use Rattle.std.specs.Prelude.{ℕ, true, false, List, [], ◌∷◌, ◌++◌, codes}
 use Rattle.asm_read.specs.declared.form.Piece.{Piece}
 use Rattle.asm_read.specs.declared.form.Piece.TheVariants.{Dot, Expression, Expressions, First, Function, Registers, RegistersWithFirst, Mark, MaybeHash, Name, Number, Object, Rodata, SameName, Second, Sp, Text, Third, UpToThree, WordExpressions, Zero}
+use Rattle.asm_read.specs.declared.table.Group.{Group}
+use Rattle.asm_read.specs.declared.table.Group.TheVariants as group
 use Rattle.asm_read.specs.declared.makes.Makes.{Makes}
 use Rattle.asm_read.specs.declared.makes.Makes.TheVariants.{Computes, Transfers, Controls, Directs, Names}
 use Rattle.asm_read.specs.declared.makes.Computation.TheVariants.{AddRdSp, AddReg, AddSp, AddSubReg, AddSubThree, AddSubTwo, Alu, CmpImm, CmpReg, Extend, Mov, MovsImm, MovsReg, Rev, Rsbs, ShiftImm, SubSp}
@@ -323,12 +325,18 @@ unwinding =
     form (codes ".handlerdata") nothing (Directs HandlerData) ∷
     []
 
-unfoldable pub instructions : List Form
-instructions = sums ++ (logic ++ (accesses ++ (halves ++ (others ++ branches))))
-
-unfoldable pub directives : List Form
-directives = sections ++ (contents ++ unwinding)
+-- the forms of a group
+abbrev pub forms_in : Group → List Form
+forms_in group.Sums = sums
+forms_in group.Logic = logic
+forms_in group.Accesses = accesses
+forms_in group.Halves = halves
+forms_in group.Others = others
+forms_in group.Branches = branches
+forms_in group.Sections = sections
+forms_in group.Contents = contents
+forms_in group.Unwinding = unwinding
 
 -- the forms; of one word they are tried in this order
 unfoldable pub rows : List Form
-rows = instructions ++ directives
+rows = sums ++ (logic ++ (accesses ++ (halves ++ (others ++ (branches ++ (sections ++ (contents ++ (unwinding ++ []))))))))

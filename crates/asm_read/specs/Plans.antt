@@ -1,4 +1,4 @@
--- What a line holds, or the first place at which it is refused.
+-- What a line holds, or the first place at which it is refused (docs/source-language.md, "Refusals").
 use Rattle.std.specs.Prelude.{ℕ, ◌+◌, ◌==◌, ◌&&◌, ◌||◌, not, nat_lt, Bool, true, false, if◌then◌else◌, List, [], ◌∷◌, length, slice_index, Option, Some, None, Result, Ok, Err, codes}
 use Rattle.asm_read.specs.declared.fault.SourceWhat.{SourceWhat}
 use Rattle.asm_read.specs.declared.fault.SourceWhat.TheVariants.{NotAscii, LineTooLong, UnknownMnemonic, UnknownDirective}
@@ -9,6 +9,7 @@ use Rattle.asm_read.specs.declared.line.Span.{Span}
 use Rattle.asm_read.specs.declared.line.Stop.{Stop}
 use Rattle.asm_read.specs.declared.choice.Statement.{Statement}
 use Rattle.asm_read.specs.declared.plan.Plan.{Plan}
+use Rattle.asm_read.specs.declared.plan.TheConstants.{LONGEST}
 use Rattle.asm_read.specs.Tokens.{token_at}
 use Rattle.asm_read.specs.Operands.{◌>>=◌, span, stop, stopped, same, name_of, is_mark_of}
 use Rattle.asm_read.specs.Forms.{rows}
@@ -71,7 +72,7 @@ not_plain_at at [] = None
 not_plain_at at (b ∷ bs) = if not_plain b then Some (stop at NotAscii) else not_plain_at (at + 1) bs
 
 abbrev pub too_long : List ℕ → Option Stop
-too_long line = if nat_lt 256 (length line) then Some (stop 256 LineTooLong) else None
+too_long line = if nat_lt LONGEST (length line) then Some (stop LONGEST LineTooLong) else None
 
 -- the earlier of two stops; the first where they stand at one place
 abbrev pub earlier : Option Stop → Option Stop → Option Stop

@@ -1,4 +1,4 @@
--- The statements of a text, or the first place at which it is refused.
+-- The statements of a text, or the first place at which it is refused (docs/source-language.md, "Refusals").
 use Rattle.std.specs.Prelude.{ℕ, ◌+◌, ◌==◌, not, nat_lt, Bool, if◌then◌else◌, List, [], ◌∷◌, ◌++◌, Option, Some, None, Result, Ok, Err}
 use Rattle.asm_read.specs.declared.fault.SourceFault.{SourceFault}
 use Rattle.asm_read.specs.declared.fault.SourceWhat.{SourceWhat}
@@ -6,6 +6,7 @@ use Rattle.asm_read.specs.declared.fault.SourceWhat.TheVariants.{NotAscii, TooMa
 use Rattle.asm_read.specs.declared.line.Span.{Span}
 use Rattle.asm_read.specs.declared.line.Stop.{Stop}
 use Rattle.asm_read.specs.declared.plan.Plan.{Plan}
+use Rattle.asm_read.specs.declared.read.TheConstants.{MOST_LINES}
 use Rattle.asm_read.specs.declared.choice.Statement.{Statement}
 use Rattle.asm_read.specs.declared.statement.Stmt.{Stmt}
 use Rattle.asm_read.specs.declared.statement.StmtKind.{StmtKind}
@@ -70,7 +71,7 @@ excess (b ∷ bs) = if not_plain b then NotAscii else TooManyLines
 unfoldable pub read_lines : ℕ → List (List ℕ) → Result (List Stmt) SourceFault
 read_lines number [] = Ok []
 read_lines number (line ∷ lines) =
-    if nat_lt 200000 number then Err (fault_at number 1 (excess line))
+    if nat_lt MOST_LINES number then Err (fault_at number 1 (excess line))
     else then_added (line_of number line) (read_lines (number + 1) lines)
 
 -- the statements of a text, or its first refusal

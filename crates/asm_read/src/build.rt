@@ -1,3 +1,4 @@
+//! Statements of the operands that a line has (docs/source-language.md).
 ghost use Rattle.std.specs.Prelude.{◌≡◌, ◌+◌, ◌<◌, ◌≤◌, ◌++◌, ◌∷◌, [], false, length, Option, IfOk, OnOk};
 ghost use Rattle.asm_read.specs.Tokens.{unescaped};
 ghost use Rattle.asm_read.specs.Operands.{bytes_of};

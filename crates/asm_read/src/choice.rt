@@ -1,14 +1,13 @@
+//! The form that fits the tokens of a line (docs/source-language.md).
 ghost use Rattle.std.specs.Prelude.{◌≡◌, ◌≤◌, ◌⊎◌, length, map, Option, None, IfErr, IfSome, MatchOption};
-ghost use Rattle.asm_read.specs.Forms.{sums, logic, accesses, halves, others, branches, sections, contents, unwinding, instructions, directives, rows};
+ghost use Rattle.asm_read.specs.Forms.{rows};
 ghost use Rattle.asm_read.specs.Search.{form_of, farther, is_operand, try_form, first_fit};
 
 use crate::fault::SourceWhat;
 use crate::form::{Operands, fits, fresh};
 use crate::line::Stop;
 use crate::makes::Makes;
-use crate::table::{
-    ACCESSES, BRANCHES, CONTENTS, HALVES, LOGIC, OTHERS, Row, SECTIONS, SUMS, UNWINDING,
-};
+use crate::table::{GROUPS, Row, forms_in};
 
 /// A statement: what its form makes, and its operands.
 #[derive(Clone, Copy)]
@@ -94,211 +93,19 @@ fn first_fit(
     Err(so_far)
 }
 
-#[tactic(auto, unfolding(crate::specs::Forms::sums))]
-fn sums(
-    word: &[u8],
-    line: &[u8],
-    from: usize,
-    best: Option<Stop>,
-) -> Result<Statement, Option<Stop>>
-    requires from { from ≤ length line.now }
-    requires best { IfSome best (λ s. s.at ≤ length line.now) }
-    ensures fit { result ≡ first_fit sums word.now line.now from best }
-    ensures stop { IfErr result (λ b. IfSome b (λ s. s.at ≤ length line.now)) }
-{
-    first_fit(&SUMS, word, line, from, best)
-}
-
-#[tactic(auto, unfolding(crate::specs::Forms::logic))]
-fn logic(
-    word: &[u8],
-    line: &[u8],
-    from: usize,
-    best: Option<Stop>,
-) -> Result<Statement, Option<Stop>>
-    requires from { from ≤ length line.now }
-    requires best { IfSome best (λ s. s.at ≤ length line.now) }
-    ensures fit { result ≡ first_fit logic word.now line.now from best }
-    ensures stop { IfErr result (λ b. IfSome b (λ s. s.at ≤ length line.now)) }
-{
-    first_fit(&LOGIC, word, line, from, best)
-}
-
-#[tactic(auto, unfolding(crate::specs::Forms::accesses))]
-fn accesses(
-    word: &[u8],
-    line: &[u8],
-    from: usize,
-    best: Option<Stop>,
-) -> Result<Statement, Option<Stop>>
-    requires from { from ≤ length line.now }
-    requires best { IfSome best (λ s. s.at ≤ length line.now) }
-    ensures fit { result ≡ first_fit accesses word.now line.now from best }
-    ensures stop { IfErr result (λ b. IfSome b (λ s. s.at ≤ length line.now)) }
-{
-    first_fit(&ACCESSES, word, line, from, best)
-}
-
-#[tactic(auto, unfolding(crate::specs::Forms::halves))]
-fn halves(
-    word: &[u8],
-    line: &[u8],
-    from: usize,
-    best: Option<Stop>,
-) -> Result<Statement, Option<Stop>>
-    requires from { from ≤ length line.now }
-    requires best { IfSome best (λ s. s.at ≤ length line.now) }
-    ensures fit { result ≡ first_fit halves word.now line.now from best }
-    ensures stop { IfErr result (λ b. IfSome b (λ s. s.at ≤ length line.now)) }
-{
-    first_fit(&HALVES, word, line, from, best)
-}
-
-#[tactic(auto, unfolding(crate::specs::Forms::others))]
-fn others(
-    word: &[u8],
-    line: &[u8],
-    from: usize,
-    best: Option<Stop>,
-) -> Result<Statement, Option<Stop>>
-    requires from { from ≤ length line.now }
-    requires best { IfSome best (λ s. s.at ≤ length line.now) }
-    ensures fit { result ≡ first_fit others word.now line.now from best }
-    ensures stop { IfErr result (λ b. IfSome b (λ s. s.at ≤ length line.now)) }
-{
-    first_fit(&OTHERS, word, line, from, best)
-}
-
-#[tactic(auto, unfolding(crate::specs::Forms::branches))]
-fn branches(
-    word: &[u8],
-    line: &[u8],
-    from: usize,
-    best: Option<Stop>,
-) -> Result<Statement, Option<Stop>>
-    requires from { from ≤ length line.now }
-    requires best { IfSome best (λ s. s.at ≤ length line.now) }
-    ensures fit { result ≡ first_fit branches word.now line.now from best }
-    ensures stop { IfErr result (λ b. IfSome b (λ s. s.at ≤ length line.now)) }
-{
-    first_fit(&BRANCHES, word, line, from, best)
-}
-
-#[tactic(auto, unfolding(crate::specs::Forms::sections))]
-fn sections(
-    word: &[u8],
-    line: &[u8],
-    from: usize,
-    best: Option<Stop>,
-) -> Result<Statement, Option<Stop>>
-    requires from { from ≤ length line.now }
-    requires best { IfSome best (λ s. s.at ≤ length line.now) }
-    ensures fit { result ≡ first_fit sections word.now line.now from best }
-    ensures stop { IfErr result (λ b. IfSome b (λ s. s.at ≤ length line.now)) }
-{
-    first_fit(&SECTIONS, word, line, from, best)
-}
-
-#[tactic(auto, unfolding(crate::specs::Forms::contents))]
-fn contents(
-    word: &[u8],
-    line: &[u8],
-    from: usize,
-    best: Option<Stop>,
-) -> Result<Statement, Option<Stop>>
-    requires from { from ≤ length line.now }
-    requires best { IfSome best (λ s. s.at ≤ length line.now) }
-    ensures fit { result ≡ first_fit contents word.now line.now from best }
-    ensures stop { IfErr result (λ b. IfSome b (λ s. s.at ≤ length line.now)) }
-{
-    first_fit(&CONTENTS, word, line, from, best)
-}
-
-#[tactic(auto, unfolding(crate::specs::Forms::unwinding))]
-fn unwinding(
-    word: &[u8],
-    line: &[u8],
-    from: usize,
-    best: Option<Stop>,
-) -> Result<Statement, Option<Stop>>
-    requires from { from ≤ length line.now }
-    requires best { IfSome best (λ s. s.at ≤ length line.now) }
-    ensures fit { result ≡ first_fit unwinding word.now line.now from best }
-    ensures stop { IfErr result (λ b. IfSome b (λ s. s.at ≤ length line.now)) }
-{
-    first_fit(&UNWINDING, word, line, from, best)
-}
-
-/// The forms of instructions.
-#[tactic(auto, using(crate::proofs::Fitting::first_fit_append), unfolding(crate::specs::Forms::instructions))]
-fn instructions(
-    word: &[u8],
-    line: &[u8],
-    from: usize,
-    best: Option<Stop>,
-) -> Result<Statement, Option<Stop>>
-    requires from { from ≤ length line.now }
-    requires best { IfSome best (λ s. s.at ≤ length line.now) }
-    ensures fit { result ≡ first_fit instructions word.now line.now from best }
-    ensures stop { IfErr result (λ b. IfSome b (λ s. s.at ≤ length line.now)) }
-{
-    let best = match sums(word, line, from, best) {
-        Ok(statement) => return Ok(statement),
-        Err(best) => best,
-    };
-    let best = match logic(word, line, from, best) {
-        Ok(statement) => return Ok(statement),
-        Err(best) => best,
-    };
-    let best = match accesses(word, line, from, best) {
-        Ok(statement) => return Ok(statement),
-        Err(best) => best,
-    };
-    let best = match halves(word, line, from, best) {
-        Ok(statement) => return Ok(statement),
-        Err(best) => best,
-    };
-    let best = match others(word, line, from, best) {
-        Ok(statement) => return Ok(statement),
-        Err(best) => best,
-    };
-    branches(word, line, from, best)
-}
-
-/// The forms of directives.
-#[tactic(auto, using(crate::proofs::Fitting::first_fit_append), unfolding(crate::specs::Forms::directives))]
-fn directives(
-    word: &[u8],
-    line: &[u8],
-    from: usize,
-    best: Option<Stop>,
-) -> Result<Statement, Option<Stop>>
-    requires from { from ≤ length line.now }
-    requires best { IfSome best (λ s. s.at ≤ length line.now) }
-    ensures fit { result ≡ first_fit directives word.now line.now from best }
-    ensures stop { IfErr result (λ b. IfSome b (λ s. s.at ≤ length line.now)) }
-{
-    let best = match sections(word, line, from, best) {
-        Ok(statement) => return Ok(statement),
-        Err(best) => best,
-    };
-    let best = match contents(word, line, from, best) {
-        Ok(statement) => return Ok(statement),
-        Err(best) => best,
-    };
-    unwinding(word, line, from, best)
-}
-
 /// The first form of a word that fits, else where the form that goes on longest stops; None where the word has no form.
-#[tactic(auto, using(crate::proofs::Fitting::first_fit_append), unfolding(crate::specs::Forms::rows))]
+#[tactic(auto, using(crate::proofs::Fitting::groups_hit, crate::proofs::Fitting::groups_miss, crate::proofs::Fitting::groups_end), unfolding(crate::specs::Forms::rows))]
 pub fn form_at(word: &[u8], line: &[u8], from: usize) -> Result<Statement, Option<Stop>>
     requires { from ≤ length line.now }
     ensures fit { result ≡ first_fit rows word.now line.now from None }
     ensures stop { IfErr result (λ b. IfSome b (λ s. s.at ≤ length line.now)) }
 {
-    let best = match instructions(word, line, from, None) {
-        Ok(statement) => return Ok(statement),
-        Err(best) => best,
-    };
-    directives(word, line, from, best)
+    let mut so_far = None;
+    for group in &GROUPS {
+        match first_fit(forms_in(*group), word, line, from, so_far) {
+            Ok(statement) => return Ok(statement),
+            Err(stop) => so_far = stop,
+        }
+    }
+    Err(so_far)
 }

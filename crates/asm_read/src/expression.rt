@@ -1,3 +1,4 @@
+//! Expressions: numbers, names and what is added to them (docs/source-language.md, "Directives").
 ghost use Rattle.std.specs.Prelude.{◌≡◌, ◌<◌, ◌≤◌, ◌-ℤ◌, pos, length, false, Option, IfOk, IfErr};
 ghost use Rattle.asm_read.specs.Expressions.{relation_of, related, difference, behind_name, expression_at, listed_at, expressions_end};
 

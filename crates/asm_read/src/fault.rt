@@ -1,3 +1,7 @@
+//! Why a source is refused, and where (docs/source-language.md, "Refusals").
+ghost use Rattle.std.specs.Prelude.{◌≡◌, ◌≤◌, length};
+ghost use Rattle.asm_read.specs.Fault.{what_name};
+
 use eh_word::NameMemory;
 use std::alloc::AllocError;
 
@@ -30,6 +34,26 @@ pub enum SourceWhat {
     NumberRange,
     /// Want of memory.
     OutOfMemory,
+}
+
+impl SourceWhat {
+    /// The name of the refusal, as a report writes it.
+    pub fn name(self) -> &'static [u8]
+        ensures name { result.now ≡ what_name self }
+        ensures short { length result.now ≤ 16 }
+    {
+        match self {
+            SourceWhat::NotAscii => b"NotAscii",
+            SourceWhat::LineTooLong => b"LineTooLong",
+            SourceWhat::TooManyLines => b"TooManyLines",
+            SourceWhat::BadToken => b"BadToken",
+            SourceWhat::UnknownMnemonic => b"UnknownMnemonic",
+            SourceWhat::UnknownDirective => b"UnknownDirective",
+            SourceWhat::BadOperand => b"BadOperand",
+            SourceWhat::NumberRange => b"NumberRange",
+            SourceWhat::OutOfMemory => b"OutOfMemory",
+        }
+    }
 }
 
 impl From<AllocError> for SourceFault {

@@ -1,3 +1,4 @@
+//! Forms of operands, piece by piece (docs/source-language.md).
 ghost use Rattle.std.specs.Prelude.{◌≡◌, ◌<◌, ◌≤◌, length, IfOk, IfErr, true, false, codes};
 ghost use Rattle.asm_read.specs.Fits.{fresh, with_first, with_second, with_third, with_word, with_mark, with_hash, with_number, with_limited, with_name, with_text, with_list, with_expression, with_expressions, piece_at, end_at, fits};
 ghost use Rattle.asm_read.specs.Operands.{bytes_of};

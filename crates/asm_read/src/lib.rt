@@ -1,4 +1,4 @@
-// Sources read into statements.
+//! Sources of the assembly language read into statements (docs/source-language.md).
 #![tactic(auto)]
 
 mod build;
@@ -12,8 +12,6 @@ mod plan;
 pub mod read;
 pub mod statement;
 mod table;
-#[cfg(test)]
-mod tests;
 mod token;
 
 pub use fault::{SourceFault, SourceWhat};

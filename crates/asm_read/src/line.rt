@@ -1,3 +1,4 @@
+//! Operands at a place of a line (docs/source-language.md).
 ghost use Rattle.std.specs.Prelude.{◌≡◌, ◌+◌, ◌-◌, ◌*◌, ◌^◌, ◌<◌, ◌≤◌, ◌-ℤ◌, length, IfOk, IfErr, IfSome};
 ghost use Rattle.asm_read.specs.Operands.{is_mark_of, bytes_of, register_of, stopped, name_of, register_at, mark_at, mark_or_nothing, word_at, name_at, text_at, number_at, limited_at, register_mask, has_register, item_at, list_from, list_at};
 

@@ -1,3 +1,4 @@
+//! What statement a form makes of its operands (docs/source-language.md).
 /// The statement that a form makes, by groups of `StmtKind` and named as there, with what the word says of it.
 #[derive(Clone, Copy)]
 pub enum Makes {

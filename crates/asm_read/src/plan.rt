@@ -1,3 +1,4 @@
+//! What a line holds: a label, a statement, or the first place at which it is refused (docs/source-language.md, "Tokens").
 ghost use Rattle.std.specs.Prelude.{◌≡◌, ◌<◌, ◌≤◌, length, Option, IfOk, IfErr, IfSome};
 ghost use Rattle.asm_read.specs.Plans.{is_passed, unknown, word_statement, statement_at, is_word, plan_of, not_plain, not_plain_at, too_long, earlier, line_plan};
 
@@ -7,7 +8,7 @@ use crate::line::{Span, Stop, is_mark_of, name_of, stopped};
 use crate::token::{Kind, Token, token_at};
 
 /// The longest line, in bytes.
-const LONGEST: usize = 256;
+pub const LONGEST: usize = 256;
 
 /// What a line holds: a label, a statement, both or none.
 #[derive(Clone, Copy)]
@@ -163,7 +164,7 @@ fn earlier(first: Option<Stop>, second: Option<Stop>) -> Option<Stop>
 #[tactic(auto, unfolding(crate::specs::Plans::line_plan))]
 pub fn line_plan(line: &[u8]) -> Result<Plan, Stop>
     ensures plan { result ≡ line_plan line.now }
-    ensures stop { IfErr result (λ s. s.at ≤ 256) }
+    ensures stop { IfErr result (λ s. s.at ≤ LONGEST) }
 {
     let plan = plan_of(line);
     let stop = earlier(not_plain_at(line), too_long(line));

@@ -1,3 +1,4 @@
+//! Sources read into statements, line by line (docs/source-language.md).
 ghost use Rattle.std.specs.Prelude.{◌≡◌, ◌+◌, ◌<◌, ◌≤◌, ◌⊎◌, ◌++◌, ◌∷◌, [], length, drop, IfErr, OnOk, MatchResult, Ok, Err};
 ghost use Rattle.std.specs.List.{prefix_len};
 ghost use Rattle.asm_read.specs.Fault.{out_of_memory};
@@ -13,7 +14,7 @@ use eh_word::Name;
 use std::alloc::{AllocError, Global};
 
 /// The most lines of a source.
-const MOST_LINES: u32 = 200_000;
+pub const MOST_LINES: u32 = 200_000;
 
 fn push(stmts: &mut Vec<Stmt>, stmt: Stmt) -> Result<(), AllocError>
     ensures { OnOk result (stmts.new.items ≡ stmts.old.items ++ stmt ∷ []) }

@@ -1,5 +1,6 @@
+//! Statements, as docs/source-language.md has them.
+use eh_list::Seq;
 use eh_word::Name;
-use std::marker::Model;
 
 /// A statement of a source, with its line, which counts from 1.
 #[derive(Debug, Drop)]
@@ -28,37 +29,7 @@ pub enum Expr {
 }
 
 /// Expressions, which contracts see as their list.
-#[derive(Debug, Drop)]
-pub struct Exprs {
-    exprs: Vec<Expr>,
-}
-
-impl Model for Exprs {
-    ghost use Rattle.std.specs.Prelude.{List};
-    ghost use Rattle.asm_read.specs.declared.statement.Expr.{Expr};
-
-    ghost Value = { List Expr };
-
-    ghost view = { λ e. e.exprs.items };
-}
-
-impl Exprs {
-    ghost use Rattle.std.specs.Prelude.{◌≡◌};
-
-    /// The expressions of a vector, which is kept.
-    pub fn of_vec(exprs: Vec<Expr>) -> Exprs
-        ensures { result ≡ exprs.items }
-    {
-        Exprs { exprs }
-    }
-
-    /// The expressions in order.
-    pub fn as_slice(&self) -> &[Expr]
-        ensures { result.now ≡ self.now }
-    {
-        self.exprs.as_slice()
-    }
-}
+pub type Exprs = Seq<Expr>;
 
 /// A statement's form, with its fields in the order of the text.
 ///

@@ -1,3 +1,8 @@
+//! The forms of statements as tables (docs/source-language.md, "Statements" and "Directives").
+ghost use Rattle.std.specs.Prelude.{◌≡◌, map};
+ghost use Rattle.asm_read.specs.Forms.{forms_in};
+ghost use Rattle.asm_read.specs.Search.{form_of};
+
 use crate::form::Piece;
 use crate::makes::Computation::{
     AddRdSp, AddReg, AddSp, AddSubReg, AddSubThree, AddSubTwo, Alu, CmpImm, CmpReg, Extend, Mov,
@@ -17,6 +22,42 @@ use crate::makes::Transfer::{Ldm, LdmBack, MemImm, MemReg, MemSp, Pop, Push, Stm
 
 /// A form: the word that it begins with, its operands, and the statement that it makes.
 pub type Row = (&'static [u8], &'static [Piece], Makes);
+
+/// A group of forms.
+#[derive(Clone, Copy)]
+pub enum Group {
+    /// Moves, comparisons, sums and differences.
+    Sums,
+    /// Shifts and the forms of two registers.
+    Logic,
+    /// Addresses, loads and stores of words and bytes.
+    Accesses,
+    /// Loads and stores of halfwords, signed loads, and register lists.
+    Halves,
+    /// Extensions, reversals, returns, gates, hints and barriers.
+    Others,
+    /// Branches.
+    Branches,
+    /// Sections, symbols and pools.
+    Sections,
+    /// Bytes and filling.
+    Contents,
+    /// Unwinding.
+    Unwinding,
+}
+
+/// The groups in the order in which their forms are tried.
+pub static GROUPS: [Group; 9] = [
+    Group::Sums,
+    Group::Logic,
+    Group::Accesses,
+    Group::Halves,
+    Group::Others,
+    Group::Branches,
+    Group::Sections,
+    Group::Contents,
+    Group::Unwinding,
+];
 
 const REGISTER_NUMBER: &[Piece] = &[
     Piece::First,
@@ -189,7 +230,7 @@ const REGISTER_SP_COUNT: &[Piece] = &[
 ];
 
 /// Moves, comparisons, sums and differences.
-pub static SUMS: [Row; 16] = [
+static SUMS: [Row; 16] = [
     (b"movs", REGISTER_NUMBER, Computes(MovsImm)),
     (b"movs", TWO_REGISTERS, Computes(MovsReg)),
     (b"mov", TWO_REGISTERS, Computes(Mov)),
@@ -209,7 +250,7 @@ pub static SUMS: [Row; 16] = [
 ];
 
 /// Shifts and the forms of two registers.
-pub static LOGIC: [Row; 17] = [
+static LOGIC: [Row; 17] = [
     (b"lsls", TWO_REGISTERS_NUMBER, Computes(ShiftImm(0))),
     (b"lsrs", TWO_REGISTERS_NUMBER, Computes(ShiftImm(1))),
     (b"asrs", TWO_REGISTERS_NUMBER, Computes(ShiftImm(2))),
@@ -230,7 +271,7 @@ pub static LOGIC: [Row; 17] = [
 ];
 
 /// Addresses, loads and stores of words and bytes.
-pub static ACCESSES: [Row; 19] = [
+static ACCESSES: [Row; 19] = [
     (b"adr", REGISTER_NAME, Names(Adr)),
     (b"ldr", REGISTER_NAME, Names(LdrLabel)),
     (b"ldr", REGISTER_VALUE, Names(LdrPool)),
@@ -253,7 +294,7 @@ pub static ACCESSES: [Row; 19] = [
 ];
 
 /// Loads and stores of halfwords, signed loads, and register lists.
-pub static HALVES: [Row; 13] = [
+static HALVES: [Row; 13] = [
     (b"strh", BASE_OFFSET, Transfers(MemImm(4))),
     (b"strh", BASE_ALONE, Transfers(MemImm(4))),
     (b"ldrh", BASE_OFFSET, Transfers(MemImm(5))),
@@ -270,7 +311,7 @@ pub static HALVES: [Row; 13] = [
 ];
 
 /// Extensions, reversals, returns, gates, hints and barriers.
-pub static OTHERS: [Row; 19] = [
+static OTHERS: [Row; 19] = [
     (b"sxth", TWO_REGISTERS, Computes(Extend(0))),
     (b"sxtb", TWO_REGISTERS, Computes(Extend(1))),
     (b"uxth", TWO_REGISTERS, Computes(Extend(2))),
@@ -293,7 +334,7 @@ pub static OTHERS: [Row; 19] = [
 ];
 
 /// Branches.
-pub static BRANCHES: [Row; 18] = [
+static BRANCHES: [Row; 18] = [
     (b"b", NAME, Names(B)),
     (b"beq", NAME, Names(BCond(0))),
     (b"bne", NAME, Names(BCond(1))),
@@ -315,7 +356,7 @@ pub static BRANCHES: [Row; 18] = [
 ];
 
 /// Sections, symbols and pools.
-pub static SECTIONS: [Row; 11] = [
+static SECTIONS: [Row; 11] = [
     (b".text", NOTHING, Directs(Text)),
     (b".data", NOTHING, Directs(Data)),
     (b".bss", NOTHING, Directs(Bss)),
@@ -330,7 +371,7 @@ pub static SECTIONS: [Row; 11] = [
 ];
 
 /// Bytes and filling.
-pub static CONTENTS: [Row; 13] = [
+static CONTENTS: [Row; 13] = [
     (b".word", WORD_EXPRESSIONS, Names(Words)),
     (b".long", WORD_EXPRESSIONS, Names(Words)),
     (b".4byte", WORD_EXPRESSIONS, Names(Words)),
@@ -347,7 +388,7 @@ pub static CONTENTS: [Row; 13] = [
 ];
 
 /// Unwinding.
-pub static UNWINDING: [Row; 8] = [
+static UNWINDING: [Row; 8] = [
     (b".fnstart", NOTHING, Directs(FnStart)),
     (b".fnend", NOTHING, Directs(FnEnd)),
     (b".save", LIST, Directs(Save)),
@@ -357,3 +398,21 @@ pub static UNWINDING: [Row; 8] = [
     (b".personalityindex", COUNT, Directs(PersonalityIndex)),
     (b".handlerdata", NOTHING, Directs(HandlerData)),
 ];
+
+/// The forms of a group, in the order in which they are tried.
+#[tactic(auto, unfolding(crate::specs::Forms::sums, crate::specs::Forms::logic, crate::specs::Forms::accesses, crate::specs::Forms::halves, crate::specs::Forms::others, crate::specs::Forms::branches, crate::specs::Forms::sections, crate::specs::Forms::contents, crate::specs::Forms::unwinding))]
+pub fn forms_in(group: Group) -> &'static [Row]
+    ensures { map form_of result.now ≡ forms_in group }
+{
+    match group {
+        Group::Sums => &SUMS,
+        Group::Logic => &LOGIC,
+        Group::Accesses => &ACCESSES,
+        Group::Halves => &HALVES,
+        Group::Others => &OTHERS,
+        Group::Branches => &BRANCHES,
+        Group::Sections => &SECTIONS,
+        Group::Contents => &CONTENTS,
+        Group::Unwinding => &UNWINDING,
+    }
+}

@@ -1,3 +1,4 @@
+//! The tokens of a line (docs/source-language.md, "Tokens").
 ghost use Rattle.std.specs.Prelude.{◌≡◌, ◌+◌, ◌-◌, ◌<◌, ◌≤◌, length, take, drop, IfSome, option_and_then, false};
 ghost use Rattle.std.specs.List.{prefix_len};
 ghost use Rattle.asm_read.specs.Tokens.{is_blank, is_digit, is_name_byte, is_mark, escape_of, hex_digit, decimal_digit, kind_of_number, number_of, character_front, run_front, minus_front, quoted_front, closing, front_of, token_at};

@@ -1,62 +1,20 @@
 -- Fields that stand one behind the other share no byte.
-use Rattle.std.proofs.Common.{◌≡◌, ℕ, ◌+◌, ◌^◌, ◌≤◌, ◌<◌, ◌==◌, ◌||◌, Bool, true, false, cond, List, [], ◌∷◌, ◌++◌, length, Option, Some, None, Ok, refl, sym, ap, ◌∙◌, arith, subst}
+use Rattle.std.proofs.Common.{◌≡◌, ℕ, ◌+◌, ◌≤◌, ◌<◌, Bool, true, false, cond, List, [], ◌∷◌, ◌++◌, length, refl, sym, ◌∙◌, arith, subst}
 use Rattle.std.specs.List.{filter}
-use Rattle.std.specs.Option.{option_map_or}
 use Rattle.std.proofs.lemmas.Bool.{true≢false}
-use Rattle.std.proofs.lemmas.Bool.Decides.{nat_tests}
-use Rattle.asm_read.specs.declared.statement.Stmt.{Stmt}
 use Rattle.asm_layout.specs.declared.place.Section.{Section}
 use Rattle.asm_layout.specs.declared.place.Section.TheVariants.{Text, Rodata, Extab, Init, Bss}
-use Rattle.asm_layout.specs.Walks.{same_section as of_section}
-use Rattle.asm_object.specs.declared.object.Object.{Object}
+use Rattle.asm_layout.specs.Walks.{same_section}
 use Rattle.asm_object.specs.declared.object.Reloc.{Reloc}
-use Rattle.asm_object.specs.Objects.{object_of}
-use Rattle.asm_object.specs.ObjectLaw.{field_size as whole_size, StandInOrder, relocs_at, bytes_at}
+use Rattle.asm_object.specs.ObjectLaw.{StandInOrder, bytes_at}
 use Rattle.asm_object.proofs.ObjectLaws.{law_of_fields}
-use Rattle.eh_link.specs.Layout.{bytes_in}
-use Rattle.eh_link.specs.Fields.{kind_of, width, same_section}
-use Rattle.eh_link.specs.declared.field.FieldKind.{FieldKind}
-use Rattle.eh_link.specs.declared.field.FieldKind.TheVariants.{Jump, CondJump}
-use Rattle.eh_link.specs.FieldLaw.{field_size, IsInField, IsInNoField, StandsAlone}
-use Rattle.eh_link.specs.AssembledLaw.{StandsWholeAndAlone, AssembledFieldsStandAlone}
+use Rattle.asm_object.specs.Relocations.{field_size}
+use Rattle.eh_link.specs.FieldLaw.{IsInField, IsInNoField}
+use Rattle.eh_link.specs.AssembledLaw.{AssembledFieldsStandAlone}
 
 -- ---- sizes and sections
 
-width_small : (kind : Option FieldKind) → option_map_or width kind 0 ≤ 4
-width_small None = omega arith
-width_small (Some kind) = by kind
-  where
-    by : (kind : FieldKind) → width kind ≤ 4
-    by Jump = omega arith
-    by CondJump = omega arith
-    by _ = omega arith
-
-is_number : (m n : ℕ) → (m == n) ≡ true → m ≡ n
-is_number m n e = grind (arith, nat_tests)
-
-size_fits : (reloc : Reloc) → field_size reloc ≤ whole_size reloc
-size_fits reloc = by (reloc.kind == 102) (reloc.kind == 103) refl refl
-  where
-    size : ℕ → ℕ
-    size kind = option_map_or width (kind_of kind) 0
-
-    halves : (kind n : ℕ) → kind ≡ n → size n ≤ 2 → size kind ≤ 2
-    halves kind n e h = let P : ℕ → Type 0 = λ k. size k ≤ 2 in subst P (sym e) h
-
-    by : (a b : Bool) → (reloc.kind == 102) ≡ a → (reloc.kind == 103) ≡ b → option_map_or width (kind_of reloc.kind) 0 ≤ cond (a || b) 2 4
-    by true b e f = halves reloc.kind 102 (is_number reloc.kind 102 e) (omega arith)
-    by false true e f = halves reloc.kind 103 (is_number reloc.kind 103 f) (omega arith)
-    by false false e f = width_small (kind_of reloc.kind)
-
-same_test : (a b : Section) → same_section a b ≡ of_section a b
-same_test Text Text = refl
-same_test Rodata Rodata = refl
-same_test Extab Extab = refl
-same_test Init Init = refl
-same_test Bss Bss = refl
-same_test _ _ = refl
-
-itself : (s : Section) → of_section s s ≡ true
+itself : (s : Section) → same_section s s ≡ true
 itself Text = refl
 itself Rodata = refl
 itself Extab = refl
@@ -66,85 +24,78 @@ itself Bss = refl
 -- ---- fields in order
 
 abbrev kept : Section → List Reloc → List Reloc
-kept section relocs = filter (λ reloc. of_section reloc.section section) relocs
+kept section relocs = filter (λ reloc. same_section reloc.section section) relocs
 
 -- all fields stand behind a place in front of the first
 none_before : (section : Section) (offset from : ℕ) (relocs : List Reloc) (end : ℕ) → offset < from → StandInOrder from (kept section relocs) end → IsInNoField section offset relocs
 none_before section offset from [] end h s = tt
 none_before section offset from (reloc ∷ more) end h s =
-    by (of_section reloc.section section) refl s (λ k t. none_before section offset (reloc.offset + whole_size reloc) more end k t) (λ t. none_before section offset from more end h t)
+    by (same_section reloc.section section) refl s (λ k t. none_before section offset (reloc.offset + field_size reloc) more end k t) (λ t. none_before section offset from more end h t)
   where
-    by : (b : Bool) → of_section reloc.section section ≡ b → StandInOrder from (cond b (reloc ∷ kept section more) (kept section more)) end
-        → (offset < reloc.offset + whole_size reloc → StandInOrder (reloc.offset + whole_size reloc) (kept section more) end → IsInNoField section offset more)
+    by : (b : Bool) → same_section reloc.section section ≡ b → StandInOrder from (cond b (reloc ∷ kept section more) (kept section more)) end
+        → (offset < reloc.offset + field_size reloc → StandInOrder (reloc.offset + field_size reloc) (kept section more) end → IsInNoField section offset more)
         → (StandInOrder from (kept section more) end → IsInNoField section offset more)
         → (IsInField section offset reloc → ⊥) × IsInNoField section offset more
     by true e s behind there = ((λ f. outside offset from reloc.offset h s.0 f.from), behind (omega (arith, h, s.0)) s.1)
       where
         outside : (offset from at : ℕ) → offset < from → from ≤ at → at ≤ offset → ⊥
         outside offset from at h k l = omega (arith, h, k, l)
-    by false e s behind there = ((λ f. true≢false (sym f.here ∙ same_test reloc.section section ∙ e)), there s)
+    by false e s behind there = ((λ f. true≢false (sym f.here ∙ e)), there s)
 
 -- a field of the section stands behind the place where the fields begin, and before their end
-stands_behind : (section : Section) (from : ℕ) (before : List Reloc) (reloc : Reloc) (after : List Reloc) (end : ℕ) → of_section reloc.section section ≡ true
-    → StandInOrder from (kept section (before ++ reloc ∷ after)) end → (from ≤ reloc.offset) × StandInOrder (reloc.offset + whole_size reloc) (kept section after) end
+stands_behind : (section : Section) (from : ℕ) (before : List Reloc) (reloc : Reloc) (after : List Reloc) (end : ℕ) → same_section reloc.section section ≡ true
+    → StandInOrder from (kept section (before ++ reloc ∷ after)) end → (from ≤ reloc.offset) × StandInOrder (reloc.offset + field_size reloc) (kept section after) end
 stands_behind section from [] reloc after end here s =
     let P : Bool → Type 0 = λ b. StandInOrder from (cond b (reloc ∷ kept section after) (kept section after)) end in subst P here s
 stands_behind section from (x ∷ before) reloc after end here s =
-    by (of_section x.section section) s (λ t. stands_behind section (x.offset + whole_size x) before reloc after end here t) (λ t. stands_behind section from before reloc after end here t)
+    by (same_section x.section section) s (λ t. stands_behind section (x.offset + field_size x) before reloc after end here t) (λ t. stands_behind section from before reloc after end here t)
   where
     by : (b : Bool) → StandInOrder from (cond b (x ∷ kept section (before ++ reloc ∷ after)) (kept section (before ++ reloc ∷ after))) end
-        → (StandInOrder (x.offset + whole_size x) (kept section (before ++ reloc ∷ after)) end → (x.offset + whole_size x ≤ reloc.offset) × StandInOrder (reloc.offset + whole_size reloc) (kept section after) end)
-        → (StandInOrder from (kept section (before ++ reloc ∷ after)) end → (from ≤ reloc.offset) × StandInOrder (reloc.offset + whole_size reloc) (kept section after) end)
-        → (from ≤ reloc.offset) × StandInOrder (reloc.offset + whole_size reloc) (kept section after) end
+        → (StandInOrder (x.offset + field_size x) (kept section (before ++ reloc ∷ after)) end → (x.offset + field_size x ≤ reloc.offset) × StandInOrder (reloc.offset + field_size reloc) (kept section after) end)
+        → (StandInOrder from (kept section (before ++ reloc ∷ after)) end → (from ≤ reloc.offset) × StandInOrder (reloc.offset + field_size reloc) (kept section after) end)
+        → (from ≤ reloc.offset) × StandInOrder (reloc.offset + field_size reloc) (kept section after) end
     by true s behind there = (omega (arith, s.0, (behind s.1).0), (behind s.1).1)
     by false s behind there = there s
 
 order_ends : (from : ℕ) (relocs : List Reloc) (end : ℕ) → StandInOrder from relocs end → from ≤ end
 order_ends from [] end s = s
-order_ends from (reloc ∷ more) end s = omega (arith, s.0, order_ends (reloc.offset + whole_size reloc) more end s.1)
+order_ends from (reloc ∷ more) end s = omega (arith, s.0, order_ends (reloc.offset + field_size reloc) more end s.1)
 
 -- no other field has a byte of this one
 apart : (section : Section) (offset from : ℕ) (before : List Reloc) (reloc : Reloc) (after : List Reloc) (end : ℕ) → IsInField section offset reloc
     → StandInOrder from (kept section (before ++ reloc ∷ after)) end → IsInNoField section offset (before ++ after)
 apart section offset from [] reloc after end f s =
-    let here = sym (same_test reloc.section section) ∙ f.here in
+    let here = f.here in
     let there = stands_behind section from [] reloc after end here s in
-    none_before section offset (reloc.offset + whole_size reloc) after end (omega (arith, f.below, size_fits reloc)) there.1
+    none_before section offset (reloc.offset + field_size reloc) after end (f.below) there.1
 apart section offset from (x ∷ before) reloc after end f s =
-    by (of_section x.section section) refl s (λ t. apart section offset (x.offset + whole_size x) before reloc after end f t) (λ t. apart section offset from before reloc after end f t)
+    by (same_section x.section section) refl s (λ t. apart section offset (x.offset + field_size x) before reloc after end f t) (λ t. apart section offset from before reloc after end f t)
   where
-    here : of_section reloc.section section ≡ true
-    here = sym (same_test reloc.section section) ∙ f.here
+    here : same_section reloc.section section ≡ true
+    here = f.here
 
-    by : (b : Bool) → of_section x.section section ≡ b
+    by : (b : Bool) → same_section x.section section ≡ b
         → StandInOrder from (cond b (x ∷ kept section (before ++ reloc ∷ after)) (kept section (before ++ reloc ∷ after))) end
-        → (StandInOrder (x.offset + whole_size x) (kept section (before ++ reloc ∷ after)) end → IsInNoField section offset (before ++ after))
+        → (StandInOrder (x.offset + field_size x) (kept section (before ++ reloc ∷ after)) end → IsInNoField section offset (before ++ after))
         → (StandInOrder from (kept section (before ++ reloc ∷ after)) end → IsInNoField section offset (before ++ after))
         → (IsInField section offset x → ⊥) × IsInNoField section offset (before ++ after)
     by true e s behind there =
-        let later = (stands_behind section (x.offset + whole_size x) before reloc after end here s.1).0 in
-        ((λ g. outside offset x.offset (field_size x) (whole_size x) reloc.offset (size_fits x) later f.from g.below), behind s.1)
+        let later = (stands_behind section (x.offset + field_size x) before reloc after end here s.1).0 in
+        ((λ g. outside offset x.offset (field_size x) reloc.offset later f.from g.below), behind s.1)
       where
-        outside : (offset at size whole next : ℕ) → size ≤ whole → at + whole ≤ next → next ≤ offset → offset < at + size → ⊥
-        outside offset at size whole next h k l m = omega (arith, h, k, l, m)
-    by false e s behind there = ((λ g. true≢false (sym g.here ∙ same_test x.section section ∙ e)), there s)
+        outside : (offset at size next : ℕ) → at + size ≤ next → next ≤ offset → offset < at + size → ⊥
+        outside offset at size next k l m = omega (arith, k, l, m)
+    by false e s behind there = ((λ g. true≢false (sym g.here ∙ e)), there s)
 
 -- ---- the law
-
-same_bytes_in : (section : Section) (object : Object) → bytes_at section object ≡ bytes_in section object
-same_bytes_in Text object = refl
-same_bytes_in Rodata object = refl
-same_bytes_in Extab object = refl
-same_bytes_in Init object = refl
-same_bytes_in Bss object = refl
 
 pub law_of_assembled : AssembledFieldsStandAlone
 law_of_assembled stmts object before reloc after few e relocs =
     let section = reloc.section in
     let P : List Reloc → Type 0 = λ l. StandInOrder 0 (kept section l) (length (bytes_at section object)) in
     let order = subst P relocs (law_of_fields stmts object section few e) in
-    let end = order_ends (reloc.offset + whole_size reloc) (kept section after) (length (bytes_at section object)) (stands_behind section 0 before reloc after (length (bytes_at section object)) (itself section) order).1 in
+    let end = order_ends (reloc.offset + field_size reloc) (kept section after) (length (bytes_at section object)) (stands_behind section 0 before reloc after (length (bytes_at section object)) (itself section) order).1 in
     record {
       alone = λ offset f. apart section offset 0 before reloc after (length (bytes_at section object)) f order;
-      whole = omega (arith, end, size_fits reloc, ap length (same_bytes_in section object));
+      whole = end;
     }

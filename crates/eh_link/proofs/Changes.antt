@@ -10,12 +10,13 @@ use Rattle.thumb_encode.specs.declared.code.EncodeFault.TheVariants.{RegisterRan
 use Rattle.asm_layout.specs.declared.place.Section.{Section}
 use Rattle.asm_object.specs.declared.object.Reloc.{Reloc}
 use Rattle.eh_link.specs.declared.names.Meaning.{Meaning}
-use Rattle.eh_link.specs.declared.field.FieldKind.{FieldKind}
-use Rattle.eh_link.specs.declared.field.FieldKind.TheVariants.{Absolute, Relative, Prel31, Call, Jump, CondJump}
+use Rattle.asm_object.specs.declared.relocation.FieldKind.{FieldKind}
+use Rattle.asm_object.specs.declared.relocation.FieldKind.TheVariants.{Absolute, Relative, Prel31, Call, Jump, CondJump}
 use Rattle.eh_link.specs.declared.field.Change.{Change}
 use Rattle.eh_link.specs.declared.field.Change.TheVariants.{Keep, Half, Word, Unreachable}
 use Rattle.eh_link.specs.Layout.{address_at}
-use Rattle.eh_link.specs.Fields.{width, size_of, branch, distance, filling, change_by, change_of, changed, filled, unreachable_in, unreachable_at, lower}
+use Rattle.eh_link.specs.Fields.{size_of, branch, distance, filling, change_by, change_of, changed, filled, unreachable_in, unreachable_at, lower}
+use Rattle.asm_object.specs.Relocations.{width}
 
 size_le_4 : (c : Change) → size_of c ≤ 4
 size_le_4 Keep = omega arith

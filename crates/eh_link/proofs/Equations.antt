@@ -18,14 +18,14 @@ use Rattle.asm_layout.specs.declared.place.Section.{Section}
 use Rattle.asm_object.specs.declared.object.Reloc.{Reloc}
 use Rattle.elf_write.specs.Layout.{word, half}
 use Rattle.eh_link.specs.declared.names.Meaning.{Meaning}
-use Rattle.eh_link.specs.declared.field.FieldKind.{FieldKind}
-use Rattle.eh_link.specs.declared.field.FieldKind.TheVariants.{Absolute, Relative, Prel31, Call, Jump, CondJump}
+use Rattle.asm_object.specs.declared.relocation.FieldKind.{FieldKind}
+use Rattle.asm_object.specs.declared.relocation.FieldKind.TheVariants.{Absolute, Relative, Prel31, Call, Jump, CondJump}
 use Rattle.eh_link.specs.declared.field.Change.{Change}
 use Rattle.eh_link.specs.declared.field.Change.TheVariants.{Half, Word}
 use Rattle.eh_link.specs.Layout.{address_at}
 use Rattle.eh_link.specs.Index.{prel31_to}
-use Rattle.eh_link.specs.Fields.{width, size_of, relative, branch, filling, change_of, written_at, changed, filled, lower, unreachable_at, unreachable_in}
-use Rattle.eh_link.specs.FieldLaw.{field_size}
+use Rattle.eh_link.specs.Fields.{size_of, relative, branch, filling, change_of, written_at, changed, filled, lower, unreachable_at, unreachable_in}
+use Rattle.asm_object.specs.Relocations.{width, field_size}
 use Rattle.eh_link.specs.EquationLaw.{target_of, way_of, IsField, Stands, Decodes, AbsoluteFields, RelativeFields, Prel31Fields, Calls, Jumps, CondJumps}
 use Rattle.eh_link.proofs.Changes.{filling_fits}
 use Rattle.eh_link.proofs.Holding.{word_length, half_length, changed_length, change_within, filled_length, same_behind, law_of_fields}

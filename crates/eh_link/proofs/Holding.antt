@@ -10,13 +10,15 @@ use Rattle.asm_layout.specs.declared.place.Section.{Section}
 use Rattle.asm_object.specs.declared.object.Reloc.{Reloc}
 use Rattle.elf_write.specs.Layout.{word, half}
 use Rattle.eh_link.specs.declared.names.Meaning.{Meaning}
-use Rattle.eh_link.specs.declared.field.FieldKind.{FieldKind}
-use Rattle.eh_link.specs.declared.field.FieldKind.TheVariants.{Absolute, Relative, Prel31, Call, Jump, CondJump}
+use Rattle.asm_object.specs.declared.relocation.FieldKind.{FieldKind}
+use Rattle.asm_object.specs.declared.relocation.FieldKind.TheVariants.{Absolute, Relative, Prel31, Call, Jump, CondJump}
 use Rattle.eh_link.specs.declared.field.Change.{Change}
 use Rattle.eh_link.specs.declared.field.Change.TheVariants.{Keep, Half, Word, Unreachable}
 use Rattle.eh_link.specs.Layout.{address_at}
-use Rattle.eh_link.specs.Fields.{kind_of, width, size_of, branch, distance, filling, relative, change_by, change_of, written_at, changed, same_section, filled}
-use Rattle.eh_link.specs.FieldLaw.{field_size, IsInField, IsInNoField, StandsAlone, OtherBytesStay, FieldsHold}
+use Rattle.eh_link.specs.Fields.{size_of, branch, distance, filling, relative, change_by, change_of, written_at, changed, filled}
+use Rattle.asm_layout.specs.Walks.{same_section}
+use Rattle.asm_object.specs.Relocations.{kind_of, width, field_size}
+use Rattle.eh_link.specs.FieldLaw.{IsInField, IsInNoField, StandsAlone, OtherBytesStay, FieldsHold}
 use Rattle.eh_link.proofs.Changes.{filling_fits, change_fits}
 
 -- ---- bytes written over others

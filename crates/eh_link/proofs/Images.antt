@@ -12,8 +12,8 @@ use Rattle.asm_object.specs.declared.object.Reloc.{Reloc}
 use Rattle.elf_write.specs.declared.parts.ImageParts.{ImageParts}
 use Rattle.eh_link.specs.declared.fault.LinkFault.{LinkFault}
 use Rattle.eh_link.specs.declared.fault.LinkFault.TheVariants.{Duplicate, Undefined, NoEntry, TooLarge, RelocationRange}
-use Rattle.eh_link.specs.declared.field.FieldKind.{FieldKind}
-use Rattle.eh_link.specs.declared.field.FieldKind.TheVariants.{Absolute, Relative, Prel31, Call, Jump, CondJump}
+use Rattle.asm_object.specs.declared.relocation.FieldKind.{FieldKind}
+use Rattle.asm_object.specs.declared.relocation.FieldKind.TheVariants.{Absolute, Relative, Prel31, Call, Jump, CondJump}
 use Rattle.eh_link.specs.declared.field.Change.TheVariants.{Keep}
 use Rattle.eh_link.specs.declared.index.Row.{Row}
 use Rattle.eh_link.specs.declared.names.Meaning.{Meaning}
@@ -21,7 +21,9 @@ use Rattle.eh_link.specs.declared.places.Addresses.{Addresses}
 use Rattle.eh_link.specs.Placed.{Placed}
 use Rattle.eh_link.specs.Layout.{address_at, layout_of, is_too_large, firsts, all_aligned, ends, placed_from, placed_of}
 use Rattle.eh_link.specs.Symbols.{meaning_of, duplicate_of, undefined_of, has_entry}
-use Rattle.eh_link.specs.Fields.{width, change_by, change_of, kind_of, same_section, part_in, filled_of, unreachable_in, unreachable_for, unreachable_by, lowest_unreachable}
+use Rattle.eh_link.specs.Fields.{change_by, change_of, part_in, filled_of, unreachable_in, unreachable_for, unreachable_by, lowest_unreachable}
+use Rattle.asm_layout.specs.Walks.{same_section}
+use Rattle.asm_object.specs.Relocations.{width, kind_of}
 use Rattle.eh_link.specs.Index.{row_of, rows_in, second_word}
 use Rattle.eh_link.specs.Linked.{unless, unless_true, linked}
 use Rattle.eh_link.specs.LayoutLaw.{StandsAt, linked_index, linked_code}

@@ -2,14 +2,13 @@
 use Rattle.std.proofs.Common.{◌≡◌, ℕ, ◌+◌, ◌-◌, ◌<◌, ◌≤◌, Bool, true, false, cond, nat_lt, List, [], ◌∷◌, ◌++◌, append_assoc, length, drop, get_or, Some, None, refl, sym, ap, subst, ◌∙◌, arith}
 use Rattle.std.proofs.lemmas.Bool.Decides.{nat_tests}
 use Rattle.std.proofs.lemmas.List.{at_drop_more}
-use Rattle.elf_write.specs.Layout.{aligned}
 use Rattle.asm_layout.specs.declared.place.Section.{Section}
 use Rattle.asm_layout.specs.declared.place.Section.TheVariants.{Text, Rodata, Extab, Init, Bss}
 use Rattle.asm_object.specs.declared.object.Object.{Object}
 use Rattle.eh_link.specs.declared.places.Addresses.{Addresses}
 use Rattle.eh_link.specs.declared.places.Layout.{Layout}
 use Rattle.eh_link.specs.Placed.{Placed}
-use Rattle.eh_link.specs.Layout.{size_in, end_of, index_size, page_behind, layout_of, code_size, data_size, is_too_large, Rises, firsts, all_aligned, ends, placed_from, placed_of}
+use Rattle.eh_link.specs.Layout.{size_in, end_of, index_size, page_behind, layout_of, code_size, data_size, is_too_large, Rises, firsts, all_aligned, ends, placed_from, placed_of, aligned}
 
 pub end_ge : (section : Section) (at : ℕ) (xs : List Object) → at ≤ end_of section at xs
 end_ge section at [] = omega arith

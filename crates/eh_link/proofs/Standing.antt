@@ -1,9 +1,10 @@
 -- Where the parts of joined bytes stand, and how many bytes there are.
 use Rattle.std.proofs.Common.{◌≡◌, ℕ, ◌+◌, ◌-◌, ◌*◌, ◌/◌, Bool, true, false, cond, nat_lt, List, [], ◌∷◌, ◌++◌, map, fold, length, All, sum_by, flat_map, Option, Some, None, Result, Ok, not, refl, sym, ap, subst, ◌∙◌, arith, append_assoc, length-append}
-use Rattle.std.proofs.lemmas.List.{append-nil, length-map, length-replicate}
+use Rattle.std.proofs.lemmas.List.{append-nil, length-map}
 use Rattle.std.proofs.lemmas.List.Sums.{sum_by-cons}
 use Rattle.std.proofs.lemmas.List.Elements.{All-nil, All-cons}
-use Rattle.elf_write.specs.Layout.{aligned, zeros, word}
+use Rattle.elf_write.specs.Layout.{word}
+use Rattle.eh_list.specs.Bytes.{zeros, length-zeros, gap}
 use Rattle.asm_layout.specs.declared.place.Section.{Section}
 use Rattle.asm_layout.specs.declared.place.Section.TheVariants.{Text, Rodata, Extab, Init, Bss}
 use Rattle.asm_object.specs.declared.object.Object.{Object}
@@ -14,7 +15,8 @@ use Rattle.eh_link.specs.declared.fault.LinkFault.TheVariants.{Duplicate, Undefi
 use Rattle.eh_link.specs.declared.fill.Filled.{Filled}
 use Rattle.eh_link.specs.declared.index.Row.{Row}
 use Rattle.eh_link.specs.Placed.{Placed}
-use Rattle.eh_link.specs.Layout.{bytes_in, size_in, address_in, end_of, index_size, layout_of, is_too_large, firsts, all_aligned, ends, placed_from, placed_of, address_at}
+use Rattle.eh_link.specs.Layout.{size_in, address_in, end_of, index_size, layout_of, is_too_large, firsts, all_aligned, ends, placed_from, placed_of, address_at, aligned}
+use Rattle.asm_object.specs.ObjectLaw.{bytes_at}
 use Rattle.eh_link.specs.Fields.{part_in, filled_in, filled_of, lowest_unreachable}
 use Rattle.eh_link.specs.Symbols.{meaning_of, duplicate_of, undefined_of, has_entry}
 use Rattle.eh_link.specs.Index.{row_of, rows_in, row_among, in_order, prel31_to, second_at, row_bytes, rows_from, index_of}
@@ -26,26 +28,22 @@ use Rattle.eh_link.proofs.Steps.{joined_append}
 
 -- ---- joined bytes
 
-length_zeros : (n : ℕ) → length (zeros n) ≡ n
-unfolding zeros
-length_zeros n = length-replicate n 0
-
 -- the zeros before the next part
-gap : List ℕ → List ℕ
-gap so_far = zeros (aligned (length so_far) - length so_far)
+zeros_before : List ℕ → List ℕ
+zeros_before so_far = zeros (gap (length so_far) 4)
 
-gap_is : (so_far : List ℕ) → gap so_far ≡ zeros (aligned (length so_far) - length so_far)
-unfolding gap
-gap_is so_far = refl
+zeros_before-is : (so_far : List ℕ) → zeros_before so_far ≡ zeros (gap (length so_far) 4)
+unfolding zeros_before
+zeros_before-is so_far = refl
 
-gap_length : (k : ℕ) (so_far : List ℕ) → 4 * k + length (so_far ++ gap so_far) ≡ aligned (4 * k + length so_far)
-gap_length k so_far =
-    let all = length-append so_far (gap so_far) in
-    let zeros_there : length (gap so_far) ≡ aligned (length so_far) - length so_far = ap length (gap_is so_far) ∙ length_zeros (aligned (length so_far) - length so_far) in
+zeros_before-length : (k : ℕ) (so_far : List ℕ) → 4 * k + length (so_far ++ zeros_before so_far) ≡ aligned (4 * k + length so_far)
+zeros_before-length k so_far =
+    let all = length-append so_far (zeros_before so_far) in
+    let zeros_there : length (zeros_before so_far) ≡ gap (length so_far) 4 = ap length (zeros_before-is so_far) ∙ length-zeros (gap (length so_far) 4) in
     omega (arith, all, zeros_there)
 
-joined_one : (so_far part : List ℕ) (more : List (List ℕ)) → joined so_far (part ∷ more) ≡ joined ((so_far ++ gap so_far) ++ part) more
-joined_one so_far part more = rw (gap_is so_far) refl
+joined_one : (so_far part : List ℕ) (more : List (List ℕ)) → joined so_far (part ∷ more) ≡ joined ((so_far ++ zeros_before so_far) ++ part) more
+joined_one so_far part more = rw (zeros_before-is so_far) refl
 
 -- what is joined begins with what was there
 record Begins (so_far bytes : List ℕ) : Type 0 where
@@ -55,21 +53,21 @@ record Begins (so_far bytes : List ℕ) : Type 0 where
 begins : (so_far : List ℕ) (parts : List (List ℕ)) → Begins so_far (joined so_far parts)
 begins so_far [] = record { rest = []; is = sym (append-nil so_far) }
 begins so_far (part ∷ more) =
-    let next = begins ((so_far ++ gap so_far) ++ part) more in
+    let next = begins ((so_far ++ zeros_before so_far) ++ part) more in
     record {
-      rest = gap so_far ++ (part ++ next.rest);
-      is = joined_one so_far part more ∙ next.is ∙ append_assoc (so_far ++ gap so_far) part next.rest ∙ append_assoc so_far (gap so_far) (part ++ next.rest);
+      rest = zeros_before so_far ++ (part ++ next.rest);
+      is = joined_one so_far part more ∙ next.is ∙ append_assoc (so_far ++ zeros_before so_far) part next.rest ∙ append_assoc so_far (zeros_before so_far) (part ++ next.rest);
     }
 
 first_stands : (k address : ℕ) (so_far part : List ℕ) (more : List (List ℕ)) → address ≡ aligned (4 * k + length so_far)
     → StandsAt address part (4 * k) (joined so_far (part ∷ more))
 first_stands k address so_far part more e =
-    let next = begins ((so_far ++ gap so_far) ++ part) more in
+    let next = begins ((so_far ++ zeros_before so_far) ++ part) more in
     record {
-      before = so_far ++ gap so_far;
+      before = so_far ++ zeros_before so_far;
       after = next.rest;
       split = joined_one so_far part more ∙ next.is;
-      place = e ∙ sym (gap_length k so_far);
+      place = e ∙ sym (zeros_before-length k so_far);
     }
 
 -- ---- the parts of a section
@@ -109,12 +107,12 @@ parts_nil section f = refl
 
 next_end : (k : ℕ) (section : Section) (f : Placed → Filled) → Sizes section f → (at : Addresses) (x : Object) (so_far : List ℕ)
     → 4 * k + length so_far ≡ address_in section at
-    → 4 * k + length ((so_far ++ gap so_far) ++ part_in section (f (record { object = x; at = all_aligned at }))) ≡ address_in section (ends (all_aligned at) x)
+    → 4 * k + length ((so_far ++ zeros_before so_far) ++ part_in section (f (record { object = x; at = all_aligned at }))) ≡ address_in section (ends (all_aligned at) x)
 next_end k section f sizes at x so_far e =
     let p : Placed = record { object = x; at = all_aligned at } in
     let size : length (part_in section (f p)) ≡ size_in section x = sizes p in
-    let whole = length-append (so_far ++ gap so_far) (part_in section (f p)) in
-    let put = gap_length k so_far in
+    let whole = length-append (so_far ++ zeros_before so_far) (part_in section (f p)) in
+    let put = zeros_before-length k so_far in
     let start : aligned (4 * k + length so_far) ≡ address_in section (all_aligned at) = ap aligned e ∙ sym (aligned_in section at) in
     omega (arith, size, whole, put, start, ends_in section (all_aligned at) x)
 
@@ -126,7 +124,7 @@ end_at k section f sizes at (x ∷ xs) so_far e =
     let p : Placed = record { object = x; at = all_aligned at } in
     ap (λ l. 4 * k + length (joined so_far l)) (parts_cons section f p (placed_from (ends (all_aligned at) x) xs))
     ∙ ap (λ l. 4 * k + length l) (joined_one so_far (part_in section (f p)) (parts section f (placed_from (ends (all_aligned at) x) xs)))
-    ∙ end_at k section f sizes (ends (all_aligned at) x) xs ((so_far ++ gap so_far) ++ part_in section (f p)) (next_end k section f sizes at x so_far e)
+    ∙ end_at k section f sizes (ends (all_aligned at) x) xs ((so_far ++ zeros_before so_far) ++ part_in section (f p)) (next_end k section f sizes at x so_far e)
     ∙ ap (λ a. end_of section a xs) (ends_in section (all_aligned at) x ∙ ap (λ a. a + size_in section x) (aligned_in section at))
 
 abbrev Stand : ℕ → Section → (Placed → Filled) → List ℕ → List Placed → Type 0
@@ -144,19 +142,19 @@ each_stands k section f sizes at (x ∷ xs) so_far more e =
     let whole : joined so_far (parts section f (p ∷ all) ++ more) ≡ joined so_far (part ∷ (parts section f all ++ more)) = ap (joined so_far) here in
     let first : StandsAt (address_in section p.at) part (4 * k) (joined so_far (part ∷ (parts section f all ++ more))) =
     first_stands k (address_in section p.at) so_far part (parts section f all ++ more) (aligned_in section at ∙ ap aligned (sym e)) in
-    let rest : Stand (4 * k) section f (joined ((so_far ++ gap so_far) ++ part) (parts section f all ++ more)) all =
-    each_stands k section f sizes (ends (all_aligned at) x) xs ((so_far ++ gap so_far) ++ part) more (next_end k section f sizes at x so_far e) in
+    let rest : Stand (4 * k) section f (joined ((so_far ++ zeros_before so_far) ++ part) (parts section f all ++ more)) all =
+    each_stands k section f sizes (ends (all_aligned at) x) xs ((so_far ++ zeros_before so_far) ++ part) more (next_end k section f sizes at x so_far e) in
     All-cons (λ (p : Placed). StandsAt (address_in section p.at) (part_in section (f p)) (4 * k) (joined so_far (parts section f (placed_from at (x ∷ xs)) ++ more)))
     p all (subst (StandsAt (address_in section p.at) part (4 * k)) (sym whole) first)
     (subst (λ bytes. Stand (4 * k) section f bytes all) (sym (whole ∙ joined_one so_far part (parts section f all ++ more))) rest)
 
 -- ---- the sizes of the objects' parts
 
-filled_sizes : (all : List Placed) (section : Section) → ((p : Placed) → size_in section p.object ≡ length (bytes_in section p.object)) → ((p : Placed) → part_in section (filled_of all p) ≡ filled_in (meaning_of all p) p section)
+filled_sizes : (all : List Placed) (section : Section) → ((p : Placed) → size_in section p.object ≡ length (bytes_at section p.object)) → ((p : Placed) → part_in section (filled_of all p) ≡ filled_in (meaning_of all p) p section)
     → Sizes section (filled_of all)
 filled_sizes all section size part p =
     ap length (part p)
-    ∙ filled_length (meaning_of all p) section (address_in section p.at) (bytes_in section p.object) p.object.relocs
+    ∙ filled_length (meaning_of all p) section (address_in section p.at) (bytes_at section p.object) p.object.relocs
     ∙ sym (size p)
 
 pub text_sizes : (all : List Placed) → Sizes Text (filled_of all)
@@ -281,10 +279,10 @@ code_from_extabs objects = code_from_rodatas objects ∙ joined_append (rodatas 
 pub code_ends : (objects : List Object) → 0x8000 + length (linked_code objects) ≡ (layout_of objects).code_end
 code_ends objects =
     let e = ends_of objects in
-    let whole : length (linked_code objects) ≡ length ((extabs objects ++ gap (extabs objects)) ++ linked_index objects) =
+    let whole : length (linked_code objects) ≡ length ((extabs objects ++ zeros_before (extabs objects)) ++ linked_index objects) =
     ap length (code_from_extabs objects ∙ joined_one (extabs objects) (linked_index objects) []) in
-    let split = length-append (extabs objects ++ gap (extabs objects)) (linked_index objects) in
-    let put = gap_length 0x2000 (extabs objects) in
+    let split = length-append (extabs objects ++ zeros_before (extabs objects)) (linked_index objects) in
+    let put = zeros_before-length 0x2000 (extabs objects) in
     let start : aligned (4 * 0x2000 + length (extabs objects)) ≡ (layout_of objects).index_start = ap aligned (extabs_end objects) ∙ sym e.index in
     let size : length (linked_index objects) ≡ index_size objects =
     index_length (layout_of objects).text_end (layout_of objects).index_start (firsts (layout_of objects)) objects in

@@ -6,7 +6,7 @@ use Rattle.std.specs.Map.{lookup}
 use Rattle.std.specs.Option.{option_or, option_map, is_some}
 use Rattle.std.proofs.lemmas.List.{at_drop_more}
 use Rattle.eh_word.specs.Names.{same_bytes}
-use Rattle.elf_write.specs.Layout.{aligned, zeros}
+use Rattle.eh_list.specs.Bytes.{zeros, gap}
 use Rattle.asm_object.specs.declared.object.Object.{Object}
 use Rattle.asm_object.specs.declared.object.ObjSymbol.{ObjSymbol}
 use Rattle.eh_link.specs.declared.index.Row.{Row}
@@ -35,7 +35,7 @@ first_more wanted xs i d h = at_drop_more (first_in wanted) xs i d h
 
 pub joined_append : (so_far : List ℕ) (xs ys : List (List ℕ)) → joined so_far (xs ++ ys) ≡ joined (joined so_far xs) ys
 joined_append so_far [] ys = refl
-joined_append so_far (x ∷ xs) ys = joined_append (so_far ++ zeros (aligned (length so_far) - length so_far) ++ x) xs ys
+joined_append so_far (x ∷ xs) ys = joined_append (so_far ++ zeros (gap (length so_far) 4) ++ x) xs ys
 
 pub same_meanings : (own global : List (List ℕ × Meaning)) (placed : Placed)
     → ((q : List ℕ) → lookup (same_bytes q) own ≡ first_label (is_label q) placed) → looked_up own global ≡ meaning_by global placed

@@ -1,16 +1,17 @@
 -- The fields of an object that the assembler gives: each stands alone in its place and whole in its section's bytes, so what the
--- law of fields says holds of every one of them. Of statements there are fewer than 2^64.
+-- law of fields says holds of every one of them. Of statements there are fewer than 2^64 (docs/linking.md, "What is proved").
 use Rattle.std.specs.Prelude.{◌≡◌, ◌+◌, ◌^◌, ◌<◌, ◌≤◌, List, ◌∷◌, ◌++◌, length, Ok}
 use Rattle.asm_read.specs.declared.statement.Stmt.{Stmt}
 use Rattle.asm_object.specs.declared.object.Object.{Object}
 use Rattle.asm_object.specs.declared.object.Reloc.{Reloc}
 use Rattle.asm_object.specs.Objects.{object_of}
-use Rattle.eh_link.specs.Layout.{bytes_in}
-use Rattle.eh_link.specs.FieldLaw.{field_size, StandsAlone}
+use Rattle.asm_object.specs.Relocations.{field_size}
+use Rattle.asm_object.specs.ObjectLaw.{bytes_at}
+use Rattle.eh_link.specs.FieldLaw.{StandsAlone}
 
 pub record StandsWholeAndAlone (object : Object) (before : List Reloc) (reloc : Reloc) (after : List Reloc) : Type 0 where
   pub alone : StandsAlone reloc.section reloc (before ++ after)
-  pub whole : reloc.offset + field_size reloc ≤ length (bytes_in reloc.section object)
+  pub whole : reloc.offset + field_size reloc ≤ length (bytes_at reloc.section object)
 
 abbrev pub AssembledFieldsStandAlone : Type 0
 AssembledFieldsStandAlone =

@@ -15,11 +15,13 @@ use Rattle.asm_object.specs.declared.object.Object.{Object}
 use Rattle.asm_object.specs.declared.object.Reloc.{Reloc}
 use Rattle.elf_write.specs.declared.parts.ImageParts.{ImageParts}
 use Rattle.eh_link.specs.declared.names.Meaning.{Meaning}
-use Rattle.eh_link.specs.declared.field.FieldKind.{FieldKind}
-use Rattle.eh_link.specs.declared.field.FieldKind.TheVariants.{Absolute, Relative, Prel31, Call, Jump, CondJump}
+use Rattle.asm_object.specs.declared.relocation.FieldKind.{FieldKind}
+use Rattle.asm_object.specs.declared.relocation.FieldKind.TheVariants.{Absolute, Relative, Prel31, Call, Jump, CondJump}
 use Rattle.eh_link.specs.Layout.{placed_of}
 use Rattle.eh_link.specs.Symbols.{meaning_of}
-use Rattle.eh_link.specs.Fields.{kind_of, width, same_section, filled, unreachable_in, unreachable_for}
+use Rattle.eh_link.specs.Fields.{filled, unreachable_in, unreachable_for}
+use Rattle.asm_layout.specs.Walks.{same_section}
+use Rattle.asm_object.specs.Relocations.{kind_of, width}
 use Rattle.eh_link.specs.FieldLaw.{StandsAlone}
 use Rattle.eh_link.specs.Linked.{linked}
 

@@ -1,15 +1,12 @@
 -- What the bytes of a section are behind its relocations: a byte in no field is the object's, and a field that shares no byte
--- with another one holds what its own relocation writes into the object's bytes.
+-- with another one holds what its own relocation writes into the object's bytes (docs/linking.md, "Relocations"; IHI 0044).
 use Rattle.std.specs.Prelude.{◌≡◌, ℕ, ◌+◌, ◌<◌, ◌≤◌, true, List, [], ◌∷◌, ◌++◌, slice_index, Option}
-use Rattle.std.specs.Option.{option_map_or}
 use Rattle.asm_layout.specs.declared.place.Section.{Section}
+use Rattle.asm_layout.specs.Walks.{same_section}
 use Rattle.asm_object.specs.declared.object.Reloc.{Reloc}
+use Rattle.asm_object.specs.Relocations.{field_size}
 use Rattle.eh_link.specs.declared.names.Meaning.{Meaning}
-use Rattle.eh_link.specs.Fields.{kind_of, width, same_section, change_of, changed, filled}
-
--- how many bytes the field of a relocation has; none where its kind changes nothing
-abbrev pub field_size : Reloc → ℕ
-field_size reloc = option_map_or width (kind_of reloc.kind) 0
+use Rattle.eh_link.specs.Fields.{change_of, changed, filled}
 
 -- the byte at an offset of a section lies in the field of a relocation
 pub record IsInField (section : Section) (offset : ℕ) (reloc : Reloc) : Type 0 where

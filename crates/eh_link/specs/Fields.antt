@@ -1,6 +1,6 @@
 -- What the linker writes into the fields of the objects (IHI 0044). Words S, A and P of the standard: the address that the
 -- name means, the addend, the address of the field; T is 1 where the name means a function.
-use Rattle.std.specs.Prelude.{ℕ, ◌+◌, ◌-◌, ◌*◌, ◌/◌, ◌%◌, ◌^◌, ◌==◌, ◌||◌, Bool, true, false, nat_le, min, if◌then◌else◌, List, [], ◌∷◌, ◌++◌, length, take, drop, bit_or, Option, Some, None, Result, Ok, Err, ℤ, pos, ◌+ℤ◌, ◌-ℤ◌}
+use Rattle.std.specs.Prelude.{ℕ, ◌+◌, ◌-◌, ◌*◌, ◌/◌, ◌%◌, ◌^◌, nat_le, min, if◌then◌else◌, List, [], ◌∷◌, ◌++◌, length, take, drop, bit_or, Option, Some, None, Result, Ok, Err, ℤ, pos, ◌+ℤ◌, ◌-ℤ◌}
 use Rattle.std.specs.Int.{from_bool}
 use Rattle.byteorder.specs.Endian.{little_number}
 use Rattle.eh_word.specs.Words.{moved}
@@ -14,32 +14,19 @@ use Rattle.asm_layout.specs.declared.place.Section.TheVariants.{Text, Rodata, Ex
 use Rattle.asm_object.specs.declared.object.Reloc.{Reloc}
 use Rattle.elf_write.specs.Layout.{word, half}
 use Rattle.eh_link.specs.declared.names.Meaning.{Meaning}
-use Rattle.eh_link.specs.declared.field.FieldKind.{FieldKind}
-use Rattle.eh_link.specs.declared.field.FieldKind.TheVariants.{Absolute, Relative, Prel31, Call, Jump, CondJump}
+use Rattle.asm_layout.specs.Walks.{same_section}
+use Rattle.asm_object.specs.Relocations.{kind_of, width}
+use Rattle.asm_object.specs.ObjectLaw.{bytes_at}
+use Rattle.asm_object.specs.declared.relocation.FieldKind.{FieldKind}
+use Rattle.asm_object.specs.declared.relocation.FieldKind.TheVariants.{Absolute, Relative, Prel31, Call, Jump, CondJump}
 use Rattle.eh_link.specs.declared.field.Change.{Change}
 use Rattle.eh_link.specs.declared.field.Change.TheVariants.{Keep, Half, Word, Unreachable}
 use Rattle.eh_link.specs.declared.fill.Filled.{Filled}
 use Rattle.eh_link.specs.Placed.{Placed}
-use Rattle.eh_link.specs.Layout.{bytes_in, address_in, address_at}
+use Rattle.eh_link.specs.Layout.{address_in, address_at}
 use Rattle.eh_link.specs.Symbols.{meaning_of}
 
 -- ---- one field
-
--- by the numbers of the standard; others change nothing
-abbrev pub kind_of : ℕ → Option FieldKind
-kind_of number =
-    if number == 2 || number == 38 then Some Absolute
-    else (if number == 3 || number == 41 then Some Relative
-    else (if number == 42 then Some Prel31
-    else (if number == 10 then Some Call
-    else (if number == 102 then Some Jump
-    else (if number == 103 then Some CondJump else None)))))
-
--- how many bytes the field has
-abbrev pub width : FieldKind → ℕ
-width Jump = 2
-width CondJump = 2
-width _ = 4
 
 -- (S + A) | T
 abbrev pub absolute : Meaning → ℤ → ℕ
@@ -82,14 +69,6 @@ change_by (Some kind) (Some meaning) addend place there =
 change_by _ _ addend place there = Keep
 
 -- ---- the fields of a section
-
-abbrev pub same_section : Section → Section → Bool
-same_section Text Text = true
-same_section Rodata Rodata = true
-same_section Extab Extab = true
-same_section Init Init = true
-same_section Bss Bss = true
-same_section _ _ = false
 
 -- what a relocation does to the bytes of a section that begins at an address
 unfoldable pub change_of : (List ℕ → Option Meaning) → Section → ℕ → List ℕ → Reloc → Change
@@ -143,7 +122,7 @@ part_in Bss parts = []
 
 abbrev pub filled_in : (List ℕ → Option Meaning) → Placed → Section → List ℕ
 filled_in means placed section =
-    filled means section (address_in section placed.at) (bytes_in section placed.object) placed.object.relocs
+    filled means section (address_in section placed.at) (bytes_at section placed.object) placed.object.relocs
 
 -- its parts, where its names have these meanings
 abbrev pub filled_by : (List ℕ → Option Meaning) → Placed → Filled
@@ -159,7 +138,7 @@ filled_of all placed = filled_by (meaning_of all placed) placed
 
 abbrev pub unreachable_for : (List ℕ → Option Meaning) → Placed → Section → Option ℕ
 unreachable_for means placed section =
-    unreachable_in means section (address_in section placed.at) (bytes_in section placed.object) placed.object.relocs
+    unreachable_in means section (address_in section placed.at) (bytes_at section placed.object) placed.object.relocs
 
 abbrev pub unreachable_by : (List ℕ → Option Meaning) → Placed → Option ℕ
 unreachable_by means placed =

@@ -1,28 +1,22 @@
 -- Where everything of an image stands. The first segment begins at 0x8000 and holds the texts of the objects, then their
 -- rodata, then their exception tables, then the index. The second one begins at the next multiple of 4,096 behind it and
 -- holds the data with given bytes, then the data that begins as zeros. Each object's part of a section, an empty one too,
--- and the index begin at the next multiple of 4.
-use Rattle.std.specs.Prelude.{ℕ, ◌+◌, ◌-◌, ◌*◌, ◌/◌, ◌%◌, ◌^◌, ◌≤◌, Bool, nat_lt, List, [], ◌∷◌, length, sum_by}
+-- and the index begin at the next multiple of 4 (docs/linking.md, "Layout").
+use Rattle.std.specs.Prelude.{ℕ, ◌+◌, ◌-◌, ◌*◌, ◌%◌, ◌^◌, ◌≤◌, Bool, nat_lt, List, [], ◌∷◌, length, sum_by}
 use Rattle.asm_object.specs.declared.object.Object.{Object}
 use Rattle.asm_layout.specs.declared.place.Section.{Section}
 use Rattle.asm_layout.specs.declared.place.Section.TheVariants.{Text, Rodata, Extab, Init, Bss}
-use Rattle.elf_write.specs.Layout.{aligned}
+use Rattle.eh_list.specs.Bytes.{next_multiple}
+use Rattle.asm_object.specs.ObjectLaw.{bytes_at}
+use Rattle.eh_link.specs.declared.places.TheConstants.{CODE_START, PAGE, MOST_MEMORY, REACH}
 use Rattle.eh_link.specs.declared.places.Addresses.{Addresses}
 use Rattle.eh_link.specs.declared.places.Layout.{Layout}
 use Rattle.eh_link.specs.Placed.{Placed}
 
--- the bytes of an object's part of a section
-abbrev pub bytes_in : Section → Object → List ℕ
-bytes_in Text object = object.text
-bytes_in Rodata object = object.rodata
-bytes_in Extab object = object.extab
-bytes_in Init object = object.init
-bytes_in Bss object = []
-
--- how many bytes of memory it takes
+-- how many bytes of memory an object's part of a section takes
 abbrev pub size_in : Section → Object → ℕ
 size_in Bss object = object.bss
-size_in section object = length (bytes_in section object)
+size_in section object = length (bytes_at section object)
 
 abbrev pub address_in : Section → Addresses → ℕ
 address_in Text at = at.text
@@ -30,6 +24,10 @@ address_in Rodata at = at.rodata
 address_in Extab at = at.extab
 address_in Init at = at.init
 address_in Bss at = at.bss
+
+-- the next multiple of 4
+abbrev pub aligned : ℕ → ℕ
+aligned at = next_multiple at 4
 
 -- the end of the objects' parts of a section that begins behind an address
 abbrev pub end_of : Section → ℕ → List Object → ℕ
@@ -40,13 +38,13 @@ end_of section at (object ∷ more) = end_of section (aligned at + size_in secti
 abbrev pub index_size : List Object → ℕ
 index_size objects = 8 * (sum_by (λ object. length object.rows) objects + 1)
 
--- the next multiple of 4,096
+-- the next multiple of a page
 abbrev pub page_behind : ℕ → ℕ
-page_behind at = (at + 4095) / 4096 * 4096
+page_behind at = next_multiple at PAGE
 
 unfoldable pub layout_of : List Object → Layout
 layout_of objects =
-    let text_end = end_of Text 0x8000 objects in
+    let text_end = end_of Text CODE_START objects in
     let rodata_end = end_of Rodata text_end objects in
     let extab_end = end_of Extab rodata_end objects in
     let code_end = aligned extab_end + index_size objects in
@@ -63,18 +61,18 @@ layout_of objects =
     }
 
 abbrev pub code_size : Layout → ℕ
-code_size layout = layout.code_end - 0x8000
+code_size layout = layout.code_end - CODE_START
 
 abbrev pub data_size : Layout → ℕ
 data_size layout = layout.bss_end - layout.data_start
 
 -- the segments have more than 1,048,576 bytes of memory together
 abbrev pub is_too_large : Layout → Bool
-is_too_large layout = nat_lt 1048576 (code_size layout + data_size layout)
+is_too_large layout = nat_lt MOST_MEMORY (code_size layout + data_size layout)
 
 -- the places of a layout rise, up to an address far above what the segments may take
 pub record Rises (layout : Layout) : Type 0 where
-  pub text : 0x8000 ≤ layout.text_end
+  pub text : CODE_START ≤ layout.text_end
   pub rodata : layout.text_end ≤ layout.rodata_end
   pub extab : layout.rodata_end ≤ layout.extab_end
   pub index : layout.extab_end ≤ layout.index_start
@@ -82,14 +80,14 @@ pub record Rises (layout : Layout) : Type 0 where
   pub start : layout.code_end ≤ layout.data_start
   pub init : layout.data_start ≤ layout.init_end
   pub bss : layout.init_end ≤ layout.bss_end
-  pub reach : layout.bss_end ≤ 0x400000
+  pub reach : layout.bss_end ≤ REACH
 
 -- ---- the objects' parts
 
 -- where the first part of each section may begin
 abbrev pub firsts : Layout → Addresses
 firsts layout = record {
-  text = 0x8000;
+  text = CODE_START;
   rodata = layout.text_end;
   extab = layout.rodata_end;
   init = layout.data_start;

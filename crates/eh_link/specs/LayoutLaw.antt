@@ -1,11 +1,13 @@
 -- Where the bytes of the segments stand: each object's part at its address, the index behind the parts, and as many bytes as the
 -- layout tells. Addresses are sums of the parts' sizes, and the bytes are the parts joined: the law says that both agree.
+-- (docs/linking.md, "Layout")
 use Rattle.std.specs.Prelude.{◌≡◌, ℕ, ◌+◌, ◌-◌, ◌==◌, if◌then◌else◌, List, [], ◌∷◌, ◌++◌, length, map, All, Ok}
 use Rattle.asm_layout.specs.declared.place.Section.{Section}
 use Rattle.asm_layout.specs.declared.place.Section.TheVariants.{Text, Rodata, Extab, Init}
 use Rattle.asm_object.specs.declared.object.Object.{Object}
 use Rattle.elf_write.specs.declared.parts.ImageParts.{ImageParts}
 use Rattle.eh_link.specs.declared.fill.Filled.{Filled}
+use Rattle.eh_link.specs.declared.places.TheConstants.{CODE_START}
 use Rattle.eh_link.specs.Layout.{address_in, layout_of, code_size, data_size, placed_of}
 use Rattle.eh_link.specs.Fields.{part_in, filled_of}
 use Rattle.eh_link.specs.Index.{index_of}
@@ -63,15 +65,15 @@ SizesAreOfBytes =
 abbrev pub CodeStands : Type 0
 CodeStands =
     (objects : List Object)
-    → EachStands Text objects 0x8000 (linked_code objects)
-    × EachStands Rodata objects 0x8000 (linked_code objects)
-    × EachStands Extab objects 0x8000 (linked_code objects)
+    → EachStands Text objects CODE_START (linked_code objects)
+    × EachStands Rodata objects CODE_START (linked_code objects)
+    × EachStands Extab objects CODE_START (linked_code objects)
 
 -- the index, up to the end of the segment
 abbrev pub IndexStands : Type 0
 IndexStands =
     (objects : List Object)
-    → StandsAt (layout_of objects).index_start (linked_index objects) 0x8000 (linked_code objects)
+    → StandsAt (layout_of objects).index_start (linked_index objects) CODE_START (linked_code objects)
     × ((layout_of objects).code_end ≡ (layout_of objects).index_start + length (linked_index objects))
 
 -- each object's data with given bytes, in the second segment

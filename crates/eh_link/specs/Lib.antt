@@ -1,3 +1,4 @@
+pub mod FaultNames
 pub mod Placed
 pub mod Layout
 pub mod Symbols

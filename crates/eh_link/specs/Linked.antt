@@ -1,13 +1,14 @@
--- What objects link to: the parts of an image, or the first of the refusals in their order.
+-- What objects link to: the parts of an image, or the first of the refusals in their order (docs/linking.md).
 use Rattle.std.specs.Prelude.{ℕ, ◌-◌, ◌%◌, ◌==◌, not, Bool, true, false, if◌then◌else◌, List, [], ◌∷◌, ◌++◌, length, map, Option, Some, None, Result, Ok, Err}
 use Rattle.std.specs.Option.{option_map_or}
 use Rattle.asm_object.specs.declared.object.Object.{Object}
-use Rattle.elf_write.specs.Layout.{aligned, zeros}
+use Rattle.eh_list.specs.Bytes.{zeros, gap}
 use Rattle.elf_write.specs.declared.parts.ImageParts.{ImageParts}
 use Rattle.elf_write.specs.declared.parts.OwnSegment.{OwnSegment}
 use Rattle.eh_link.specs.declared.fault.LinkFault.{LinkFault}
 use Rattle.eh_link.specs.declared.fault.LinkFault.TheVariants.{Duplicate, Undefined, NoEntry, TooLarge, RelocationRange}
 use Rattle.eh_link.specs.declared.places.Layout.{Layout}
+use Rattle.eh_link.specs.declared.places.TheConstants.{CODE_START}
 use Rattle.eh_link.specs.declared.fill.Filled.{Filled}
 use Rattle.eh_link.specs.Placed.{Placed}
 use Rattle.eh_link.specs.Layout.{layout_of, code_size, data_size, is_too_large, placed_of}
@@ -21,7 +22,7 @@ use Rattle.eh_link.specs.Index.{index_of}
 -- parts behind some bytes, each at the next multiple of 4, with zeros between them
 abbrev pub joined : List ℕ → List (List ℕ) → List ℕ
 joined so_far [] = so_far
-joined so_far (part ∷ more) = joined (so_far ++ zeros (aligned (length so_far) - length so_far) ++ part) more
+joined so_far (part ∷ more) = joined (so_far ++ zeros (gap (length so_far) 4) ++ part) more
 
 -- the texts, rodata and exception tables, then the index
 abbrev pub code_bytes : List Filled → List ℕ → List ℕ
@@ -31,7 +32,7 @@ abbrev pub data_bytes : List Filled → List ℕ
 data_bytes all = joined [] (map (part_in Init) all)
 
 abbrev pub code_segment : Layout → List ℕ → OwnSegment
-code_segment layout bytes = record { start = 0x8000; bytes = bytes; size = code_size layout; write = false; exec = true }
+code_segment layout bytes = record { start = CODE_START; bytes = bytes; size = code_size layout; write = false; exec = true }
 
 abbrev pub data_segment : Layout → List ℕ → OwnSegment
 data_segment layout bytes = record { start = layout.data_start; bytes = bytes; size = data_size layout; write = true; exec = false }

@@ -1,13 +1,14 @@
 -- What names mean: which labels there are, which name is there twice or not at all, and the symbols of the image.
-use Rattle.std.specs.Prelude.{ℕ, ◌==◌, not, ◌&&◌, ◌||◌, Bool, false, if◌then◌else◌, List, [], ◌∷◌, ◌++◌, map, filter, find, Option, None, codes, nat_eq}
-use Rattle.std.specs.List.{list_any, flat_map, starts_with}
+-- (docs/linking.md, "Names")
+use Rattle.std.specs.Prelude.{ℕ, ◌==◌, not, ◌&&◌, ◌||◌, Bool, false, if◌then◌else◌, List, [], ◌∷◌, ◌++◌, map, filter, find, Option, None, codes}
+use Rattle.std.specs.List.{list_any, flat_map}
 use Rattle.std.specs.Option.{option_or, option_map}
 use Rattle.std.specs.Map.{lookup}
 use Rattle.eh_word.specs.Names.{same_bytes}
 use Rattle.asm_object.specs.declared.object.Object.{Object}
 use Rattle.asm_object.specs.declared.object.ObjSymbol.{ObjSymbol}
 use Rattle.asm_object.specs.declared.object.Mark.{Mark}
-use Rattle.elf_write.specs.Layout.{aligned}
+use Rattle.asm_layout.specs.Words.{is_local}
 use Rattle.elf_write.specs.declared.parts.OwnSymbol.{OwnSymbol}
 use Rattle.elf_write.specs.declared.parts.SymbolKind.{SymbolKind}
 use Rattle.elf_write.specs.declared.parts.SymbolKind.TheVariants as kind
@@ -15,7 +16,7 @@ use Rattle.eh_link.specs.declared.places.Addresses.{Addresses}
 use Rattle.eh_link.specs.declared.places.Layout.{Layout}
 use Rattle.eh_link.specs.declared.names.Meaning.{Meaning}
 use Rattle.eh_link.specs.Placed.{Placed}
-use Rattle.eh_link.specs.Layout.{address_in, address_at}
+use Rattle.eh_link.specs.Layout.{aligned, address_in, address_at}
 
 abbrev pub is_label : List ℕ → ObjSymbol → Bool
 is_label name symbol = same_bytes name symbol.name
@@ -108,13 +109,10 @@ mark_symbols placed = map (mark_symbol placed.at) placed.object.marks
 abbrev pub words_between : ℕ → ℕ → List OwnSymbol
 words_between start end = if start == end then [] else mark_at start false ∷ []
 
--- labels whose names begin with `.L` stay in their object
-abbrev pub is_local : List ℕ → Bool
-is_local name = starts_with nat_eq name (codes ".L")
-
 abbrev pub label_kind : ObjSymbol → SymbolKind
 label_kind symbol = if symbol.function then kind.Function else kind.Object
 
+-- labels with local names stay in their object
 abbrev pub label_symbols : Addresses → ObjSymbol → List OwnSymbol
 label_symbols at symbol =
     if is_local symbol.name then [] else own_symbol symbol.name (symbol_address at symbol) symbol.size (label_kind symbol) ∷ []

@@ -1,3 +1,7 @@
+//! Why objects have no image (docs/linking.md, "Refusals").
+ghost use Rattle.std.specs.Prelude.{◌≡◌, ◌≤◌, length};
+ghost use Rattle.eh_link.specs.FaultNames.{fault_name};
+
 use eh_word::Name;
 use std::alloc::AllocError;
 use thiserror::Error;
@@ -23,6 +27,23 @@ pub enum LinkFault {
     /// No memory was left. Nothing is said of the objects.
     #[error("out of memory")]
     OutOfMemory,
+}
+
+impl LinkFault {
+    /// The name of the refusal, as a report writes it.
+    pub fn name(&self) -> &'static [u8]
+        ensures name { result.now ≡ fault_name self.now }
+        ensures short { length result.now ≤ 16 }
+    {
+        match self {
+            LinkFault::Duplicate(_) => b"Duplicate",
+            LinkFault::Undefined(_) => b"Undefined",
+            LinkFault::NoEntry => b"NoEntry",
+            LinkFault::TooLarge => b"TooLarge",
+            LinkFault::RelocationRange(_) => b"RelocationRange",
+            LinkFault::OutOfMemory => b"OutOfMemory",
+        }
+    }
 }
 
 impl From<AllocError> for LinkFault {

@@ -1,34 +1,16 @@
+//! What a relocation writes into its field (IHI 0044, "Relocation types"; docs/linking.md).
 ghost use Rattle.std.specs.Prelude.{◌≡◌, ◌+◌, ◌*◌, ◌^◌, ◌<◌, ◌≤◌, length, Option, Some, None};
 ghost use Rattle.thumb_isa.specs.declared.instr.Instr.TheVariants.{BCond, B, Bl};
 ghost use Rattle.thumb_encode.specs.Codes.{encoded_of};
-ghost use Rattle.eh_link.specs.Fields.{kind_of, width, absolute, relative, distance, branch, filling, change_by, change_of, same_section};
+ghost use Rattle.asm_object.specs.Relocations.{kind_of, width};
+ghost use Rattle.eh_link.specs.Fields.{absolute, relative, distance, branch, filling, change_by, change_of};
 
 use crate::names::Meaning;
-use asm_object::relocation::{
-    R_ARM_ABS32, R_ARM_PREL31, R_ARM_REL32, R_ARM_TARGET1, R_ARM_TARGET2, R_ARM_THM_CALL,
-    R_ARM_THM_JUMP8, R_ARM_THM_JUMP11,
-};
+use asm_object::relocation::{FieldKind, kind_of, width};
 use byteorder::{ByteOrder, LittleEndian};
 use thumb_encode::code::{Code, EncodeFault};
 use thumb_encode::encode::encode;
 use thumb_isa::instr::Instr;
-
-/// What the field of a relocation holds, by the kinds of the Arm ELF standard (IHI 0044).
-#[derive(Clone, Copy, PartialEq, Eq, Debug)]
-pub enum FieldKind {
-    /// R_ARM_ABS32 and R_ARM_TARGET1.
-    Absolute,
-    /// R_ARM_REL32 and R_ARM_TARGET2.
-    Relative,
-    /// R_ARM_PREL31.
-    Prel31,
-    /// R_ARM_THM_CALL: the offset of a BL.
-    Call,
-    /// R_ARM_THM_JUMP11: the offset of a B.
-    Jump,
-    /// R_ARM_THM_JUMP8: the offset of a B with a condition.
-    CondJump,
-}
 
 /// What a relocation does to the bytes of a section.
 #[derive(Clone, Copy, PartialEq, Eq, Debug)]
@@ -43,43 +25,21 @@ pub enum Change {
     Unreachable,
 }
 
-/// The kind by its number in the Arm ELF standard (IHI 0044). Other relocations change nothing.
-fn kind_of(number: u32) -> Option<FieldKind>
-    ensures { result ≡ kind_of number }
-{
-    match number {
-        R_ARM_ABS32 | R_ARM_TARGET1 => Some(FieldKind::Absolute),
-        R_ARM_REL32 | R_ARM_TARGET2 => Some(FieldKind::Relative),
-        R_ARM_PREL31 => Some(FieldKind::Prel31),
-        R_ARM_THM_CALL => Some(FieldKind::Call),
-        R_ARM_THM_JUMP11 => Some(FieldKind::Jump),
-        R_ARM_THM_JUMP8 => Some(FieldKind::CondJump),
-        _ => None,
-    }
-}
-
-/// How many bytes a field has.
-fn width(kind: FieldKind) -> usize
-    ensures { result ≡ width kind }
-{
-    match kind {
-        FieldKind::Jump | FieldKind::CondJump => 2,
-        _ => 4,
-    }
-}
-
+/// (S + A) | T in the words of the standard.
 fn absolute(meaning: Meaning, addend: i32) -> u32
     ensures { result ≡ absolute meaning addend }
 {
     meaning.address.wrapping_add_signed(addend) | u32::from(meaning.function)
 }
 
+/// ((S + A) | T) - P.
 fn relative(meaning: Meaning, addend: i32, place: u32) -> u32
     ensures { result ≡ relative meaning addend place }
 {
     absolute(meaning, addend).wrapping_sub(place)
 }
 
+/// S + A - P, a whole number.
 fn distance(meaning: Meaning, addend: i32, place: u32) -> i64
     ensures { result ≡ distance meaning addend place }
 {

@@ -1,12 +1,13 @@
+//! The fields of objects filled by their relocations (docs/linking.md; IHI 0044).
 ghost use Rattle.std.specs.Prelude.{◌≡◌, ◌+◌, ◌≤◌, length, drop, map, IfOk};
-ghost use Rattle.eh_link.specs.Layout.{bytes_in};
+ghost use Rattle.asm_object.specs.ObjectLaw.{bytes_at};
 ghost use Rattle.eh_link.specs.Symbols.{looked_up, meaning_by};
-ghost use Rattle.eh_link.specs.Fields.{same_section, size_of, change_of, written_at, changed, unreachable_at, filled, lower, unreachable_in, part_in, filled_in, filled_by, filled_of, unreachable_for, unreachable_by, lowest_unreachable};
+ghost use Rattle.eh_link.specs.Fields.{size_of, change_of, written_at, changed, unreachable_at, filled, lower, unreachable_in, part_in, filled_in, filled_by, filled_of, unreachable_for, unreachable_by, lowest_unreachable};
 
 use crate::field::{Change, change_by};
 use crate::names::{Meanings, global_meanings, looked_up, own_meanings};
 use crate::places::{Placed, address_at, address_in};
-use asm_layout::place::Section;
+use asm_layout::place::{Section, same_section};
 use asm_object::object::{Object, Reloc};
 use elf_write::parts::OwnBytes;
 use std::alloc::{AllocError, Global};
@@ -25,8 +26,8 @@ pub struct Filled {
 }
 
 /// The bytes of an object's part of a section.
-fn bytes_in(section: Section, object: &Object) -> &[u8]
-    ensures { result.now ≡ bytes_in section object.now }
+fn bytes_at(section: Section, object: &Object) -> &[u8]
+    ensures { result.now ≡ bytes_at section object.now }
 {
     match section {
         Section::Text => object.text.as_slice(),
@@ -104,12 +105,6 @@ fn bytes_from(bytes: &[u8], offset: usize) -> &[u8]
     }
 }
 
-fn same_section(a: Section, b: Section) -> bool
-    ensures { result ≡ same_section a b }
-{
-    a == b
-}
-
 /// What a relocation does to the bytes of a section that begins at an address.
 #[tactic(auto, using(crate::proofs::Changes::change_fits), unfolding(crate::specs::Fields::change_of))]
 fn change_of(
@@ -167,7 +162,7 @@ fn filled_part(
     ensures bytes { IfOk result (λ part. part.0 ≡ filled_in (looked_up own.now global.now) placed.now section) }
     ensures lowest { IfOk result (λ part. part.1 ≡ unreachable_for (looked_up own.now global.now) placed.now section) }
 {
-    let mut bytes = Vec::from_slice(alloc, bytes_in(section, placed.object))?;
+    let mut bytes = Vec::from_slice(alloc, bytes_at(section, placed.object))?;
     let start = address_in(section, placed.at);
     let lowest = fill(
         &mut bytes,

@@ -1,10 +1,11 @@
+//! The exception index (IHI 0038; docs/linking.md).
 ghost use Rattle.std.specs.Prelude.{◌≡◌, ◌+◌, ◌++◌, ◌^◌, map, IfOk, OnOk};
 ghost use Rattle.std.specs.List.{flat_map};
-ghost use Rattle.elf_write.specs.Layout.{word};
 ghost use Rattle.eh_link.specs.Index.{second_word, row_of, rows_in, in_order, prel31_to, second_at, row_bytes, rows_from, index_of};
 
 use crate::places::{Addresses, Placed, address_at};
 use asm_object::object::{IndexRow, RowEntry};
+use eh_list::bytes::push_word;
 use std::alloc::{AllocError, Global};
 
 /// A row of the index: the start of a function, and what the row says of it.
@@ -68,14 +69,6 @@ fn sort_rows(rows: &mut Vec<Row>) -> Result<(), AllocError>
     Ok(())
 }
 
-/// Puts a word at the end, the lowest byte first.
-#[tactic(auto, unfolding(elf_write::specs::Layout::word))]
-fn put_word(out: &mut Vec<u8>, value: u32) -> Result<(), AllocError>
-    ensures { OnOk result (out.new.items ≡ out.old.items ++ word value) }
-{
-    out.extend_from_slice(&value.to_le_bytes())
-}
-
 /// An address seen from the place of a word, in bits 30 to 0.
 fn prel31_to(place: u32, target: u32) -> u32
     ensures { result ≡ prel31_to place target }
@@ -92,15 +85,16 @@ fn second_at(place: u32, second: RowWord) -> u32
     }
 }
 
+#[tactic(auto, unfolding(elf_write::specs::Layout::word))]
 fn put_row(out: &mut Vec<u8>, place: u32, row: Row) -> Result<(), AllocError>
     ensures { OnOk result (out.new.items ≡ out.old.items ++ row_bytes place row) }
 {
-    put_word(out, prel31_to(place, row.start))?;
-    put_word(out, second_at(address_at(place, 4), row.second))
+    push_word(out, prel31_to(place, row.start))?;
+    push_word(out, second_at(address_at(place, 4), row.second))
 }
 
 /// The bytes of rows from an address on, and of the row that closes the index.
-#[tactic(auto, using(crate::proofs::Steps::rows))]
+#[tactic(auto, using(crate::proofs::Steps::rows), unfolding(elf_write::specs::Layout::word))]
 fn rows_from(alloc: Global, end: u32, start: u32, rows: &[Row]) -> Result<Vec<u8>, AllocError>
     ensures { IfOk result (λ bytes. bytes.items ≡ rows_from end start rows.now) }
 {
@@ -110,8 +104,8 @@ fn rows_from(alloc: Global, end: u32, start: u32, rows: &[Row]) -> Result<Vec<u8
         put_row(&mut out, place, *row)?;
         place = address_at(place, 8);
     }
-    put_word(&mut out, prel31_to(place, end))?;
-    put_word(&mut out, 1)?;
+    push_word(&mut out, prel31_to(place, end))?;
+    push_word(&mut out, 1)?;
     Ok(out)
 }
 

@@ -1,4 +1,4 @@
-//! The static linker: objects to the parts of an image.
+//! The static linker: objects to the parts of an image (docs/linking.md).
 #![tactic(auto)]
 
 ghost use Rattle.eh_link.specs.FieldLaw.{OtherBytesStay, FieldsHold};
@@ -16,8 +16,6 @@ mod names;
 mod places;
 mod segments;
 mod symbols;
-#[cfg(test)]
-mod tests;
 
 pub use fault::LinkFault;
 pub use linking::link;

@@ -1,3 +1,4 @@
+//! Objects to the parts of an image (docs/linking.md).
 ghost use Rattle.std.specs.Prelude.{◌≡◌, ◌⊎◌, map, Result, Ok, Err, MatchResult, IfOk, OnOk, IfErr};
 ghost use Rattle.elf_write.specs.declared.parts.ImageParts.{ImageParts};
 ghost use Rattle.eh_link.specs.declared.fault.LinkFault.{LinkFault};
@@ -9,10 +10,11 @@ ghost use Rattle.eh_link.specs.Linked.{entry_of, parts_at, unless_misnamed, link
 use crate::fault::LinkFault;
 use crate::fill::{Filled, fill_all};
 use crate::index::index_of;
-use crate::names::{NameSet, copied, duplicate, entry_meaning, has_entry, undefined};
+use crate::names::{NameSet, duplicate, entry_meaning, has_entry, undefined};
 use crate::places::{Layout, Placed, lay_out, place};
 use crate::segments::segments_of;
 use crate::symbols::symbols_of;
+use asm_layout::word::copied;
 use asm_object::object::Object;
 use elf_write::parts::{ImageParts, OwnSegments, OwnSymbols};
 use std::alloc::{AllocError, Global};

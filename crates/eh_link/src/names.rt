@@ -1,3 +1,4 @@
+//! What names mean, and which are there twice or not at all (docs/linking.md).
 ghost use Rattle.std.specs.Prelude.{◌≡◌, ◌||◌, List, ℕ, [], None, Some, IfOk, OnOk, find, not, if◌then◌else◌};
 ghost use Rattle.std.specs.List.{list_any};
 ghost use Rattle.std.specs.Map.{lookup};
@@ -6,6 +7,7 @@ ghost use Rattle.eh_word.specs.Names.{same_bytes};
 ghost use Rattle.eh_link.specs.Symbols.{has_label, has_global, is_label, is_global, is_entry, has_entry, global_names, field_names, duplicate_of, undefined_of, symbol_address, meaning, first_label, first_in, looked_up};
 
 use crate::places::{Addresses, Placed, address_at, address_in};
+use asm_layout::word::copied;
 use asm_object::object::{ObjSymbol, Object};
 use eh_word::Name;
 use indexmap::{IndexMap, IndexSet};
@@ -19,13 +21,6 @@ pub struct Meaning {
     pub address: u32,
     /// Whether a function begins there.
     pub function: bool,
-}
-
-/// A copy of a name.
-pub(crate) fn copied(alloc: Global, name: &Name) -> Result<Name, AllocError>
-    ensures { IfOk result (λ n. n ≡ name.now) }
-{
-    Ok(Name::of_vec(Vec::from_slice(alloc, name.bytes())?))
 }
 
 /// A set of names, which contracts see as a list of them.

@@ -1,14 +1,21 @@
+//! Where everything of an image stands (docs/linking.md).
 ghost use Rattle.std.specs.Prelude.{◌≡◌, ◌+◌, ◌*◌, ◌^◌, ◌<◌, ◌≤◌, Bool, false, None, Some, if◌then◌else◌, length, IfOk, IfSome, IfNone};
-ghost use Rattle.elf_write.specs.Layout.{aligned};
-ghost use Rattle.eh_link.specs.Layout.{size_in, address_in, end_of, index_size, page_behind, Rises, layout_of, is_too_large, firsts, all_aligned, ends, placed_of, address_at};
+ghost use Rattle.eh_link.specs.Layout.{aligned, size_in, address_in, end_of, index_size, page_behind, Rises, layout_of, is_too_large, firsts, all_aligned, ends, placed_of, address_at};
 
 use asm_layout::place::Section;
 use asm_object::object::Object;
+use eh_list::bytes::next_multiple_32;
 use std::alloc::{AllocError, Global};
 use std::marker::Model;
 
+/// Where the first segment begins: an address in bytes.
+pub const CODE_START: u32 = 0x8000;
+/// What the second segment's start is a multiple of, in bytes.
+pub const PAGE: u32 = 0x1000;
+/// The most bytes of memory of the segments together.
+pub const MOST_MEMORY: u32 = 1_048_576;
 /// The highest address that is looked at, far above what the segments may take.
-const REACH: u32 = 0x40_0000;
+pub const REACH: u32 = 0x40_0000;
 
 /// The address, in bytes, at which an object's part of each section begins or ends.
 #[derive(Clone, Copy, PartialEq, Eq, Debug)]
@@ -81,15 +88,15 @@ pub(crate) fn aligned(at: u32) -> u32
     requires { at + 3 < 2 ^ 32 }
     ensures { result ≡ aligned at }
 {
-    (at + 3) / 4 * 4
+    next_multiple_32(at, 4)
 }
 
-/// The next multiple of 4,096.
+/// The next multiple of a page.
 fn page_behind(at: u32) -> u32
-    requires { at + 4095 < 2 ^ 32 }
+    requires { at + PAGE ≤ 2 ^ 32 }
     ensures { result ≡ page_behind at }
 {
-    (at + 4095) / 4096 * 4096
+    next_multiple_32(at, PAGE)
 }
 
 /// The address in a section.
@@ -114,9 +121,9 @@ pub(crate) fn address_at(start: u32, offset: u32) -> u32
 
 /// The end of the objects' parts of a section that begins behind an address. None above `REACH`.
 fn end_of(section: Section, start: u32, objects: &[Object]) -> Option<u32>
-    requires { start ≤ 0x400000 }
-    ensures some { IfSome result (λ end. (end ≡ end_of section start objects.now) × (end ≤ 0x400000)) }
-    ensures none { IfNone result (0x400000 < end_of section start objects.now) }
+    requires { start ≤ REACH }
+    ensures some { IfSome result (λ end. (end ≡ end_of section start objects.now) × (end ≤ REACH)) }
+    ensures none { IfNone result (REACH < end_of section start objects.now) }
 {
     let mut at = start;
     for object in objects {
@@ -132,9 +139,9 @@ fn end_of(section: Section, start: u32, objects: &[Object]) -> Option<u32>
 
 /// The end of the index that begins at an address. None above `REACH`.
 fn index_end(start: u32, objects: &[Object]) -> Option<u32>
-    requires { start ≤ 0x400000 }
-    ensures some { IfSome result (λ end. (end ≡ start + index_size objects.now) × (end ≤ 0x400000)) }
-    ensures none { IfNone result (0x400000 < start + index_size objects.now) }
+    requires { start ≤ REACH }
+    ensures some { IfSome result (λ end. (end ≡ start + index_size objects.now) × (end ≤ REACH)) }
+    ensures none { IfNone result (REACH < start + index_size objects.now) }
 {
     if start > REACH - 8 {
         return None;
@@ -155,7 +162,7 @@ pub(crate) fn lay_out(objects: &[Object]) -> Option<Layout>
     ensures found { result ≡ (if is_too_large (layout_of objects.now) then None else Some (layout_of objects.now)) }
     ensures rises { IfSome result (λ layout. Rises layout) }
 {
-    let text_end = end_of(Section::Text, 0x8000, objects)?;
+    let text_end = end_of(Section::Text, CODE_START, objects)?;
     let rodata_end = end_of(Section::Rodata, text_end, objects)?;
     let extab_end = end_of(Section::Extab, rodata_end, objects)?;
     let index_start = aligned(extab_end);
@@ -163,7 +170,7 @@ pub(crate) fn lay_out(objects: &[Object]) -> Option<Layout>
     let data_start = page_behind(code_end);
     let init_end = end_of(Section::Init, data_start, objects)?;
     let bss_end = end_of(Section::Bss, init_end, objects)?;
-    if code_end - 0x8000 + (bss_end - data_start) > 1_048_576 {
+    if code_end - CODE_START + (bss_end - data_start) > MOST_MEMORY {
         return None;
     }
     Some(Layout {
@@ -183,7 +190,7 @@ fn firsts(layout: Layout) -> Addresses
     ensures { result ≡ firsts layout }
 {
     Addresses {
-        text: 0x8000,
+        text: CODE_START,
         rodata: layout.text_end,
         extab: layout.rodata_end,
         init: layout.data_start,
@@ -192,11 +199,11 @@ fn firsts(layout: Layout) -> Addresses
 }
 
 fn all_aligned(at: Addresses) -> Addresses
-    requires text { at.text ≤ 0x400000 }
-    requires rodata { at.rodata ≤ 0x400000 }
-    requires extab { at.extab ≤ 0x400000 }
-    requires init { at.init ≤ 0x400000 }
-    requires bss { at.bss ≤ 0x400000 }
+    requires text { at.text ≤ REACH }
+    requires rodata { at.rodata ≤ REACH }
+    requires extab { at.extab ≤ REACH }
+    requires init { at.init ≤ REACH }
+    requires bss { at.bss ≤ REACH }
     ensures { result ≡ all_aligned at }
 {
     Addresses {
@@ -210,11 +217,11 @@ fn all_aligned(at: Addresses) -> Addresses
 
 /// The ends of an object's parts that begin at these addresses.
 fn ends(at: Addresses, object: &Object) -> Addresses
-    requires text { at.text + length object.now.text ≤ 0x400000 }
-    requires rodata { at.rodata + length object.now.rodata ≤ 0x400000 }
-    requires extab { at.extab + length object.now.extab ≤ 0x400000 }
-    requires init { at.init + length object.now.init ≤ 0x400000 }
-    requires bss { at.bss + object.now.bss ≤ 0x400000 }
+    requires text { at.text + length object.now.text ≤ REACH }
+    requires rodata { at.rodata + length object.now.rodata ≤ REACH }
+    requires extab { at.extab + length object.now.extab ≤ REACH }
+    requires init { at.init + length object.now.init ≤ REACH }
+    requires bss { at.bss + object.now.bss ≤ REACH }
     ensures { result ≡ ends at object.now }
 {
     Addresses {

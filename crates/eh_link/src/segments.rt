@@ -1,31 +1,22 @@
+//! The segments of an image (docs/linking.md).
 ghost use Rattle.std.specs.Prelude.{◌≡◌, ◌++◌, ◌∷◌, [], ◌≤◌, ◌+◌, map, IfOk, OnOk};
-ghost use Rattle.elf_write.specs.Layout.{zeros};
 ghost use Rattle.eh_link.specs.Fields.{part_in};
 ghost use Rattle.eh_link.specs.Layout.{Rises};
 ghost use Rattle.eh_link.specs.Linked.{joined, code_bytes, data_bytes, segments_of};
 
 use crate::fill::{Filled, part_in};
-use crate::places::Layout;
+use crate::places::{CODE_START, Layout};
 use asm_layout::place::Section;
+use eh_list::bytes::{gap, push_zeros};
 use elf_write::parts::{OwnBytes, OwnSegment};
 use std::alloc::{AllocError, Global};
-
-#[tactic(auto, unfolding(elf_write::specs::Layout::zeros))]
-fn put_zeros(out: &mut Vec<u8>, count: usize) -> Result<(), AllocError>
-    ensures { OnOk result (out.new.items ≡ out.old.items ++ zeros count) }
-{
-    for _i in 0..count {
-        out.push(0)?;
-    }
-    Ok(())
-}
 
 /// Puts a part at the next multiple of 4.
 fn put_part(out: &mut Vec<u8>, part: &[u8]) -> Result<(), AllocError>
     ensures { OnOk result (out.new.items ≡ joined out.old.items (part.now ∷ [])) }
 {
     let len = out.len();
-    put_zeros(out, (len + 3) / 4 * 4 - len)?;
+    push_zeros(out, gap(len as u64, 4) as usize)?;
     out.extend_from_slice(part)
 }
 
@@ -73,9 +64,9 @@ pub(crate) fn segments_of(
 {
     let mut segments = Vec::new(alloc);
     segments.push(OwnSegment {
-        start: 0x8000,
+        start: CODE_START,
         bytes: OwnBytes::of_vec(code_bytes(alloc, all, index)?),
-        size: layout.code_end - 0x8000,
+        size: layout.code_end - CODE_START,
         write: false,
         exec: true,
     })?;

@@ -1,10 +1,12 @@
+//! The symbols of an image (docs/linking.md).
 ghost use Rattle.std.specs.Prelude.{◌≡◌, ◌++◌, ◌≤◌, IfOk, OnOk};
-ghost use Rattle.eh_link.specs.Symbols.{own_symbol, mark_at, mark_symbol, mark_symbols, words_between, is_local, label_kind, label_symbols, exported, symbols_of};
+ghost use Rattle.eh_link.specs.Symbols.{own_symbol, mark_at, mark_symbol, mark_symbols, words_between, label_kind, label_symbols, exported, symbols_of};
 ghost use Rattle.std.specs.List.{flat_map};
 ghost use Rattle.eh_link.specs.Layout.{Rises};
 
-use crate::names::{copied, symbol_address};
+use crate::names::symbol_address;
 use crate::places::{Addresses, Layout, Placed, address_at, aligned};
+use asm_layout::word::{copied, is_local};
 use asm_object::object::{Mark, ObjSymbol};
 use eh_word::Name;
 use elf_write::parts::{OwnSymbol, SymbolKind};
@@ -61,13 +63,6 @@ fn push_words(
         out.push(mark_at(alloc, start, false)?)?;
     }
     Ok(())
-}
-
-/// Whether a name begins with `.L`, so that its label stays in its object.
-fn is_local(name: &Name) -> bool
-    ensures { result ≡ is_local name.now }
-{
-    name.bytes().starts_with(b".L")
 }
 
 fn label_kind(symbol: &ObjSymbol) -> SymbolKind

@@ -1,6 +1,9 @@
 //! A vector that contracts see as its list. Public types of the other crates have it as their fields, under an alias each.
 ghost use Rattle.std.specs.Prelude.{◌≡◌, ◌==◌, ◌∷◌, ◌++◌, [], length, OnOk, OnErr};
+ghost use Rattle.byteorder.specs.Endian.{little_bytes};
+ghost use Rattle.eh_list.specs.Bytes.{zeros};
 
+use crate::bytes::push_zeros;
 use std::alloc::{AllocError, Global};
 use std::marker::Model;
 
@@ -85,5 +88,29 @@ impl Seq<u8> {
         ensures err { OnErr result (self.new ≡ self.old) }
     {
         self.items.extend_from_slice(bytes)
+    }
+
+    /// Adds a number of two bytes at the end, the lowest first. Without memory nothing is added.
+    pub fn push_half(&mut self, half: u16) -> Result<(), AllocError>
+        ensures ok { OnOk result (self.new ≡ self.old ++ little_bytes 2 half) }
+        ensures err { OnErr result (self.new ≡ self.old) }
+    {
+        self.items.extend_from_slice(&half.to_le_bytes())
+    }
+
+    /// Adds a number of four bytes at the end, the lowest first. Without memory nothing is added.
+    pub fn push_word(&mut self, word: u32) -> Result<(), AllocError>
+        ensures ok { OnOk result (self.new ≡ self.old ++ little_bytes 4 word) }
+        ensures err { OnErr result (self.new ≡ self.old) }
+    {
+        self.items.extend_from_slice(&word.to_le_bytes())
+    }
+
+    /// Adds `count` zero bytes at the end. Without memory nothing is added.
+    pub fn push_zeros(&mut self, count: usize) -> Result<(), AllocError>
+        ensures ok { OnOk result (self.new ≡ self.old ++ zeros count) }
+        ensures err { OnErr result (self.new ≡ self.old) }
+    {
+        push_zeros(&mut self.items, count)
     }
 }

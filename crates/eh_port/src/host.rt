@@ -1,5 +1,5 @@
-// Files, a source and a sink of the system. What std tells of a reader's or a writer's bytes is handed on: all of those in
-// memory, and nothing of a file or a standard stream. This is the trusted edge.
+//! Files, a source and a sink of the system. What std tells of a reader's or a writer's bytes is handed on: all of those in
+//! memory, and nothing of a file or a standard stream. This is the trusted edge; docs/outside.md has the rules.
 ghost use Rattle.std.specs.Prelude.{◌≡◌, ◌<◌, None, Some, IfOk, IfSome, is_err, length, if◌then◌else◌};
 ghost use Rattle.std.specs.Io.{ReadsAtMost, WritesAtMost};
 ghost use Rattle.std.specs.Io.KnownBytes.{ReadConsumes, WriteAppends};
@@ -37,12 +37,15 @@ pub struct HostSink<W: Write + Drop> {
     pub faults: u64,
 }
 
+/// How many bytes of a file are asked for at a time.
+const BLOCK: usize = 4096;
+
 // What reading a file from its front gives.
 fn read_within<R: Read>(alloc: Global, file: &mut R, most: usize) -> Result<FileAnswer, FileFault>
     ensures { IfOk result (λ answer. IfSome (R.remaining file.old) (λ bytes. answer ≡ within most (Some bytes))) }
 {
     let mut bytes = Vec::new(alloc);
-    let mut buf = [0u8; 4096];
+    let mut buf = [0u8; BLOCK];
     for _ in 0..u64::MAX {
         match file.read(&mut buf) {
             Ok(0) => return Ok(FileAnswer::Found(Bytes::of_vec(bytes))),

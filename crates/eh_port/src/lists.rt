@@ -1,7 +1,9 @@
-// Lists of bytes, of call numbers and of files, which contracts see as lists.
+//! Lists of bytes, of call numbers and of files, which contracts see as lists (docs/outside.md).
+use eh_list::Seq;
 use std::alloc::AllocError;
 use std::marker::Model;
 
+/// Bytes in order, which can be taken from their front.
 #[derive(Drop)]
 pub struct Bytes {
     bytes: Vec<u8>,
@@ -57,35 +59,9 @@ impl Bytes {
 }
 
 /// Numbers of calls.
-#[derive(Drop)]
-pub struct CallNumbers {
-    numbers: Vec<u64>,
-}
+pub type CallNumbers = Seq<u64>;
 
-impl Model for CallNumbers {
-    ghost use Rattle.std.specs.Prelude.{List, ℕ};
-
-    ghost Value = { List ℕ };
-
-    ghost view = { λ n. n.numbers.items };
-}
-
-impl CallNumbers {
-    ghost use Rattle.std.specs.Prelude.{◌≡◌};
-
-    pub fn of_vec(numbers: Vec<u64>) -> Self
-        ensures { result ≡ numbers.items }
-    {
-        CallNumbers { numbers }
-    }
-
-    pub fn as_slice(&self) -> &[u64]
-        ensures { result.now ≡ self.now }
-    {
-        self.numbers.as_slice()
-    }
-}
-
+/// A file in memory.
 #[derive(Drop)]
 pub struct MemFile {
     pub name: Bytes,
@@ -93,32 +69,4 @@ pub struct MemFile {
 }
 
 /// Files in memory, in order.
-#[derive(Drop)]
-pub struct FileList {
-    files: Vec<MemFile>,
-}
-
-impl Model for FileList {
-    ghost use Rattle.std.specs.Prelude.{List};
-    ghost use Rattle.eh_port.specs.declared.lists.MemFile.{MemFile};
-
-    ghost Value = { List MemFile };
-
-    ghost view = { λ f. f.files.items };
-}
-
-impl FileList {
-    ghost use Rattle.std.specs.Prelude.{◌≡◌};
-
-    pub fn of_vec(files: Vec<MemFile>) -> Self
-        ensures { result ≡ files.items }
-    {
-        FileList { files }
-    }
-
-    pub fn as_slice(&self) -> &[MemFile]
-        ensures { result.now ≡ self.now }
-    {
-        self.files.as_slice()
-    }
-}
+pub type FileList = Seq<MemFile>;

@@ -1,4 +1,4 @@
-// Files, a source and a sink in memory, of which chosen calls fail.
+//! Files, a source and a sink in memory, of which chosen calls fail. docs/outside.md has the rules.
 ghost use Rattle.std.specs.Prelude.{◌≡◌, ◌≤◌, ◌↔◌, ◌<◌, Some, Contains, IsTrue, IsErr, IfOk, IfSome, is_err, length, map, if◌then◌else◌};
 ghost use Rattle.std.specs.Io.{ReadsAtMost, WritesAtMost};
 ghost use Rattle.std.specs.Io.KnownBytes.{ReadConsumes, WriteAppends};

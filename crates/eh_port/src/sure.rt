@@ -1,4 +1,4 @@
-// Files, a source and a sink that never fail.
+//! Files, a source and a sink that never fail. docs/outside.md has the rules.
 ghost use Rattle.std.specs.Prelude.{◌≡◌, ◌≤◌, ◌<◌, ◌+◌, ◌-◌, ◌^◌, min, Ok, Some, None, IfOk, IfSome, IsOk, IsErrOf, length};
 ghost use Rattle.std.specs.Io.{ReadsAtMost, WritesAtMost};
 ghost use Rattle.std.specs.Io.KnownBytes.{ReadConsumes, WriteAppends};

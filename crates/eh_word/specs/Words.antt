@@ -3,6 +3,7 @@ use Rattle.std.specs.Prelude.{ℕ, ◌+◌, ◌-◌, ◌*◌, ◌%◌, ◌^◌, 
 use Rattle.std.specs.Int.{w32, cast_unsigned}
 use Rattle.std.specs.List.{prefix_len}
 use Rattle.byteorder.specs.Endian.{little_number}
+use Rattle.eh_word.specs.declared.words.TheConstants.{ULEB128_BYTES, ULEB128_LAST, ULEB128_MORE}
 use Rattle.eh_word.specs.declared.fault.WordFault.{WordFault}
 use Rattle.eh_word.specs.declared.fault.WordFault.TheVariants.{Ends, TooWide}
 
@@ -24,7 +25,7 @@ number_at n bytes at = if nat_le (at + n) (length bytes) then Some (little_numbe
 
 -- a byte with bit 7 set is followed by another one of the same number
 abbrev pub goes_on : ℕ → Bool
-goes_on b = nat_le 128 b
+goes_on b = nat_le ULEB128_MORE b
 
 -- the number whose digits in base 128 are the low seven bits of these bytes, the lowest first
 abbrev pub base_128 : List ℕ → ℕ
@@ -34,9 +35,9 @@ base_128 (b ∷ more) = b % 128 + 128 * base_128 more
 -- the ULEB128 number at the front, of at most five bytes and below 2 ^ 32, and how many bytes it takes
 abbrev pub uleb128_front : List ℕ → Result (ℕ × ℕ) WordFault
 uleb128_front bytes =
-    let last = prefix_len goes_on (take 4 bytes) in
+    let last = prefix_len goes_on (take (ULEB128_BYTES - 1) bytes) in
     if nat_le (length bytes) last then Err Ends
-    else (if last == 4 && nat_lt 15 (slice_index bytes 4) then Err TooWide else Ok (base_128 (take (last + 1) bytes), last + 1))
+    else (if last == ULEB128_BYTES - 1 && nat_lt ULEB128_LAST (slice_index bytes (ULEB128_BYTES - 1)) then Err TooWide else Ok (base_128 (take (last + 1) bytes), last + 1))
 
 abbrev pub placed_at : ℕ → Result (ℕ × ℕ) WordFault → Result (ℕ × ℕ) WordFault
 placed_at at (Ok found) = Ok (found.0, at + found.1)

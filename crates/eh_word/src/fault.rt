@@ -1,3 +1,4 @@
+//! Why a number or a name of this crate cannot be had.
 use std::alloc::AllocError;
 
 /// Why no ULEB128 number stands at a place.

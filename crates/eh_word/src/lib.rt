@@ -1,4 +1,5 @@
-// Words, relative addresses, ULEB128 numbers and names.
+//! Words, relative addresses, ULEB128 numbers and names: what the tables of the Exception Handling ABI (IHI 0038) and ELF
+//! files are read by.
 #![tactic(auto)]
 
 pub mod fault;

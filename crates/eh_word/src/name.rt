@@ -1,3 +1,4 @@
+//! Names of symbols: bytes that are compared, hashed and found as such.
 ghost use Rattle.std.specs.Prelude.{◌≡◌, IfOk, IsOkUnless};
 ghost use Rattle.eh_word.specs.Names.{same_bytes};
 ghost use Rattle.std.specs.Cmp.{partial_equiv_from_equiv};

@@ -1,4 +1,5 @@
-ghost use Rattle.std.specs.Prelude.{◌≡◌, ◌+◌, ◌*◌, ◌^◌, ◌<◌, ◌≤◌, length, take};
+//! Words of two and four bytes, relative addresses (IHI 0044, R_ARM_PREL31) and ULEB128 numbers (DWARF).
+ghost use Rattle.std.specs.Prelude.{◌≡◌, ◌+◌, ◌-◌, ◌*◌, ◌^◌, ◌<◌, ◌≤◌, length, take};
 ghost use Rattle.std.specs.List.{prefix_len};
 ghost use Rattle.eh_word.specs.Words.{signed, prel31_of, number_at, goes_on, base_128, uleb128_of};
 
@@ -50,14 +51,23 @@ pub fn get_half(bytes: &[u8], at: usize) -> Option<u16>
     }
 }
 
+/// The most bytes of a ULEB128 number of 32 bits.
+pub const ULEB128_BYTES: usize = 5;
+
+/// The most that the last of so many bytes is: bits 28 to 31 of the number.
+pub const ULEB128_LAST: u8 = 0x0f;
+
+/// The bit of a byte that says that another one of the same number follows.
+pub const ULEB128_MORE: u8 = 0x80;
+
 /// How many of the first four bytes have bit 7 set, up to the first that hasn't.
 fn continued(bytes: &[u8]) -> usize
-    ensures count { result ≡ prefix_len goes_on (take 4 bytes.now) }
-    ensures within { result ≤ 4 }
+    ensures count { result ≡ prefix_len goes_on (take (ULEB128_BYTES - 1) bytes.now) }
+    ensures within { result ≤ ULEB128_BYTES - 1 }
 {
-    let front = &bytes[..bytes.len().min(4)];
+    let front = &bytes[..bytes.len().min(ULEB128_BYTES - 1)];
     for (i, b) in front.iter().enumerate() {
-        if *b < 128 {
+        if *b < ULEB128_MORE {
             return i;
         }
     }
@@ -88,60 +98,8 @@ pub fn uleb128(bytes: &[u8], at: usize) -> Result<(u32, usize), WordFault>
     if rest.len() <= last {
         return Err(WordFault::Ends);
     }
-    if last == 4 && rest[4] > 0x0f {
+    if last == ULEB128_BYTES - 1 && rest[ULEB128_BYTES - 1] > ULEB128_LAST {
         return Err(WordFault::TooWide);
     }
     Ok((base_128(&rest[..last + 1]), at + last + 1))
-}
-
-#[cfg(test)]
-mod tests {
-    use super::*;
-    use crate::name::Name;
-    use std::test::Fail;
-
-    #[test]
-    fn relative_words(rt: HostRuntime) {
-        for (place, word, want) in [
-            (0x8000u32, 0u32, 0x8000u32),
-            (0x8000, 0x7fff_fffc, 0x7ffc),
-            (0x8000, 0x8000_0010, 0x8010),
-            (4, 0x7fff_fff0, 0xffff_fff4),
-            (0x1000, 0x4000_0000, 0xc000_1000),
-            (0x1000, 0x3fff_ffff, 0x4000_0fff),
-        ] {
-            assert_eq!(rt; prel31(place, word), want, "at {place}");
-        }
-    }
-
-    #[test]
-    fn uleb128_numbers(rt: HostRuntime) {
-        assert_eq!(rt; uleb128(&[0xac, 0x02], 0), Ok((300, 2)));
-        assert_eq!(rt; uleb128(&[0xff, 0xe5, 0x8e, 0x26], 1), Ok((0x9_8765, 4)));
-        assert_eq!(rt; uleb128(&[0x85, 0x80, 0x00], 0), Ok((5, 3)));
-        assert_eq!(rt;
-            uleb128(&[0xff, 0xff, 0xff, 0xff, 0x0f], 0),
-            Ok((0xffff_ffff, 5))
-        );
-        assert_eq!(rt;
-            uleb128(&[0x80, 0x80, 0x80, 0x80, 0x10], 0),
-            Err(WordFault::TooWide)
-        );
-        assert_eq!(rt; uleb128(&[0x80, 0x80, 0x80, 0x80], 0), Err(WordFault::Ends));
-        assert_eq!(rt; uleb128(&[1], 1), Err(WordFault::Ends));
-    }
-
-    #[test]
-    fn words_and_names(rt: HostRuntime) -> Result<(), Fail> {
-        let bytes = [1, 2, 3, 4, 5];
-        assert_eq!(rt; get_word(&bytes, 1), Some(0x0504_0302));
-        assert_eq!(rt; get_word(&bytes, 2), None);
-        assert_eq!(rt; get_half(&bytes, 3), Some(0x0504));
-        assert_eq!(rt; get_half(&bytes, 4), None);
-        let name = Name::of(rt.alloc(), b"main")?;
-        assert_eq!(rt; name.bytes(), b"main".as_slice());
-        let copy = Name::of_vec(b"main".to_vec(rt.alloc())?);
-        assert!(rt; name == copy);
-        Ok(())
-    }
 }

@@ -1,28 +1,17 @@
--- The report of `flat`.
-use Rattle.std.specs.Prelude.{codes}
-use Rattle.std.proofs.Common.{◌≡◌, ℕ, ◌<◌, ◌≤◌, ◌-◌, ◌++◌, List, append-nil, refl, arith, length, rules, tests}
-use Rattle.eh_bus.specs.Built.{zeros}
-use Rattle.eh_port.specs.FileList.{answer_of}
-use Rattle.ehabi_top.specs.FlatMachine.{flat_ran}
-use Rattle.ehabi_top.specs.FlatReport.{flat_report, code_report, flat_start}
-use Rattle.ehabi_top.specs.Loading.{file_limit, with_file, ran_report}
+-- The report of raw code.
+use Rattle.std.proofs.Common.{◌≡◌, ℕ, ◌<◌, ◌≤◌, List, length, rules, tests}
+use Rattle.image_memory.specs.Start.{code_start}
+use Rattle.eh_bus.specs.declared.map.TheConstants.{MAX_IMAGE_SIZE}
+use Rattle.plain_run.specs.Machine.{flat_ran}
+use Rattle.ehabi_top.specs.FlatReport.{code_report, line_feed}
+use Rattle.ehabi_top.specs.Loading.{ran_report}
 use Rattle.ehabi_top.specs.Text.{image_too_large}
+use Rattle.ehabi_top.specs.declared.status.TheConstants.{REFUSED}
 
-pub code_large : (budget : ℕ) (input code : List ℕ) → 1048576 < length code → code_report budget input code ≡ record { text = image_too_large; status = 3; left = input }
+pub code_large : (budget : ℕ) (code input : List ℕ) → MAX_IMAGE_SIZE < length code → code_report budget code input ≡ record { text = image_too_large; status = REFUSED; left = input }
 unfolding code_report
-code_large budget input code h = search (rules, tests)
+code_large budget code input h = search (rules, tests)
 
-pub code_small : (budget : ℕ) (input code : List ℕ) → length code ≤ 1048576 → code_report budget input code ≡ ran_report (codes "\n") (flat_ran budget (flat_start code) input)
+pub code_small : (budget : ℕ) (code input : List ℕ) → length code ≤ MAX_IMAGE_SIZE → code_report budget code input ≡ ran_report line_feed (flat_ran budget (code_start code) input)
 unfolding code_report
-code_small budget input code h = search (rules, tests)
-
--- the report by what the files answer
-pub flat_at : (name : List ℕ) (budget : ℕ) (held : List (List ℕ × List ℕ)) (input : List ℕ)
-    → flat_report name budget held input ≡ with_file name input (code_report budget input) (answer_of held name file_limit)
-unfolding flat_report
-flat_at name budget held input = refl
-
--- the code has no zeros behind it
-pub no_zeros : (code : List ℕ) → code ++ zeros (length code - length code) ≡ code
-unfolding zeros
-no_zeros code = let none : length code - length code ≡ 0 = omega arith in rw (none, append-nil) refl
+code_small budget code input h = search (rules, tests)

@@ -2,25 +2,22 @@
 use Rattle.std.specs.Prelude.{ℕ, List, Result, Ok, Err, IsErr}
 use Rattle.elf_image.specs.Image.{image_of}
 use Rattle.ehabi_top.specs.Building.{built, image_bytes}
+use Rattle.ehabi_top.specs.Finding.{found_report}
 use Rattle.ehabi_top.specs.Loading.{Report}
 use Rattle.ehabi_top.specs.RunReport.{bytes_report, IsRefusedImage}
-use Rattle.ehabi_top.specs.Sources.{NamedText, Refusal}
-
--- the report of the bytes that were built, or the line of why there are none
-abbrev pub built_report : List ℕ → (List ℕ → Report) → Result (List ℕ) Refusal → Report
-built_report input report (Ok bytes) = report bytes
-built_report input report (Err refusal) = record { text = refusal.line; status = refusal.status; left = input }
+use Rattle.ehabi_top.specs.declared.status.TheConstants.{DONE}
+use Rattle.ehabi_top.specs.Sources.{NamedText}
 
 -- bytes that are written, and nothing else
 abbrev pub plain_report : List ℕ → List ℕ → Report
-plain_report input bytes = record { text = bytes; status = 0; left = input }
+plain_report bytes input = record { text = bytes; status = DONE; left = input }
 
 unfoldable pub build_report : List (List ℕ) → List (List ℕ × List ℕ) → List ℕ → Report
-build_report names files input = built_report input (plain_report input) (image_bytes files names)
+build_report names files input = found_report plain_report (image_bytes names files) input
 
 -- the image is read from the bytes that `build` writes, and run as one that a file holds
 unfoldable pub run_sources_report : List (List ℕ) → ℕ → List (List ℕ × List ℕ) → List ℕ → Report
-run_sources_report names budget files input = built_report input (bytes_report budget input) (image_bytes files names)
+run_sources_report names budget files input = found_report (bytes_report budget) (image_bytes names files) input
 
 -- ---- what is refused
 

@@ -20,7 +20,6 @@ use Rattle.elf_write.specs.declared.parts.ImageParts.{ImageParts}
 use Rattle.eh_port.specs.FileList.{answer_of}
 use Rattle.eh_port.specs.declared.FileAnswer.{FileAnswer}
 use Rattle.eh_port.specs.declared.FileAnswer.TheVariants.{Found, Missing, TooLong}
-use Rattle.ehabi_top.specs.Loading.{file_limit}
 use Rattle.ehabi_top.specs.RefusalText.{source_line, asm_line, link_line}
 use Rattle.ehabi_top.specs.Sources.{NamedText, NamedStmts, Refusal, and_then, all_answers}
 use Rattle.ehabi_top.specs.Text.{missing_line, too_long_line, image_fault_line}
@@ -28,6 +27,8 @@ use Rattle.ehabi_top.specs.declared.refusal.BuildFault.{BuildFault}
 use Rattle.ehabi_top.specs.declared.refusal.BuildFault.TheVariants.{InSource, InObject, InLink, InImage, OutOfMemory}
 use Rattle.ehabi_top.specs.declared.refusal.FilesFault.{FilesFault}
 use Rattle.ehabi_top.specs.declared.refusal.FilesFault.TheVariants as files
+use Rattle.ehabi_top.specs.declared.sources.TheConstants.{FILE_LIMIT}
+use Rattle.ehabi_top.specs.declared.status.TheConstants.{REFUSED, LACKING}
 use Rattle.ehabi_top.specs.declared.sources.Loaded.{Loaded}
 use Rattle.ehabi_top.specs.declared.sources.Loaded.TheVariants.{All, Lacks, Exceeds}
 
@@ -40,7 +41,7 @@ found_text name TooLong = Err (too_long_line name)
 
 -- the file of a name, or the line of one that is missing or too long
 abbrev pub file_of : List (List ℕ × List ℕ) → List ℕ → Result NamedText (List ℕ)
-file_of files name = found_text name (answer_of files name file_limit)
+file_of files name = found_text name (answer_of files name FILE_LIMIT)
 
 abbrev pub files_of : List (List ℕ × List ℕ) → List (List ℕ) → Result (List NamedText) (List ℕ)
 files_of files names = all_answers (file_of files) names
@@ -83,16 +84,16 @@ built sources =
 
 abbrev pub bytes_of_built : Result (List ℕ) (List ℕ) → Result (List ℕ) Refusal
 bytes_of_built (Ok bytes) = Ok bytes
-bytes_of_built (Err line) = Err (record { status = 3; line = line })
+bytes_of_built (Err line) = Err (record { status = REFUSED; line = line })
 
 abbrev pub bytes_of_found : Result (List NamedText) (List ℕ) → Result (List ℕ) Refusal
 bytes_of_found (Ok sources) = bytes_of_built (built sources)
-bytes_of_found (Err line) = Err (record { status = 10; line = line })
+bytes_of_found (Err line) = Err (record { status = LACKING; line = line })
 
 -- the bytes of the image that the sources of these names are built to, or why there are none: a file that is missing or too
 -- long, or what is refused of the sources
-unfoldable pub image_bytes : List (List ℕ × List ℕ) → List (List ℕ) → Result (List ℕ) Refusal
-image_bytes files names = bytes_of_found (files_of files names)
+unfoldable pub image_bytes : List (List ℕ) → List (List ℕ × List ℕ) → Result (List ℕ) Refusal
+image_bytes names files = bytes_of_found (files_of files names)
 
 -- ---- refusals as the program has them
 
@@ -135,6 +136,6 @@ wants_memory (files.TooLong name) = false
 wants_memory (files.Sources fault) = is_memory fault
 
 abbrev pub refusal_of : FilesFault → Refusal
-refusal_of (files.Missing name) = record { status = 10; line = missing_line name.now }
-refusal_of (files.TooLong name) = record { status = 10; line = too_long_line name.now }
-refusal_of (files.Sources fault) = record { status = 3; line = fault_line fault }
+refusal_of (files.Missing name) = record { status = LACKING; line = missing_line name.now }
+refusal_of (files.TooLong name) = record { status = LACKING; line = too_long_line name.now }
+refusal_of (files.Sources fault) = record { status = REFUSED; line = fault_line fault }

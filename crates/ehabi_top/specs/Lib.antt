@@ -1,14 +1,13 @@
-pub mod FlatMachine
 pub mod Words
 pub mod Text
-pub mod Writes
 pub mod Loading
+pub mod Writes
+pub mod Yields
 pub mod FlatReport
-pub mod ImageMachine
 pub mod RunReport
-pub mod Placing
 pub mod Sources
 pub mod RefusalText
 pub mod Building
+pub mod Finding
 pub mod BuildReport
 pub mod Report

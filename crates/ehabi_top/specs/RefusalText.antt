@@ -1,11 +1,10 @@
--- The lines of sources that are refused. Each ends in a line feed.
+-- The lines of sources that are refused (docs/command-line.md). Each ends in a line feed.
 use Rattle.std.specs.Prelude.{ℕ, List, [], ◌++◌, codes, decimal}
 use Rattle.asm_layout.specs.declared.fault.AsmFault.{AsmFault}
 use Rattle.asm_layout.specs.declared.fault.AsmWhat.{AsmWhat}
 use Rattle.asm_layout.specs.declared.fault.AsmWhat.TheVariants as asm
+use Rattle.asm_read.specs.Fault.{what_name}
 use Rattle.asm_read.specs.declared.fault.SourceFault.{SourceFault}
-use Rattle.asm_read.specs.declared.fault.SourceWhat.{SourceWhat}
-use Rattle.asm_read.specs.declared.fault.SourceWhat.TheVariants as source
 use Rattle.asm_unwind.specs.declared.directive.UnwindFault.{UnwindFault}
 use Rattle.asm_unwind.specs.declared.directive.UnwindFault.TheVariants as unwind
 use Rattle.thumb_encode.specs.declared.code.EncodeFault.{EncodeFault}
@@ -16,20 +15,9 @@ use Rattle.ehabi_top.specs.Text.{hex8}
 
 -- ---- a text that is no source
 
-abbrev pub source_what : SourceWhat → List ℕ
-source_what source.NotAscii = codes "NotAscii"
-source_what source.LineTooLong = codes "LineTooLong"
-source_what source.TooManyLines = codes "TooManyLines"
-source_what source.BadToken = codes "BadToken"
-source_what source.UnknownMnemonic = codes "UnknownMnemonic"
-source_what source.UnknownDirective = codes "UnknownDirective"
-source_what source.BadOperand = codes "BadOperand"
-source_what source.NumberRange = codes "NumberRange"
-source_what source.OutOfMemory = codes "OutOfMemory"
-
 -- behind the file's name: line, column and what
 abbrev pub source_place : SourceFault → List ℕ
-source_place fault = codes ":" ++ decimal fault.line ++ codes ":" ++ decimal fault.column ++ codes ": " ++ source_what fault.what ++ codes "\n"
+source_place fault = codes ":" ++ decimal fault.line ++ codes ":" ++ decimal fault.column ++ codes ": " ++ what_name fault.what ++ codes "\n"
 
 abbrev pub source_line : List ℕ → SourceFault → List ℕ
 source_line name fault = name ++ source_place fault

@@ -1,24 +1,29 @@
--- What the program writes, answers and leaves of the input, by its words, its files and its input.
+-- What the program writes, answers and leaves of the input, by its words, its files and its input (docs/command-line.md).
 --
--- A command joins by a case of `Reports`, of `LacksFile` and of `IsRefused`; nothing below them changes.
-use Rattle.std.specs.Prelude.{ℕ, ◌≡◌, ◌==◌, ◌||◌, ◌⊎◌, not, Bool, List, Option, Some, None, IfOk, IfSome, IsErr, Result}
+-- A command joins by a case of each definition of the first part; nothing below them changes.
+use Rattle.std.specs.Prelude.{ℕ, ◌≡◌, ◌⊎◌, ◌↔◌, List, Option, Some, None, IfOk, IfSome, IsErr, IsErrOf, Result}
 use Rattle.std.specs.Io.KnownBytes.{Appends, Keeps}
+use Rattle.eh_port.specs.Causes.{Rose}
 use Rattle.eh_port.specs.FileList.{answer_of}
 use Rattle.eh_port.specs.Writing.{AppendsPart}
+use Rattle.ehabi_top.specs.declared.sources.TheConstants.{FILE_LIMIT}
+use Rattle.ehabi_top.specs.declared.status.TheConstants.{USAGE, REFUSED, LACKING}
 use Rattle.ehabi_top.specs.declared.stop.Stop.{Stop}
-use Rattle.ehabi_top.specs.Loading.{Report, file_limit, IsLacking}
+use Rattle.ehabi_top.specs.declared.stop.Stop.TheVariants.{Read, Write, Memory}
+use Rattle.ehabi_top.specs.Loading.{Report, IsLacking, IsReported}
 use Rattle.ehabi_top.specs.BuildReport.{build_report, run_sources_report, IsUnbuilt, IsNotRun}
 use Rattle.ehabi_top.specs.Building.{files_of}
 use Rattle.ehabi_top.specs.FlatReport.{flat_report, IsTooLarge}
 use Rattle.ehabi_top.specs.RunReport.{run_report, IsNoImage}
 use Rattle.ehabi_top.specs.Text.{usage}
 use Rattle.ehabi_top.specs.Words.{Command, FlatFile, BuildSources, RunFile, RunSources}
+use Rattle.ehabi_top.specs.Yields.{Shelf, Streams, AreCalm}
 
 -- ---- by command
 
 -- r is a report of the command, or of words that are none: the usage line, and the whole input left
 abbrev pub Reports : Option Command → List (List ℕ × List ℕ) → List ℕ → Report → Type 0
-Reports None files input r = r ≡ record { text = usage; status = 2; left = input }
+Reports None files input r = r ≡ record { text = usage; status = USAGE; left = input }
 Reports (Some (FlatFile name budget)) files input r = r ≡ flat_report name budget files input
 Reports (Some (BuildSources names)) files input r = r ≡ build_report names files input
 Reports (Some (RunFile name budget)) files input r = r ≡ run_report name budget files input
@@ -27,27 +32,31 @@ Reports (Some (RunSources names budget)) files input r = r ≡ run_sources_repor
 -- a file that the command names is missing or too long
 abbrev pub LacksFile : Option Command → List (List ℕ × List ℕ) → Type 0
 LacksFile None files = ⊥
-LacksFile (Some (FlatFile name budget)) files = IsLacking (answer_of files name file_limit)
+LacksFile (Some (FlatFile name budget)) files = IsLacking (answer_of files name FILE_LIMIT)
 LacksFile (Some (BuildSources names)) files = IsErr (files_of files names)
-LacksFile (Some (RunFile name budget)) files = IsLacking (answer_of files name file_limit)
+LacksFile (Some (RunFile name budget)) files = IsLacking (answer_of files name FILE_LIMIT)
 LacksFile (Some (RunSources names budget)) files = IsErr (files_of files names)
 
--- the files are there, and what they hold is refused
-abbrev pub IsRefused : Option Command → List (List ℕ × List ℕ) → Type 0
-IsRefused None files = ⊥
-IsRefused (Some (FlatFile name budget)) files = IsTooLarge (answer_of files name file_limit)
-IsRefused (Some (BuildSources names)) files = IsUnbuilt (files_of files names)
-IsRefused (Some (RunFile name budget)) files = IsNoImage (answer_of files name file_limit)
-IsRefused (Some (RunSources names budget)) files = IsNotRun (files_of files names)
+-- What pins the status of a refusal. Of all these commands it is the files alone: they are there, and what they hold is
+-- refused. A command whose run can be refused asks in its case that the input is told.
+abbrev pub Refuses : Option Command → List (List ℕ × List ℕ) → (input : Option (List ℕ)) → (status : ℕ) → Type 0
+Refuses None files input status = (status ≡ REFUSED) ↔ ⊥
+Refuses (Some (FlatFile name budget)) files input status = (status ≡ REFUSED) ↔ IsTooLarge (answer_of files name FILE_LIMIT)
+Refuses (Some (BuildSources names)) files input status = (status ≡ REFUSED) ↔ IsUnbuilt (files_of files names)
+Refuses (Some (RunFile name budget)) files input status = (status ≡ REFUSED) ↔ IsNoImage (answer_of files name FILE_LIMIT)
+Refuses (Some (RunSources names budget)) files input status = (status ≡ REFUSED) ↔ IsNotRun (files_of files names)
+
+-- Where what the command reads is told, with the files, the input, and what is left of the input. Words that are no command
+-- read nothing, and a command that runs nothing leaves the input as it was, whatever it is.
+abbrev pub IfTold : Option Command → (files : Option (List (List ℕ × List ℕ))) → (input left : Option (List ℕ))
+    → (List (List ℕ × List ℕ) → List ℕ → Option (List ℕ) → Type 0) → Type 0
+IfTold None files input left P = (left ≡ input) × ((held : List (List ℕ × List ℕ)) (bytes : List ℕ) → P held bytes (Some bytes))
+IfTold (Some (FlatFile name budget)) files input left P = IfSome files (λ held. IfSome input (λ bytes. P held bytes left))
+IfTold (Some (BuildSources names)) files input left P = (left ≡ input) × IfSome files (λ held. (bytes : List ℕ) → P held bytes (Some bytes))
+IfTold (Some (RunFile name budget)) files input left P = IfSome files (λ held. IfSome input (λ bytes. P held bytes left))
+IfTold (Some (RunSources names budget)) files input left P = IfSome files (λ held. IfSome input (λ bytes. P held bytes left))
 
 -- ---- what a call does of a report
-
--- a call that does this report: wholly at `Ok`, and in any case a part of its text
-pub record Gives (r : Report) (result : Result ℕ Stop) (left before now : Option (List ℕ)) : Type 0 where
-  pub part : AppendsPart before now r.text
-  pub status : IfOk result (λ status. status ≡ r.status)
-  pub leaves : IfOk result (λ _. left ≡ Some r.left)
-  pub wrote : IfOk result (λ _. Appends before now r.text)
 
 -- all of a report was written, its status answered, and its input left
 pub record DoesWhole (command : Option Command) (files : List (List ℕ × List ℕ)) (input : List ℕ) (status : ℕ) (left before now : Option (List ℕ)) : Type 0 where
@@ -72,10 +81,17 @@ pub record Performs (command : Option Command) (files : List (List ℕ × List �
   pub whole : IfOk result (λ status. DoesWhole command files input status left before now)
   pub part : DoesPart command files input before now
 
--- none of 7, 8 and 9
-abbrev pub is_settled : ℕ → Bool
-is_settled status = not (status == 7 || status == 8 || status == 9)
+-- what the status of a command says of its files
+pub record Why (command : Option Command) (files : List (List ℕ × List ℕ)) (input : Option (List ℕ)) (status : ℕ) : Type 0 where
+  pub missing : (status ≡ LACKING) ↔ LacksFile command files
+  pub refused : Refuses command files input status
 
--- where the files and the input are told
-abbrev pub IfTold : Option (List (List ℕ × List ℕ)) → Option (List ℕ) → (List (List ℕ × List ℕ) → List ℕ → Type 0) → Type 0
-IfTold files input P = IfSome files (λ held. IfSome input (λ bytes. P held bytes))
+-- A call for a command, over files and streams as they were and as they are.
+pub record Does (command : Option Command) (files files' : Shelf) (old new : Streams) (result : Result ℕ Stop) : Type 0 where
+  pub told : IfTold command files.held old.input new.input (λ held bytes left. Performs command held bytes result left old.output new.output)
+  pub why : IfOk result (λ status. IfSome files.held (λ held. Why command held old.input status))
+  pub read : IsErrOf result Read → Rose files.faults files'.faults ⊎ Rose old.input_faults new.input_faults
+  pub write : IsErrOf result Write → Rose old.output_faults new.output_faults
+  pub memory : IsErrOf result Memory → (files'.faults ≡ files.faults) × AreCalm old new
+  pub status : IfOk result IsReported
+  pub usage : IfOk result (λ status. (status ≡ USAGE) ↔ (command ≡ None))

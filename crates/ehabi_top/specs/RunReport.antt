@@ -1,37 +1,30 @@
 -- The report of `run FILE N`: one image, run without unwinding.
-use Rattle.std.specs.Prelude.{ℕ, ◌-◌, List, ◌++◌, length, map, Result, Ok, Err}
-use Rattle.eh_bus.specs.Built.{zeros}
-use Rattle.eh_bus.specs.Segment.{Segment}
+use Rattle.std.specs.Prelude.{ℕ, List, Result, Ok, Err}
 use Rattle.elf_image.specs.Image.{Image, image_of}
-use Rattle.elf_image.specs.Segments.{Segment as Loaded}
 use Rattle.elf_image.specs.declared.fault.ImageFault.{ImageFault}
-use Rattle.eh_port.specs.FileList.{answer_of}
 use Rattle.eh_port.specs.declared.FileAnswer.{FileAnswer}
 use Rattle.eh_port.specs.declared.FileAnswer.TheVariants.{Found, Missing, TooLong}
-use Rattle.ehabi_top.specs.FlatMachine.{State}
-use Rattle.ehabi_top.specs.FlatReport.{start_regs}
-use Rattle.ehabi_top.specs.ImageMachine.{image_ran}
-use Rattle.ehabi_top.specs.Loading.{Report, file_limit, with_file, with_host, ran_report}
+use Rattle.image_memory.specs.Start.{State, image_start}
+use Rattle.plain_run.specs.Machine.{image_ran}
+use Rattle.ehabi_top.specs.Finding.{file_bytes, found_report}
+use Rattle.ehabi_top.specs.Loading.{Report, ran_report}
 use Rattle.ehabi_top.specs.Text.{trace_head, image_fault_line}
+use Rattle.ehabi_top.specs.declared.status.TheConstants.{REFUSED}
 
--- a segment's bytes of the file, and zeros up to its size
-abbrev pub memory_segment : Loaded → Segment
-memory_segment s = record { start = s.start; bytes = s.bytes ++ zeros (s.size - length s.bytes); write = s.write; exec = s.exec }
-
--- the image's entry, and its segments in memory
-abbrev pub image_start : Image → State
-image_start image = record { regs = start_regs image.entry; memory = with_host (map memory_segment image.segments) }
+-- what the last state says behind the guest's bytes: the trace, in which nothing stands without unwinding
+abbrev pub trace : State → List ℕ
+trace state = trace_head
 
 -- the run of an image, or the line of why there is none
-abbrev pub image_report : ℕ → List ℕ → Result Image ImageFault → Report
-image_report budget input (Ok image) = ran_report trace_head (image_ran image.functions budget (image_start image) input)
-image_report budget input (Err fault) = record { text = image_fault_line fault; status = 3; left = input }
+abbrev pub image_report : ℕ → Result Image ImageFault → List ℕ → Report
+image_report budget (Ok image) input = ran_report trace (image_ran image.functions budget (image_start image) input)
+image_report budget (Err fault) input = record { text = image_fault_line fault; status = REFUSED; left = input }
 
 unfoldable pub bytes_report : ℕ → List ℕ → List ℕ → Report
-bytes_report budget input bytes = image_report budget input (image_of bytes)
+bytes_report budget bytes input = image_report budget (image_of bytes) input
 
 unfoldable pub run_report : List ℕ → ℕ → List (List ℕ × List ℕ) → List ℕ → Report
-run_report name budget files input = with_file name input (bytes_report budget input) (answer_of files name file_limit)
+run_report name budget files input = found_report (bytes_report budget) (file_bytes name files) input
 
 abbrev pub IsRefusedImage : Result Image ImageFault → Type 0
 IsRefusedImage (Ok image) = ⊥

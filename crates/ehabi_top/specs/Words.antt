@@ -4,6 +4,7 @@ use Rattle.std.specs.Borrow.{Bor}
 use Rattle.std.specs.List.{ends_with, list_all}
 use Rattle.std.specs.Str.{bytes_eq}
 use Rattle.std.specs.Char.{is_ascii_digit}
+use Rattle.ehabi_top.specs.declared.words.TheConstants.{MOST_INSTRUCTIONS, MOST_SOURCES, MOST_DIGITS}
 use Rattle.ehabi_top.specs.declared.words.Form.{Form}
 use Rattle.ehabi_top.specs.declared.words.Form.TheVariants.{Flat, Build, Run, RunSources as RunOfSources}
 
@@ -36,7 +37,7 @@ digits_from n (b ∷ bs) = if is_ascii_digit b then digits_from (n * 10 + (b - 4
 
 -- one to ten decimal digits
 unfoldable pub number_of : List ℕ → Option ℕ
-number_of bs = if nat_le 1 (length bs) && nat_le (length bs) 10 then digits_from 0 bs else None
+number_of bs = if nat_le 1 (length bs) && nat_le (length bs) MOST_DIGITS then digits_from 0 bs else None
 
 abbrev pub if_between : ℕ → ℕ → Option ℕ → Option ℕ
 if_between low high None = None
@@ -44,7 +45,7 @@ if_between low high (Some n) = if nat_le low n && nat_le n high then Some n else
 
 -- how many instructions may run: 1 to 1,000,000,000
 unfoldable pub budget_of : List ℕ → Option ℕ
-budget_of bs = if_between 1 1000000000 (number_of bs)
+budget_of bs = if_between 1 MOST_INSTRUCTIONS (number_of bs)
 
 -- the words behind `flat`: a name that is not empty, and a budget
 unfoldable pub flat_command : List (List ℕ) → Option Command
@@ -59,7 +60,7 @@ is_source name = ends_with nat_eq name (codes ".s")
 
 -- 1 to 16 names of sources
 unfoldable pub are_sources : List (List ℕ) → Bool
-are_sources names = nat_le 1 (length names) && nat_le (length names) 16 && list_all is_source names
+are_sources names = nat_le 1 (length names) && nat_le (length names) MOST_SOURCES && list_all is_source names
 
 -- the words behind `build`: names of sources
 unfoldable pub build_command : List (List ℕ) → Option Command

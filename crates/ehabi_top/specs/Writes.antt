@@ -1,21 +1,27 @@
 -- What a call that writes has done, and why the program stops early.
-use Rattle.std.specs.Prelude.{ℕ, ◌≡◌, ◌≤◌, List, Option, OnOk, IfErr, IfOk, Result}
+use Rattle.std.specs.Prelude.{ℕ, ◌≡◌, ◌≤◌, ◌++◌, List, Option, OnOk, IfErr, IfOk, Result, Err}
+use Rattle.std.specs.Bool.{OnFalse, OnTrue}
 use Rattle.std.specs.Io.KnownBytes.{Appends}
 use Rattle.eh_port.specs.Causes.{Rose}
 use Rattle.eh_port.specs.Writing.{AppendsPart}
 use Rattle.eh_port.specs.declared.FileFault.{FileFault}
 use Rattle.eh_port.specs.declared.FileFault.TheVariants.{Failed, OutOfMemory}
+use Rattle.ehabi_top.specs.Loading.{status_of, stop_of_fault}
+use Rattle.ehabi_top.specs.Text.{end_line}
+use Rattle.ehabi_top.specs.declared.status.TheConstants.{READ_FAILED, WRITE_FAILED, NO_MEMORY}
 use Rattle.ehabi_top.specs.declared.stop.Stop.{Stop}
 use Rattle.ehabi_top.specs.declared.stop.Stop.TheVariants.{Read, Write, Memory}
+use Rattle.guest_gates.specs.Ends.{is_fault}
+use Rattle.thumb_core.specs.declared.ends.End.{End}
 
 abbrev pub stop_of : FileFault → Stop
 stop_of Failed = Read
 stop_of OutOfMemory = Memory
 
 abbrev pub stop_status : Stop → ℕ
-stop_status Read = 7
-stop_status Write = 8
-stop_status Memory = 9
+stop_status Read = READ_FAILED
+stop_status Write = WRITE_FAILED
+stop_status Memory = NO_MEMORY
 
 -- a call that ends with a text and a status: all of the text at `Ok`, and else a part of it and a fault of the sink
 pub record Answers (text : List ℕ) (status : ℕ) (result : Result ℕ Stop) (before now : Option (List ℕ)) (faults_before faults_now : ℕ) : Type 0 where
@@ -24,3 +30,14 @@ pub record Answers (text : List ℕ) (status : ℕ) (result : Result ℕ Stop) (
   pub part : AppendsPart before now text
   pub later : faults_before ≤ faults_now
   pub failed : IfErr result (λ stop. (stop ≡ Write) × Rose faults_before faults_now)
+
+-- nothing was done
+pub record Stopped (stop : Stop) (result : Result ℕ Stop) (before now : Option (List ℕ)) (faults_before faults_now : ℕ) : Type 0 where
+  pub is : result ≡ Err stop
+  pub same : now ≡ before
+  pub calm : faults_now ≡ faults_before
+
+-- a call that ends a run: with what stands behind the guest's bytes and the line of the end; at a fault it writes nothing
+pub record AnswersEnd (head : List ℕ) (end : End) (result : Result ℕ Stop) (before now : Option (List ℕ)) (faults_before faults_now : ℕ) : Type 0 where
+  pub fine : OnFalse (is_fault end) (Answers (head ++ end_line end) (status_of end) result before now faults_before faults_now)
+  pub fault : OnTrue (is_fault end) (Stopped (stop_of_fault end) result before now faults_before faults_now)

@@ -1,9 +1,13 @@
-// What the program says last.
-ghost use Rattle.std.specs.Prelude.{◌≡◌, ◌++◌};
-ghost use Rattle.ehabi_top.specs.Writes.{Answers};
-ghost use Rattle.ehabi_top.specs.Text.{missing_line, too_long_line, end_line};
+//! What the program says last.
+ghost use Rattle.std.specs.Prelude.{◌≡◌, ◌≢◌, ◌++◌, IfOk, IfErr, Ok, Err, true, false};
+ghost use Rattle.ehabi_top.specs.Loading.{status_of, stop_of_fault};
+ghost use Rattle.ehabi_top.specs.Writes.{Answers, AnswersEnd};
+ghost use Rattle.ehabi_top.specs.Text.{missing_line, too_long_line};
+ghost use Rattle.ehabi_top.specs.declared.status.TheConstants.{LACKING};
+ghost use Rattle.guest_gates.specs.Ends.{is_fault};
 
 use crate::line::end_line;
+use crate::status::{DONE, EXITS, LACKING, SPENT, TERMINATED, TRAPPED};
 use crate::stop::Stop;
 use eh_port::{Sink, put_all};
 use thumb_core::ends::End;
@@ -51,26 +55,39 @@ pub(crate) fn answer_three<O: Sink>(
 
 /// Ends with the line of a file that is missing.
 pub(crate) fn answer_missing<O: Sink>(out: &mut O, name: &str) -> Result<u8, Stop>
-    ensures { Answers (missing_line name.now) 10 result (O.written out.old) (O.written out.new) (O.faults out.old) (O.faults out.new) }
+    ensures { Answers (missing_line name.now) LACKING result (O.written out.old) (O.written out.new) (O.faults out.old) (O.faults out.new) }
 {
-    answer_both(out, name.as_bytes(), b": missing\n", 10)
+    answer_both(out, name.as_bytes(), b": missing\n", LACKING)
 }
 
 /// Ends with the line of a file that is too long.
 pub(crate) fn answer_too_long<O: Sink>(out: &mut O, name: &str) -> Result<u8, Stop>
-    ensures { Answers (too_long_line name.now) 10 result (O.written out.old) (O.written out.new) (O.faults out.old) (O.faults out.new) }
+    ensures { Answers (too_long_line name.now) LACKING result (O.written out.old) (O.written out.new) (O.faults out.old) (O.faults out.new) }
 {
-    answer_both(out, name.as_bytes(), b": too long\n", 10)
+    answer_both(out, name.as_bytes(), b": too long\n", LACKING)
 }
 
-/// Ends with what stands behind the guest's bytes, and the end of the run.
-pub(crate) fn answer_end<O: Sink>(
-    out: &mut O,
-    head: &[u8],
-    end: End,
-    status: u8,
-) -> Result<u8, Stop>
-    ensures { Answers (head.now ++ end_line end) status result (O.written out.old) (O.written out.new) (O.faults out.old) (O.faults out.new) }
+// The status of an end, or the stop of a fault of the input or of the output.
+fn status_of(end: End) -> Result<u8, Stop>
+    ensures ok { IfOk result (λ status. (is_fault end ≡ false) × (status ≡ status_of end)) }
+    ensures err { IfErr result (λ stop. (is_fault end ≡ true) × (stop ≡ stop_of_fault end)) }
 {
-    answer_both(out, head, end_line(end).as_slice(), status)
+    match end {
+        End::Exit(number) => Ok(if number == 0 { DONE } else { EXITS }),
+        End::Terminate(_) => Ok(TERMINATED),
+        End::Trap(_, _, _) => Ok(TRAPPED),
+        End::Budget => Ok(SPENT),
+        End::ReadFault => Err(Stop::Read),
+        End::WriteFault => Err(Stop::Write),
+    }
+}
+
+/// Ends a run: with what stands behind the guest's bytes, and the line of its end; or with the stop of a fault.
+pub(crate) fn answer_end<O: Sink>(out: &mut O, head: &[u8], end: End) -> Result<u8, Stop>
+    ensures { AnswersEnd head.now end result (O.written out.old) (O.written out.new) (O.faults out.old) (O.faults out.new) }
+{
+    match status_of(end) {
+        Ok(status) => answer_both(out, head, end_line(end).as_slice(), status),
+        Err(stop) => Err(stop),
+    }
 }

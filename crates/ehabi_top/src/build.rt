@@ -1,17 +1,17 @@
-// `build FILE..`: sources to the bytes of an image.
-ghost use Rattle.std.specs.Prelude.{◌≡◌, ◌≢◌, ◌≤◌, ◌++◌, [], ◌∷◌, ℕ, List, Some, Ok, Err, IfOk, IfErr, IfSome, IsErrOf, MatchResult, true, false};
-ghost use Rattle.eh_port.specs.Causes.{Rose};
-ghost use Rattle.ehabi_top.specs.Words.{BuildSources, texts};
+//! `build FILE..`: sources to the bytes of an image.
+ghost use Rattle.std.specs.Prelude.{◌≡◌, ◌++◌, [], ◌∷◌, ℕ, List, Option, Some, Ok, Err, MatchResult, false};
+ghost use Rattle.ehabi_top.specs.Building.{statements_of, assembled, linked_parts, written_bytes, stubs, built, image_bytes, is_memory, fault_line};
+ghost use Rattle.ehabi_top.specs.Finding.{Finds};
+ghost use Rattle.ehabi_top.specs.Report.{Does};
 ghost use Rattle.ehabi_top.specs.Sources.{NamedText, all_answers};
-ghost use Rattle.ehabi_top.specs.Building.{statements_of, assembled, linked_parts, written_bytes, stubs, built, image_bytes, is_memory, fault_line, wants_memory, refusal_of};
-ghost use Rattle.ehabi_top.specs.BuildReport.{build_report};
-ghost use Rattle.ehabi_top.specs.Loading.{SaysWhy};
-ghost use Rattle.ehabi_top.specs.Report.{Gives, LacksFile, IsRefused, is_settled};
+ghost use Rattle.ehabi_top.specs.Words.{BuildSources, texts};
+ghost use Rattle.ehabi_top.specs.Yields.{shelf, streams};
 
 use crate::answer::answer_text;
 use crate::named::{SourceStmts, SourceText};
 use crate::refusal::{BuildFault, FilesFault, answer_files_fault, is_memory};
 use crate::sources::{Loaded, load};
+use crate::status::DONE;
 use crate::stop::Stop;
 use asm_object::{Object, assemble};
 use asm_read::read_source;
@@ -117,11 +117,7 @@ pub(crate) fn built_files<'a, F: Files>(
     names: &[&'a str],
     files: &mut F,
 ) -> Result<Result<Vec<u8>, FilesFault<'a>>, Stop>
-    ensures told { IfOk result (λ answer. IfSome (F.held files.old) (λ held. MatchResult answer
-        (λ bytes. image_bytes held (texts names.now) ≡ Ok bytes.items) (λ fault. image_bytes held (texts names.now) ≡ Err (refusal_of fault)))) }
-    ensures fit { IfOk result (λ answer. IfErr answer (λ fault. wants_memory fault ≡ false)) }
-    ensures read { IsErrOf result Stop.Read → Rose (F.faults files.old) (F.faults files.new) }
-    ensures write { IsErrOf result Stop.Write → ⊥ }
+    ensures { Finds (λ bytes. bytes.items) (image_bytes (texts names.now)) (shelf (F.held files.old) (F.faults files.old)) (shelf (F.held files.new) (F.faults files.new)) result }
 {
     let sources = match load(alloc, names, files)? {
         Loaded::All(sources) => sources,
@@ -139,23 +135,19 @@ pub(crate) fn built_files<'a, F: Files>(
     }
 }
 
-/// Writes the image that the sources of these names are built to.
+/// Writes the image that the sources of these names are built to. The input plays no part.
 pub(crate) fn build<F: Files, O: Sink>(
     alloc: Global,
     names: &[&str],
     files: &mut F,
     out: &mut O,
 ) -> Result<u8, Stop>
-    ensures told { (input : List ℕ) → IfSome (F.held files.old) (λ held. Gives (build_report (texts names.now) held input) result
-        (Some input) (O.written out.old) (O.written out.new)) }
-    ensures why { IfOk result (λ status. IfSome (F.held files.old) (λ held. SaysWhy status (LacksFile (Some (BuildSources (texts names.now))) held)
-        (IsRefused (Some (BuildSources (texts names.now))) held))) }
-    ensures read { IsErrOf result Stop.Read → Rose (F.faults files.old) (F.faults files.new) }
-    ensures write { IsErrOf result Stop.Write → Rose (O.faults out.old) (O.faults out.new) }
-    ensures status { IfOk result (λ status. (is_settled status ≡ true) × (status ≤ 10) × (status ≢ 2)) }
+    ensures { (input : Option (List ℕ)) (faults : ℕ) → Does (Some (BuildSources (texts names.now))) (shelf (F.held files.old) (F.faults files.old)) (shelf (F.held files.new) (F.faults files.new))
+        (streams input faults (O.written out.old) (O.faults out.old)) (streams input faults (O.written out.new) (O.faults out.new)) result }
 {
-    match built_files(alloc, names, files)? {
-        Ok(bytes) => answer_text(out, bytes.as_slice(), 0),
-        Err(fault) => answer_files_fault(out, &fault),
+    match built_files(alloc, names, files) {
+        Ok(Ok(bytes)) => answer_text(out, bytes.as_slice(), DONE),
+        Ok(Err(fault)) => answer_files_fault(out, &fault),
+        Err(stop) => Err(stop),
     }
 }

@@ -1,22 +1,22 @@
-//! All that the program does, over any files, source and sink.
+//! All that the program does, over any files, source and sink (docs/command-line.md).
 #![tactic(auto)]
 
-ghost use Rattle.std.specs.Prelude.{◌≡◌, ◌≤◌, ◌↔◌, ◌⊎◌, true, None, IfOk, IfSome, IsErrOf};
+ghost use Rattle.std.specs.Prelude.{◌≡◌, ◌≤◌, ◌↔◌, ◌⊎◌, true, None, IfSome};
 ghost use Rattle.eh_port.specs.Causes.{Rose};
+ghost use Rattle.ehabi_top.specs.Loading.{is_settled};
+ghost use Rattle.ehabi_top.specs.Report.{Does, DoesWhole, DoesPart, IfTold, LacksFile, Refuses};
 ghost use Rattle.ehabi_top.specs.Words.{texts, command_of};
-ghost use Rattle.ehabi_top.specs.Loading.{SaysWhy};
-ghost use Rattle.ehabi_top.specs.Report.{Performs, DoesWhole, DoesPart, IfTold, LacksFile, IsRefused, is_settled};
+ghost use Rattle.ehabi_top.specs.Yields.{shelf, streams};
 
 mod answer;
 mod build;
 mod flat;
-mod flat_machine;
-mod image_machine;
 mod line;
 mod named;
 mod refusal;
 mod run;
 mod sources;
+pub mod status;
 mod stop;
 mod words;
 
@@ -24,12 +24,14 @@ use answer::answer_text;
 use build::build;
 use eh_port::{Files, Sink, Source};
 use flat::flat;
-pub use flat_machine::flat_run;
 pub use line::{Line, end_line};
+pub use plain_run::flat_run;
 use run::{run, run_sources};
+pub use sources::FILE_LIMIT;
+use status::{LACKING, NO_MEMORY, READ_FAILED, REFUSED, USAGE, WRITE_FAILED};
 use std::alloc::Global;
 pub use stop::Stop;
-pub use words::{Form, form_of};
+pub use words::{Form, MOST_DIGITS, MOST_INSTRUCTIONS, MOST_SOURCES, form_of};
 
 // Does what the words ask for.
 fn perform<F: Files, I: Source, O: Sink>(
@@ -39,20 +41,15 @@ fn perform<F: Files, I: Source, O: Sink>(
     input: &mut I,
     out: &mut O,
 ) -> Result<u8, Stop>
-    ensures told { IfTold (F.held files.old) (I.left input.old) (λ held bytes. Performs (command_of (texts words.now)) held bytes result
-        (I.left input.new) (O.written out.old) (O.written out.new)) }
-    ensures why { IfOk result (λ status. IfSome (F.held files.old) (λ held.
-        SaysWhy status (LacksFile (command_of (texts words.now)) held) (IsRefused (command_of (texts words.now)) held))) }
-    ensures read { IsErrOf result Stop.Read → Rose (F.faults files.old) (F.faults files.new) ⊎ Rose (I.faults input.old) (I.faults input.new) }
-    ensures write { IsErrOf result Stop.Write → Rose (O.faults out.old) (O.faults out.new) }
-    ensures settled { IfOk result (λ status. (is_settled status ≡ true) × (status ≤ 10)) }
-    ensures usage { IfOk result (λ status. (status ≡ 2) ↔ (command_of (texts words.now) ≡ None)) }
+    ensures { Does (command_of (texts words.now)) (shelf (F.held files.old) (F.faults files.old)) (shelf (F.held files.new) (F.faults files.new))
+        (streams (I.left input.old) (I.faults input.old) (O.written out.old) (O.faults out.old))
+        (streams (I.left input.new) (I.faults input.new) (O.written out.new) (O.faults out.new)) result }
 {
     match form_of(words) {
         None => answer_text(
             out,
             b"usage: ehabi_run flat FILE N | build FILE.. | check FILE.. | run FILE.. N | gen K M\n",
-            2,
+            USAGE,
         ),
         Some(Form::Flat(name, budget)) => flat(alloc, name, budget, files, input, out),
         Some(Form::Build(names)) => build(alloc, names, files, out),
@@ -82,33 +79,34 @@ pub fn ehabi_main<F: Files, I: Source, O: Sink>(
     out: &mut O,
 ) -> u8
     // Unless a read, a write or memory failed, it wrote all of the report, and answered its status.
-    ensures report { is_settled result ≡ true → IfTold (F.held files.old) (I.left input.old) (λ held bytes.
-        DoesWhole (command_of (texts words.now)) held bytes result (I.left input.new) (O.written out.old) (O.written out.new)) }
+    ensures report { is_settled result ≡ true → IfTold (command_of (texts words.now)) (F.held files.old) (I.left input.old) (I.left input.new) (λ held bytes left.
+        DoesWhole (command_of (texts words.now)) held bytes result left (O.written out.old) (O.written out.new)) }
 
     // In any case it wrote a part of the report.
-    ensures part { IfTold (F.held files.old) (I.left input.old) (λ held bytes.
+    ensures part { IfTold (command_of (texts words.now)) (F.held files.old) (I.left input.old) (I.left input.new) (λ held bytes _.
         DoesPart (command_of (texts words.now)) held bytes (O.written out.old) (O.written out.new)) }
 
-    // A fault has a cause.
-    ensures read { result ≡ 7 → Rose (F.faults files.old) (F.faults files.new) ⊎ Rose (I.faults input.old) (I.faults input.new) }
-    ensures write { result ≡ 8 → Rose (O.faults out.old) (O.faults out.new) }
+    // A fault has a cause, and want of memory hides none.
+    ensures read { result ≡ READ_FAILED → Rose (F.faults files.old) (F.faults files.new) ⊎ Rose (I.faults input.old) (I.faults input.new) }
+    ensures write { result ≡ WRITE_FAILED → Rose (O.faults out.old) (O.faults out.new) }
+    ensures memory { result ≡ NO_MEMORY → (F.faults files.new ≡ F.faults files.old) × (I.faults input.new ≡ I.faults input.old) × (O.faults out.new ≡ O.faults out.old) }
 
     // Whatever the objects tell, the status of words that are no command is 2, and 2 is of no other.
-    ensures usage { is_settled result ≡ true → (result ≡ 2) ↔ (command_of (texts words.now) ≡ None) }
+    ensures usage { is_settled result ≡ true → (result ≡ USAGE) ↔ (command_of (texts words.now) ≡ None) }
 
-    // 10 is of a file that is missing or too long, and 3 of one that is there and refused, whatever the input tells.
+    // 10 is of a file that is missing or too long, and 3 of a refusal, as the command says.
     ensures missing { is_settled result ≡ true → IfSome (F.held files.old) (λ held.
-        (result ≡ 10) ↔ LacksFile (command_of (texts words.now)) held) }
+        (result ≡ LACKING) ↔ LacksFile (command_of (texts words.now)) held) }
     ensures refused { is_settled result ≡ true → IfSome (F.held files.old) (λ held.
-        (result ≡ 3) ↔ IsRefused (command_of (texts words.now)) held) }
+        Refuses (command_of (texts words.now)) held (I.left input.old) result) }
 
     // With no fault, it did all of the report, or found no memory.
     ensures complete { (Rose (F.faults files.old) (F.faults files.new) → ⊥)
         → (Rose (I.faults input.old) (I.faults input.new) → ⊥)
         → (Rose (O.faults out.old) (O.faults out.new) → ⊥)
-        → (result ≡ 9) ⊎ IfTold (F.held files.old) (I.left input.old) (λ held bytes.
-        DoesWhole (command_of (texts words.now)) held bytes result (I.left input.new) (O.written out.old) (O.written out.new)) }
-    ensures bounded { result ≤ 10 }
+        → (result ≡ NO_MEMORY) ⊎ IfTold (command_of (texts words.now)) (F.held files.old) (I.left input.old) (I.left input.new) (λ held bytes left.
+        DoesWhole (command_of (texts words.now)) held bytes result left (O.written out.old) (O.written out.new)) }
+    ensures bounded { result ≤ LACKING }
 {
     match perform(alloc, words, files, input, out) {
         Ok(status) => status,

@@ -1,4 +1,4 @@
-// The lines that are written, each built before it is written.
+//! The lines that are written, each built before it is written.
 ghost use Rattle.std.specs.Prelude.{◌≡◌, ◌<◌, ◌≤◌, ◌+◌, ◌++◌, length, codes, decimal};
 ghost use Rattle.arrayvec.specs.ArrayVec.{array_vec_len};
 ghost use Rattle.ehabi_top.specs.Text.{hex_digit, hex8, kind_name, cause_name, end_line, image_fault_line};

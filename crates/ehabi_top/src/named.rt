@@ -1,4 +1,4 @@
-// Sources under the names of their files.
+//! Sources under the names of their files.
 use asm_read::Stmt;
 use eh_port::Bytes;
 use std::marker::Model;

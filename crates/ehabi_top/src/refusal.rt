@@ -1,12 +1,13 @@
-// Why files give no image, and the lines that say so.
+//! Why files give no image, and the lines that say so.
 ghost use Rattle.std.specs.Prelude.{◌≡◌, ◌≢◌, ◌≤◌, ◌++◌, length, codes, IfOk, true, false};
 ghost use Rattle.ehabi_top.specs.Building.{is_memory, is_link_memory, fault_line, wants_memory, refusal_of};
-ghost use Rattle.ehabi_top.specs.RefusalText.{source_what, source_place, encode_what, unwind_what, asm_what, asm_place, range_line, link_line};
-ghost use Rattle.ehabi_top.specs.Report.{is_settled};
+ghost use Rattle.ehabi_top.specs.RefusalText.{source_place, encode_what, unwind_what, asm_what, asm_place, range_line, link_line};
+ghost use Rattle.ehabi_top.specs.Loading.{IsOfCommand};
 ghost use Rattle.ehabi_top.specs.Writes.{Answers};
 
 use crate::answer::{answer_both, answer_missing, answer_text, answer_three, answer_too_long};
 use crate::line::{Line, append, hex8, image_fault_line};
+use crate::status::REFUSED;
 use crate::stop::Stop;
 use asm_layout::{AsmFault, AsmWhat};
 use asm_read::{SourceFault, SourceWhat};
@@ -68,23 +69,6 @@ pub(crate) fn is_memory(fault: &BuildFault) -> bool
     }
 }
 
-fn source_what(what: SourceWhat) -> &'static [u8]
-    ensures name { result.now ≡ source_what what }
-    ensures short { length result.now ≤ 16 }
-{
-    match what {
-        SourceWhat::NotAscii => b"NotAscii",
-        SourceWhat::LineTooLong => b"LineTooLong",
-        SourceWhat::TooManyLines => b"TooManyLines",
-        SourceWhat::BadToken => b"BadToken",
-        SourceWhat::UnknownMnemonic => b"UnknownMnemonic",
-        SourceWhat::UnknownDirective => b"UnknownDirective",
-        SourceWhat::BadOperand => b"BadOperand",
-        SourceWhat::NumberRange => b"NumberRange",
-        SourceWhat::OutOfMemory => b"OutOfMemory",
-    }
-}
-
 fn encode_what(fault: EncodeFault) -> &'static [u8]
     ensures name { result.now ≡ encode_what fault }
     ensures short { length result.now ≤ 16 }
@@ -140,7 +124,7 @@ fn source_place(fault: SourceFault) -> Line
     append(&mut line, b":");
     append(&mut line, Buffer::new().format(fault.column).as_bytes());
     append(&mut line, b": ");
-    append(&mut line, source_what(fault.what));
+    append(&mut line, fault.what.name());
     append(&mut line, b"\n");
     line
 }
@@ -171,7 +155,7 @@ fn range_line(place: u32) -> Line
 /// Ends with the line of objects that can't be linked.
 fn answer_link<O: Sink>(out: &mut O, fault: &LinkFault) -> Result<u8, Stop>
     requires { is_link_memory fault.now ≡ false }
-    ensures { Answers (link_line fault.now) 3 result (O.written out.old) (O.written out.new) (O.faults out.old) (O.faults out.new) }
+    ensures { Answers (link_line fault.now) REFUSED result (O.written out.old) (O.written out.new) (O.faults out.old) (O.faults out.new) }
 {
     match fault {
         LinkFault::Duplicate(name) => answer_three(
@@ -179,18 +163,22 @@ fn answer_link<O: Sink>(out: &mut O, fault: &LinkFault) -> Result<u8, Stop>
             b"link: Duplicate ",
             name.bytes(),
             b"\n",
-            3,
+            REFUSED,
         ),
         LinkFault::Undefined(name) => answer_three(
             out,
             b"link: Undefined ",
             name.bytes(),
             b"\n",
-            3,
+            REFUSED,
         ),
-        LinkFault::NoEntry => answer_text(out, b"link: NoEntry\n", 3),
-        LinkFault::TooLarge => answer_text(out, b"link: TooLarge\n", 3),
-        LinkFault::RelocationRange(place) => answer_text(out, range_line(*place).as_slice(), 3),
+        LinkFault::NoEntry => answer_text(out, b"link: NoEntry\n", REFUSED),
+        LinkFault::TooLarge => answer_text(out, b"link: TooLarge\n", REFUSED),
+        LinkFault::RelocationRange(place) => answer_text(
+            out,
+            range_line(*place).as_slice(),
+            REFUSED,
+        ),
         LinkFault::OutOfMemory => unreachable!(),
     }
 }
@@ -198,17 +186,26 @@ fn answer_link<O: Sink>(out: &mut O, fault: &LinkFault) -> Result<u8, Stop>
 // Ends with the line of sources that give no image.
 fn answer_fault<O: Sink>(out: &mut O, fault: &BuildFault) -> Result<u8, Stop>
     requires { is_memory fault.now ≡ false }
-    ensures { Answers (fault_line fault.now) 3 result (O.written out.old) (O.written out.new) (O.faults out.old) (O.faults out.new) }
+    ensures { Answers (fault_line fault.now) REFUSED result (O.written out.old) (O.written out.new) (O.faults out.old) (O.faults out.new) }
 {
     match fault {
         BuildFault::InSource(name, fault) => {
-            answer_both(out, name.as_bytes(), source_place(*fault).as_slice(), 3)
+            answer_both(
+                out,
+                name.as_bytes(),
+                source_place(*fault).as_slice(),
+                REFUSED,
+            )
         }
         BuildFault::InObject(name, fault) => {
-            answer_both(out, name.as_bytes(), asm_place(*fault).as_slice(), 3)
+            answer_both(out, name.as_bytes(), asm_place(*fault).as_slice(), REFUSED)
         }
         BuildFault::InLink(fault) => answer_link(out, fault),
-        BuildFault::InImage(fault) => answer_text(out, image_fault_line(*fault).as_slice(), 3),
+        BuildFault::InImage(fault) => answer_text(
+            out,
+            image_fault_line(*fault).as_slice(),
+            REFUSED,
+        ),
         BuildFault::OutOfMemory => unreachable!(),
     }
 }
@@ -217,7 +214,7 @@ fn answer_fault<O: Sink>(out: &mut O, fault: &BuildFault) -> Result<u8, Stop>
 pub(crate) fn answer_files_fault<O: Sink>(out: &mut O, fault: &FilesFault) -> Result<u8, Stop>
     requires { wants_memory fault.now ≡ false }
     ensures line { Answers (refusal_of fault.now).line (refusal_of fault.now).status result (O.written out.old) (O.written out.new) (O.faults out.old) (O.faults out.new) }
-    ensures status { IfOk result (λ status. (is_settled status ≡ true) × (status ≤ 10) × (status ≢ 2)) }
+    ensures status { IsOfCommand (refusal_of fault.now).status }
 {
     match fault {
         FilesFault::Missing(name) => answer_missing(out, name),

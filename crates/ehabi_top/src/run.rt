@@ -1,68 +1,25 @@
-// `run FILE N` and `run FILE.. N`: runs an image, or the one that sources are built to.
-ghost use Rattle.std.specs.Prelude.{◌≡◌, ◌≢◌, ◌≤◌, ◌⊎◌, IfOk, IfSome, IsErrOf, Some, map, sum_by, true};
-ghost use Rattle.eh_port.specs.Causes.{Rose};
-ghost use Rattle.eh_bus.specs.Flat.{memory_of};
+//! `run FILE N` and `run FILE.. N`: runs an image, or the one that sources are built to.
+ghost use Rattle.std.specs.Prelude.{Ok, Some};
 ghost use Rattle.elf_image.specs.Image.{image_of};
-ghost use Rattle.elf_image.specs.Segments.{RiseFrom};
-ghost use Rattle.ehabi_top.specs.Loading.{SaysWhy, with_host};
-ghost use Rattle.ehabi_top.specs.Placing.{placed};
-ghost use Rattle.ehabi_top.specs.Report.{Gives, IfTold, LacksFile, IsRefused, is_settled};
+ghost use Rattle.ehabi_top.specs.Report.{Does};
+ghost use Rattle.ehabi_top.specs.RunReport.{IsRefusedImage, image_report, bytes_report};
 ghost use Rattle.ehabi_top.specs.Words.{RunFile, RunSources, texts};
-ghost use Rattle.ehabi_top.specs.BuildReport.{run_sources_report};
-ghost use Rattle.ehabi_top.specs.RunReport.{IsRefusedImage, memory_segment, image_report, bytes_report, run_report};
+ghost use Rattle.ehabi_top.specs.Yields.{Yields, shelf, streams};
 
-use crate::answer::{answer_end, answer_missing, answer_text, answer_too_long};
+use crate::answer::{answer_end, answer_text};
 use crate::build::built_files;
-use crate::flat::{FILE_LIMIT, start_regs, status_of};
-use crate::image_machine::image_run;
 use crate::line::image_fault_line;
 use crate::refusal::answer_files_fault;
+use crate::sources::read_file;
+use crate::status::REFUSED;
 use crate::stop::Stop;
-use eh_bus::fault::BusMemory;
-use eh_bus::flat::FlatBus;
-use eh_bus::segment::SegmentSpec;
-use eh_port::{FileAnswer, Files, Sink, Source};
+use eh_port::{Files, Sink, Source};
 use elf_image::ImageFault;
 use elf_image::image::Image;
 use elf_image::read::read_image;
-use elf_image::segment::Segment;
-use std::alloc::{AllocError, Global};
-
-// Where a segment is placed in memory.
-fn place<'a>(segment: &Segment<'a>) -> SegmentSpec<'a>
-    ensures { placed result ≡ segment.now }
-{
-    SegmentSpec {
-        start: segment.start(),
-        bytes: segment.bytes(),
-        size: segment.size(),
-        write: segment.may_write(),
-        exec: segment.may_execute(),
-    }
-}
-
-// Where the segments are placed in memory.
-fn places<'a>(alloc: Global, segments: &[Segment<'a>]) -> Result<Vec<SegmentSpec<'a>>, AllocError>
-    ensures { IfOk result (λ all. map placed all.items ≡ segments.now) }
-{
-    let mut all = Vec::new(alloc);
-    for segment in segments {
-        all.push(place(segment))?;
-    }
-    Ok(all)
-}
-
-// The memory of an image's segments.
-fn image_memory(alloc: Global, segments: &[Segment]) -> Result<FlatBus, BusMemory>
-    requires rise { RiseFrom 0 segments.now }
-    requires few { sum_by (λ s. s.size) segments.now ≤ 1048576 }
-    ensures { IfOk result (λ bus. memory_of bus ≡ with_host (map memory_segment segments.now)) }
-{
-    match places(alloc, segments) {
-        Ok(places) => FlatBus::build(alloc, &places),
-        Err(_) => Err(BusMemory::OutOfMemory),
-    }
-}
+use image_memory::{image_memory, start_regs};
+use plain_run::image_run;
+use std::alloc::Global;
 
 // Runs an image.
 fn run_image<I: Source, O: Sink>(
@@ -72,21 +29,17 @@ fn run_image<I: Source, O: Sink>(
     input: &mut I,
     out: &mut O,
 ) -> Result<u8, Stop>
-    ensures told { IfSome (I.left input.old) (λ bytes. Gives (image_report budget bytes (Ok image.now)) result
-        (I.left input.new) (O.written out.old) (O.written out.new)) }
-    ensures why { IfOk result (λ status. SaysWhy status ⊥ ⊥) }
-    ensures read { IsErrOf result Stop.Read → Rose (I.faults input.old) (I.faults input.new) }
-    ensures write { IsErrOf result Stop.Write → Rose (O.faults out.old) (O.faults out.new) }
-    ensures status { IfOk result (λ status. (is_settled status ≡ true) × (status ≤ 10) × (status ≢ 2)) }
+    ensures { Yields (image_report budget (Ok image.now)) ⊥
+        (streams (I.left input.old) (I.faults input.old) (O.written out.old) (O.faults out.old))
+        (streams (I.left input.new) (I.faults input.new) (O.written out.new) (O.faults out.new)) result }
 {
-    let mut bus = match image_memory(alloc, image.segments()) {
+    let mut bus = match image_memory(alloc, image) {
         Ok(bus) => bus,
         Err(_) => return Err(Stop::Memory),
     };
     let mut regs = start_regs(image.entry());
     let end = image_run(image, &mut regs, &mut bus, budget, input, out);
-    let status = status_of(end)?;
-    answer_end(out, b"\n-- trace\n", end, status)
+    answer_end(out, b"\n-- trace\n", end)
 }
 
 // Runs the image that these bytes stand for.
@@ -97,12 +50,9 @@ fn run_bytes<I: Source, O: Sink>(
     input: &mut I,
     out: &mut O,
 ) -> Result<u8, Stop>
-    ensures told { IfSome (I.left input.old) (λ b. Gives (bytes_report budget b bytes.now) result
-        (I.left input.new) (O.written out.old) (O.written out.new)) }
-    ensures why { IfOk result (λ status. SaysWhy status ⊥ (IsRefusedImage (image_of bytes.now))) }
-    ensures read { IsErrOf result Stop.Read → Rose (I.faults input.old) (I.faults input.new) }
-    ensures write { IsErrOf result Stop.Write → Rose (O.faults out.old) (O.faults out.new) }
-    ensures status { IfOk result (λ status. (is_settled status ≡ true) × (status ≤ 10) × (status ≢ 2)) }
+    ensures { Yields (bytes_report budget bytes.now) (IsRefusedImage (image_of bytes.now))
+        (streams (I.left input.old) (I.faults input.old) (O.written out.old) (O.faults out.old))
+        (streams (I.left input.new) (I.faults input.new) (O.written out.new) (O.faults out.new)) result }
 {
     match read_image(alloc, bytes) {
         Ok(image) => run_image(alloc, &image, budget, input, out),
@@ -110,7 +60,7 @@ fn run_bytes<I: Source, O: Sink>(
             if fault == ImageFault::OutOfMemory {
                 return Err(Stop::Memory);
             }
-            answer_text(out, image_fault_line(fault).as_slice(), 3)
+            answer_text(out, image_fault_line(fault).as_slice(), REFUSED)
         }
     }
 }
@@ -124,18 +74,14 @@ pub(crate) fn run<F: Files, I: Source, O: Sink>(
     input: &mut I,
     out: &mut O,
 ) -> Result<u8, Stop>
-    ensures told { IfTold (F.held files.old) (I.left input.old) (λ held bytes. Gives (run_report name.now budget held bytes) result
-        (I.left input.new) (O.written out.old) (O.written out.new)) }
-    ensures why { IfOk result (λ status. IfSome (F.held files.old) (λ held. SaysWhy status (LacksFile (Some (RunFile name.now budget)) held)
-        (IsRefused (Some (RunFile name.now budget)) held))) }
-    ensures read { IsErrOf result Stop.Read → Rose (F.faults files.old) (F.faults files.new) ⊎ Rose (I.faults input.old) (I.faults input.new) }
-    ensures write { IsErrOf result Stop.Write → Rose (O.faults out.old) (O.faults out.new) }
-    ensures status { IfOk result (λ status. (is_settled status ≡ true) × (status ≤ 10) × (status ≢ 2)) }
+    ensures { Does (Some (RunFile name.now budget)) (shelf (F.held files.old) (F.faults files.old)) (shelf (F.held files.new) (F.faults files.new))
+        (streams (I.left input.old) (I.faults input.old) (O.written out.old) (O.faults out.old))
+        (streams (I.left input.new) (I.faults input.new) (O.written out.new) (O.faults out.new)) result }
 {
-    match files.read(alloc, name, FILE_LIMIT)? {
-        FileAnswer::Found(bytes) => run_bytes(alloc, bytes.as_slice(), budget, input, out),
-        FileAnswer::Missing => answer_missing(out, name),
-        FileAnswer::TooLong => answer_too_long(out, name),
+    match read_file(alloc, name, files) {
+        Ok(Ok(bytes)) => run_bytes(alloc, bytes.as_slice(), budget, input, out),
+        Ok(Err(fault)) => answer_files_fault(out, &fault),
+        Err(stop) => Err(stop),
     }
 }
 
@@ -148,16 +94,13 @@ pub(crate) fn run_sources<F: Files, I: Source, O: Sink>(
     input: &mut I,
     out: &mut O,
 ) -> Result<u8, Stop>
-    ensures told { IfTold (F.held files.old) (I.left input.old) (λ held bytes. Gives (run_sources_report (texts names.now) budget held bytes) result
-        (I.left input.new) (O.written out.old) (O.written out.new)) }
-    ensures why { IfOk result (λ status. IfSome (F.held files.old) (λ held. SaysWhy status (LacksFile (Some (RunSources (texts names.now) budget)) held)
-        (IsRefused (Some (RunSources (texts names.now) budget)) held))) }
-    ensures read { IsErrOf result Stop.Read → Rose (F.faults files.old) (F.faults files.new) ⊎ Rose (I.faults input.old) (I.faults input.new) }
-    ensures write { IsErrOf result Stop.Write → Rose (O.faults out.old) (O.faults out.new) }
-    ensures status { IfOk result (λ status. (is_settled status ≡ true) × (status ≤ 10) × (status ≢ 2)) }
+    ensures { Does (Some (RunSources (texts names.now) budget)) (shelf (F.held files.old) (F.faults files.old)) (shelf (F.held files.new) (F.faults files.new))
+        (streams (I.left input.old) (I.faults input.old) (O.written out.old) (O.faults out.old))
+        (streams (I.left input.new) (I.faults input.new) (O.written out.new) (O.faults out.new)) result }
 {
-    match built_files(alloc, names, files)? {
-        Ok(bytes) => run_bytes(alloc, bytes.as_slice(), budget, input, out),
-        Err(fault) => answer_files_fault(out, &fault),
+    match built_files(alloc, names, files) {
+        Ok(Ok(bytes)) => run_bytes(alloc, bytes.as_slice(), budget, input, out),
+        Ok(Err(fault)) => answer_files_fault(out, &fault),
+        Err(stop) => Err(stop),
     }
 }

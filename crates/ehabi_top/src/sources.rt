@@ -1,14 +1,34 @@
-// The files of a command that takes several.
-ghost use Rattle.std.specs.Prelude.{◌≡◌, ◌≤◌, IfOk, IfSome, IsErrOf};
+//! The files of a command.
+ghost use Rattle.std.specs.Prelude.{◌≡◌, IfOk, IfSome, IsErrOf, OnOk};
 ghost use Rattle.eh_port.specs.Causes.{Rose};
-ghost use Rattle.ehabi_top.specs.Words.{texts};
 ghost use Rattle.ehabi_top.specs.Building.{files_of, loaded};
+ghost use Rattle.ehabi_top.specs.Finding.{Finds, file_bytes};
+ghost use Rattle.ehabi_top.specs.Words.{texts};
+ghost use Rattle.ehabi_top.specs.Yields.{shelf};
 
-use crate::flat::FILE_LIMIT;
 use crate::named::SourceText;
+use crate::refusal::FilesFault;
 use crate::stop::Stop;
-use eh_port::{FileAnswer, Files};
+use eh_port::{Bytes, FileAnswer, Files};
 use std::alloc::Global;
+
+/// The most bytes of a file.
+pub const FILE_LIMIT: usize = 4_194_304;
+
+/// The bytes of the file of a name, or why there are none. The file is asked for once.
+pub(crate) fn read_file<'a, F: Files>(
+    alloc: Global,
+    name: &'a str,
+    files: &mut F,
+) -> Result<Result<Bytes, FilesFault<'a>>, Stop>
+    ensures { Finds (λ bytes. bytes) (file_bytes name.now) (shelf (F.held files.old) (F.faults files.old)) (shelf (F.held files.new) (F.faults files.new)) result }
+{
+    match files.read(alloc, name, FILE_LIMIT)? {
+        FileAnswer::Found(bytes) => Ok(Ok(bytes)),
+        FileAnswer::Missing => Ok(Err(FilesFault::Missing(name))),
+        FileAnswer::TooLong => Ok(Err(FilesFault::TooLong(name))),
+    }
+}
 
 /// What reading files in order gives.
 #[derive(Drop)]
@@ -30,7 +50,8 @@ pub(crate) fn load<'a, F: Files>(
     ensures told { IfOk result (λ all. IfSome (F.held files.old) (λ held. loaded all ≡ files_of held (texts names.now))) }
     ensures read { IsErrOf result Stop.Read → Rose (F.faults files.old) (F.faults files.new) }
     ensures write { IsErrOf result Stop.Write → ⊥ }
-    ensures later { F.faults files.old ≤ F.faults files.new }
+    ensures memory { IsErrOf result Stop.Memory → F.faults files.new ≡ F.faults files.old }
+    ensures kept { OnOk result (F.faults files.new ≡ F.faults files.old) }
 {
     let mut all = Vec::new(alloc);
     for name in names {

@@ -1,7 +1,8 @@
+//! Why the program stops early.
 ghost use Rattle.std.specs.Prelude.{◌≡◌};
 ghost use Rattle.ehabi_top.specs.Writes.{stop_of, stop_status};
 
-use eh_bus::fault::BusMemory;
+use crate::status::{NO_MEMORY, READ_FAILED, WRITE_FAILED};
 use eh_port::FileFault;
 use std::alloc::AllocFailed;
 
@@ -22,9 +23,9 @@ impl Stop {
         ensures { result ≡ stop_status self }
     {
         match self {
-            Stop::Read => 7,
-            Stop::Write => 8,
-            Stop::Memory => 9,
+            Stop::Read => READ_FAILED,
+            Stop::Write => WRITE_FAILED,
+            Stop::Memory => NO_MEMORY,
         }
     }
 }
@@ -37,16 +38,6 @@ impl From<FileFault> for Stop {
             FileFault::Failed => Stop::Read,
             FileFault::OutOfMemory => Stop::Memory,
         }
-    }
-}
-
-impl From<BusMemory> for Stop {
-    ghost use Rattle.ehabi_top.specs.declared.stop.Stop.TheVariants.{Memory};
-
-    ghost from_gives = { λ _ stop. stop ≡ Memory };
-
-    fn from(_: BusMemory) -> Self {
-        Stop::Memory
     }
 }
 

@@ -1,12 +1,15 @@
-// The forms of the words that the program is given.
+//! The forms of the words that the program is given.
 ghost use Rattle.std.specs.Prelude.{◌≡◌, option_map};
 ghost use Rattle.ehabi_top.specs.Words.{command, texts, number_of, budget_of, is_source, are_sources, flat_command, build_command, files_command, run_command, command_of};
 
 /// The most instructions that a run may be allowed.
-const MOST_INSTRUCTIONS: u64 = 1_000_000_000;
+pub const MOST_INSTRUCTIONS: u64 = 1_000_000_000;
 
 /// The most sources of a command.
-const MOST_SOURCES: usize = 16;
+pub const MOST_SOURCES: usize = 16;
+
+/// The most digits of a number.
+pub const MOST_DIGITS: usize = 10;
 
 /// What the words ask for.
 #[derive(Clone, Copy)]
@@ -27,7 +30,7 @@ fn number_of(word: &str) -> Option<u64>
     ensures { result ≡ number_of word.now }
 {
     let digits = word.as_bytes();
-    if digits.is_empty() || digits.len() > 10 {
+    if digits.is_empty() || digits.len() > MOST_DIGITS {
         return None;
     }
     let mut number = 0u64;

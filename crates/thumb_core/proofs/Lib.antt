@@ -3,4 +3,7 @@ pub mod Shifts
 pub mod Sound
 pub mod StoreLaws
 pub mod Follows
+pub mod Loaded
+pub mod PopLaws
 pub mod Acts
+pub mod Popped

@@ -2,21 +2,32 @@
 use Rattle.std.specs.Prelude.{ℕ, ℤ, ◌+◌, ◌*◌, ◌%◌, ◌^◌, Bool, ◌==◌, Result, Ok, Err, if◌then◌else◌}
 use Rattle.eh_bus.specs.Memory.{Memory, load, store}
 use Rattle.eh_bus.specs.declared.fault.BusFault.{BusFault}
+use Rattle.thumb_core.specs.declared.access.TheConstants.{STR_REG, STRH_REG, STRB_REG, LDRSB_REG, LDR_REG, LDRH_REG, LDRB_REG, STR_IMM, LDR_IMM, STRB_IMM, LDRB_IMM, STRH_IMM}
 use Rattle.thumb_core.specs.declared.regs.Regs.{Regs}
+use Rattle.thumb_core.specs.declared.regs.Stepped.{Stepped}
+use Rattle.thumb_core.specs.declared.regs.TheConstants.{SP}
 use Rattle.thumb_core.specs.Arith.{sign_extension}
-use Rattle.thumb_core.specs.Registers.{reg, base, with_reg}
+use Rattle.thumb_core.specs.Registers.{reg, base, with_reg, with_next}
 use Rattle.thumb_core.specs.Data.{forward}
-use Rattle.thumb_core.specs.Outcome.{Outcome, plain_outcome, fault_outcome}
+use Rattle.thumb_core.specs.Outcome.{Outcome, done, refused, with_memory}
 
--- a store's answer and memory, with the registers that it was given and those that it leaves
+-- how a store's answer ends an instruction, with the registers that it was given and those that it leaves
+abbrev pub stored : Result (Unit {0}) BusFault → ℕ → Regs → Regs → Stepped × Regs
+stored (Ok u) size regs after = done (with_next size after)
+stored (Err fault) size regs after = refused fault regs
+
 abbrev pub store_end : Result (Unit {0}) BusFault × Memory → ℕ → Regs → Regs → Outcome
-store_end (Ok u, new) size regs after = plain_outcome size after new
-store_end (Err fault, m) size regs after = fault_outcome fault regs m
+store_end answer size regs after = with_memory (stored answer.0 size regs after) answer.1
 
--- a load's answer, and the number that goes to register t
-abbrev pub load_end : Result ℕ BusFault → ℕ → (ℕ → ℕ) → ℕ → Regs → Memory → Outcome
-load_end (Ok x) t number size regs m = plain_outcome size (with_reg regs t (number x)) m
-load_end (Err fault) t number size regs m = fault_outcome fault regs m
+-- how a load's answer ends it: a number goes to register t
+abbrev pub loaded : Result ℕ BusFault → ℕ → ℕ → Regs → Stepped × Regs
+loaded (Ok x) t size regs = done (with_next size (with_reg regs t x))
+loaded (Err fault) t size regs = refused fault regs
+
+-- what n bytes hold as a signed number
+abbrev pub signed : ℕ → Result ℕ BusFault → Result ℕ BusFault
+signed n (Ok x) = Ok (sign_extension (8 * n) x)
+signed n (Err fault) = Err fault
 
 -- the lowest n bytes of register t to address a
 abbrev pub store_reg : ℕ → ℕ → ℕ → ℕ → Regs → Memory → Outcome
@@ -24,42 +35,50 @@ store_reg n t a size regs m = store_end (store n m a (reg regs t % 256 ^ n)) siz
 
 -- the n bytes at address a to register t
 abbrev pub load_reg : ℕ → ℕ → ℕ → ℕ → Regs → Memory → Outcome
-load_reg n t a size regs m = load_end (load n m a) t (λ x. x) size regs m
+load_reg n t a size regs m = with_memory (loaded (load n m a) t size regs) m
 
 -- the same as a signed number
 abbrev pub load_reg_signed : ℕ → ℕ → ℕ → ℕ → Regs → Memory → Outcome
-load_reg_signed n t a size regs m = load_end (load n m a) t (λ x. sign_extension (8 * n) x) size regs m
+load_reg_signed n t a size regs m = with_memory (loaded (signed n (load n m a)) t size regs) m
 
 -- LDR of a word near the instruction
 abbrev pub ldr_lit : ℕ → ℤ → ℕ → Regs → Memory → Outcome
 ldr_lit t off size regs m = load_reg 4 t (forward (base regs) off) size regs m
 
--- STR STRH STRB LDRSB LDR LDRH LDRB LDRSH at the sum of two registers, numbered 0 to 7
-abbrev pub mem_reg : ℕ → ℕ → ℕ → ℕ → ℕ → Regs → Memory → Outcome
-mem_reg op t n k size regs m =
-    let a = (reg regs n + reg regs k) % 2 ^ 32 in
-    if op == 0 then store_reg 4 t a size regs m else (
-    if op == 1 then store_reg 2 t a size regs m else (
-    if op == 2 then store_reg 1 t a size regs m else (
-    if op == 3 then load_reg_signed 1 t a size regs m else (
-    if op == 4 then load_reg 4 t a size regs m else (
-    if op == 5 then load_reg 2 t a size regs m else (
-    if op == 6 then load_reg 1 t a size regs m else
+-- STR STRH STRB LDRSB LDR LDRH LDRB LDRSH at an address
+abbrev pub reg_access : ℕ → ℕ → ℕ → ℕ → Regs → Memory → Outcome
+reg_access op t a size regs m =
+    if op == STR_REG then store_reg 4 t a size regs m else (
+    if op == STRH_REG then store_reg 2 t a size regs m else (
+    if op == STRB_REG then store_reg 1 t a size regs m else (
+    if op == LDRSB_REG then load_reg_signed 1 t a size regs m else (
+    if op == LDR_REG then load_reg 4 t a size regs m else (
+    if op == LDRH_REG then load_reg 2 t a size regs m else (
+    if op == LDRB_REG then load_reg 1 t a size regs m else
     load_reg_signed 2 t a size regs m))))))
 
--- STR LDR STRB LDRB STRH LDRH at a register and an offset, numbered 0 to 5
-abbrev pub mem_imm : ℕ → ℕ → ℕ → ℤ → ℕ → Regs → Memory → Outcome
-mem_imm op t n off size regs m =
-    let a = forward (reg regs n) off in
-    if op == 0 then store_reg 4 t a size regs m else (
-    if op == 1 then load_reg 4 t a size regs m else (
-    if op == 2 then store_reg 1 t a size regs m else (
-    if op == 3 then load_reg 1 t a size regs m else (
-    if op == 4 then store_reg 2 t a size regs m else
+-- the same at the sum of two registers
+abbrev pub mem_reg : ℕ → ℕ → ℕ → ℕ → ℕ → Regs → Memory → Outcome
+mem_reg op t n k size regs m = reg_access op t ((reg regs n + reg regs k) % 2 ^ 32) size regs m
+
+-- STR LDR STRB LDRB STRH LDRH at an address
+abbrev pub imm_access : ℕ → ℕ → ℕ → ℕ → Regs → Memory → Outcome
+imm_access op t a size regs m =
+    if op == STR_IMM then store_reg 4 t a size regs m else (
+    if op == LDR_IMM then load_reg 4 t a size regs m else (
+    if op == STRB_IMM then store_reg 1 t a size regs m else (
+    if op == LDRB_IMM then load_reg 1 t a size regs m else (
+    if op == STRH_IMM then store_reg 2 t a size regs m else
     load_reg 2 t a size regs m))))
 
--- STR and LDR at sp and an offset
+-- the same at a register and an offset
+abbrev pub mem_imm : ℕ → ℕ → ℕ → ℤ → ℕ → Regs → Memory → Outcome
+mem_imm op t n off size regs m = imm_access op t (forward (reg regs n) off) size regs m
+
+-- STR and LDR of a word at an address
+abbrev pub sp_access : Bool → ℕ → ℕ → ℕ → Regs → Memory → Outcome
+sp_access is_load t a size regs m = if is_load then load_reg 4 t a size regs m else store_reg 4 t a size regs m
+
+-- the same at sp and an offset
 abbrev pub mem_sp : Bool → ℕ → ℤ → ℕ → Regs → Memory → Outcome
-mem_sp is_load t off size regs m =
-    let a = forward (reg regs 13) off in
-    if is_load then load_reg 4 t a size regs m else store_reg 4 t a size regs m
+mem_sp is_load t off size regs m = sp_access is_load t (forward (reg regs SP) off) size regs m

@@ -2,11 +2,14 @@
 use Rattle.std.specs.Prelude.{ℕ, ℤ, ◌+◌, ◌%◌, ◌^◌, Bool, true, false, not, ◌&&◌, ◌||◌, ◌==◌, if◌then◌else◌}
 use Rattle.thumb_isa.specs.declared.instr.Instr.{Instr}
 use Rattle.thumb_isa.specs.declared.instr.Instr.TheVariants.{AddHigh, MovHigh, Bx, Blx, BCond, Svc, B, Bl}
+use Rattle.thumb_core.specs.declared.branch.TheConstants.{EQ, NE, CS, CC, MI, PL, VS, VC, HI, LS, GE, LT, GT}
+use Rattle.thumb_core.specs.declared.regs.TheConstants.{LR, PC}
 use Rattle.thumb_core.specs.declared.regs.Regs.{Regs}
 use Rattle.thumb_core.specs.declared.regs.CoreTrap.TheVariants.{EvenTarget}
 use Rattle.thumb_core.specs.declared.regs.Stepped.{Stepped}
-use Rattle.thumb_core.specs.declared.regs.Stepped.TheVariants.{Call, Done, Gate, Return, Trap}
+use Rattle.thumb_core.specs.declared.regs.Stepped.TheVariants.{Call, Gate, Return, Trap}
 use Rattle.thumb_core.specs.Registers.{even, operand, pc_read, with_reg, with_pc, with_next}
+use Rattle.thumb_core.specs.Outcome.{done}
 use Rattle.thumb_core.specs.Data.{forward, data_effect}
 
 -- the two flags are equal
@@ -14,16 +17,16 @@ abbrev pub same_flag : Bool → Bool → Bool
 same_flag true b = b
 same_flag false b = not b
 
--- EQ NE CS CC MI PL VS VC HI LS GE LT GT LE, numbered 0 to 13
+-- whether a condition holds (DDI 0419, the table of condition codes)
 abbrev pub passes : ℕ → Regs → Bool
 passes cond regs =
-    if cond == 0 then regs.z else (if cond == 1 then not regs.z else (
-    if cond == 2 then regs.c else (if cond == 3 then not regs.c else (
-    if cond == 4 then regs.n else (if cond == 5 then not regs.n else (
-    if cond == 6 then regs.v else (if cond == 7 then not regs.v else (
-    if cond == 8 then regs.c && not regs.z else (if cond == 9 then not regs.c || regs.z else (
-    if cond == 10 then same_flag regs.n regs.v else (if cond == 11 then not (same_flag regs.n regs.v) else (
-    if cond == 12 then not regs.z && same_flag regs.n regs.v else (regs.z || not (same_flag regs.n regs.v))))))))))))))
+    if cond == EQ then regs.z else (if cond == NE then not regs.z else (
+    if cond == CS then regs.c else (if cond == CC then not regs.c else (
+    if cond == MI then regs.n else (if cond == PL then not regs.n else (
+    if cond == VS then regs.v else (if cond == VC then not regs.v else (
+    if cond == HI then regs.c && not regs.z else (if cond == LS then not regs.c || regs.z else (
+    if cond == GE then same_flag regs.n regs.v else (if cond == LT then not (same_flag regs.n regs.v) else (
+    if cond == GT then not regs.z && same_flag regs.n regs.v else (regs.z || not (same_flag regs.n regs.v))))))))))))))
 
 -- where a branch goes
 abbrev pub target_of : ℤ → Regs → ℕ
@@ -39,7 +42,7 @@ branch_if cond off size regs = if passes cond regs then branch off regs else wit
 
 -- a register, low or high; a write to pc is a branch
 abbrev pub write_high : ℕ → ℕ → ℕ → Regs → Regs
-write_high d x size regs = if d == 15 then with_pc regs x else with_next size (with_reg regs d x)
+write_high d x size regs = if d == PC then with_pc regs x else with_next size (with_reg regs d x)
 
 -- ADD of two registers, low or high
 abbrev pub add_high : ℕ → ℕ → ℕ → Regs → Regs
@@ -56,7 +59,7 @@ link_of size regs = even ((regs.pc + size) % 2 ^ 32) + 1
 -- a call: pc goes to the target
 abbrev pub call_to : ℕ → ℕ → Regs → Stepped × Regs
 call_to target size regs =
-    (Call (even (target % 2 ^ 32)) (link_of size regs), with_pc (with_reg regs 14 (link_of size regs)) target)
+    (Call (even (target % 2 ^ 32)) (link_of size regs), with_pc (with_reg regs LR (link_of size regs)) target)
 
 -- what is done where bit 0 of a target is set; else nothing is changed
 abbrev pub if_odd : ℕ → Regs → Stepped × Regs → Stepped × Regs
@@ -84,12 +87,12 @@ svc number size regs = (Gate number, with_next size regs)
 
 -- what an instruction of `size` bytes does that leaves the memory alone: those of this group, else those of the data
 abbrev pub register_effect : Instr → ℕ → Regs → Stepped × Regs
-register_effect (AddHigh d k) size regs = (Done, add_high d k size regs)
-register_effect (MovHigh d k) size regs = (Done, mov_high d k size regs)
-register_effect (BCond cond off) size regs = (Done, branch_if cond off size regs)
-register_effect (B off) size regs = (Done, branch off regs)
+register_effect (AddHigh d k) size regs = done (add_high d k size regs)
+register_effect (MovHigh d k) size regs = done (mov_high d k size regs)
+register_effect (BCond cond off) size regs = done (branch_if cond off size regs)
+register_effect (B off) size regs = done (branch off regs)
 register_effect (Bl off) size regs = bl off size regs
 register_effect (Blx k) size regs = blx k size regs
 register_effect (Bx k) size regs = bx k regs
 register_effect (Svc imm) size regs = svc imm size regs
-register_effect i size regs = (Done, with_next size (data_effect i regs))
+register_effect i size regs = done (with_next size (data_effect i regs))

@@ -3,6 +3,8 @@ use Rattle.std.specs.Prelude.{ℕ, ℤ, ◌+◌, ◌-◌, ◌*◌, ◌%◌, ◌^
 use Rattle.std.specs.Int.{cast_unsigned, w32}
 use Rattle.thumb_isa.specs.declared.instr.Instr.{Instr}
 use Rattle.thumb_isa.specs.declared.instr.Instr.TheVariants.{ShiftImm, AddSubReg, AddSubImm3, Imm8, Alu, CmpHigh, Adr, AddRdSp, AddSp, SubSp, Extend, Rev, Hint, Barrier}
+use Rattle.thumb_core.specs.declared.data.TheConstants.{MOV, CMP, ADD, SXTH, SXTB, UXTH, REV, REV16}
+use Rattle.thumb_core.specs.declared.regs.TheConstants.{SP}
 use Rattle.thumb_core.specs.declared.regs.Regs.{Regs}
 use Rattle.thumb_core.specs.declared.arith.Sum.{Sum}
 use Rattle.thumb_core.specs.Arith.{sum_of, difference_of, sum_or_difference, sign_extension, byte_of}
@@ -42,12 +44,12 @@ add_sub_reg sub d n m regs = with_sum d (sum_or_difference sub (reg regs n) (reg
 abbrev pub add_sub_imm : Bool → ℕ → ℕ → ℕ → Regs → Regs
 add_sub_imm sub d n imm regs = with_sum d (sum_or_difference sub (reg regs n) imm) regs
 
--- MOV, CMP, ADD and SUB of a byte, numbered 0 to 3
+-- MOV, CMP, ADD and SUB of a byte
 abbrev pub imm8 : ℕ → ℕ → ℕ → Regs → Regs
 imm8 op d imm regs =
-    if op == 0 then with_value d imm regs else (
-    if op == 1 then with_flags regs (difference_of (reg regs d) imm) else (
-    if op == 2 then with_sum d (sum_of (reg regs d) imm 0) regs else
+    if op == MOV then with_value d imm regs else (
+    if op == CMP then with_flags regs (difference_of (reg regs d) imm) else (
+    if op == ADD then with_sum d (sum_of (reg regs d) imm 0) regs else
     with_sum d (difference_of (reg regs d) imm) regs))
 
 -- CMP of two registers of which one is high
@@ -60,21 +62,21 @@ adr d off regs = with_reg regs d (forward (base regs) off)
 
 -- ADD of sp and a number, to a low register
 abbrev pub add_rd_sp : ℕ → ℤ → Regs → Regs
-add_rd_sp d off regs = with_reg regs d (forward (reg regs 13) off)
+add_rd_sp d off regs = with_reg regs d (forward (reg regs SP) off)
 
 -- ADD to sp
 abbrev pub add_sp : ℤ → Regs → Regs
-add_sp off regs = with_reg regs 13 (forward (reg regs 13) off)
+add_sp off regs = with_reg regs SP (forward (reg regs SP) off)
 
 -- SUB from sp
 abbrev pub sub_sp : ℤ → Regs → Regs
-sub_sp off regs = with_reg regs 13 (backward (reg regs 13) off)
+sub_sp off regs = with_reg regs SP (backward (reg regs SP) off)
 
--- SXTH, SXTB, UXTH and UXTB, numbered 0 to 3
+-- SXTH, SXTB, UXTH and UXTB
 abbrev pub extension_of : ℕ → ℕ → ℕ
 extension_of op x =
-    if op == 0 then sign_extension 16 x else (if op == 1 then sign_extension 8 x else (
-    if op == 2 then x % 2 ^ 16 else x % 2 ^ 8))
+    if op == SXTH then sign_extension 16 x else (if op == SXTB then sign_extension 8 x else (
+    if op == UXTH then x % 2 ^ 16 else x % 2 ^ 8))
 
 abbrev pub extend : ℕ → ℕ → ℕ → Regs → Regs
 extend op d m regs = with_reg regs d (extension_of op (reg regs m))
@@ -83,11 +85,11 @@ extend op d m regs = with_reg regs d (extension_of op (reg regs m))
 abbrev pub half_reversal : ℕ → ℕ
 half_reversal x = byte_of 1 x + byte_of 0 x * 2 ^ 8
 
--- REV, REV16 and REVSH, numbered 0, 1 and 3
+-- REV, REV16 and REVSH
 abbrev pub reversal_of : ℕ → ℕ → ℕ
 reversal_of op x =
-    if op == 0 then byte_of 3 x + byte_of 2 x * 2 ^ 8 + byte_of 1 x * 2 ^ 16 + byte_of 0 x * 2 ^ 24 else (
-    if op == 1 then byte_of 1 x + byte_of 0 x * 2 ^ 8 + byte_of 3 x * 2 ^ 16 + byte_of 2 x * 2 ^ 24 else
+    if op == REV then byte_of 3 x + byte_of 2 x * 2 ^ 8 + byte_of 1 x * 2 ^ 16 + byte_of 0 x * 2 ^ 24 else (
+    if op == REV16 then byte_of 1 x + byte_of 0 x * 2 ^ 8 + byte_of 3 x * 2 ^ 16 + byte_of 2 x * 2 ^ 24 else
     sign_extension 16 (half_reversal x))
 
 abbrev pub rev : ℕ → ℕ → ℕ → Regs → Regs

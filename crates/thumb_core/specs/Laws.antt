@@ -1,15 +1,16 @@
 -- What holds of every step, whatever the instruction was.
-use Rattle.std.specs.Prelude.{◌≡◌, ℕ, ◌+◌, ◌%◌, ◌^◌, ◌<◌, ◌⊎◌, true, List, length, slice_index, Option, Some, Ok}
+use Rattle.std.specs.Prelude.{◌≡◌, ◌≢◌, ℕ, ◌+◌, ◌-◌, ◌%◌, ◌^◌, ◌<◌, ◌⊎◌, true, List, length, slice_index, Option, Some, Ok}
 use Rattle.std.specs.Int.{bit_at}
 use Rattle.thumb_isa.specs.declared.instr.Instr.{Instr}
 use Rattle.thumb_isa.specs.declared.instr.Instr.TheVariants.{Bx, Pop, Svc}
 use Rattle.eh_bus.specs.Lists.{Has}
 use Rattle.eh_bus.specs.Memory.{Memory, load, host_load, is_closed}
 use Rattle.eh_bus.specs.Map.{SameMap}
+use Rattle.thumb_core.specs.declared.regs.TheConstants.{SP, LR, PC}
 use Rattle.thumb_core.specs.declared.regs.Regs.{Regs}
 use Rattle.thumb_core.specs.declared.regs.Stepped.{Stepped}
 use Rattle.thumb_core.specs.declared.regs.Stepped.TheVariants.{Done, Call, Return, Gate, Trap}
-use Rattle.thumb_core.specs.Registers.{reg, operand, put, with_pc, with_reg, with_next, with_all}
+use Rattle.thumb_core.specs.Registers.{reg, operand, put, word_in, with_pc, with_reg, with_next, with_all}
 use Rattle.thumb_core.specs.Lists.{bytes_of, load_list}
 use Rattle.thumb_core.specs.Outcome.{Outcome}
 use Rattle.thumb_core.specs.Stores.{Span, KeepsApart}
@@ -18,7 +19,7 @@ use Rattle.thumb_core.specs.Stores.{Span, KeepsApart}
 pub record AreWords (n : ℕ) (r : List ℕ) : Type 0 where
   pub count : length r ≡ n
   pub small : (k : ℕ) → slice_index r k < 2 ^ 32
-  pub aligned : slice_index r 13 % 4 ≡ 0
+  pub aligned : slice_index r SP % 4 ≡ 0
 
 -- and pc is an even word
 pub record AreSound (r : List ℕ) (pc : ℕ) : Type 0 where
@@ -38,7 +39,7 @@ OnTrap (Gate number) P = Unit {0}
 -- a return with bit 0 clear, which was set; else at an even address. Of a trap `OnTrap` speaks
 abbrev pub Stands : Stepped → Regs → Type 0
 Stands Done regs = regs.pc % 2 ≡ 0
-Stands (Call target ret) regs = (regs.pc ≡ target) × (target % 2 ≡ 0) × (slice_index regs.r 14 ≡ ret) × (ret % 2 ≡ 1)
+Stands (Call target ret) regs = (regs.pc ≡ target) × (target % 2 ≡ 0) × (slice_index regs.r LR ≡ ret) × (ret % 2 ≡ 1)
 Stands (Return to) regs = (regs.pc + 1 ≡ to) × (to % 2 ≡ 1)
 Stands (Gate number) regs = regs.pc % 2 ≡ 0
 Stands (Trap trap) regs = Unit {0}
@@ -64,11 +65,15 @@ pub record Follows (regs : Regs) (m : Memory) (o : Outcome) : Type 0 where
 -- a POP into pc: the words of its list were loaded, sp stands behind them, and pc goes to the last of them. The other
 -- registers and the flags are as before
 pub record Popped (mask to : ℕ) (regs : Regs) (m : Memory) (after : Regs) : Type 0 where
-  pub takes_pc : bit_at mask 15 ≡ 1
+  pub takes_pc : bit_at mask PC ≡ 1
   pub words : List ℕ
-  pub loaded : load_list mask (reg regs 13) regs m ≡ Ok words
-  pub target : to ≡ slice_index words 15 % 2 ^ 32
-  pub leaves : after ≡ with_pc (with_all regs (put words 13 (reg regs 13 + bytes_of mask))) to
+  pub loaded : load_list mask (reg regs SP) regs m ≡ Ok words
+  pub leaves : after ≡ with_pc (with_all regs (put words SP (reg regs SP + bytes_of mask))) to
+  pub word : ℕ
+  pub last : load 4 m ((reg regs SP + (bytes_of mask - 4)) % 2 ^ 32) ≡ Ok word
+  pub target : to ≡ word % 2 ^ 32
+  pub sp : slice_index after.r SP ≡ word_in SP (reg regs SP + bytes_of mask)
+  pub others : (k : ℕ) → k ≢ SP → bit_at mask k ≡ 0 → slice_index after.r k ≡ slice_index regs.r k
 
 -- a return: by BX only pc goes to the register, and by POP it is as said
 abbrev pub Returned : Option (Instr × ℕ) → ℕ → Regs → Memory → Regs → Type 0
@@ -80,7 +85,7 @@ Returned at to regs m after =
 -- is as said, a gate goes on behind its SVC, and a trap changes nothing
 abbrev pub Leaves : Option (Instr × ℕ) → Stepped → Regs → Memory → Regs → Type 0
 Leaves at Done regs m after = Unit {0}
-Leaves at (Call target ret) regs m after = after ≡ with_pc (with_reg regs 14 ret) target
+Leaves at (Call target ret) regs m after = after ≡ with_pc (with_reg regs LR ret) target
 Leaves at (Return to) regs m after = Returned at to regs m after
 Leaves at (Gate number) regs m after = (size : ℕ) × (at ≡ Some (Svc number, size)) × (after ≡ with_next size regs)
 Leaves at (Trap trap) regs m after = after ≡ regs

@@ -3,6 +3,7 @@ use Rattle.std.specs.Prelude.{ℕ, ◌+◌, ◌-◌, ◌*◌, ◌%◌, ◌^◌, 
 use Rattle.std.specs.Int.{bit_at}
 use Rattle.eh_bus.specs.Memory.{Memory, store_run}
 use Rattle.eh_bus.specs.declared.fault.BusFault.{BusFault}
+use Rattle.thumb_core.specs.declared.regs.TheConstants.{SP, PC}
 use Rattle.thumb_core.specs.declared.regs.Regs.{Regs}
 use Rattle.thumb_core.specs.declared.regs.Stepped.{Stepped}
 use Rattle.thumb_core.specs.declared.regs.Stepped.TheVariants.{Done}
@@ -23,8 +24,8 @@ bytes_of mask = 4 * length (listed mask)
 -- PUSH: the words stand below the old sp, the lowest register lowest, and sp stands at the first
 abbrev pub push : ℕ → ℕ → Regs → Memory → Outcome
 push mask size regs m =
-    let a = (reg regs 13 + (2 ^ 32 - bytes_of mask)) % 2 ^ 32 in
-    store_end (store_run m a (words_of mask regs)) size regs (with_reg regs 13 a)
+    let a = (reg regs SP + (2 ^ 32 - bytes_of mask)) % 2 ^ 32 in
+    store_end (store_run m a (words_of mask regs)) size regs (with_reg regs SP a)
 
 -- STM: the words stand from register n on, which then stands behind them. Its own word is the old value
 abbrev pub stm : ℕ → ℕ → ℕ → Regs → Memory → Outcome
@@ -54,10 +55,10 @@ pop_to false target size regs after = (Done, with_next size after)
 abbrev pub pop_end : Result (List ℕ) BusFault → ℕ → ℕ → Regs → Memory → Outcome
 pop_end (Ok r) mask size regs m =
     with_memory
-    (pop_to (bit_at mask 15 == 1) (slice_index r 15) size regs (with_all regs (put r 13 (reg regs 13 + bytes_of mask))))
+    (pop_to (bit_at mask PC == 1) (slice_index r PC) size regs (with_all regs (put r SP (reg regs SP + bytes_of mask))))
     m
 pop_end (Err fault) mask size regs m = fault_outcome fault regs m
 
 -- POP
 abbrev pub pop : ℕ → ℕ → Regs → Memory → Outcome
-pop mask size regs m = pop_end (load_list mask (reg regs 13) regs m) mask size regs m
+pop mask size regs m = pop_end (load_list mask (reg regs SP) regs m) mask size regs m

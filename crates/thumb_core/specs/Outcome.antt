@@ -12,7 +12,14 @@ use Rattle.thumb_core.specs.Registers.{with_next}
 abbrev pub Outcome : Type 0
 Outcome = Stepped × Regs × Memory
 
+-- a plain end, which leaves these registers
+abbrev pub done : Regs → Stepped × Regs
+done after = (Done, after)
+
 -- a fault of the memory: nothing is changed
+abbrev pub refused : BusFault → Regs → Stepped × Regs
+refused fault regs = (Trap (trap.Memory fault), regs)
+
 abbrev pub fault_outcome : BusFault → Regs → Memory → Outcome
 fault_outcome fault regs m = (Trap (trap.Memory fault), regs, m)
 

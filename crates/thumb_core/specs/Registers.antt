@@ -1,5 +1,6 @@
 -- Registers and flags: how an instruction reads and writes them.
 use Rattle.std.specs.Prelude.{ℕ, ◌+◌, ◌-◌, ◌%◌, ◌^◌, ◌==◌, nat_le, List, [], ◌∷◌, ◌++◌, take, slice_index, slice_set, if◌then◌else◌}
+use Rattle.thumb_core.specs.declared.regs.TheConstants.{SP, PC}
 use Rattle.thumb_core.specs.declared.regs.Regs.{Regs}
 use Rattle.thumb_core.specs.declared.arith.Sum.{Sum}
 
@@ -11,7 +12,7 @@ even x = x - x % 2
 
 -- what register d keeps of x; a write to sp clears bits 1 and 0
 abbrev pub word_in : ℕ → ℕ → ℕ
-word_in d x = if d == 13 then x % 2 ^ 32 - x % 2 ^ 32 % 4 else x % 2 ^ 32
+word_in d x = if d == SP then x % 2 ^ 32 - x % 2 ^ 32 % 4 else x % 2 ^ 32
 
 -- x written to register d of a list of registers
 abbrev pub put : List ℕ → ℕ → ℕ → List ℕ
@@ -51,7 +52,7 @@ pc_read regs = (regs.pc + 4) % 2 ^ 32
 
 -- a register as an operand, pc among them
 abbrev pub operand : Regs → ℕ → ℕ
-operand regs k = if k == 15 then pc_read regs else reg regs k
+operand regs k = if k == PC then pc_read regs else reg regs k
 
 -- pc as an operand, rounded down to a multiple of 4
 abbrev pub base : Regs → ℕ

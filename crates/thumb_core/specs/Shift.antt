@@ -1,5 +1,6 @@
 -- Shifts on whole numbers, with the last bit that goes out.
 use Rattle.std.specs.Prelude.{ℕ, ◌-◌, ◌*◌, ◌/◌, ◌%◌, ◌^◌, pos, Bool, ◌==◌, nat_le, if◌then◌else◌}
+use Rattle.thumb_core.specs.declared.shift.TheConstants.{LSL, LSR}
 use Rattle.std.specs.Int.{cast_signed, cast_unsigned, w32, int_div_euclid, rotate_right}
 
 -- LSL: x times 2 ^ n. What is left of it in 32 bits, and the lowest bit that is lost
@@ -16,11 +17,11 @@ signed_shift x n =
     let signed = cast_signed w32 x in
     (cast_unsigned w32 (int_div_euclid signed (pos (2 ^ n))), cast_unsigned w32 (int_div_euclid signed (pos (2 ^ (n - 1)))) % 2 == 1)
 
--- LSL, LSR and ASR, numbered 0, 1 and 2. A shift by 0 leaves the carry
+-- LSL, LSR and ASR. A shift by 0 leaves the carry
 abbrev pub shift_of : ℕ → ℕ → ℕ → Bool → ℕ × Bool
 shift_of op x n carry =
     if n == 0 then (x, carry)
-    else (if op == 0 then left_shift x n else (if op == 1 then right_shift x n else signed_shift x n))
+    else (if op == LSL then left_shift x n else (if op == LSR then right_shift x n else signed_shift x n))
 
 -- ROR: x turned right by n bits, and the bit that comes to the top
 abbrev pub rotation_of : ℕ → ℕ → Bool → ℕ × Bool

@@ -4,6 +4,8 @@ use Rattle.std.specs.Prelude.{ℕ, ◌≡◌, ◌+◌, ◌-◌, ◌%◌, ◌^◌
 use Rattle.thumb_isa.specs.declared.instr.Instr.{Instr}
 use Rattle.thumb_isa.specs.declared.instr.Instr.TheVariants.{MemReg, MemImm, MemSp, Push, Stm}
 use Rattle.eh_bus.specs.Memory.{Memory, load, fetch}
+use Rattle.thumb_core.specs.declared.access.TheConstants.{STR_REG, STRH_REG, STRB_REG, STR_IMM, LDR_IMM, STRB_IMM, LDRB_IMM, STRH_IMM}
+use Rattle.thumb_core.specs.declared.regs.TheConstants.{SP}
 use Rattle.thumb_core.specs.declared.regs.Regs.{Regs}
 use Rattle.thumb_core.specs.Registers.{reg}
 use Rattle.thumb_core.specs.Data.{forward}
@@ -26,24 +28,25 @@ Misses s a n = (k : ℕ) → k < n → ¬ Covers s (a + k)
 abbrev pub span : ℕ → ℕ → Option Span
 span a n = Some (record { start = a; size = n })
 
--- STR STRH STRB at the sum of two registers, numbered 0 to 2; what follows them loads
+-- the stores among the loads and stores at the sum of two registers
 abbrev pub reg_span : ℕ → ℕ → Option Span
-reg_span op a = if op == 0 then span a 4 else (if op == 1 then span a 2 else (if op == 2 then span a 1 else None))
+reg_span op a =
+    if op == STR_REG then span a 4 else (if op == STRH_REG then span a 2 else (if op == STRB_REG then span a 1 else None))
 
--- STR LDR STRB LDRB STRH LDRH at a register and an offset, numbered 0 to 5
+-- those at a register and an offset
 abbrev pub imm_span : ℕ → ℕ → Option Span
 imm_span op a =
-    if op == 0 then span a 4 else (if op == 1 then None else (
-    if op == 2 then span a 1 else (if op == 3 then None else (
-    if op == 4 then span a 2 else None))))
+    if op == STR_IMM then span a 4 else (if op == LDR_IMM then None else (
+    if op == STRB_IMM then span a 1 else (if op == LDRB_IMM then None else (
+    if op == STRH_IMM then span a 2 else None))))
 
 -- the bytes that an instruction stores to unless it traps, and None for one that stores nothing
 abbrev pub stores_of : Instr → Regs → Option Span
 stores_of (MemReg op t n k) regs = reg_span op ((reg regs n + reg regs k) % 2 ^ 32)
 stores_of (MemImm op t n off) regs = imm_span op (forward (reg regs n) off)
 stores_of (MemSp true t off) regs = None
-stores_of (MemSp false t off) regs = span (forward (reg regs 13) off) 4
-stores_of (Push list) regs = span ((reg regs 13 + (2 ^ 32 - bytes_of list)) % 2 ^ 32) (bytes_of list)
+stores_of (MemSp false t off) regs = span (forward (reg regs SP) off) 4
+stores_of (Push list) regs = span ((reg regs SP + (2 ^ 32 - bytes_of list)) % 2 ^ 32) (bytes_of list)
 stores_of (Stm n list) regs = span (reg regs n) (bytes_of list)
 stores_of i regs = None
 

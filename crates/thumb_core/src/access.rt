@@ -1,172 +1,167 @@
+//! Loads and stores of one register (docs/core.md, "Loads and stores").
 ghost use Rattle.std.specs.Prelude.{◌≡◌, ◌<◌};
-ghost use Rattle.thumb_core.specs.Access.{store_reg, load_reg, load_reg_signed, ldr_lit, mem_reg, mem_imm, mem_sp};
+ghost use Rattle.eh_bus.specs.Memory.{load};
+ghost use Rattle.thumb_core.specs.Access.{stored, loaded, signed, store_reg, load_reg, reg_access, imm_access, sp_access};
 
-use crate::data::{forward, signed_byte, signed_half};
-use crate::regs::{CoreTrap, Regs, SP, Stepped};
+use crate::data::{signed_byte, signed_half};
+use crate::regs::{CoreTrap, Regs, Stepped};
 use eh_bus::bus::Bus;
 use eh_bus::fault::BusFault;
+
+// The numbers of the operations of `Instr::MemReg`, which are the opcode field of their encoding.
+pub const STR_REG: u8 = 0;
+
+pub const STRH_REG: u8 = 1;
+
+pub const STRB_REG: u8 = 2;
+
+pub const LDRSB_REG: u8 = 3;
+
+pub const LDR_REG: u8 = 4;
+
+pub const LDRH_REG: u8 = 5;
+
+pub const LDRB_REG: u8 = 6;
+
+pub const LDRSH_REG: u8 = 7;
+
+// The numbers of the operations of `Instr::MemImm`.
+pub const STR_IMM: u8 = 0;
+
+pub const LDR_IMM: u8 = 1;
+
+pub const STRB_IMM: u8 = 2;
+
+pub const LDRB_IMM: u8 = 3;
+
+pub const STRH_IMM: u8 = 4;
+
+pub const LDRH_IMM: u8 = 5;
+
+/// Goes on behind a store, or refuses as it was refused.
+fn end_store(answer: Result<(), BusFault>, size: u32, regs: &mut Regs) -> Stepped
+    ensures { (result, regs.new) ≡ stored answer size regs.old regs.old }
+{
+    match answer {
+        Ok(()) => {
+            regs.advance(size);
+            Stepped::Done
+        }
+        Err(fault) => Stepped::Trap(CoreTrap::Memory(fault)),
+    }
+}
+
+/// Takes what was loaded and goes on, or refuses as it was refused.
+fn end_load(answer: Result<u32, BusFault>, t: u8, size: u32, regs: &mut Regs) -> Stepped
+    requires { t < 8 }
+    ensures { (result, regs.new) ≡ loaded answer t size regs.old }
+{
+    match answer {
+        Ok(value) => {
+            regs.put(t, value);
+            regs.advance(size);
+            Stepped::Done
+        }
+        Err(fault) => Stepped::Trap(CoreTrap::Memory(fault)),
+    }
+}
 
 fn store_word<B: Bus>(t: u8, a: u32, size: u32, regs: &mut Regs, bus: &mut B) -> Stepped
     requires { t < 8 }
     ensures { (result, regs.new, B.memory bus.new) ≡ store_reg 4 t a size regs.old (B.memory bus.old) }
 {
-    if let Err(fault) = bus.store32(a, regs.reg(t)) {
-        return Stepped::Trap(CoreTrap::Memory(fault));
-    }
-    regs.advance(size);
-    Stepped::Done
+    end_store(bus.store32(a, regs.reg(t)), size, regs)
 }
 
 fn store_half<B: Bus>(t: u8, a: u32, size: u32, regs: &mut Regs, bus: &mut B) -> Stepped
     requires { t < 8 }
     ensures { (result, regs.new, B.memory bus.new) ≡ store_reg 2 t a size regs.old (B.memory bus.old) }
 {
-    if let Err(fault) = bus.store16(a, (regs.reg(t) % 0x1_0000) as u16) {
-        return Stepped::Trap(CoreTrap::Memory(fault));
-    }
-    regs.advance(size);
-    Stepped::Done
+    end_store(bus.store16(a, (regs.reg(t) % 0x1_0000) as u16), size, regs)
 }
 
 fn store_byte<B: Bus>(t: u8, a: u32, size: u32, regs: &mut Regs, bus: &mut B) -> Stepped
     requires { t < 8 }
     ensures { (result, regs.new, B.memory bus.new) ≡ store_reg 1 t a size regs.old (B.memory bus.old) }
 {
-    if let Err(fault) = bus.store8(a, (regs.reg(t) % 0x100) as u8) {
-        return Stepped::Trap(CoreTrap::Memory(fault));
-    }
-    regs.advance(size);
-    Stepped::Done
+    end_store(bus.store8(a, (regs.reg(t) % 0x100) as u8), size, regs)
 }
 
-fn load_word<B: Bus>(t: u8, a: u32, size: u32, regs: &mut Regs, bus: &B) -> Stepped
+fn half_at<B: Bus>(a: u32, bus: &B) -> Result<u32, BusFault>
+    ensures { result ≡ load 2 (B.memory bus.now) a }
+{
+    Ok(u32::from(bus.load16(a)?))
+}
+
+fn byte_at<B: Bus>(a: u32, bus: &B) -> Result<u32, BusFault>
+    ensures { result ≡ load 1 (B.memory bus.now) a }
+{
+    Ok(u32::from(bus.load8(a)?))
+}
+
+fn signed_half_at<B: Bus>(a: u32, bus: &B) -> Result<u32, BusFault>
+    ensures { result ≡ signed 2 (load 2 (B.memory bus.now) a) }
+{
+    Ok(signed_half(half_at(a, bus)?))
+}
+
+fn signed_byte_at<B: Bus>(a: u32, bus: &B) -> Result<u32, BusFault>
+    ensures { result ≡ signed 1 (load 1 (B.memory bus.now) a) }
+{
+    Ok(signed_byte(byte_at(a, bus)?))
+}
+
+/// LDR.
+pub(crate) fn load_word<B: Bus>(t: u8, a: u32, size: u32, regs: &mut Regs, bus: &B) -> Stepped
     requires { t < 8 }
     ensures { (result, regs.new, B.memory bus.now) ≡ load_reg 4 t a size regs.old (B.memory bus.now) }
 {
-    match bus.load32(a) {
-        Ok(word) => {
-            regs.put(t, word);
-            regs.advance(size);
-            Stepped::Done
-        }
-        Err(fault) => Stepped::Trap(CoreTrap::Memory(fault)),
-    }
+    end_load(bus.load32(a), t, size, regs)
 }
 
-fn load_half<B: Bus>(t: u8, a: u32, size: u32, regs: &mut Regs, bus: &B) -> Stepped
-    requires { t < 8 }
-    ensures { (result, regs.new, B.memory bus.now) ≡ load_reg 2 t a size regs.old (B.memory bus.now) }
-{
-    match bus.load16(a) {
-        Ok(half) => {
-            regs.put(t, u32::from(half));
-            regs.advance(size);
-            Stepped::Done
-        }
-        Err(fault) => Stepped::Trap(CoreTrap::Memory(fault)),
-    }
-}
-
-fn load_byte<B: Bus>(t: u8, a: u32, size: u32, regs: &mut Regs, bus: &B) -> Stepped
-    requires { t < 8 }
-    ensures { (result, regs.new, B.memory bus.now) ≡ load_reg 1 t a size regs.old (B.memory bus.now) }
-{
-    match bus.load8(a) {
-        Ok(byte) => {
-            regs.put(t, u32::from(byte));
-            regs.advance(size);
-            Stepped::Done
-        }
-        Err(fault) => Stepped::Trap(CoreTrap::Memory(fault)),
-    }
-}
-
-fn load_signed_half<B: Bus>(t: u8, a: u32, size: u32, regs: &mut Regs, bus: &B) -> Stepped
-    requires { t < 8 }
-    ensures { (result, regs.new, B.memory bus.now) ≡ load_reg_signed 2 t a size regs.old (B.memory bus.now) }
-{
-    match bus.load16(a) {
-        Ok(half) => {
-            regs.put(t, signed_half(u32::from(half)));
-            regs.advance(size);
-            Stepped::Done
-        }
-        Err(fault) => Stepped::Trap(CoreTrap::Memory(fault)),
-    }
-}
-
-fn load_signed_byte<B: Bus>(t: u8, a: u32, size: u32, regs: &mut Regs, bus: &B) -> Stepped
-    requires { t < 8 }
-    ensures { (result, regs.new, B.memory bus.now) ≡ load_reg_signed 1 t a size regs.old (B.memory bus.now) }
-{
-    match bus.load8(a) {
-        Ok(byte) => {
-            regs.put(t, signed_byte(u32::from(byte)));
-            regs.advance(size);
-            Stepped::Done
-        }
-        Err(fault) => Stepped::Trap(CoreTrap::Memory(fault)),
-    }
-}
-
-/// LDR of a word near the instruction.
-pub(crate) fn ldr_lit<B: Bus>(t: u8, off: i32, size: u32, regs: &mut Regs, bus: &B) -> Stepped
-    requires { t < 8 }
-    ensures { (result, regs.new, B.memory bus.now) ≡ ldr_lit t off size regs.old (B.memory bus.now) }
-{
-    load_word(t, forward(regs.base(), off), size, regs, bus)
-}
-
-/// A load or a store at the sum of two registers.
+/// A load or a store whose address is the sum of two registers.
 pub(crate) fn mem_reg<B: Bus>(
     op: u8,
     t: u8,
-    n: u8,
-    m: u8,
+    a: u32,
     size: u32,
     regs: &mut Regs,
     bus: &mut B,
 ) -> Stepped
-    requires t_in { t < 8 }
-    requires n_in { n < 8 }
-    requires m_in { m < 8 }
-    ensures { (result, regs.new, B.memory bus.new) ≡ mem_reg op t n m size regs.old (B.memory bus.old) }
+    requires { t < 8 }
+    ensures { (result, regs.new, B.memory bus.new) ≡ reg_access op t a size regs.old (B.memory bus.old) }
 {
-    let a = regs.reg(n).wrapping_add(regs.reg(m));
     match op {
-        0 => store_word(t, a, size, regs, bus),
-        1 => store_half(t, a, size, regs, bus),
-        2 => store_byte(t, a, size, regs, bus),
-        3 => load_signed_byte(t, a, size, regs, bus),
-        4 => load_word(t, a, size, regs, bus),
-        5 => load_half(t, a, size, regs, bus),
-        6 => load_byte(t, a, size, regs, bus),
-        _ => load_signed_half(t, a, size, regs, bus),
+        STR_REG => store_word(t, a, size, regs, bus),
+        STRH_REG => store_half(t, a, size, regs, bus),
+        STRB_REG => store_byte(t, a, size, regs, bus),
+        LDRSB_REG => end_load(signed_byte_at(a, bus), t, size, regs),
+        LDR_REG => load_word(t, a, size, regs, bus),
+        LDRH_REG => end_load(half_at(a, bus), t, size, regs),
+        LDRB_REG => end_load(byte_at(a, bus), t, size, regs),
+        _ => end_load(signed_half_at(a, bus), t, size, regs),
     }
 }
 
-/// A load or a store at a register and an offset.
+/// A load or a store whose address is a register and an offset.
 pub(crate) fn mem_imm<B: Bus>(
     op: u8,
     t: u8,
-    n: u8,
-    off: i32,
+    a: u32,
     size: u32,
     regs: &mut Regs,
     bus: &mut B,
 ) -> Stepped
-    requires t_in { t < 8 }
-    requires n_in { n < 8 }
-    ensures { (result, regs.new, B.memory bus.new) ≡ mem_imm op t n off size regs.old (B.memory bus.old) }
+    requires { t < 8 }
+    ensures { (result, regs.new, B.memory bus.new) ≡ imm_access op t a size regs.old (B.memory bus.old) }
 {
-    let a = forward(regs.reg(n), off);
     match op {
-        0 => store_word(t, a, size, regs, bus),
-        1 => load_word(t, a, size, regs, bus),
-        2 => store_byte(t, a, size, regs, bus),
-        3 => load_byte(t, a, size, regs, bus),
-        4 => store_half(t, a, size, regs, bus),
-        _ => load_half(t, a, size, regs, bus),
+        STR_IMM => store_word(t, a, size, regs, bus),
+        LDR_IMM => load_word(t, a, size, regs, bus),
+        STRB_IMM => store_byte(t, a, size, regs, bus),
+        LDRB_IMM => end_load(byte_at(a, bus), t, size, regs),
+        STRH_IMM => store_half(t, a, size, regs, bus),
+        _ => end_load(half_at(a, bus), t, size, regs),
     }
 }
 
@@ -174,15 +169,14 @@ pub(crate) fn mem_imm<B: Bus>(
 pub(crate) fn mem_sp<B: Bus>(
     load: bool,
     t: u8,
-    off: i32,
+    a: u32,
     size: u32,
     regs: &mut Regs,
     bus: &mut B,
 ) -> Stepped
     requires { t < 8 }
-    ensures { (result, regs.new, B.memory bus.new) ≡ mem_sp load t off size regs.old (B.memory bus.old) }
+    ensures { (result, regs.new, B.memory bus.new) ≡ sp_access load t a size regs.old (B.memory bus.old) }
 {
-    let a = forward(regs.reg(SP), off);
     if load {
         load_word(t, a, size, regs, bus)
     } else {

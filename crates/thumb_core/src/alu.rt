@@ -1,9 +1,43 @@
+//! The sixteen operations on two low registers (docs/core.md, "Data").
 ghost use Rattle.std.specs.Prelude.{◌≡◌, ◌<◌};
 ghost use Rattle.thumb_core.specs.Alu.{logic, of_sum, of_shift, alu_of, alu, with_answer};
 
 use crate::arith::{Sum, add};
 use crate::regs::Regs;
-use crate::shift::{rotation_of, shift_of};
+use crate::shift::{self, rotation_of, shift_of};
+
+// The numbers of the operations of `Instr::Alu`, which are the opcode field of their encoding (DDI 0419, data processing).
+pub const AND: u8 = 0;
+
+pub const EOR: u8 = 1;
+
+pub const LSL: u8 = 2;
+
+pub const LSR: u8 = 3;
+
+pub const ASR: u8 = 4;
+
+pub const ADC: u8 = 5;
+
+pub const SBC: u8 = 6;
+
+pub const ROR: u8 = 7;
+
+pub const TST: u8 = 8;
+
+pub const RSB: u8 = 9;
+
+pub const CMP: u8 = 10;
+
+pub const CMN: u8 = 11;
+
+pub const ORR: u8 = 12;
+
+pub const MUL: u8 = 13;
+
+pub const BIC: u8 = 14;
+
+pub const MVN: u8 = 15;
 
 /// What an operation gives: the value, whether it is written to the register, and C and V.
 #[derive(Clone, Copy, PartialEq, Eq, Debug)]
@@ -70,26 +104,26 @@ fn of_shift(shift: (u32, bool), regs: &Regs) -> Answer
     }
 }
 
-/// AND EOR LSL LSR ASR ADC SBC ROR TST RSB CMP CMN ORR MUL BIC MVN, 0 to 15.
+/// What an operation gives of two words. A shift goes by the lowest byte of the second.
 fn alu_of(op: u8, x: u32, y: u32, regs: &Regs) -> Answer
     ensures { result ≡ alu_of op x y regs.now }
 {
     match op {
-        0 => logic(x & y, true, regs),
-        1 => logic(x ^ y, true, regs),
-        2 => of_shift(shift_of(0, x, y % 256, regs.c), regs),
-        3 => of_shift(shift_of(1, x, y % 256, regs.c), regs),
-        4 => of_shift(shift_of(2, x, y % 256, regs.c), regs),
-        5 => of_sum(add(x, y, regs.c), true),
-        6 => of_sum(add(x, !y, regs.c), true),
-        7 => of_shift(rotation_of(x, y % 256, regs.c), regs),
-        8 => logic(x & y, false, regs),
-        9 => of_sum(add(0, !y, true), true),
-        10 => of_sum(add(x, !y, true), false),
-        11 => of_sum(add(x, y, false), false),
-        12 => logic(x | y, true, regs),
-        13 => logic(x.wrapping_mul(y), true, regs),
-        14 => logic(x & !y, true, regs),
+        AND => logic(x & y, true, regs),
+        EOR => logic(x ^ y, true, regs),
+        LSL => of_shift(shift_of(shift::LSL, x, y % 256, regs.c), regs),
+        LSR => of_shift(shift_of(shift::LSR, x, y % 256, regs.c), regs),
+        ASR => of_shift(shift_of(shift::ASR, x, y % 256, regs.c), regs),
+        ADC => of_sum(add(x, y, regs.c), true),
+        SBC => of_sum(add(x, !y, regs.c), true),
+        ROR => of_shift(rotation_of(x, y % 256, regs.c), regs),
+        TST => logic(x & y, false, regs),
+        RSB => of_sum(add(0, !y, true), true),
+        CMP => of_sum(add(x, !y, true), false),
+        CMN => of_sum(add(x, y, false), false),
+        ORR => logic(x | y, true, regs),
+        MUL => logic(x.wrapping_mul(y), true, regs),
+        BIC => logic(x & !y, true, regs),
         _ => logic(!y, true, regs),
     }
 }

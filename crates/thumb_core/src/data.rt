@@ -1,10 +1,36 @@
+//! Instructions that change low registers, sp and flags alone, pc apart (docs/core.md, "Data").
 ghost use Rattle.std.specs.Prelude.{◌≡◌, ◌<◌};
 ghost use Rattle.thumb_core.specs.Arith.{sum_or_difference, sign_extension};
-ghost use Rattle.thumb_core.specs.Data.{forward, backward, with_value, with_sum, shift_imm, add_sub_reg, add_sub_imm, imm8, cmp_high, adr, add_rd_sp, add_sp, sub_sp, extension_of, extend, half_reversal, reversal_of, rev};
+ghost use Rattle.thumb_core.specs.Data.{forward, backward, with_value, with_sum, shift_imm, add_sub_reg, add_sub_imm, imm8, cmp_high, extension_of, half_reversal, reversal_of};
 
 use crate::arith::{Sum, add};
-use crate::regs::{Regs, SP};
+use crate::regs::Regs;
 use crate::shift::shift_of;
+
+// The numbers of the operations of `Instr::Imm8`.
+pub const MOV: u8 = 0;
+
+pub const CMP: u8 = 1;
+
+pub const ADD: u8 = 2;
+
+pub const SUB: u8 = 3;
+
+// The numbers of the operations of `Instr::Extend`.
+pub const SXTH: u8 = 0;
+
+pub const SXTB: u8 = 1;
+
+pub const UXTH: u8 = 2;
+
+pub const UXTB: u8 = 3;
+
+// The numbers of the operations of `Instr::Rev`.
+pub const REV: u8 = 0;
+
+pub const REV16: u8 = 1;
+
+pub const REVSH: u8 = 3;
 
 /// An address some bytes further on.
 pub(crate) fn forward(a: u32, off: i32) -> u32
@@ -14,7 +40,7 @@ pub(crate) fn forward(a: u32, off: i32) -> u32
 }
 
 /// An address some bytes further back.
-fn backward(a: u32, off: i32) -> u32
+pub(crate) fn backward(a: u32, off: i32) -> u32
     ensures { result ≡ backward a off }
 {
     a.wrapping_sub(off.cast_unsigned())
@@ -86,9 +112,9 @@ pub(crate) fn imm8(op: u8, d: u8, imm: u32, regs: &mut Regs)
 {
     let x = regs.reg(d);
     match op {
-        0 => set_value(d, imm, regs),
-        1 => regs.set_flags(sum_or_difference(true, x, imm)),
-        2 => set_sum(d, sum_or_difference(false, x, imm), regs),
+        MOV => set_value(d, imm, regs),
+        CMP => regs.set_flags(sum_or_difference(true, x, imm)),
+        ADD => set_sum(d, sum_or_difference(false, x, imm), regs),
         _ => set_sum(d, sum_or_difference(true, x, imm), regs),
     }
 }
@@ -101,40 +127,6 @@ pub(crate) fn cmp_high(n: u8, m: u8, regs: &mut Regs)
 {
     let difference = sum_or_difference(true, regs.operand(n), regs.operand(m));
     regs.set_flags(difference);
-}
-
-/// ADR.
-pub(crate) fn adr(d: u8, off: i32, regs: &mut Regs)
-    requires { d < 8 }
-    ensures { regs.new ≡ adr d off regs.old }
-{
-    let at = forward(regs.base(), off);
-    regs.put(d, at);
-}
-
-/// ADD of sp and a number, to a low register.
-pub(crate) fn add_rd_sp(d: u8, off: i32, regs: &mut Regs)
-    requires { d < 8 }
-    ensures { regs.new ≡ add_rd_sp d off regs.old }
-{
-    let at = forward(regs.reg(SP), off);
-    regs.put(d, at);
-}
-
-/// ADD to sp.
-pub(crate) fn add_sp(off: i32, regs: &mut Regs)
-    ensures { regs.new ≡ add_sp off regs.old }
-{
-    let at = forward(regs.reg(SP), off);
-    regs.put(SP, at);
-}
-
-/// SUB from sp.
-pub(crate) fn sub_sp(off: i32, regs: &mut Regs)
-    ensures { regs.new ≡ sub_sp off regs.old }
-{
-    let at = backward(regs.reg(SP), off);
-    regs.put(SP, at);
 }
 
 /// The lowest byte as a signed number.
@@ -153,25 +145,16 @@ pub(crate) fn signed_half(x: u32) -> u32
     if low < 0x8000 { low } else { low + 0xffff_0000 }
 }
 
-fn extension_of(op: u8, x: u32) -> u32
+/// What SXTH, SXTB, UXTH and UXTB give.
+pub(crate) fn extension_of(op: u8, x: u32) -> u32
     ensures { result ≡ extension_of op x }
 {
     match op {
-        0 => signed_half(x),
-        1 => signed_byte(x),
-        2 => x % 0x1_0000,
+        SXTH => signed_half(x),
+        SXTB => signed_byte(x),
+        UXTH => x % 0x1_0000,
         _ => x % 0x100,
     }
-}
-
-/// SXTH, SXTB, UXTH and UXTB.
-pub(crate) fn extend(op: u8, d: u8, m: u8, regs: &mut Regs)
-    requires d_in { d < 8 }
-    requires m_in { m < 8 }
-    ensures { regs.new ≡ extend op d m regs.old }
-{
-    let value = extension_of(op, regs.reg(m));
-    regs.put(d, value);
 }
 
 /// The two lowest bytes, the other way round.
@@ -182,22 +165,13 @@ fn half_reversal(x: u32) -> u32
     x / 0x100 % 0x100 + x % 0x100 * 0x100
 }
 
-fn reversal_of(op: u8, x: u32) -> u32
+/// What REV, REV16 and REVSH give.
+pub(crate) fn reversal_of(op: u8, x: u32) -> u32
     ensures { result ≡ reversal_of op x }
 {
     match op {
-        0 => half_reversal(x / 0x1_0000) + half_reversal(x) * 0x1_0000,
-        1 => half_reversal(x) + half_reversal(x / 0x1_0000) * 0x1_0000,
+        REV => half_reversal(x / 0x1_0000) + half_reversal(x) * 0x1_0000,
+        REV16 => half_reversal(x) + half_reversal(x / 0x1_0000) * 0x1_0000,
         _ => signed_half(half_reversal(x)),
     }
-}
-
-/// REV, REV16 and REVSH.
-pub(crate) fn rev(op: u8, d: u8, m: u8, regs: &mut Regs)
-    requires d_in { d < 8 }
-    requires m_in { m < 8 }
-    ensures { regs.new ≡ rev op d m regs.old }
-{
-    let value = reversal_of(op, regs.reg(m));
-    regs.put(d, value);
 }

@@ -1,3 +1,4 @@
+//! How a run ends: causes, traps and ends, which the machines above share (docs/core.md, "Ends").
 /// Why a run terminates: the C++ runtime would call `std::terminate`.
 #[derive(Clone, Copy, PartialEq, Eq, Debug)]
 pub enum Cause {

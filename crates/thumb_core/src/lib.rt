@@ -11,5 +11,3 @@ pub mod lists;
 pub mod regs;
 pub mod shift;
 pub mod step;
-#[cfg(test)]
-mod tests;

@@ -1,23 +1,24 @@
-ghost use Rattle.std.specs.Prelude.{◌≡◌, ◌^◌, ◌<◌, ◌≤◌, length, take, IfOk, IfErr, Ok, Err, slice_index, ◌==◌};
+//! PUSH, POP, STM and LDM (docs/core.md, "Lists"). A list names registers of the low eight, and lr or pc beside them.
+ghost use Rattle.std.specs.Prelude.{◌≡◌, ◌%◌, ◌^◌, ◌<◌, ◌≤◌, length, take, IfOk, IfErr, Ok, Err};
 ghost use Rattle.thumb_core.specs.Words.{load_words, loads_from, listed, words_in};
-ghost use Rattle.thumb_core.specs.Lists.{bytes_of, push, stm, ldm, pop, pop_to};
-ghost use Rattle.thumb_core.specs.Registers.{with_all};
-ghost use Rattle.std.specs.Int.{bit_at};
+ghost use Rattle.thumb_core.specs.Lists.{bytes_of, push, stm, ldm, pop};
 
-use crate::regs::{CoreTrap, PC, Regs, SP, Stepped, word_in};
+use crate::regs::{CoreTrap, LR, PC, Regs, SP, Stepped, word_in};
 use eh_bus::bus::Bus;
 use eh_bus::fault::BusFault;
 
-/// Puts the registers of a list into `words`, the lowest first, and says how many there are.
-#[tactic(auto, using(crate::proofs::Listed::listed_all, crate::proofs::Listed::listed_more, crate::proofs::Listed::listed_end))]
-fn list_words(list: u16, r: &[u32; 15], words: &mut [u32; 15]) -> usize
-    requires { list < 2 ^ 15 }
-    ensures within { result ≤ 15 }
+/// The most registers of a list: the low eight and one more.
+const MOST: usize = 9;
+
+/// Puts the low registers of a list into `words`, the lowest first, and says how many there are.
+#[tactic(auto, using(crate::proofs::Listed::listed_all, crate::proofs::Listed::listed_more, crate::proofs::Loaded::low_none))]
+fn low_words(list: u8, r: &[u32; 15], words: &mut [u32; MOST]) -> usize
+    ensures within { result ≤ 8 }
     ensures count { result ≡ length (listed list) }
     ensures words { take result words.new ≡ words_in r.now (listed list) }
 {
     let mut count = 0;
-    for k in 0..15 {
+    for k in 0..8 {
         if (list >> k) & 1 == 1 {
             words[count] = r[k];
             count += 1;
@@ -26,15 +27,31 @@ fn list_words(list: u16, r: &[u32; 15], words: &mut [u32; 15]) -> usize
     count
 }
 
-/// Loads the registers of a list from address `a` on, and says how many bytes their words take.
-#[tactic(auto, using(crate::proofs::Listed::listed_all, crate::proofs::Listed::listed_more, crate::proofs::Listed::listed_none))]
-fn load_list<B: Bus>(list: u16, a: u32, r: &mut [u32; 16], bus: &B) -> Result<u32, BusFault>
+/// The same of a list that may name lr.
+fn pushed_words(list: u16, r: &[u32; 15], words: &mut [u32; MOST]) -> usize
+    requires list_in { list < 2 ^ 15 }
+    requires low { list % 2 ^ 14 < 2 ^ 8 }
+    ensures within { result ≤ 9 }
+    ensures count { result ≡ length (listed list) }
+    ensures words { take result words.new ≡ words_in r.now (listed list) }
+{
+    let count = low_words((list % 0x100) as u8, r, words);
+    if (list >> LR) & 1 == 0 {
+        return count;
+    }
+    words[count] = r[LR as usize];
+    count + 1
+}
+
+/// Loads the low registers of a list from address `a` on, and says how many bytes their words take.
+#[tactic(auto, using(crate::proofs::Listed::listed_all, crate::proofs::Listed::listed_more, crate::proofs::Loaded::low_none))]
+fn load_low<B: Bus>(list: u8, a: u32, r: &mut [u32; 15], bus: &B) -> Result<u32, BusFault>
     ensures bytes { IfOk result (λ n. n ≡ bytes_of list) }
     ensures ok { IfOk result (λ n. load_words (B.memory bus.now).segments a (loads_from 0 (listed list)) r.old ≡ Ok r.new) }
     ensures fault { IfErr result (λ fault. load_words (B.memory bus.now).segments a (loads_from 0 (listed list)) r.old ≡ Err fault) }
 {
     let mut at = 0;
-    for k in 0..16u8 {
+    for k in 0..8u8 {
         if (list >> k) & 1 == 1 {
             match bus.load32(a.wrapping_add(at)) {
                 Ok(word) => r[k as usize] = word_in(k, word),
@@ -48,11 +65,12 @@ fn load_list<B: Bus>(list: u16, a: u32, r: &mut [u32; 16], bus: &B) -> Result<u3
 
 /// PUSH.
 pub(crate) fn push<B: Bus>(list: u16, size: u32, regs: &mut Regs, bus: &mut B) -> Stepped
-    requires { list < 2 ^ 15 }
+    requires list_in { list < 2 ^ 15 }
+    requires low { list % 2 ^ 14 < 2 ^ 8 }
     ensures { (result, regs.new, B.memory bus.new) ≡ push list size regs.old (B.memory bus.old) }
 {
-    let mut words = [0; 15];
-    let count = list_words(list, &regs.r, &mut words);
+    let mut words = [0; MOST];
+    let count = pushed_words(list, &regs.r, &mut words);
     let a = regs.reg(SP).wrapping_sub(4 * count as u32);
     if let Err(fault) = bus.store_run(a, &words[..count]) {
         return Stepped::Trap(CoreTrap::Memory(fault));
@@ -65,11 +83,11 @@ pub(crate) fn push<B: Bus>(list: u16, size: u32, regs: &mut Regs, bus: &mut B) -
 /// STM.
 pub(crate) fn stm<B: Bus>(n: u8, list: u16, size: u32, regs: &mut Regs, bus: &mut B) -> Stepped
     requires n_in { n < 8 }
-    requires list_in { list < 2 ^ 15 }
+    requires list_in { list < 2 ^ 8 }
     ensures { (result, regs.new, B.memory bus.new) ≡ stm n list size regs.old (B.memory bus.old) }
 {
-    let mut words = [0; 15];
-    let count = list_words(list, &regs.r, &mut words);
+    let mut words = [0; MOST];
+    let count = low_words(list as u8, &regs.r, &mut words);
     let a = regs.reg(n);
     if let Err(fault) = bus.store_run(a, &words[..count]) {
         return Stepped::Trap(CoreTrap::Memory(fault));
@@ -81,17 +99,18 @@ pub(crate) fn stm<B: Bus>(n: u8, list: u16, size: u32, regs: &mut Regs, bus: &mu
 
 /// LDM.
 pub(crate) fn ldm<B: Bus>(n: u8, list: u16, size: u32, regs: &mut Regs, bus: &B) -> Stepped
-    requires { n < 8 }
+    requires n_in { n < 8 }
+    requires list_in { list < 2 ^ 8 }
     ensures { (result, regs.new, B.memory bus.now) ≡ ldm n list size regs.old (B.memory bus.now) }
 {
-    let mut r = regs.all();
     let a = regs.reg(n);
-    match load_list(list, a, &mut r, bus) {
+    let mut r = regs.r;
+    match load_low(list as u8, a, &mut r, bus) {
         Ok(bytes) => {
+            regs.r = r;
             if (list >> n) & 1 == 0 {
-                r[n as usize] = a.wrapping_add(bytes);
+                regs.put(n, a.wrapping_add(bytes));
             }
-            regs.set_all(&r);
             regs.advance(size);
             Stepped::Done
         }
@@ -99,35 +118,32 @@ pub(crate) fn ldm<B: Bus>(n: u8, list: u16, size: u32, regs: &mut Regs, bus: &B)
     }
 }
 
-/// POP.
+/// POP. Nothing is changed before all of its words are loaded and pc's is known to be odd.
 pub(crate) fn pop<B: Bus>(list: u16, size: u32, regs: &mut Regs, bus: &B) -> Stepped
+    requires { list % 2 ^ 15 < 2 ^ 8 }
     ensures { (result, regs.new, B.memory bus.now) ≡ pop list size regs.old (B.memory bus.now) }
 {
-    let mut r = regs.all();
     let a = regs.reg(SP);
-    match load_list(list, a, &mut r, bus) {
-        Ok(bytes) => {
-            r[SP as usize] = word_in(SP, a.wrapping_add(bytes));
-            leave(list, &r, size, regs)
-        }
-        Err(fault) => Stepped::Trap(CoreTrap::Memory(fault)),
-    }
-}
-
-/// Takes the registers of a POP, and goes to the word that it loaded into pc, if it loaded one.
-fn leave(list: u16, r: &[u32; 16], size: u32, regs: &mut Regs) -> Stepped
-    ensures { (result, regs.new) ≡ pop_to (bit_at list 15 == 1) (slice_index r.now 15) size regs.old (with_all regs.old r.now) }
-{
+    let mut r = regs.r;
+    let behind = match load_low((list % 0x100) as u8, a, &mut r, bus) {
+        Ok(bytes) => a.wrapping_add(bytes),
+        Err(fault) => return Stepped::Trap(CoreTrap::Memory(fault)),
+    };
     if (list >> PC) & 1 == 0 {
-        regs.set_all(r);
+        regs.r = r;
+        regs.put(SP, behind);
         regs.advance(size);
         return Stepped::Done;
     }
-    let target = r[PC as usize];
+    let target = match bus.load32(behind) {
+        Ok(word) => word,
+        Err(fault) => return Stepped::Trap(CoreTrap::Memory(fault)),
+    };
     if target % 2 == 0 {
         return Stepped::Trap(CoreTrap::EvenTarget(target));
     }
-    regs.set_all(r);
+    regs.r = r;
+    regs.put(SP, behind.wrapping_add(4));
     regs.go_to(target);
     Stepped::Return { to: target }
 }

@@ -1,7 +1,10 @@
-ghost use Rattle.std.specs.Prelude.{◌≡◌, ◌<◌};
-ghost use Rattle.thumb_core.specs.Registers.{word_in, even, with_reg, with_pc, with_nz, with_flags, with_next, reg, pc_read, operand, base, all_of, with_all};
+//! Registers, flags, and what a step answers (docs/core.md, "Registers" and "What a step answers").
+ghost use Rattle.std.specs.Prelude.{◌≡◌, ◌+◌, ◌%◌, ◌^◌, ◌<◌};
+ghost use Rattle.thumb_core.specs.Data.{forward};
+ghost use Rattle.thumb_core.specs.Registers.{word_in, even, with_reg, with_pc, with_nz, with_flags, with_next, reg, pc_read, operand, base};
 
 use crate::arith::Sum;
+use crate::data::forward;
 use eh_bus::fault::BusFault;
 
 /// The number of the stack pointer.
@@ -116,6 +119,23 @@ impl Regs {
         self.r[k as usize]
     }
 
+    /// The address some bytes beyond the one in a register.
+    pub(crate) fn at(&self, k: u8, off: i32) -> u32
+        requires { k < 15 }
+        ensures { result ≡ forward (reg self.now k) off }
+    {
+        forward(self.reg(k), off)
+    }
+
+    /// The address that is the sum of two registers.
+    pub(crate) fn sum(&self, n: u8, m: u8) -> u32
+        requires n_in { n < 15 }
+        requires m_in { m < 15 }
+        ensures { result ≡ (reg self.now n + reg self.now m) % 2 ^ 32 }
+    {
+        self.reg(n).wrapping_add(self.reg(m))
+    }
+
     /// pc as an operand: the instruction's address plus 4.
     pub(crate) fn pc_read(&self) -> u32
         ensures { result ≡ pc_read self.now }
@@ -137,21 +157,5 @@ impl Regs {
     {
         let at = self.pc_read();
         at - at % 4
-    }
-
-    /// r0 to r14 and pc, in this order.
-    pub(crate) fn all(&self) -> [u32; 16]
-        ensures { result ≡ all_of self.now }
-    {
-        let mut all = [self.pc; 16];
-        all[..15].copy_from_slice(&self.r);
-        all
-    }
-
-    /// Takes the first fifteen of `all` as r0 to r14.
-    pub(crate) fn set_all(&mut self, all: &[u32; 16])
-        ensures { self.new ≡ with_all self.old all.now }
-    {
-        self.r.copy_from_slice(&all[..15]);
     }
 }

@@ -1,7 +1,15 @@
+//! Shifts with the last bit that goes out (docs/core.md, "Shifts").
 ghost use Rattle.std.specs.Prelude.{◌≡◌, ◌<◌};
 ghost use Rattle.thumb_core.specs.Shift.{shift_of, left_shift, right_shift, signed_shift, rotation_of};
 
-/// LSL, LSR or ASR (0, 1, 2) with the last bit that goes out. A shift by 0 leaves the carry.
+// The numbers of the shifts of `Instr::ShiftImm`.
+pub const LSL: u8 = 0;
+
+pub const LSR: u8 = 1;
+
+pub const ASR: u8 = 2;
+
+/// LSL, LSR or ASR with the last bit that goes out. A shift by 0 leaves the carry.
 pub(crate) fn shift_of(op: u8, x: u32, n: u32, carry: bool) -> (u32, bool)
     ensures { result ≡ shift_of op x n carry }
 {
@@ -9,8 +17,8 @@ pub(crate) fn shift_of(op: u8, x: u32, n: u32, carry: bool) -> (u32, bool)
         return (x, carry);
     }
     match op {
-        0 => left_shift(x, n),
-        1 => right_shift(x, n),
+        LSL => left_shift(x, n),
+        LSR => right_shift(x, n),
         _ => signed_shift(x, n),
     }
 }

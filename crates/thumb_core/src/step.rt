@@ -1,20 +1,19 @@
+//! A step: fetches, decodes and does the instruction at pc (docs/core.md, "One step, in order").
 ghost use Rattle.std.specs.Prelude.{◌≡◌, ℕ, ◌^◌, ◌<◌, slice_index};
 ghost use Rattle.thumb_isa.specs.Range.{InRange};
-ghost use Rattle.thumb_core.specs.Branch.{register_effect};
-ghost use Rattle.thumb_core.specs.Data.{data_effect};
 ghost use Rattle.thumb_core.specs.Laws.{AreSound, KeepsMap, Leaves, LeavesMemory, OnTrap, Stands};
 ghost use Rattle.thumb_core.specs.Step.{step_of, effect, instr_at};
 ghost use Rattle.thumb_core.specs.Stores.{KeepsApart, stores_at};
 
-use crate::access::{ldr_lit, mem_imm, mem_reg, mem_sp};
+use crate::access::{load_word, mem_imm, mem_reg, mem_sp};
 use crate::alu::alu;
-use crate::branch::{add_high, bl, blx, branch, branch_if, bx, mov_high, svc};
+use crate::branch::{add_high, b, bl, blx, branch_if, bx, mov_high, svc};
 use crate::data::{
-    add_rd_sp, add_sp, add_sub_imm, add_sub_reg, adr, cmp_high, extend, imm8, rev, shift_imm,
-    sub_sp,
+    add_sub_imm, add_sub_reg, backward, cmp_high, extension_of, forward, imm8, reversal_of,
+    shift_imm,
 };
 use crate::lists::{ldm, pop, push, stm};
-use crate::regs::{CoreTrap, Regs, Stepped};
+use crate::regs::{CoreTrap, Regs, SP, Stepped};
 use eh_bus::bus::Bus;
 use thumb_isa::decode::{decode, is_wide};
 use thumb_isa::instr::{Decoded, Instr};
@@ -69,50 +68,10 @@ fn perform<B: Bus>(regs: &mut Regs, bus: &mut B) -> Stepped
     }
 }
 
-/// Loads and stores; the others leave the memory alone.
+/// Does an instruction: the one match by instruction. What the arms of data leave goes on behind the instruction.
 fn execute<B: Bus>(i: Instr, size: u32, regs: &mut Regs, bus: &mut B) -> Stepped
     requires { InRange i }
     ensures { (result, regs.new, B.memory bus.new) ≡ effect i size regs.old (B.memory bus.old) }
-{
-    match i {
-        Instr::LdrLit { t, off } => ldr_lit(t, off, size, regs, bus),
-        Instr::MemReg { op, t, n, m } => mem_reg(op, t, n, m, size, regs, bus),
-        Instr::MemImm { op, t, n, off } => mem_imm(op, t, n, off, size, regs, bus),
-        Instr::MemSp { load, t, off } => mem_sp(load, t, off, size, regs, bus),
-        Instr::Push { list } => push(list, size, regs, bus),
-        Instr::Pop { list } => pop(list, size, regs, bus),
-        Instr::Stm { n, list } => stm(n, list, size, regs, bus),
-        Instr::Ldm { n, list } => ldm(n, list, size, regs, bus),
-        _ => change_registers(i, size, regs),
-    }
-}
-
-/// Branches and writes of high registers; the others go on to the next instruction.
-fn change_registers(i: Instr, size: u32, regs: &mut Regs) -> Stepped
-    requires { InRange i }
-    ensures { (result, regs.new) ≡ register_effect i size regs.old }
-{
-    match i {
-        Instr::AddHigh { d, m } => add_high(d, m, size, regs),
-        Instr::MovHigh { d, m } => mov_high(d, m, size, regs),
-        Instr::BCond { cond, off } => branch_if(cond, off, size, regs),
-        Instr::B { off } => branch(off, regs),
-        Instr::Bl { off } => return bl(off, size, regs),
-        Instr::Blx { m } => return blx(m, size, regs),
-        Instr::Bx { m } => return bx(m, regs),
-        Instr::Svc { imm } => return svc(imm, size, regs),
-        _ => {
-            compute(i, regs);
-            regs.advance(size);
-        }
-    }
-    Stepped::Done
-}
-
-/// Instructions that change registers and flags, pc apart.
-fn compute(i: Instr, regs: &mut Regs)
-    requires { InRange i }
-    ensures { regs.new ≡ data_effect i regs.old }
 {
     match i {
         Instr::ShiftImm { op, d, m, n } => shift_imm(op, d, m, n, regs),
@@ -121,13 +80,33 @@ fn compute(i: Instr, regs: &mut Regs)
         Instr::Imm8 { op, d, imm } => imm8(op, d, imm, regs),
         Instr::Alu { op, d, m } => alu(op, d, m, regs),
         Instr::CmpHigh { n, m } => cmp_high(n, m, regs),
-        Instr::Adr { d, off } => adr(d, off, regs),
-        Instr::AddRdSp { d, off } => add_rd_sp(d, off, regs),
-        Instr::AddSp { off } => add_sp(off, regs),
-        Instr::SubSp { off } => sub_sp(off, regs),
-        Instr::Extend { op, d, m } => extend(op, d, m, regs),
-        Instr::Rev { op, d, m } => rev(op, d, m, regs),
-        // hints and barriers do nothing, and the others were met before
-        _ => {}
+        Instr::Adr { d, off } => regs.put(d, forward(regs.base(), off)),
+        Instr::AddRdSp { d, off } => regs.put(d, regs.at(SP, off)),
+        Instr::AddSp { off } => regs.put(SP, regs.at(SP, off)),
+        Instr::SubSp { off } => regs.put(SP, backward(regs.reg(SP), off)),
+        Instr::Extend { op, d, m } => regs.put(d, extension_of(op, regs.reg(m))),
+        Instr::Rev { op, d, m } => regs.put(d, reversal_of(op, regs.reg(m))),
+        Instr::Hint { .. } => {}
+        Instr::Barrier { .. } => {}
+        Instr::AddHigh { d, m } => return add_high(d, m, size, regs),
+        Instr::MovHigh { d, m } => return mov_high(d, m, size, regs),
+        Instr::BCond { cond, off } => return branch_if(cond, off, size, regs),
+        Instr::B { off } => return b(off, regs),
+        Instr::Bl { off } => return bl(off, size, regs),
+        Instr::Blx { m } => return blx(m, size, regs),
+        Instr::Bx { m } => return bx(m, regs),
+        Instr::Svc { imm } => return svc(imm, size, regs),
+        Instr::LdrLit { t, off } => {
+            return load_word(t, forward(regs.base(), off), size, regs, bus);
+        }
+        Instr::MemReg { op, t, n, m } => return mem_reg(op, t, regs.sum(n, m), size, regs, bus),
+        Instr::MemImm { op, t, n, off } => return mem_imm(op, t, regs.at(n, off), size, regs, bus),
+        Instr::MemSp { load, t, off } => return mem_sp(load, t, regs.at(SP, off), size, regs, bus),
+        Instr::Push { list } => return push(list, size, regs, bus),
+        Instr::Pop { list } => return pop(list, size, regs, bus),
+        Instr::Stm { n, list } => return stm(n, list, size, regs, bus),
+        Instr::Ldm { n, list } => return ldm(n, list, size, regs, bus),
     }
+    regs.advance(size);
+    Stepped::Done
 }

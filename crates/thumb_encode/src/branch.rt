@@ -1,3 +1,4 @@
+//! Codes of branches, calls, gates and barriers; docs/instruction-set.md states the ranges.
 ghost use Rattle.std.specs.Prelude.{◌≡◌, ℕ, ◌*◌, ◌^◌, ◌<◌, ◌≤◌, ℤ, pos, IfOk};
 ghost use Rattle.thumb_isa.specs.Fields.{signed_half};
 ghost use Rattle.thumb_isa.specs.Rows.{decoded_of};

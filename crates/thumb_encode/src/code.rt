@@ -1,3 +1,4 @@
+//! The code of an instruction, and why it has none.
 /// The code of one instruction: its halfwords in the order of their addresses.
 #[derive(Clone, Copy, PartialEq, Eq, Debug)]
 pub enum Code {

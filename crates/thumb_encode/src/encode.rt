@@ -1,3 +1,4 @@
+//! From an instruction to its code, the inverse of the decoder; docs/instruction-set.md states the table.
 ghost use Rattle.std.specs.Prelude.{◌≡◌, IfOk, OnErr};
 ghost use Rattle.thumb_encode.specs.Codes.{IsCodeOf, HasNoCode, GivesBack, encoded_of};
 
@@ -55,6 +56,3 @@ fn code_of(i: &Instr) -> Result<Code, EncodeFault>
         Instr::Barrier { op, option } => branch::barrier(op, option),
     }
 }
-
-#[cfg(test)]
-mod tests;

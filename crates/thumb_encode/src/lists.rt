@@ -1,3 +1,4 @@
+//! Codes of PUSH, POP, STM and LDM.
 ghost use Rattle.std.specs.Prelude.{◌≡◌, ℕ, ◌*◌, ◌^◌, ◌<◌, ◌≤◌, ℤ, pos, IfOk};
 ghost use Rattle.thumb_isa.specs.Rows.{decoded_of};
 ghost use Rattle.thumb_isa.specs.declared.instr.Decoded.TheVariants.{Is};

@@ -1,3 +1,4 @@
+//! Operands in the fields of a code: which fit, and where they stand.
 ghost use Rattle.std.specs.Prelude.{◌≡◌, ◌+◌, ◌*◌, ◌/◌, ◌%◌, ◌^◌, ◌<◌, ◌≤◌, pos, IfOk};
 ghost use Rattle.thumb_isa.specs.Fields.{signed_half};
 ghost use Rattle.thumb_encode.specs.Codes.{target_field, offset_field};
@@ -37,15 +38,23 @@ pub fn target_field(off: i32, half: u32) -> Result<u32, EncodeFault>
     Ok(value as u32 / 2)
 }
 
+/// The field of an offset in bytes.
+pub fn byte_field(off: i32, largest: u16) -> Result<u16, EncodeFault>
+    ensures ok { IfOk result (λ field. (field ≤ largest) × (pos field ≡ off)) }
+    ensures exact { result ≡ offset_field 1 largest off }
+{
+    if off < 0 || off > i32::from(largest) {
+        return Err(EncodeFault::ImmediateRange);
+    }
+    Ok(off as u16)
+}
+
 /// The field of an offset in words.
 pub fn word_field(off: i32, largest: u16) -> Result<u16, EncodeFault>
     ensures ok { IfOk result (λ field. (field * 4 ≤ largest) × (pos (field * 4) ≡ off)) }
     ensures exact { result ≡ offset_field 4 largest off }
 {
-    if off < 0 || off > i32::from(largest) {
-        return Err(EncodeFault::ImmediateRange);
-    }
-    let bytes = off as u16;
+    let bytes = byte_field(off, largest)?;
     if bytes % 4 != 0 {
         return Err(EncodeFault::ImmediateAlign);
     }
@@ -57,23 +66,9 @@ pub fn half_field(off: i32, largest: u16) -> Result<u16, EncodeFault>
     ensures ok { IfOk result (λ field. (field * 2 ≤ largest) × (pos (field * 2) ≡ off)) }
     ensures exact { result ≡ offset_field 2 largest off }
 {
-    if off < 0 || off > i32::from(largest) {
-        return Err(EncodeFault::ImmediateRange);
-    }
-    let bytes = off as u16;
+    let bytes = byte_field(off, largest)?;
     if bytes % 2 != 0 {
         return Err(EncodeFault::ImmediateAlign);
     }
     Ok(bytes / 2)
-}
-
-/// The field of an offset in bytes.
-pub fn byte_field(off: i32, largest: u16) -> Result<u16, EncodeFault>
-    ensures ok { IfOk result (λ field. (field ≤ largest) × (pos field ≡ off)) }
-    ensures exact { result ≡ offset_field 1 largest off }
-{
-    if off < 0 || off > i32::from(largest) {
-        return Err(EncodeFault::ImmediateRange);
-    }
-    Ok(off as u16)
 }

@@ -1,3 +1,4 @@
+//! From halfwords to an instruction: the rows of specs/Rows.antt, cut by the top five bits. docs/instruction-set.md states the table.
 ghost use Rattle.std.specs.Prelude.{◌≡◌, ◌+◌, ◌*◌, ◌%◌, ◌^◌, ◌<◌, ◌≤◌, nat_le, ℕ};
 ghost use Rattle.thumb_isa.specs.Range.{IsInRange, IsBranch, IsOfSize, size_of};
 ghost use Rattle.thumb_isa.specs.Rows.{decoded_of, bl_offset};
@@ -469,6 +470,3 @@ fn branch_offset(first: u16, second: u16) -> i32
         | u32::from(field(second, 0, 11));
     sign_extend(value << 1, 0x100_0000)
 }
-
-#[cfg(test)]
-mod tests;

@@ -1,3 +1,4 @@
+//! Fields of a halfword and the extension of a sign; DDI 0419 writes encodings by them.
 ghost use Rattle.std.specs.Prelude.{◌≡◌, ◌*◌, ◌%◌, ◌^◌, ◌<◌, ◌≤◌};
 ghost use Rattle.thumb_isa.specs.Fields.{field, signed_half};
 ghost use Rattle.thumb_isa.specs.Range.{IsBranch};

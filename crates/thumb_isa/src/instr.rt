@@ -1,3 +1,4 @@
+//! The instructions of the ARMv6-M profile with their fields; docs/instruction-set.md lists the forms.
 /// One instruction of the ARMv6-M profile, with its fields.
 ///
 /// Registers are numbers 0 to 15 (13 is sp, 14 lr, 15 pc). A `list` has bit k set where register k is in it.

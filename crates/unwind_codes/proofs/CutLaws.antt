@@ -8,7 +8,7 @@ use Rattle.std.proofs.lemmas.Grind.{common_steps}
 use Rattle.std.proofs.lemmas.List.Elements.{All-head, All-tail}
 use Rattle.unwind_codes.specs.declared.code.Code.{Code}
 use Rattle.unwind_codes.specs.declared.code.Code.TheVariants.{Raise, Lower, Refuse, PopMask, Restore, PopRange, PopRangeAndLr, Finish, PopLow, RaiseLong}
-use Rattle.unwind_codes.specs.Bytes.{code_bytes, shortest_uleb128, IsCode}
+use Rattle.unwind_codes.specs.Bytes.{code_bytes, shortest_uleb128, IsCode, HasBytes}
 use Rattle.unwind_codes.specs.Table.{code_front}
 use Rattle.unwind_codes.specs.Cut.{Is, Bad, cut_behind, cut_from}
 use Rattle.unwind_codes.specs.Laws.{CodesAreCut, NumbersRead}
@@ -85,30 +85,30 @@ mask_cut mask place behind h = mask_cases (mask / 256 == 0) refl
 low_cut : (mask place : ℕ) (behind : List ℕ) → IsCode (PopLow mask) → cut_from place (code_bytes (PopLow mask) ++ behind) ≡ Is (PopLow mask) ∷ cut_from (place + 2) behind
 low_cut mask place behind h = one_cut (PopLow mask) 0xB1 (mask ∷ []) place behind (table.low 0xB1 mask behind refl h.0 h.1)
 
-long_cut : (words place : ℕ) (behind : List ℕ) → IsCode (RaiseLong words) → cut_from place (code_bytes (RaiseLong words) ++ behind) ≡ Is (RaiseLong words) ∷ cut_from (place + suc (length (shortest_uleb128 words))) behind
+long_cut : (words place : ℕ) (behind : List ℕ) → HasBytes (RaiseLong words) → cut_from place (code_bytes (RaiseLong words) ++ behind) ≡ Is (RaiseLong words) ∷ cut_from (place + suc (length (shortest_uleb128 words))) behind
 long_cut words place behind h =
     one_cut (RaiseLong words) 0xB2 (shortest_uleb128 words) place behind
     (table.long 0xB2 (shortest_uleb128 words ++ behind) refl ∙ ap (λ r. table.long_by (result_ok r)) (law_of_numbers words behind h)
     ∙ found (RaiseLong words) (RaiseLong words) (1 + length (shortest_uleb128 words)) (suc (length (shortest_uleb128 words))) refl (omega arith))
 
-each_cut : (code : Code) (place : ℕ) (behind : List ℕ) → IsCode code → cut_from place (code_bytes code ++ behind) ≡ Is code ∷ cut_from (place + length (code_bytes code)) behind
-each_cut (Raise words) place behind h = raise_cut words place behind h
-each_cut (Lower words) place behind h = lower_cut words place behind h
-each_cut Refuse place behind h = one_cut Refuse 0x80 (0 ∷ []) place behind (table.refuse 0x80 behind refl)
-each_cut (PopMask mask) place behind h = mask_cut mask place behind h
-each_cut (Restore register) place behind h = restore_cut register place behind h
-each_cut (PopRange last) place behind h = range_cut last place behind h
-each_cut (PopRangeAndLr last) place behind h = range_and_lr_cut last place behind h
-each_cut Finish place behind h = one_cut Finish 0xB0 [] place behind (table.finish 0xB0 behind refl)
-each_cut (PopLow mask) place behind h = low_cut mask place behind h
-each_cut (RaiseLong words) place behind h = long_cut words place behind h
+each_cut : (code : Code) (place : ℕ) (behind : List ℕ) → IsCode code → HasBytes code → cut_from place (code_bytes code ++ behind) ≡ Is code ∷ cut_from (place + length (code_bytes code)) behind
+each_cut (Raise words) place behind h fit = raise_cut words place behind h
+each_cut (Lower words) place behind h fit = lower_cut words place behind h
+each_cut Refuse place behind h fit = one_cut Refuse 0x80 (0 ∷ []) place behind (table.refuse 0x80 behind refl)
+each_cut (PopMask mask) place behind h fit = mask_cut mask place behind h
+each_cut (Restore register) place behind h fit = restore_cut register place behind h
+each_cut (PopRange last) place behind h fit = range_cut last place behind h
+each_cut (PopRangeAndLr last) place behind h fit = range_and_lr_cut last place behind h
+each_cut Finish place behind h fit = one_cut Finish 0xB0 [] place behind (table.finish 0xB0 behind refl)
+each_cut (PopLow mask) place behind h fit = low_cut mask place behind h
+each_cut (RaiseLong words) place behind h fit = long_cut words place behind fit
 
 pub law_of_codes : CodesAreCut
-law_of_codes [] place behind fit = ap (λ p. cut_from p behind) (let e : place ≡ place + 0 = omega arith in e)
-law_of_codes (code ∷ codes) place behind fit =
+law_of_codes [] place behind is fit = ap (λ p. cut_from p behind) (let e : place ≡ place + 0 = omega arith in e)
+law_of_codes (code ∷ codes) place behind is fit =
     let own : List ℕ = code_bytes code in
     let others : List ℕ = flat_map code_bytes codes in
     let all : place + length own + length others ≡ place + length (own ++ others) = omega (arith, length-append own others) in
     ap (cut_from place) (append_assoc own others behind)
-    ∙ each_cut code place (others ++ behind) (All-head IsCode code codes fit)
-    ∙ ap (λ l. Is code ∷ l) (law_of_codes codes (place + length own) behind (All-tail IsCode code codes fit) ∙ ap (λ p. map Is codes ++ cut_from p behind) all)
+    ∙ each_cut code place (others ++ behind) (All-head IsCode code codes is) (All-head HasBytes code codes fit)
+    ∙ ap (λ l. Is code ∷ l) (law_of_codes codes (place + length own) behind (All-tail IsCode code codes is) (All-tail HasBytes code codes fit) ∙ ap (λ p. map Is codes ++ cut_from p behind) all)

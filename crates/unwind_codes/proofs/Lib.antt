@@ -2,3 +2,4 @@ pub mod Search
 pub mod Table
 pub mod CutLaws
 pub mod RowLaws
+pub mod CutSteps

@@ -115,3 +115,7 @@ long first more e = long_cases (result_ok (uleb128_front more)) first more refl 
 
 pub none : (first : ℕ) (more : List ℕ) → 0xB3 ≤ first → first < 0x100 → code_front first more ≡ None
 none first more l h = front_like 0xB3 0x4D refl first l h more
+
+-- ---- the same in one set, for the search
+
+pub ruleset table = (raise, lower, refuse, mask_low, mask_low_alone, mask_high, mask_high_alone, mask_sp, restore, restore_none, range, range_and_lr, finish, low, low_alone, low_empty, low_high, none)

@@ -35,10 +35,11 @@ HasBytes Finish = Unit {0}
 HasBytes (PopLow mask) = mask < 16
 HasBytes (RaiseLong words) = words < 2 ^ 14
 
--- and the standard has that code: no mask is empty, and none has the stack pointer, r13; the virtual stack pointer is taken from
--- neither r13 nor r15
+-- the standard has that code: its fields fit, no mask is empty, and none has the stack pointer, r13; the virtual stack pointer is
+-- taken from neither r13 nor r15
 abbrev pub IsCode : Code → Type 0
 IsCode (PopMask mask) = (mask < 2 ^ 12) × (mask ≢ 0) × (bit_at mask 9 ≡ 0)
 IsCode (Restore register) = (register < 16) × (register ≢ 13) × (register ≢ 15)
 IsCode (PopLow mask) = (mask < 16) × (mask ≢ 0)
+IsCode (RaiseLong words) = words < 2 ^ 32
 IsCode code = HasBytes code

@@ -4,14 +4,14 @@ use Rattle.eh_word.specs.Words.{uleb128_front}
 use Rattle.unwind_codes.specs.declared.code.Code.{Code}
 use Rattle.unwind_codes.specs.declared.row.EntryBody.{EntryBody}
 use Rattle.unwind_codes.specs.declared.row.EntryBody.TheVariants.{CantUnwind, Inline, Table}
-use Rattle.unwind_codes.specs.Bytes.{code_bytes, shortest_uleb128, IsCode}
+use Rattle.unwind_codes.specs.Bytes.{code_bytes, shortest_uleb128, IsCode, HasBytes}
 use Rattle.unwind_codes.specs.Cut.{Is, cut_from}
 use Rattle.unwind_codes.specs.Rows.{body_of, second_word}
 
 -- the bytes of codes in front of others are cut into these codes, and the others as if they stood alone at their place
 abbrev pub CodesAreCut : Type 0
 CodesAreCut =
-    (codes : List Code) (place : ℕ) (behind : List ℕ) → All IsCode codes
+    (codes : List Code) (place : ℕ) (behind : List ℕ) → All IsCode codes → All HasBytes codes
     → cut_from place (flat_map code_bytes codes ++ behind) ≡ map Is codes ++ cut_from (place + length (flat_map code_bytes codes)) behind
 
 -- the shortest ULEB128 of a number of at most 14 bits is read as that number, whatever stands behind it

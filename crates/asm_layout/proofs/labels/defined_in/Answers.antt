@@ -1,10 +1,11 @@
 use Rattle.std.proofs.Common.{◌+◌, drop, [], sym, ap, ◌∙◌, arith}
 use Rattle.std.specs.Map.{keys_of}
 use Rattle.std.proofs.lemmas.List.{at_drop_all}
-use Rattle.asm_layout.specs.Faults.{first_of_all}
+use Rattle.asm_layout.specs.declared.fault.AsmWhat.TheVariants.{DuplicateLabel}
+use Rattle.asm_layout.specs.Faults.{fault_if, first_of_all}
 use Rattle.asm_layout.specs.Walks.{start, here}
 use Rattle.asm_layout.specs.Labels.{duplicates_from}
-use Rattle.asm_layout.specs.LabelSteps.{labels_behind, duplicate_if}
+use Rattle.asm_layout.specs.LabelSteps.{labels_behind}
 use Rattle.asm_layout.proofs.LayoutLaws.{drop-next, first_duplicate-more, labels_run, labels_run-is}
 use Rattle.asm_layout.proofs.labels.defined_in.Goals as goal
 
@@ -22,11 +23,11 @@ loop-stmt-preserved c =
     let behind = c.in_ok-again.ensures.labels ∙ ap (labels_behind labels stmt.kind) c.here.ensures in
     record {
       labels =
-          (λ j. labels_run entries (behind j) (c.in_ok-advance.ensures j) rest)
+          (λ j. labels_run entries (behind j) (c.in_ok-advance.ensures.ok j) rest)
           ∙ ap (labels_run entries labels walk) whole
           ∙ c.loop-stmt.invariant.labels;
       duplicate =
-          (λ j. first_of_all ((c.with_duplicate-duplicate.ensures ∙ ap (λ b. first_of_all c.loop-stmt.duplicate (duplicate_if b stmt.line)) c.in_ok-again.ensures.again) j) (duplicates_from (keys_of (behind j)) rest))
+          (λ j. first_of_all ((c.first_if-duplicate.ensures ∙ ap (λ b. first_of_all c.loop-stmt.duplicate (fault_if b stmt.line DuplicateLabel)) c.in_ok-again.ensures.again) j) (duplicates_from (keys_of (behind j)) rest))
           ∙ first_duplicate-more c.loop-stmt.duplicate labels stmt (here walk.at) rest
           ∙ ap (λ l. first_of_all c.loop-stmt.duplicate (duplicates_from (keys_of labels) l)) whole
           ∙ c.loop-stmt.invariant.duplicate;

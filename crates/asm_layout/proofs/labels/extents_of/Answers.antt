@@ -1,9 +1,10 @@
 use Rattle.std.proofs.Common.{◌+◌, ◌++◌, drop, sym, ap, ◌∙◌, append_assoc, nat_lt, length, arith}
 use Rattle.std.proofs.lemmas.List.{at_drop_all}
-use Rattle.asm_layout.specs.Faults.{first_of_all}
+use Rattle.asm_layout.specs.declared.fault.AsmWhat.TheVariants.{SectionTooLarge}
+use Rattle.asm_layout.specs.Faults.{fault_if, first_of_all}
 use Rattle.asm_layout.specs.Sizes.{is_too_large}
 use Rattle.asm_layout.specs.Walks.{next, pools_if, pools_from, walk_behind, ends_pool}
-use Rattle.asm_layout.specs.Labels.{size_faults, too_large_from}
+use Rattle.asm_layout.specs.Labels.{too_large_from}
 use Rattle.asm_layout.proofs.LayoutLaws.{above-zero, drop-next}
 use Rattle.asm_layout.proofs.FaultLaws.{first_behind}
 use Rattle.asm_layout.proofs.labels.extents_of.Goals as goal
@@ -22,17 +23,17 @@ loop-stmt-preserved c =
     let whole = drop-next stmts i stmt (omega arith) c.stmt-item.is in
     record {
       pools =
-          (λ j. (c.in_ok-push_if.ensures ∙ ap (λ b. c.loop-stmt.pools ++ pools_if b walk) c.ends_pool.ensures) j ++ pools_from entries (c.in_ok-advance.ensures j) rest)
+          (λ j. (c.in_ok-push_if.ensures ∙ ap (λ b. c.loop-stmt.pools ++ pools_if b walk) c.ends_pool.ensures) j ++ pools_from entries (c.in_ok-advance.ensures.ok j) rest)
           ∙ append_assoc c.loop-stmt.pools (pools_if (ends_pool walk stmt.kind) walk) (pools_from entries onward rest)
           ∙ ap (λ l. c.loop-stmt.pools ++ pools_from entries walk l) whole
           ∙ c.loop-stmt.invariant.pools;
       walk =
-          (λ j. walk_behind entries (c.in_ok-advance.ensures j) rest)
+          (λ j. walk_behind entries (c.in_ok-advance.ensures.ok j) rest)
           ∙ ap (walk_behind entries walk) whole
           ∙ c.loop-stmt.invariant.walk;
       too_large =
-          (λ j. first_of_all ((c.with_sizes-too_large.ensures ∙ ap (λ w. first_of_all so_far (size_faults (is_too_large w.at.sizes) stmt.line)) c.in_ok-advance.ensures) j) (too_large_from entries (c.in_ok-advance.ensures j) stmt.line rest))
-          ∙ sym (first_behind so_far (size_faults (is_too_large onward.at.sizes) stmt.line) (too_large_from entries onward stmt.line rest))
+          (λ j. first_of_all ((c.first_if-too_large.ensures ∙ ap (λ b. first_of_all so_far (fault_if b stmt.line SectionTooLarge)) c.is_too_large-is_large.ensures ∙ ap (λ w. first_of_all so_far (fault_if (is_too_large w.at.sizes) stmt.line SectionTooLarge)) c.in_ok-advance.ensures.ok) j) (too_large_from entries (c.in_ok-advance.ensures.ok j) stmt.line rest))
+          ∙ sym (first_behind so_far (fault_if (is_too_large onward.at.sizes) stmt.line SectionTooLarge) (too_large_from entries onward stmt.line rest))
           ∙ ap (λ l. first_of_all so_far (too_large_from entries walk c.loop-stmt.last l)) whole
           ∙ c.loop-stmt.invariant.too_large;
     }
@@ -55,7 +56,8 @@ returns-clause-bss c =
 pub returns-clause-too_large : goal.returns-clause-too_large
 unfolding too_large_from
 returns-clause-too_large c =
-    c.with_sizes.ensures
-    ∙ ap (λ s. first_of_all c.loop-stmt.too_large (size_faults (is_too_large s) c.loop-stmt.last)) c.sizes_with_pool.ensures
+    c.first_if.ensures
+    ∙ ap (λ b. first_of_all c.loop-stmt.too_large (fault_if b c.loop-stmt.last SectionTooLarge)) c.is_too_large-is_large-2.ensures
+    ∙ ap (λ s. first_of_all c.loop-stmt.too_large (fault_if (is_too_large s) c.loop-stmt.last SectionTooLarge)) c.sizes_with_pool.ensures
     ∙ sym (at_drop_all (λ l. first_of_all c.loop-stmt.too_large (too_large_from c.args.entries.now c.loop-stmt.walk c.loop-stmt.last l)) c.args.stmts.now c.loop-stmt.stmt-index (omega arith))
     ∙ c.loop-stmt.invariant.too_large

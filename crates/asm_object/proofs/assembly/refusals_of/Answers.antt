@@ -23,9 +23,9 @@ loop-stmt-preserved c =
     let places : pools ≡ pools_from entries walk (stmt ∷ more) = c.loop-stmt.invariant.pools ∙ ap (λ l. pools_from entries walk l) left in
     record {
       first = refusals_more entries labels walk put behind stmt more pools c.in_ok-word.word c.here.result c.loop-stmt.first c.first_of-first.result
-          c.in_ok-word.ensures.walk c.in_ok-advance.ensures places c.in_ok-word.ensures.place c.here.ensures
+          c.in_ok-word.ensures.walk c.in_ok-advance.ensures.ok places c.in_ok-word.ensures.place c.here.ensures
           (c.first_of-first.ensures ∙ ap (λ fault. first_of c.loop-stmt.first fault) c.refusal_at.ensures)
           ∙ ap (λ l. first_of_all c.loop-stmt.first (refusals_from entries labels walk l)) (sym left)
           ∙ c.loop-stmt.invariant.first;
-      pools = c.places_behind-pools.ensures ∙ ap (λ ends. places_behind pools ends) c.ends_pool.ensures ∙ pools_more entries walk put behind stmt more pools c.in_ok-word.ensures.walk c.in_ok-advance.ensures places;
+      pools = c.places_behind-pools.ensures ∙ ap (λ ends. places_behind pools ends) c.ends_pool.ensures ∙ pools_more entries walk put behind stmt more pools c.in_ok-word.ensures.walk c.in_ok-advance.ensures.ok places;
     }

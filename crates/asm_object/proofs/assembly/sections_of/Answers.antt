@@ -23,8 +23,8 @@ loop-stmt-preserved c =
     record {
       sections = ap (λ sections. with_pieces sections (pieces_from entries labels behind more)) c.in_ok-push.ensures
           ∙ pieces_more entries labels walk put behind stmt more pools c.in_ok-word.word c.loop-stmt.sections
-          c.in_ok-word.ensures.walk c.in_ok-advance.ensures places c.in_ok-word.ensures.place
+          c.in_ok-word.ensures.walk c.in_ok-advance.ensures.ok places c.in_ok-word.ensures.place
           ∙ ap (λ l. with_pieces c.loop-stmt.sections (pieces_from entries labels walk l)) (sym left)
           ∙ c.loop-stmt.invariant.sections;
-      pools = c.places_behind-pools.ensures ∙ ap (λ ends. places_behind pools ends) c.ends_pool.ensures ∙ pools_more entries walk put behind stmt more pools c.in_ok-word.ensures.walk c.in_ok-advance.ensures places;
+      pools = c.places_behind-pools.ensures ∙ ap (λ ends. places_behind pools ends) c.ends_pool.ensures ∙ pools_more entries walk put behind stmt more pools c.in_ok-word.ensures.walk c.in_ok-advance.ensures.ok places;
     }

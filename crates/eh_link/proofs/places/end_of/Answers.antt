@@ -1,6 +1,5 @@
 use Rattle.std.proofs.Common.{◌+◌, arith, drop}
-use Rattle.elf_write.specs.Layout.{aligned}
-use Rattle.eh_link.specs.Layout.{size_in}
+use Rattle.eh_link.specs.Layout.{size_in, aligned}
 use Rattle.eh_link.proofs.Layouts.{end_ge, end_next}
 use Rattle.eh_link.proofs.places.end_of.Goals as goal
 

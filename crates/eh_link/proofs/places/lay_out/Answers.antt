@@ -45,17 +45,17 @@ overflow_sub-bss_end c =
     let r = rises_of _ _ is c.in_ok-bss_end.ensures.some.1 in
     omega (arith, r.init, r.bss)
 
-pub returns-then-code_end-bss_end-gt1048576-clause-found : goal.returns-then-code_end-bss_end-gt1048576-clause-found
-returns-then-code_end-bss_end-gt1048576-clause-found c =
+pub returns-then-code_end-bss_end-gt-MOST_MEMORY-clause-found : goal.returns-then-code_end-bss_end-gt-MOST_MEMORY-clause-found
+returns-then-code_end-bss_end-gt-MOST_MEMORY-clause-found c =
     let is = layout_is c.args.objects.now _ _ _ _ _ _ _ _ c.in_ok-text_end.ensures.some.0 c.in_ok-rodata_end.ensures.some.0 c.in_ok-extab_end.ensures.some.0
     c.aligned-index_start.ensures c.in_ok-code_end.ensures.some.0 c.page_behind-data_start.ensures c.in_ok-init_end.ensures.some.0 c.in_ok-bss_end.ensures.some.0 in
-    large_layout _ _ is c.if-code_end-bss_end-gt1048576.true
+    large_layout _ _ is c.if-code_end-bss_end-gt-MOST_MEMORY.true
 
 pub returns-clause-found : goal.returns-clause-found
 returns-clause-found c =
     let is = layout_is c.args.objects.now _ _ _ _ _ _ _ _ c.in_ok-text_end.ensures.some.0 c.in_ok-rodata_end.ensures.some.0 c.in_ok-extab_end.ensures.some.0
     c.aligned-index_start.ensures c.in_ok-code_end.ensures.some.0 c.page_behind-data_start.ensures c.in_ok-init_end.ensures.some.0 c.in_ok-bss_end.ensures.some.0 in
-    found_layout _ _ is c.if-code_end-bss_end-gt1048576.false
+    found_layout _ _ is c.if-code_end-bss_end-gt-MOST_MEMORY.false
 
 pub returns-clause-rises : goal.returns-clause-rises
 returns-clause-rises c =

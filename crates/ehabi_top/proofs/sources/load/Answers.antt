@@ -1,8 +1,9 @@
-use Rattle.std.proofs.Common.{◌+◌, ◌∙◌, [], Bor, List, ℕ, drop, refl, arith, slice_index_or}
+use Rattle.std.proofs.Common.{◌+◌, ◌∙◌, Bor, Err, List, ℕ, ap, drop, refl, slice_index_or, []}
+use Rattle.std.proofs.lemmas.Result.{err_from_is_err_and}
 use Rattle.std.proofs.lemmas.List.{drop_all, drop_more}
 use Rattle.eh_port.specs.declared.FileAnswer.TheVariants.{Missing, TooLong}
 use Rattle.ehabi_top.specs.Text.{missing_line, too_long_line}
-use Rattle.ehabi_top.proofs.FileLoads.{next_found, next_lacks, all_found}
+use Rattle.ehabi_top.proofs.FileLoads.{next_found, next_lacks, all_found, wants_of}
 use Rattle.ehabi_top.proofs.sources.load.Goals as goal
 
 pub returns-in-Missing-clause-told : goal.returns-in-Missing-clause-told
@@ -31,7 +32,7 @@ loop-name-preserved g c =
           (drop_more xs i _ c.loop-name-test.true) c.loop-name.invariant.same c.loop-name.invariant.told (rw c.in-Found.is at c.in_ok-bytes.ensures.answer)
           (rw c.new.ensures at c.in_ok-push-in-Found.ensures.items);
       same = c.in_ok-bytes.ensures.same ∙ c.loop-name.invariant.same;
-      later = omega (arith, c.in_ok-bytes.ensures.cause.later, c.loop-name.invariant.later);
+      kept = c.in_ok-bytes.ensures.cause.kept ∙ c.loop-name.invariant.kept;
     }
 
 pub returns-clause-told : goal.returns-clause-told
@@ -39,3 +40,21 @@ returns-clause-told g c =
     let xs = c.args.names.now in
     let i = c.loop-name.name-index in
     all_found xs (drop i xs) c.loop-name.all.items _ (drop_all i xs c.loop-name-test.false) c.loop-name.invariant.told
+
+pub returns-in_err-bytes-clause-memory : goal.returns-in_err-bytes-clause-memory
+returns-in_err-bytes-clause-memory g c = λ e.
+    let p = err_from_is_err_and c.from_residual.result c.from_residual.ensures.1 in
+    let is = wants_of c.in_err-bytes.field-0.0 (rw (p.1, p.2) at e) in
+    c.in_err-bytes.ensures.cause.memory (ap Err is) ∙ c.loop-name.invariant.kept
+
+pub returns-in_err-push-in-Found-clause-memory : goal.returns-in_err-push-in-Found-clause-memory
+returns-in_err-push-in-Found-clause-memory g c = λ _. c.in_ok-bytes.ensures.cause.kept ∙ c.loop-name.invariant.kept
+
+pub returns-in-Missing-clause-kept : goal.returns-in-Missing-clause-kept
+returns-in-Missing-clause-kept g c = c.in_ok-bytes.ensures.cause.kept ∙ c.loop-name.invariant.kept
+
+pub returns-in-TooLong-clause-kept : goal.returns-in-TooLong-clause-kept
+returns-in-TooLong-clause-kept g c = c.in_ok-bytes.ensures.cause.kept ∙ c.loop-name.invariant.kept
+
+pub returns-clause-kept : goal.returns-clause-kept
+returns-clause-kept g c = c.loop-name.invariant.kept

@@ -1,0 +1,9 @@
+//! Tests of instructions, their codes and the core, through their public calls alone.
+#![tactic(auto)]
+
+#[cfg(test)]
+mod core;
+#[cfg(test)]
+mod encode;
+#[cfg(test)]
+mod isa;

@@ -1,0 +1,181 @@
+//! Codes are run on the registers of a frame, over a memory (IHI 0038, "Frame unwinding instructions"). docs/unwind-bytecode.md has
+//! the table.
+ghost use Rattle.std.specs.Prelude.{◌≡◌, ◌+◌, ◌-◌, ◌*◌, ◌/◌, ◌%◌, ◌^◌, ◌<◌, ◌≤◌, ◌==◌, length, IfOk, IfErr, Ok, Err};
+ghost use Rattle.std.specs.Int.{bit_at};
+ghost use Rattle.thumb_core.specs.Words.{load_words, loads_from, listed};
+ghost use Rattle.unwind_codes.specs.Bytes.{IsCode};
+ghost use Rattle.unwind_codes.specs.Cut.{cut};
+ghost use Rattle.unwind_codes.specs.Meaning.{effect};
+ghost use Rattle.eh_bytecode.specs.Meaning.{begins, finished, address_of, pops, after, unwound, step_of, answer};
+
+use crate::codes::Codes;
+use eh_bus::bus::Bus;
+use eh_bus::fault::BusFault;
+use unwind_codes::Code;
+use unwind_codes::code::LONG_LEAST;
+
+/// The registers r0 to r15 of a frame.
+#[derive(Clone, Copy, PartialEq, Eq, Debug)]
+pub struct Vrs {
+    pub r: [u32; 16],
+}
+
+/// How an unwinding ends.
+#[derive(Clone, Copy, PartialEq, Eq, Debug)]
+pub enum UnwindEnd {
+    /// The codes finish, or end: the registers are those of the caller.
+    Finished,
+    /// The codes refuse to unwind.
+    Refused,
+    /// The place of bytes that begin no code, counted from the first of the codes.
+    BadCode(usize),
+    /// The first address of a register's word that can't be read.
+    Unreadable(u32),
+}
+
+/// How far an unwinding has come.
+#[derive(Drop)]
+pub struct Unwinding {
+    /// The virtual stack pointer.
+    pub vsp: u32,
+    pub r: [u32; 16],
+    /// Whether pc was popped.
+    pub popped_pc: bool,
+}
+
+/// How an unwinding goes on behind a code.
+#[derive(Clone, Copy)]
+pub enum Next {
+    /// With the next code.
+    Goes,
+    /// Not: the codes finish.
+    Finishes,
+    /// Not, and there are no registers of a caller.
+    Stops(UnwindEnd),
+}
+
+/// The address of an access that is refused.
+fn address_of(fault: BusFault) -> u32
+    ensures { result ≡ address_of fault }
+{
+    match fault {
+        BusFault::Unmapped(a)
+        | BusFault::Unaligned(a)
+        | BusFault::ReadOnly(a)
+        | BusFault::SavedSlot(a)
+        | BusFault::Protected(a)
+        | BusFault::NotExecutable(a) => a,
+    }
+}
+
+/// Loads the registers of a list from address `a` on.
+#[tactic(auto, using(thumb_core::proofs::Listed::listed_all, thumb_core::proofs::Listed::listed_more, thumb_core::proofs::Listed::listed_none))]
+fn load_list<B: Bus>(list: u16, a: u32, r: &mut [u32; 16], bus: &B) -> Result<u32, BusFault>
+    requires { bit_at list 13 ≡ 0 }
+    ensures bytes { IfOk result (λ n. n ≡ 4 * length (listed list)) }
+    ensures ok { IfOk result (λ n. load_words (B.memory bus.now).segments a (loads_from 0 (listed list)) r.old ≡ Ok r.new) }
+    ensures fault { IfErr result (λ fault. load_words (B.memory bus.now).segments a (loads_from 0 (listed list)) r.old ≡ Err fault) }
+{
+    let mut at = 0;
+    for k in 0..16u8 {
+        if (list >> k) & 1 == 1 {
+            match bus.load32(a.wrapping_add(at)) {
+                Ok(word) => r[k as usize] = word,
+                Err(fault) => return Err(fault),
+            }
+            at += 4;
+        }
+    }
+    Ok(at)
+}
+
+/// The list of r4 to r4+n.
+pub(crate) fn range(last: u8) -> u16
+    requires { last < 8 }
+    ensures { result ≡ 16 * (2 ^ (last + 1) - 1) }
+{
+    ((2 << last) - 1) * 16
+}
+
+impl Unwinding {
+    fn begin(vrs: &Vrs) -> Unwinding
+        ensures { result ≡ begins vrs.now.r }
+    {
+        Unwinding {
+            vsp: vrs.r[13],
+            r: vrs.r,
+            popped_pc: false,
+        }
+    }
+
+    /// Pops the registers of a list without the stack pointer, the lowest first.
+    fn pop<B: Bus>(&mut self, list: u16, bus: &B) -> Next
+        requires { bit_at list 13 ≡ 0 }
+        ensures { pops self.old (listed list) (load_words (B.memory bus.now).segments self.old.vsp (loads_from 0 (listed list)) self.old.r) ≡ step_of result self.new }
+    {
+        match load_list(list, self.vsp, &mut self.r, bus) {
+            Ok(bytes) => {
+                self.vsp = self.vsp.wrapping_add(bytes);
+                self.popped_pc = self.popped_pc || list >> 15 == 1;
+                Next::Goes
+            }
+            Err(fault) => Next::Stops(UnwindEnd::Unreadable(address_of(fault))),
+        }
+    }
+
+    /// Does what a code says.
+    fn apply<B: Bus>(&mut self, code: Code, bus: &B) -> Next
+        requires { IsCode code }
+        ensures { after (B.memory bus.now).segments self.old (effect code) ≡ step_of result self.new }
+    {
+        match code {
+            Code::Raise(words) => self.vsp = self.vsp.wrapping_add(4 * u32::from(words) + 4),
+            Code::Lower(words) => self.vsp = self.vsp.wrapping_sub(4 * u32::from(words) + 4),
+            Code::RaiseLong(words) => {
+                let by = words.wrapping_mul(4).wrapping_add(LONG_LEAST);
+                self.vsp = self.vsp.wrapping_add(by);
+            }
+            Code::Restore(register) => self.vsp = self.r[register as usize],
+            Code::PopMask(mask) => return self.pop(16 * mask, bus),
+            Code::PopRange(last) => return self.pop(range(last), bus),
+            Code::PopRangeAndLr(last) => return self.pop(range(last) + 0x4000, bus),
+            Code::PopLow(mask) => return self.pop(u16::from(mask), bus),
+            Code::Refuse => return Next::Stops(UnwindEnd::Refused),
+            Code::Finish => return Next::Finishes,
+        }
+        Next::Goes
+    }
+
+    /// The registers of the caller.
+    fn finish(&self) -> [u32; 16]
+        ensures { result ≡ finished self.now }
+    {
+        let mut r = self.r;
+        if !self.popped_pc {
+            r[15] = r[14];
+        }
+        r[13] = self.vsp;
+        r
+    }
+}
+
+/// Unwinds a frame by the codes that are left, over the words of a memory. `vrs` changes only where the codes finish; then it has the
+/// caller's registers.
+pub fn unwind<B: Bus>(codes: &Codes, vrs: &mut Vrs, bus: &B) -> UnwindEnd
+    ensures { (result, vrs.new) ≡ answer vrs.old (unwound (B.memory bus.now).segments vrs.old.r (cut codes.now)) }
+{
+    let mut state = Unwinding::begin(vrs);
+    let mut left = codes.again();
+    while !left.is_empty() {
+        let Some((code, size)) = left.front() else {
+            return UnwindEnd::BadCode(codes.len() - left.len());
+        };
+        match state.apply(code, bus) {
+            Next::Goes => left.skip_bytes(size),
+            Next::Finishes => break,
+            Next::Stops(end) => return end,
+        }
+    }
+    vrs.r = state.finish();
+    UnwindEnd::Finished
+}

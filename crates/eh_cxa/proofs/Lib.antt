@@ -1,0 +1,16 @@
+pub mod Zeros
+pub mod Pools
+pub mod Chains
+pub mod Showing
+pub mod Counts
+pub mod Valid
+pub mod Looking
+pub mod CatchLaws
+pub mod EndLaws
+pub mod CleanupLaws
+pub mod AllocateLaws
+pub mod ThrowLaws
+pub mod Meets
+pub mod Kept
+pub mod RunLaws
+pub mod LifeLaws

@@ -1,0 +1,10 @@
+pub mod States
+pub mod Words
+pub mod Allocate
+pub mod Throw
+pub mod Catch
+pub mod Cleanup
+pub mod Lists
+pub mod ListCalls
+pub mod Stands
+pub mod Runs

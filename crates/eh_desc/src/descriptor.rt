@@ -1,0 +1,440 @@
+//! Descriptors and their iterator (IHI 0038). docs/descriptors.md has the formats.
+ghost use Rattle.std.specs.Prelude.{◌≡◌, ◌+◌, ◌-◌, ◌*◌, ◌/◌, ◌%◌, ◌^◌, ◌<◌, ◌≤◌, ◌==◌, [], length, IfSome, IsTrue, ◌↔◌, nat_le, Some, None, Ok, Err};
+ghost use Rattle.std.specs.Iterator.{YieldsFirst, item_count};
+ghost use Rattle.eh_desc.specs.Grammar.{word_at, address_at, even, pad_by, type_by, catch_type, found, cleanup_at, catch_at, padded_at, types_at, specification_at, kind_at, found_at, items_from, items_of, table_items, type_in};
+ghost use Rattle.eh_desc.specs.Tables.{form};
+ghost use Rattle.eh_index.specs.Places.{table_of};
+
+use eh_bytecode::Codes;
+use eh_index::Index;
+use eh_word::{get_word, prel31};
+use std::marker::Model;
+use unwind_codes::{Entry, EntryBody};
+
+/// The type word of a catch that takes everything.
+pub const ALL: u32 = 0xFFFF_FFFF;
+/// The type word of a catch that takes everything and fails.
+pub const ALL_FAILS: u32 = 0xFFFF_FFFE;
+/// The most types of a specification.
+pub const MOST_TYPES: u32 = 1024;
+
+/// What a catch takes.
+#[derive(Clone, Copy, PartialEq, Eq, Debug)]
+pub enum CatchType {
+    /// Everything.
+    All,
+    /// Everything, but the search then fails.
+    AllFails,
+    /// The type at an address; 0 is no type.
+    One(u32),
+}
+
+/// What a descriptor says. Addresses are in bytes; a pad's bit 0 is clear.
+#[derive(Clone, Copy, PartialEq, Eq, Debug)]
+pub enum DescKind {
+    /// A cleanup at a landing pad.
+    Cleanup {
+        pad: u32,
+    },
+    /// A catch of a type, or of a reference to it, at a landing pad.
+    Catch {
+        pad: u32,
+        reference: bool,
+        ty: CatchType,
+    },
+    /// A function's exception specification: the address of its type words, how many there are, and a landing pad.
+    Spec {
+        types: u32,
+        count: u32,
+        pad: Option<u32>,
+    },
+}
+
+/// A descriptor.
+#[derive(Clone, Copy, PartialEq, Eq, Debug)]
+pub struct Desc {
+    /// Its own address, in bytes.
+    pub at: u32,
+    /// The address of the one behind it.
+    pub next: u32,
+    /// The first address of its scope.
+    pub start: u32,
+    /// How many bytes its scope has.
+    pub size: u32,
+    pub kind: DescKind,
+}
+
+impl Desc {
+    /// Whether an address lies in the scope: at its start or above, and below its end. A scope whose end is past the last address
+    /// holds none.
+    pub fn covers(&self, site: u32) -> bool
+        ensures { IsTrue result ↔ ((self.now.start ≤ site) × (site < (self.now.start + self.now.size) % 2 ^ 32)) }
+    {
+        self.start <= site && site < self.start.wrapping_add(self.size)
+    }
+}
+
+/// Why the descriptors can't be read on.
+#[derive(Clone, Copy, PartialEq, Eq, Debug)]
+pub enum DescFault {
+    /// A descriptor runs past the bytes.
+    Short,
+    /// Both marks are set.
+    Kind,
+    /// A specification has more than 1,024 types.
+    Count,
+}
+
+/// The bytes of a table entry, and where they stand.
+#[derive(Clone, Copy)]
+pub struct Table<'a> {
+    /// From the entry's first byte on.
+    pub bytes: &'a [u8],
+    /// The address of the first byte.
+    pub address: u32,
+    /// The start of the entry's function.
+    pub start: u32,
+    /// Whether lengths and offsets are words, and not halfwords.
+    pub wide: bool,
+}
+
+/// A descriptor's scope, and the place behind it.
+#[derive(Clone, Copy)]
+pub struct Scope {
+    /// How many bytes the scope has; bit 0 is a mark.
+    pub length: u32,
+    /// How many bytes behind the function's start it begins; bit 0 is a mark.
+    pub offset: u32,
+    /// The place of the words behind it.
+    pub place: usize,
+}
+
+/// What stands at a place.
+#[derive(Clone, Copy)]
+pub enum Found {
+    /// The end of the list.
+    End,
+    /// A descriptor, and the place behind it.
+    One(Desc, usize),
+    /// What can't be read.
+    Fault(DescFault),
+}
+
+/// `x` with bit 0 clear.
+fn even(x: u32) -> u32
+    ensures { result ≡ even x }
+{
+    x - x % 2
+}
+
+/// The type of a type word at an address; a word of 0 is type 0.
+fn type_by(address: u32, word: u32) -> u32
+    ensures { result ≡ type_by address word }
+{
+    if word == 0 {
+        0
+    } else {
+        address.wrapping_add(word)
+    }
+}
+
+/// What a catch takes by its type word, which stands at an address.
+fn catch_type(address: u32, word: u32) -> CatchType
+    ensures { result ≡ catch_type address word }
+{
+    match word {
+        ALL => CatchType::All,
+        ALL_FAILS => CatchType::AllFails,
+        _ => CatchType::One(type_by(address, word)),
+    }
+}
+
+impl<'a> Table<'a> {
+    /// The word at a place.
+    #[tactic(auto, using(crate::proofs::Room::room))]
+    fn word(&self, place: usize) -> Option<u32>
+        ensures word { result ≡ word_at (form self.now) place }
+        ensures room { IfSome result (λ word. place + 4 ≤ length self.now.bytes.now) }
+    {
+        get_word(self.bytes, place)
+    }
+
+    /// The address of a place.
+    fn address_at(&self, place: usize) -> u32
+        ensures { result ≡ address_at (form self.now) place }
+    {
+        self.address.wrapping_add((place % 0x1_0000_0000) as u32)
+    }
+
+    /// A landing pad by its word.
+    fn pad_by(&self, place: usize, word: u32) -> u32
+        ensures { result ≡ pad_by (form self.now) place word }
+    {
+        even(prel31(self.address_at(place), word))
+    }
+
+    fn found(&self, place: usize, scope: Scope, kind: DescKind, next: usize) -> Found
+        ensures { result ≡ found (form self.now) place scope.length scope.offset kind next }
+    {
+        let desc = Desc {
+            at: self.address_at(place),
+            next: self.address_at(next),
+            start: self.start.wrapping_add(even(scope.offset)),
+            size: even(scope.length),
+            kind,
+        };
+        Found::One(desc, next)
+    }
+
+    fn cleanup(&self, place: usize, scope: Scope) -> Found
+        ensures { result ≡ cleanup_at (form self.now) place scope.length scope.offset scope.place }
+    {
+        let Some(pad) = self.word(scope.place) else {
+            return Found::Fault(DescFault::Short);
+        };
+        let pad = self.pad_by(scope.place, pad);
+        self.found(place, scope, DescKind::Cleanup { pad }, scope.place + 4)
+    }
+
+    fn catch(&self, place: usize, scope: Scope) -> Found
+        ensures { result ≡ catch_at (form self.now) place scope.length scope.offset scope.place }
+    {
+        let Some(pad) = self.word(scope.place) else {
+            return Found::Fault(DescFault::Short);
+        };
+        let Some(ty) = self.word(scope.place + 4) else {
+            return Found::Fault(DescFault::Short);
+        };
+        let kind = DescKind::Catch {
+            pad: self.pad_by(scope.place, pad),
+            reference: pad >= 0x8000_0000,
+            ty: catch_type(self.address_at(scope.place + 4), ty),
+        };
+        self.found(place, scope, kind, scope.place + 8)
+    }
+
+    /// A specification whose types stand at a place, with a landing pad behind them.
+    fn padded(&self, place: usize, scope: Scope, types: usize, count: u32) -> Found
+        requires types { types ≤ length self.now.bytes.now }
+        requires count { count ≤ 1024 }
+        ensures { result ≡ padded_at (form self.now) place scope.length scope.offset types count }
+    {
+        let at = types + 4 * count as usize;
+        let Some(pad) = self.word(at) else {
+            return Found::Fault(DescFault::Short);
+        };
+        let kind = DescKind::Spec {
+            types: self.address_at(types),
+            count,
+            pad: Some(self.pad_by(at, pad)),
+        };
+        self.found(place, scope, kind, at + 4)
+    }
+
+    /// A specification whose types stand at a place.
+    fn types(&self, place: usize, scope: Scope, types: usize, count: u32, padded: bool) -> Found
+        requires types { types ≤ length self.now.bytes.now }
+        requires count { count ≤ 1024 }
+        ensures { result ≡ types_at (form self.now) place scope.length scope.offset types count padded }
+    {
+        let behind = types + 4 * count as usize;
+        if behind > self.bytes.len() {
+            return Found::Fault(DescFault::Short);
+        }
+        if padded {
+            return self.padded(place, scope, types, count);
+        }
+        let kind = DescKind::Spec {
+            types: self.address_at(types),
+            count,
+            pad: None,
+        };
+        self.found(place, scope, kind, behind)
+    }
+
+    fn specification(&self, place: usize, scope: Scope) -> Found
+        ensures { result ≡ specification_at (form self.now) place scope.length scope.offset scope.place }
+    {
+        let Some(word) = self.word(scope.place) else {
+            return Found::Fault(DescFault::Short);
+        };
+        let count = word % 0x8000_0000;
+        if count > MOST_TYPES {
+            return Found::Fault(DescFault::Count);
+        }
+        self.types(place, scope, scope.place + 4, count, word >= 0x8000_0000)
+    }
+
+    /// What the marks of a scope say stands behind it.
+    fn kind(&self, place: usize, scope: Scope) -> Found
+        ensures { result ≡ kind_at (form self.now) place scope.length scope.offset scope.place }
+    {
+        match (scope.offset % 2 == 0, scope.length % 2 == 0) {
+            (true, true) => self.cleanup(place, scope),
+            (true, false) => self.catch(place, scope),
+            (false, true) => self.specification(place, scope),
+            (false, false) => Found::Fault(DescFault::Kind),
+        }
+    }
+
+    /// What stands at a place.
+    fn found_at(&self, place: usize) -> Found
+        ensures { result ≡ found_at (form self.now) place }
+    {
+        let Some(first) = self.word(place) else {
+            return Found::Fault(DescFault::Short);
+        };
+        if first == 0 {
+            return Found::End;
+        }
+        if !self.wide {
+            let scope = Scope {
+                length: first % 0x1_0000,
+                offset: first / 0x1_0000,
+                place: place + 4,
+            };
+            return self.kind(place, scope);
+        }
+        let Some(offset) = self.word(place + 4) else {
+            return Found::Fault(DescFault::Short);
+        };
+        let scope = Scope {
+            length: first,
+            offset,
+            place: place + 8,
+        };
+        self.kind(place, scope)
+    }
+}
+
+/// The descriptors of an entry, in order; the first that can't be read is the last item. Contracts see the list of those that the
+/// iterator hasn't given yet. It lends the table's bytes and takes no memory.
+#[derive(Drop)]
+pub struct Descs<'a> {
+    table: Table<'a>,
+    place: usize,
+    over: bool,
+}
+
+impl<'a> Model for Descs<'a> {
+    ghost use Rattle.std.specs.Prelude.{List, Result, [], if◌then◌else◌};
+    ghost use Rattle.eh_desc.specs.declared.descriptor.Desc.{Desc};
+    ghost use Rattle.eh_desc.specs.declared.descriptor.DescFault.{DescFault};
+    ghost use Rattle.eh_desc.specs.Grammar.{items_from};
+    ghost use Rattle.eh_desc.specs.Tables.{form};
+
+    ghost Value = { List (Result Desc DescFault) };
+
+    ghost view = { λ d. if d.over then [] else items_from (form d.table) d.place };
+}
+
+impl<'a> Descs<'a> {
+    /// No descriptors.
+    fn none() -> Descs<'a>
+        ensures { result ≡ [] }
+    {
+        Descs {
+            table: Table {
+                bytes: &[],
+                address: 0,
+                start: 0,
+                wide: false,
+            },
+            place: 0,
+            over: true,
+        }
+    }
+
+    /// The descriptors behind the codes of a table.
+    fn behind(start: u32, address: u32, bytes: &'a [u8]) -> Descs<'a>
+        ensures { result ≡ table_items start address bytes.now }
+    {
+        if Codes::table(bytes).is_err() {
+            return Descs::none();
+        }
+        let Some(first) = get_word(bytes, 0) else {
+            return Descs::none();
+        };
+        let personality = first / 0x100_0000 % 16;
+        let words = if personality == 0 {
+            0
+        } else {
+            first / 0x1_0000 % 0x100
+        };
+        let table = Table {
+            bytes,
+            address,
+            start,
+            wide: personality == 2,
+        };
+        Descs {
+            table,
+            place: 4 + 4 * words as usize,
+            over: false,
+        }
+    }
+
+    /// The descriptors of an entry, in the bytes from its table's address to the end of those of the read-only segment that holds
+    /// it. An entry that is no table, or whose codes can't be read, has none.
+    pub fn of(index: &Index<'a>, e: &Entry) -> Descs<'a>
+        ensures { result ≡ items_of e.now (table_of index.now e.now) }
+    {
+        match (e.body, index.table(e)) {
+            (EntryBody::Table(address), Some(bytes)) => Descs::behind(e.start, address, bytes),
+            (EntryBody::Table(_) | EntryBody::CantUnwind | EntryBody::Inline(_), _) =>
+                Descs::none(),
+        }
+    }
+}
+
+impl<'a> Iterator for Descs<'a> {
+    type Item = Result<Desc, DescFault>;
+
+    ghost next_gives = { YieldsFirst (λ s. s) };
+
+    ghost remaining = { item_count (λ s. s) };
+
+    #[tactic(auto, using(crate::proofs::Items::over, crate::proofs::Items::one, crate::proofs::Items::fault))]
+    fn next(&mut self) -> Option<Result<Desc, DescFault>> {
+        if self.over {
+            return None;
+        }
+        match self.table.found_at(self.place) {
+            Found::End => {
+                self.over = true;
+                None
+            }
+            Found::One(desc, next) => {
+                self.place = next;
+                Some(Ok(desc))
+            }
+            Found::Fault(fault) => {
+                self.over = true;
+                Some(Err(fault))
+            }
+        }
+    }
+}
+
+/// The address of type `i` of a specification. None for a word of 0, for one that the bytes of no read-only segment hold, for an `i`
+/// that isn't below the count, and for a descriptor that is no specification.
+pub fn spec_type(index: &Index, d: &Desc, i: u32) -> Option<u32>
+    ensures { result ≡ type_in index.now.segments d.now.kind i }
+{
+    let DescKind::Spec { types, count, .. } = d.kind else {
+        return None;
+    };
+    if i >= count {
+        return None;
+    }
+    let at = types.wrapping_add(i.wrapping_mul(4));
+    let place = Entry {
+        start: 0,
+        body: EntryBody::Table(at),
+    };
+    let word = get_word(index.table(&place)?, 0)?;
+    if word == 0 {
+        return None;
+    }
+    Some(at.wrapping_add(word))
+}

@@ -1,0 +1,15 @@
+//! The descriptors of an entry in the exception table (IHI 0038, "Scope encoding" and "Cleanup, catch and function exception
+//! specification descriptors"), read where they stand. docs/descriptors.md states the rules.
+#![tactic(auto)]
+
+ghost use Rattle.eh_desc.specs.Laws.{DescriptorsFollow};
+
+pub mod descriptor;
+
+pub use descriptor::{CatchType, Desc, DescFault, DescKind, Descs, spec_type};
+
+/// The first descriptor of a table stands behind its code words, each further one at the address that the one before it names as
+/// the next, and what can't be read is the last item.
+pub fn descriptors_follow()
+    ensures { DescriptorsFollow }
+{}

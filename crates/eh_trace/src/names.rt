@@ -1,0 +1,11 @@
+//! The names of types, as a trace prints them.
+ghost use Rattle.std.specs.Prelude.{◌≡◌, ℕ, List};
+
+/// What gives names to types. A type is told by the address of its type information.
+pub trait TypeNames {
+    ghost name_of: { Self → ℕ → List ℕ };
+
+    /// The name of a type; empty for one that isn't known.
+    fn name(&self, ty: u32) -> &[u8]
+        ensures { result.now ≡ name_of self.now ty };
+}

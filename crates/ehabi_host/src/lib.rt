@@ -1,0 +1,119 @@
+//! What a program does with the words, the files and the streams of its system, and the status that it ends with. The rules
+//! are those of docs/command-line.md; how the system's files and streams are taken is in docs/outside.md.
+#![tactic(auto)]
+
+ghost use Rattle.std.specs.Prelude.{◌≡◌, ◌≤◌, ◌↔◌, None, true, drop, map, IfOk, OnErr, MatchResult, string_bytes};
+ghost use Rattle.std.specs.Process.{exit_status};
+ghost use Rattle.std.specs.Vec.Iter.{into_iter_items};
+ghost use Rattle.ehabi_top.specs.Words.{texts, command_of};
+ghost use Rattle.ehabi_top.specs.Report.{DoesWhole, IfTold, is_settled};
+ghost use Rattle.ehabi_host.specs.declared.TheConstants.{NO_MEMORY};
+
+use eh_port::{Files, HostFiles, HostSink, HostSource, Sink, Source};
+use ehabi_top::ehabi_main;
+use std::alloc::{AllocError, Global};
+use std::io::ErrorKind;
+use std::process::ExitCode;
+use std::{env, io, rt};
+
+/// The status of a program that finds no memory for its words.
+pub const NO_MEMORY: u8 = 9;
+
+/// All words that the system gives, the program's name first.
+pub fn all_of(alloc: Global, mut args: env::Args) -> Result<Vec<String>, AllocError>
+    ensures { IfOk result (λ words. words.items ≡ into_iter_items args) }
+{
+    let mut words = Vec::new(alloc);
+    while let Some(word) = args.next() {
+        words.push(word)?;
+    }
+    Ok(words)
+}
+
+/// The words behind the program's name, in their order. An empty word is a word.
+pub fn behind_name(words: &[String]) -> &[String]
+    ensures { result.now ≡ drop 1 words.now }
+{
+    match words {
+        [] => &[],
+        [_name, behind @ ..] => behind,
+    }
+}
+
+/// The texts of words.
+pub fn texts_of<'a>(alloc: Global, words: &'a [String]) -> Result<Vec<&'a str>, AllocError>
+    ensures { IfOk result (λ all. texts all.items ≡ map string_bytes words.now) }
+{
+    let mut texts = Vec::new(alloc);
+    for word in words {
+        texts.push(word.as_str())?;
+    }
+    Ok(texts)
+}
+
+/// Does what the words ask for, all of them, and answers the status. Without memory for the words it does nothing.
+pub fn run_words<F: Files, I: Source, O: Sink>(
+    alloc: Global,
+    words: &[String],
+    files: &mut F,
+    input: &mut I,
+    out: &mut O,
+) -> Result<u8, AllocError>
+    ensures usage { IfOk result (λ status. is_settled status ≡ true
+        → (status ≡ 2) ↔ (command_of (map string_bytes words.now) ≡ None)) }
+    ensures report { IfOk result (λ status. is_settled status ≡ true → IfTold (F.held files.old) (I.left input.old) (λ held bytes.
+        DoesWhole (command_of (map string_bytes words.now)) held bytes status (I.left input.new) (O.written out.old) (O.written out.new))) }
+    ensures nothing { OnErr result ((I.left input.new ≡ I.left input.old) × (O.written out.new ≡ O.written out.old)) }
+{
+    let texts = texts_of(alloc, words)?;
+    Ok(ehabi_main(alloc, &texts, files, input, out))
+}
+
+// All words that the system gives. Words that are no text count as none at all, which are no command.
+fn words_of<R: rt::Env + AllocGlobal>(host: &R) -> Result<Vec<String>, AllocError> {
+    match env::args(host) {
+        Ok(args) => all_of(host.alloc(), args),
+        Err(error) => match error.kind() {
+            ErrorKind::OutOfMemory => Err(AllocError),
+            _ => Ok(Vec::new(host.alloc())),
+        },
+    }
+}
+
+/// The status of a program for the words, the files and the streams of its system.
+pub fn run<R: rt::Env + rt::Files + Input + Print + AllocGlobal>(
+    host: &R,
+) -> Result<u8, AllocError> {
+    let words = words_of(host)?;
+    let mut files = HostFiles { host, faults: 0 };
+    let mut input = HostSource {
+        reader: host.reader(),
+        faults: 0,
+    };
+    let mut out = HostSink {
+        writer: io::writer(host),
+        faults: 0,
+    };
+    run_words(
+        host.alloc(),
+        behind_name(&words),
+        &mut files,
+        &mut input,
+        &mut out,
+    )
+}
+
+/// All that a program does: it ends with the status of its words, its files and its streams.
+pub fn program<R: rt::Env + rt::Files + Input + Print + AllocGlobal>(host: &R) -> ExitCode {
+    ended(run(host))
+}
+
+/// How a program ends: with the status that the call answered, and without memory for its words with `NO_MEMORY`.
+pub fn ended(status: Result<u8, AllocError>) -> ExitCode
+    ensures { MatchResult status (λ n. exit_status result ≡ n) (λ _. exit_status result ≡ NO_MEMORY) }
+{
+    match status {
+        Ok(status) => ExitCode::from(status),
+        Err(AllocError) => ExitCode::from(NO_MEMORY),
+    }
+}

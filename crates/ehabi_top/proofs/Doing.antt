@@ -1,0 +1,233 @@
+-- What a call for a command has done, from its parts. The commands that run bytes differ in where these come from alone.
+use Rattle.std.proofs.Common.{◌≡◌, ℕ, List, Option, Some, None, IfSome, Result, Ok, Err, refl, ap, ◌∙◌, inl, inr, arith}
+use Rattle.std.specs.Prelude.{IfOk, IfErr, false, ◌↔◌}
+use Rattle.ehabi_top.specs.Building.{wants_memory}
+use Rattle.std.proofs.KnownBytes.{Keeps-refl}
+use Rattle.eh_port.specs.Causes.{Rose}
+use Rattle.ehabi_top.specs.declared.refusal.FilesFault.{FilesFault}
+use Rattle.ehabi_top.specs.declared.status.TheConstants.{USAGE}
+use Rattle.ehabi_top.specs.declared.stop.Stop.{Stop}
+use Rattle.ehabi_top.specs.declared.stop.Stop.TheVariants.{Read, Write, Memory}
+use Rattle.ehabi_top.specs.Finding.{Finds, StandsFor, found_report}
+use Rattle.ehabi_top.specs.Loading.{Report, SaysWhy, IsReported, IsOfCommand}
+use Rattle.ehabi_top.specs.Report.{Reports, IfTold, Performs, Why, Does}
+use Rattle.ehabi_top.specs.Sources.{Refusal}
+use Rattle.ehabi_top.specs.Text.{usage}
+use Rattle.ehabi_top.specs.Words.{Command, BuildSources}
+use Rattle.ehabi_top.specs.Writes.{Answers}
+use Rattle.ehabi_top.specs.Yields.{Shelf, Streams, streams, Gives, Yields}
+use Rattle.ehabi_top.proofs.Statuses.{usage_reported}
+use Rattle.ehabi_top.proofs.Yielding.{gives_answer, of_status, only_write}
+
+-- the files of a call
+abbrev pub Held : Type 0
+Held = List (List ℕ × List ℕ)
+
+-- a report that was given, of a command
+performs : (command : Option Command) (files : Held) (input : List ℕ) (r : Report) (result : Result ℕ Stop) (left before now : Option (List ℕ))
+    → Reports command files input r → Gives r result left before now → Performs command files input result left before now
+performs command files input r (Ok status) left before now is g = record {
+  whole = record { report = r; is = is; status_is = g.status; leaves = g.leaves; wrote = g.wrote };
+  part = inr (record { report = r; is = is; part = g.part });
+}
+performs command files input r (Err stop) left before now is g = record {
+  whole = tt;
+  part = inr (record { report = r; is = is; part = g.part });
+}
+
+-- nothing was done
+performs_none : (command : Option Command) (files : Held) (input : List ℕ) (stop : Stop) (left before : Option (List ℕ)) → Performs command files input (Err stop) left before before
+performs_none command files input stop left before = record { whole = tt; part = inl (Keeps-refl before) }
+
+-- ---- commands that run bytes
+
+-- What such a command has: the bytes that it asks the files for, the report that it makes of them and of the input, and what
+-- makes bytes unfit for it.
+pub record IsRunner (command : Option Command) (ask : Held → Result (List ℕ) Refusal) (ready : List ℕ → List ℕ → Report) (unfit : List ℕ → Type 0) : Type 0 where
+  pub reports : (held : Held) (input : List ℕ) → Reports command held input (found_report ready (ask held) input)
+  pub fits : (held : Held) (input : Option (List ℕ)) (bytes : List ℕ) (status : ℕ) → ask held ≡ Ok bytes → SaysWhy status ⊥ (unfit bytes) → Why command held input status
+  pub lacks : (held : Held) (input : Option (List ℕ)) (refusal : Refusal) → ask held ≡ Err refusal → Why command held input refusal.status
+  pub tells : (files : Option Held) (input left before now : Option (List ℕ)) (result : Result ℕ Stop)
+      → IfSome files (λ held. IfSome input (λ bytes. Performs command held bytes result left before now))
+      → IfTold command files input left (λ held bytes left. Performs command held bytes result left before now)
+  pub some : command ≡ None → ⊥
+
+-- a stop of the call that asked the files
+find_read : {T : Type 0} (bytes_of : T → List ℕ) (ask : Held → Result (List ℕ) Refusal) (files files' : Shelf) (found : Result (Result T FilesFault) Stop) (stop : Stop)
+    → Finds bytes_of ask files files' found → found ≡ Err stop → stop ≡ Read → Rose files.faults files'.faults
+find_read bytes_of ask files files' found stop f e s = f.read (e ∙ ap Err s)
+
+find_write : {T : Type 0} (bytes_of : T → List ℕ) (ask : Held → Result (List ℕ) Refusal) (files files' : Shelf) (found : Result (Result T FilesFault) Stop) (stop : Stop)
+    → Finds bytes_of ask files files' found → found ≡ Err stop → stop ≡ Write → ⊥
+find_write bytes_of ask files files' found stop f e s = f.write (e ∙ ap Err s)
+
+find_memory : {T : Type 0} (bytes_of : T → List ℕ) (ask : Held → Result (List ℕ) Refusal) (files files' : Shelf) (found : Result (Result T FilesFault) Stop) (stop : Stop)
+    → Finds bytes_of ask files files' found → found ≡ Err stop → stop ≡ Memory → files'.faults ≡ files.faults
+find_memory bytes_of ask files files' found stop f e s = f.memory (e ∙ ap Err s)
+
+err_of : (stop other : Stop) → ◌≡◌ {A = Result ℕ Stop} (Err stop) (Err other) → stop ≡ other
+err_of stop other e = cc
+
+-- the status is of a command, and there is one
+used : (command : Option Command) (result : Result ℕ Stop) → (command ≡ None → ⊥) → IfOk result IsOfCommand → IfOk result (λ status. (status ≡ USAGE) ↔ (command ≡ None))
+used command (Ok s) some of = ((λ e. absurd (IsOfCommand.other of e)), (λ n. absurd (some n)))
+used command (Err stop) some of = tt
+
+reported : (result : Result ℕ Stop) → IfOk result IsOfCommand → IfOk result (λ s. IsReported s)
+reported (Ok s) of = IsOfCommand.reported of
+reported (Err stop) of = tt
+
+why_all : (command : Option Command) (held : Option Held) (input : Option (List ℕ)) (lacks unfit : Type 0) (result : Result ℕ Stop)
+    → ((s : ℕ) → SaysWhy s lacks unfit → IfSome held (λ files. Why command files input s))
+    → IfOk result (λ s. SaysWhy s lacks unfit) → IfOk result (λ s. IfSome held (λ files. Why command files input s))
+why_all command held input lacks unfit (Ok s) f w = f s w
+why_all command held input lacks unfit (Err stop) f w = tt
+
+module _ (command : Option Command) (ask : Held → Result (List ℕ) Refusal) (ready : List ℕ → List ℕ → Report) (unfit : List ℕ → Type 0)
+    (runner : IsRunner command ask ready unfit) where
+  -- the bytes are there
+  pub does_bytes : (files files' : Shelf) (old new : Streams) (result : Result ℕ Stop) (bytes : List ℕ)
+      → IfSome files.held (λ held. ask held ≡ Ok bytes) → files'.faults ≡ files.faults → Yields (ready bytes) (unfit bytes) old new result
+      → Does command files files' old new result
+  does_bytes files files' old new result bytes found same y = record {
+    told = runner.tells files.held old.input new.input old.output new.output result (told files.held old.input found y.told);
+    why = why_all command files.held old.input ⊥ (unfit bytes) result (λ s w. why files.held found s w) y.why;
+    read = λ e. inr (y.read e);
+    write = y.write;
+    memory = λ e. (same, y.memory e);
+    status = reported result y.status;
+    usage = used command result runner.some y.status;
+  }
+    where
+      told : (held : Option Held) (input : Option (List ℕ)) → IfSome held (λ h. ask h ≡ Ok bytes)
+          → IfSome input (λ b. Gives (ready bytes b) result new.input old.output new.output)
+          → IfSome held (λ h. IfSome input (λ b. Performs command h b result new.input old.output new.output))
+      told None input e g = tt
+      told (Some h) None e g = tt
+      told (Some h) (Some b) e g =
+          performs command h b (found_report ready (ask h) b) result new.input old.output new.output (runner.reports h b) (rw e g)
+
+      why : (held : Option Held) → IfSome held (λ h. ask h ≡ Ok bytes) → (s : ℕ) → SaysWhy s ⊥ (unfit bytes) → IfSome held (λ h. Why command h old.input s)
+      why None e s w = tt
+      why (Some h) e s w = runner.fits h old.input bytes s e w
+
+  -- there are none, and the line says why
+  pub does_fault : (files files' : Shelf) (input before now : Option (List ℕ)) (i f g : ℕ) (result : Result ℕ Stop) (refusal : Refusal)
+      → IfSome files.held (λ held. ask held ≡ Err refusal) → IsOfCommand refusal.status
+      → Answers refusal.line refusal.status result before now f g
+      → Does command files files' (streams input i before f) (streams input i now g) result
+  does_fault files files' input before now i f g result refusal found of a =
+      let ofs = of_status IsOfCommand refusal.line refusal.status result before now f g of a in
+      record {
+        told = runner.tells files.held input input before now result (told files.held input found);
+        why = of_status (λ s. IfSome files.held (λ held. Why command held input s)) refusal.line refusal.status result before now f g (why files.held found) a;
+        read = λ e. absurd (let w = (only_write refusal.line refusal.status result Read before now f g a e).0 in cc);
+        write = λ e. (only_write refusal.line refusal.status result Write before now f g a e).1;
+        memory = λ e. absurd (let w = (only_write refusal.line refusal.status result Memory before now f g a e).0 in cc);
+        status = reported result ofs;
+        usage = used command result runner.some ofs;
+      }
+    where
+      told : (held : Option Held) (input : Option (List ℕ)) → IfSome held (λ h. ask h ≡ Err refusal)
+          → IfSome held (λ h. IfSome input (λ b. Performs command h b result input before now))
+      told None input e = tt
+      told (Some h) None e = tt
+      told (Some h) (Some b) e =
+          performs command h b (found_report ready (ask h) b) result (Some b) before now (runner.reports h b) (rw e (gives_answer refusal.line refusal.status b result before now f g a))
+
+      why : (held : Option Held) → IfSome held (λ h. ask h ≡ Err refusal) → IfSome held (λ h. Why command h input refusal.status)
+      why None e = tt
+      why (Some h) e = runner.lacks h input refusal e
+
+  -- the files gave no answer
+  pub does_stop : {T : Type 0} (bytes_of : T → List ℕ) (files files' : Shelf) (found : Result (Result T FilesFault) Stop) (input before : Option (List ℕ)) (i f : ℕ) (stop : Stop)
+      → Finds bytes_of ask files files' found → found ≡ Err stop
+      → Does command files files' (streams input i before f) (streams input i before f) (Err stop)
+  does_stop bytes_of files files' found input before i f stop finds e = record {
+    told = runner.tells files.held input input before before (Err stop) (told files.held input);
+    why = tt;
+    read = λ r. inl (find_read bytes_of ask files files' found stop finds e (err_of stop Read r));
+    write = λ r. absurd (find_write bytes_of ask files files' found stop finds e (err_of stop Write r));
+    memory = λ r. (find_memory bytes_of ask files files' found stop finds e (err_of stop Memory r), record { input = refl; output = refl });
+    status = tt;
+    usage = tt;
+  }
+    where
+      told : (held : Option Held) (input : Option (List ℕ)) → IfSome held (λ h. IfSome input (λ b. Performs command h b (Err stop) input before before))
+      told None input = tt
+      told (Some h) None = tt
+      told (Some h) (Some b) = performs_none command h b stop (Some b) before
+
+-- ---- `build`, which writes the bytes, and leaves the input
+
+module _ (names : List (List ℕ)) where
+  pub build_answers : (files files' : Shelf) (input before now : Option (List ℕ)) (i f g : ℕ) (result : Result ℕ Stop) (text : List ℕ) (status : ℕ)
+      → IfSome files.held (λ held. (b : List ℕ) → Reports (Some (BuildSources names)) held b (record { text = text; status = status; left = b }))
+      → IfSome files.held (λ held. Why (Some (BuildSources names)) held input status) → IsOfCommand status
+      → Answers text status result before now f g
+      → Does (Some (BuildSources names)) files files' (streams input i before f) (streams input i now g) result
+  build_answers files files' input before now i f g result text status is why of a =
+      let ofs = of_status IsOfCommand text status result before now f g of a in
+      record {
+        told = (refl, told files.held is);
+        why = of_status (λ s. IfSome files.held (λ held. Why (Some (BuildSources names)) held input s)) text status result before now f g why a;
+        read = λ e. absurd (let w = (only_write text status result Read before now f g a e).0 in cc);
+        write = λ e. (only_write text status result Write before now f g a e).1;
+        memory = λ e. absurd (let w = (only_write text status result Memory before now f g a e).0 in cc);
+        status = reported result ofs;
+        usage = used (Some (BuildSources names)) result (λ n. cc) ofs;
+      }
+    where
+      told : (held : Option Held) → IfSome held (λ h. (b : List ℕ) → Reports (Some (BuildSources names)) h b (record { text = text; status = status; left = b }))
+          → IfSome held (λ h. (b : List ℕ) → Performs (Some (BuildSources names)) h b result (Some b) before now)
+      told None is = tt
+      told (Some h) is = λ b. performs (Some (BuildSources names)) h b _ result (Some b) before now (is b) (gives_answer text status b result before now f g a)
+
+  pub build_stops : {T : Type 0} (bytes_of : T → List ℕ) (ask : Held → Result (List ℕ) Refusal) (files files' : Shelf) (found : Result (Result T FilesFault) Stop) (input before : Option (List ℕ)) (i f : ℕ) (stop : Stop)
+      → Finds bytes_of ask files files' found → found ≡ Err stop
+      → Does (Some (BuildSources names)) files files' (streams input i before f) (streams input i before f) (Err stop)
+  build_stops bytes_of ask files files' found input before i f stop finds e = record {
+    told = (refl, told files.held);
+    why = tt;
+    read = λ r. inl (find_read bytes_of ask files files' found stop finds e (err_of stop Read r));
+    write = λ r. absurd (find_write bytes_of ask files files' found stop finds e (err_of stop Write r));
+    memory = λ r. (find_memory bytes_of ask files files' found stop finds e (err_of stop Memory r), record { input = refl; output = refl });
+    status = tt;
+    usage = tt;
+  }
+    where
+      told : (held : Option Held) → IfSome held (λ h. (b : List ℕ) → Performs (Some (BuildSources names)) h b (Err stop) (Some b) before before)
+      told None = tt
+      told (Some h) = λ b. performs_none (Some (BuildSources names)) h b stop (Some b) before
+
+-- ---- words that are no command
+
+pub usage_does : (files : Shelf) (input before now : Option (List ℕ)) (i f g : ℕ) (result : Result ℕ Stop)
+    → Answers usage USAGE result before now f g → Does None files files (streams input i before f) (streams input i now g) result
+usage_does files input before now i f g result a = record {
+  told = (refl, λ held b. performs None held b _ result (Some b) before now refl (gives_answer usage USAGE b result before now f g a));
+  why = of_status (λ s. IfSome files.held (λ held. Why None held input s)) usage USAGE result before now f g (why files.held) a;
+  read = λ e. absurd (let w = (only_write usage USAGE result Read before now f g a e).0 in cc);
+  write = λ e. (only_write usage USAGE result Write before now f g a e).1;
+  memory = λ e. absurd (let w = (only_write usage USAGE result Memory before now f g a e).0 in cc);
+  status = of_status (λ s. IsReported s) usage USAGE result before now f g usage_reported a;
+  usage = of_status (λ status. (status ≡ USAGE) ↔ (None ≡ None)) usage USAGE result before now f g ((λ _. refl), (λ _. refl)) a;
+}
+  where
+    why : (held : Option Held) → IfSome held (λ h. Why None h input USAGE)
+    why None = tt
+    why (Some h) = record { missing = ((λ e. absurd (omega arith)), (λ l. absurd l)); refused = ((λ e. absurd (omega arith)), (λ l. absurd l)) }
+
+-- ---- what the files are found to hold
+
+pub finds_ok : {T : Type 0} (bytes_of : T → List ℕ) (ask : Held → Result (List ℕ) Refusal) (files files' : Shelf) (answer : Result T FilesFault)
+    → IfSome files.held (λ held. StandsFor bytes_of answer (ask held)) → IfErr answer (λ fault. wants_memory fault ≡ false) → files'.faults ≡ files.faults
+    → Finds bytes_of ask files files' (Ok answer)
+finds_ok bytes_of ask files files' answer told fit kept = record {
+  told = told;
+  fit = fit;
+  read = λ e. absurd (cc);
+  write = λ e. cc;
+  memory = λ e. absurd (cc);
+  kept = kept;
+}

@@ -1,0 +1,24 @@
+//! The statuses of the program (docs/command-line.md).
+
+/// The guest exits with 0, or `build` wrote the image.
+pub const DONE: u8 = 0;
+/// The guest exits with another number.
+pub const EXITS: u8 = 1;
+/// The words have no form.
+pub const USAGE: u8 = 2;
+/// A file is refused, and the line says why.
+pub const REFUSED: u8 = 3;
+/// The run ends by terminate.
+pub const TERMINATED: u8 = 4;
+/// The run ends by a trap.
+pub const TRAPPED: u8 = 5;
+/// The run ends by the budget.
+pub const SPENT: u8 = 6;
+/// A read of a file or of the input failed.
+pub const READ_FAILED: u8 = 7;
+/// A write of the output failed.
+pub const WRITE_FAILED: u8 = 8;
+/// There was no memory.
+pub const NO_MEMORY: u8 = 9;
+/// A named file is missing or too long.
+pub const LACKING: u8 = 10;

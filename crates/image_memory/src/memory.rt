@@ -1,0 +1,65 @@
+//! The memory of an image, and of raw code.
+ghost use Rattle.std.specs.Prelude.{◌≡◌, ◌≤◌, length, map, IfOk};
+ghost use Rattle.eh_bus.specs.Flat.{memory_of};
+ghost use Rattle.image_memory.specs.Placing.{placed};
+ghost use Rattle.image_memory.specs.Start.{image_start, code_start};
+
+use eh_bus::fault::BusMemory;
+use eh_bus::flat::FlatBus;
+use eh_bus::map::MAX_IMAGE_SIZE;
+use eh_bus::segment::SegmentSpec;
+use elf_image::image::Image;
+use elf_image::segment::Segment;
+use std::alloc::{AllocError, Global};
+
+/// Where raw code is loaded and starts.
+pub const CODE_START: u32 = 0x8000;
+
+// Where a segment is placed in memory.
+fn place<'a>(segment: &Segment<'a>) -> SegmentSpec<'a>
+    ensures { placed result ≡ segment.now }
+{
+    SegmentSpec {
+        start: segment.start(),
+        bytes: segment.bytes(),
+        size: segment.size(),
+        write: segment.may_write(),
+        exec: segment.may_execute(),
+    }
+}
+
+// Where the segments are placed in memory.
+fn places<'a>(alloc: Global, segments: &[Segment<'a>]) -> Result<Vec<SegmentSpec<'a>>, AllocError>
+    ensures { IfOk result (λ all. map placed all.items ≡ segments.now) }
+{
+    let mut all = Vec::new(alloc);
+    for segment in segments {
+        all.push(place(segment))?;
+    }
+    Ok(all)
+}
+
+/// The memory of an image: its segments, each with zeros behind its bytes of the file, the stack and the pool.
+pub fn image_memory(alloc: Global, image: &Image) -> Result<FlatBus, BusMemory>
+    ensures { IfOk result (λ bus. memory_of bus ≡ (image_start image.now).memory) }
+{
+    match places(alloc, image.segments()) {
+        Ok(places) => FlatBus::build(alloc, &places),
+        Err(_) => Err(BusMemory::OutOfMemory),
+    }
+}
+
+/// The memory of raw code: one segment that may be executed and not written, the stack and the pool.
+pub fn code_memory(alloc: Global, code: &[u8]) -> Result<FlatBus, BusMemory>
+    requires { length code.now ≤ MAX_IMAGE_SIZE }
+    ensures { IfOk result (λ bus. memory_of bus ≡ (code_start code.now).memory) }
+{
+    let segment = SegmentSpec {
+        start: CODE_START,
+        bytes: code,
+        size: code.len() as u32,
+        write: false,
+        exec: true,
+    };
+    FlatBus::build(alloc, &[segment])
+}

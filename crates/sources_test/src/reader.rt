@@ -1,0 +1,3 @@
+//! The reader of sources (docs/source-language.md).
+mod limits;
+mod lines;

@@ -1,2 +1,0 @@
-mod flags;
-mod groups;
