@@ -1,5 +1,5 @@
 -- Which refusal of a list is answered: the one at the lowest line, there the one with the lowest number, and of several that
--- are equal in both the first in the list.
+-- are equal in both the first in the list (docs/objects.md, "Refusals").
 use Rattle.std.specs.Prelude.{◌≡◌, ◌++◌, ◌∷◌, [], List, Some, None, not, true}
 use Rattle.std.specs.List.{list_all}
 use Rattle.asm_layout.specs.declared.fault.AsmFault.{AsmFault}

@@ -1,4 +1,4 @@
--- The functions of a source, by its unwind directives.
+-- The functions of a source, by its unwind directives (docs/unwind-directives.md, "The directives").
 use Rattle.std.specs.Prelude.{ℕ, ℤ, pos, negsuc, nat_lt, if◌then◌else◌, List, [], ◌∷◌, ◌++◌, Option, Some, None, Result, Ok, Err}
 use Rattle.asm_read.specs.declared.statement.Stmt.{Stmt}
 use Rattle.asm_read.specs.declared.statement.StmtKind.{StmtKind}

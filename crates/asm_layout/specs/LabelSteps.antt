@@ -1,4 +1,4 @@
--- What one statement says of the labels so far.
+-- What one statement says of the labels so far (docs/objects.md, "Names").
 use Rattle.std.specs.Prelude.{ℕ, Bool, false, ◌||◌, if◌then◌else◌, List, [], ◌++◌, map, Option}
 use Rattle.std.specs.List.{list_any}
 use Rattle.eh_word.specs.Names.{same_bytes}

@@ -1,4 +1,4 @@
--- The labels of a source, and what its directives say of them.
+-- The labels of a source, and what its directives say of them (docs/objects.md, "Names" and "Symbols").
 use Rattle.std.specs.Prelude.{ℕ, ◌-◌, Bool, true, false, if◌then◌else◌, List, [], ◌∷◌, ◌++◌, map, Option, Some, None}
 use Rattle.std.specs.List.{list_any}
 use Rattle.eh_word.specs.Names.{same_bytes}

@@ -1,5 +1,6 @@
 pub mod Faults
 pub mod FaultLaw
+pub mod FaultNames
 pub mod Words
 pub mod SameWords
 pub mod Sizes

@@ -1,5 +1,5 @@
 //! Where everything of a source stands: its functions by their unwind directives, its labels and pools, and the order
-//! of its refusals.
+//! of its refusals (docs/objects.md).
 #![tactic(auto)]
 
 ghost use Rattle.asm_layout.specs.FaultLaw.{TheFirstIsAnswered, NoneOnlyOfNone};

@@ -1,4 +1,4 @@
--- What the parts of an object stand for, piece by piece.
+-- What the parts of an object stand for, piece by piece (docs/objects.md).
 use Rattle.std.specs.Prelude.{ℕ, ◌==◌, ◌%◌, ◌^◌, map, not, Bool, true, if◌then◌else◌, List, [], ◌∷◌, ◌++◌, fold, length, Some, None}
 use Rattle.asm_read.specs.declared.statement.StmtKind.{StmtKind}
 use Rattle.asm_read.specs.declared.statement.StmtKind.TheVariants as stmt

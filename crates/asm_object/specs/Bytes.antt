@@ -1,4 +1,4 @@
--- The bytes of numbers and instructions, the lowest byte first.
+-- The bytes of numbers and instructions, the lowest byte first (docs/objects.md; DDI 0419).
 use Rattle.std.specs.Prelude.{ℕ, ◌/◌, ◌%◌, ◌==◌, if◌then◌else◌, List, [], ◌∷◌, ◌++◌, replicate, flat_map}
 use Rattle.byteorder.specs.Endian.{little_bytes}
 use Rattle.asm_object.specs.declared.bytes.TheConstants.{FILLER}

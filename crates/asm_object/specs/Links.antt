@@ -1,4 +1,4 @@
--- What the code's links stand for.
+-- What the code's links stand for (docs/objects.md, "Names"; IHI 0044).
 use Rattle.std.specs.Prelude.{Option, Some, None}
 use Rattle.asm_object.specs.declared.value.Link.{Link}
 use Rattle.asm_object.specs.Values.{Linked, linked}

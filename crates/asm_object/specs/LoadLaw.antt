@@ -1,5 +1,5 @@
 -- What `ldr rt, =value` loads. Where a pool's word stands is counted in one place, the word's bytes are joined in another: the law
--- says that the offset of the instruction leads to the bytes of its own value.
+-- says that the offset of the instruction leads to the bytes of its own value (docs/objects.md, "Pools").
 use Rattle.std.specs.Prelude.{◌≡◌, ◌^◌, ◌<◌, ℕ, List, ◌∷◌, ◌++◌, drop, length, take, Ok}
 use Rattle.asm_read.specs.declared.statement.Expr.{Expr}
 use Rattle.asm_read.specs.declared.statement.Stmt.{Stmt}

@@ -1,4 +1,4 @@
--- The object of statements, or why there is none.
+-- The object of statements, or why there is none (docs/objects.md).
 use Rattle.std.specs.Prelude.{ℕ, ◌%◌, ◌^◌, List, [], ◌∷◌, ◌++◌, map, Option, Some, None, Result, Ok, Err}
 use Rattle.asm_read.specs.declared.statement.Stmt.{Stmt}
 use Rattle.asm_unwind.specs.declared.entry.EntryWords.{EntryWords}

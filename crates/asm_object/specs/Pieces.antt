@@ -1,4 +1,4 @@
--- The bytes of statements, each piece at its place, and what the linker fills in them.
+-- The bytes of statements, each piece at its place, and what the linker fills in them (docs/objects.md, "Sections and places").
 use Rattle.std.specs.Prelude.{ℕ, ◌+◌, ◌%◌, ◌^◌, ◌==◌, ◌&&◌, not, ℤ, pos, negsuc, Bool, true, false, nat_lt, if◌then◌else◌, List, [], ◌∷◌, ◌++◌, map, flat_map, length, Option, Some, None, Result, Ok, Err}
 use Rattle.std.specs.List.{position_or_len}
 use Rattle.asm_read.specs.declared.statement.Stmt.{Stmt}

@@ -1,5 +1,6 @@
 -- Where a statement stands is the number of bytes of its section before it. The walk counts sizes, the pieces have bytes:
 -- where nothing is refused and no section is too large, both agree. Of entries there are fewer than 2^64.
+-- (docs/objects.md, "Sections and places")
 use Rattle.std.specs.Prelude.{◌≡◌, ◌+◌, ◌^◌, ◌<◌, false, List, [], ◌++◌, drop, length, Option}
 use Rattle.asm_read.specs.declared.statement.Stmt.{Stmt}
 use Rattle.asm_unwind.specs.declared.entry.EntryWords.{EntryWords}

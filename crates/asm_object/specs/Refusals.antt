@@ -1,4 +1,4 @@
--- Why a statement is refused at its place.
+-- Why a statement is refused at its place (docs/objects.md, "Refusals").
 use Rattle.std.specs.Prelude.{ℕ, ◌-◌, ◌*◌, ◌==◌, ◌&&◌, ◌||◌, not, ℤ, pos, negsuc, Bool, true, false, nat_lt, nat_le, if◌then◌else◌, List, length, Option, Some, None, is_some}
 use Rattle.std.specs.List.{list_all}
 use Rattle.std.specs.Result.{result_err}

@@ -1,4 +1,4 @@
-//! Objects of statements: the assembler of the source language, without its reader.
+//! Objects of statements: the assembler of the source language, without its reader (docs/objects.md).
 #![tactic(auto)]
 
 ghost use Rattle.asm_object.specs.PlaceLaw.{

@@ -1,4 +1,4 @@
--- Numbers of digits where all from 2 ^ 33 on count as one: each of them is outside 32 bits.
+-- Numbers of digits where all from 2 ^ 33 on count as one: each of them is outside 32 bits (docs/source-language.md, "Tokens").
 use Rattle.std.specs.Prelude.{ℕ, ◌+◌, ◌*◌, min, if◌then◌else◌, List, [], ◌∷◌, drop, Option, Some, None, option_and_then}
 use Rattle.asm_read.specs.Tokens.{hex_digit, decimal_digit, is_hexadecimal}
 

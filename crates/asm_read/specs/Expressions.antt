@@ -1,4 +1,4 @@
--- Expressions at a place of a line: a grammar by cases on tokens.
+-- Expressions at a place of a line: a grammar by cases on tokens (docs/source-language.md, "Directives").
 use Rattle.std.specs.Prelude.{ℕ, zero, suc, ◌&&◌, Bool, false, if◌then◌else◌, List, [], ◌∷◌, Option, Some, None, Result, Ok, Err, pos, codes}
 use Rattle.asm_read.specs.declared.fault.SourceWhat.TheVariants.{NumberRange}
 use Rattle.asm_read.specs.declared.token.Kind.{Kind}

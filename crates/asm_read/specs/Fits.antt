@@ -1,4 +1,4 @@
--- How a form's operands fit the tokens of a line, piece by piece.
+-- How a form's operands fit the tokens of a line, piece by piece (docs/source-language.md, "Statements").
 use Rattle.std.specs.Prelude.{ℕ, ◌&&◌, not, Bool, true, false, if◌then◌else◌, List, [], ◌∷◌, length, Result, Ok, Err, ℤ, pos, codes}
 use Rattle.asm_read.specs.declared.fault.SourceWhat.TheVariants.{BadOperand}
 use Rattle.asm_read.specs.declared.token.Kind.{Kind}

@@ -1,4 +1,5 @@
--- Operands at a place of a line: what stands there and the place behind it, or where reading stops and why.
+-- Operands at a place of a line: what stands there and the place behind it, or where reading stops and why
+-- (docs/source-language.md, "Statements").
 use Rattle.std.specs.Prelude.{ℕ, ◌-◌, ◌*◌, ◌/◌, ◌%◌, ◌^◌, ◌==◌, ◌&&◌, nat_eq, nat_lt, nat_le, Bool, true, false, if◌then◌else◌, List, [], length, slice_index, slice_range, Option, Some, None, Result, Ok, Err, ℤ, pos, codes, bit_or, zero, suc, int_le}
 use Rattle.std.specs.Cmp.Lexicographic.{pointwise}
 use Rattle.asm_read.specs.declared.fault.SourceWhat.{SourceWhat}

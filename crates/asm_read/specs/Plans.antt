@@ -1,4 +1,4 @@
--- What a line holds, or the first place at which it is refused.
+-- What a line holds, or the first place at which it is refused (docs/source-language.md, "Refusals").
 use Rattle.std.specs.Prelude.{ℕ, ◌+◌, ◌==◌, ◌&&◌, ◌||◌, not, nat_lt, Bool, true, false, if◌then◌else◌, List, [], ◌∷◌, length, slice_index, Option, Some, None, Result, Ok, Err, codes}
 use Rattle.asm_read.specs.declared.fault.SourceWhat.{SourceWhat}
 use Rattle.asm_read.specs.declared.fault.SourceWhat.TheVariants.{NotAscii, LineTooLong, UnknownMnemonic, UnknownDirective}

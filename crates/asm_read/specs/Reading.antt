@@ -1,4 +1,4 @@
--- The statements of a text, or the first place at which it is refused.
+-- The statements of a text, or the first place at which it is refused (docs/source-language.md, "Refusals").
 use Rattle.std.specs.Prelude.{ℕ, ◌+◌, ◌==◌, not, nat_lt, Bool, if◌then◌else◌, List, [], ◌∷◌, ◌++◌, Option, Some, None, Result, Ok, Err}
 use Rattle.asm_read.specs.declared.fault.SourceFault.{SourceFault}
 use Rattle.asm_read.specs.declared.fault.SourceWhat.{SourceWhat}

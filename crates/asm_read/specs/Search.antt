@@ -1,4 +1,4 @@
--- The first form of a word that fits; else the first token with which none goes on.
+-- The first form of a word that fits; else the first token with which none goes on (docs/source-language.md, "Refusals").
 use Rattle.std.specs.Prelude.{ℕ, ◌==◌, ◌&&◌, ◌||◌, nat_lt, Bool, true, false, if◌then◌else◌, List, [], ◌∷◌, Option, Some, None, Result, Ok, Err}
 use Rattle.std.specs.Borrow.{Bor}
 use Rattle.asm_read.specs.declared.fault.SourceWhat.{SourceWhat}

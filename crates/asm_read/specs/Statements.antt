@@ -1,4 +1,4 @@
--- The statement that a form makes of its operands.
+-- The statement that a form makes of its operands (docs/source-language.md, "Statements" and "Directives").
 use Rattle.std.specs.Prelude.{ℕ, ◌-◌, false, true, List, length, slice_range}
 use Rattle.asm_read.specs.declared.line.Span.{Span}
 use Rattle.asm_read.specs.declared.form.Operands.{Operands}

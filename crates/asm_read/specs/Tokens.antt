@@ -1,4 +1,4 @@
--- The tokens of a line: a grammar by cases on its bytes.
+-- The tokens of a line: a grammar by cases on its bytes (docs/source-language.md, "Tokens").
 use Rattle.std.specs.Prelude.{ℕ, ◌+◌, ◌-◌, ◌*◌, ◌==◌, ◌&&◌, ◌||◌, not, nat_lt, nat_le, Bool, true, false, if◌then◌else◌, List, [], ◌∷◌, length, take, drop, slice_index, Option, Some, None, is_some, unwrap_or, option_and_then, pos, ◌-ℤ◌}
 use Rattle.std.specs.List.{prefix_len}
 use Rattle.asm_read.specs.declared.token.Kind.{Kind}

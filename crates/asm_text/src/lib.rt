@@ -1,4 +1,4 @@
-//! Canonical lines of statements: a law of the reader of sources.
+//! Canonical lines of statements: a law of the reader of sources (docs/source-language.md, "What is proved").
 #![tactic(auto)]
 
 ghost use Rattle.asm_text.specs.Written.{ReadsBack};

@@ -1,3 +1,4 @@
+//! The bytecode of a directive (IHI 0038, "Frame unwinding instructions"; docs/unwind-directives.md).
 ghost use Rattle.std.specs.Prelude.{◌≡◌, ℕ, ◌+◌, ◌*◌, ◌/◌, ◌%◌, ◌^◌, ◌<◌, ◌≤◌, ◌==◌, ◌++◌, OnOk, IfSome, flat_map, IsTrue, not, position};
 ghost use Rattle.asm_unwind.specs.Codes.{code_bytes, shortest_uleb128, ranges, range_of, high_code, save_codes, pad_codes, lower_codes, directive_codes, HasBytes, IsWritable};
 

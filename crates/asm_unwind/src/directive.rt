@@ -1,3 +1,4 @@
+//! Unwind directives, and why one is refused (docs/unwind-directives.md).
 use std::alloc::{AllocError, AllocFailed};
 
 /// A directive on the frame of the function that it stands in. Register lists have bit n set for register n.

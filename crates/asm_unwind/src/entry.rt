@@ -1,40 +1,14 @@
+//! The words of a function's entry, by its bytecode (IHI 0038, "The compact model"; docs/unwind-directives.md).
 ghost use Rattle.std.specs.Prelude.{◌≡◌, ℕ, ◌+◌, ◌*◌, ◌/◌, ◌%◌, ◌^◌, ◌<◌, ◌≤◌, ◌==◌, ◌++◌, ◌≢◌, IfOk, IfErr, MatchOption, ⊤, length};
 ghost use Rattle.asm_unwind.specs.Entries.{code_byte, word_at, word, index_of, room, further, short_entry, long_entry, entry_of, entry_of_code};
 ghost use Rattle.asm_unwind.specs.declared.directive.UnwindFault.{UnwindFault};
 
 use crate::directive::UnwindFault;
+use eh_list::Seq;
 use std::alloc::{AllocError, Global};
-use std::marker::Model;
 
-/// The words of a table, which contracts see as their list.
-#[derive(Debug, Drop)]
-pub struct TableWords {
-    words: Vec<u32>,
-}
-
-impl Model for TableWords {
-    ghost use Rattle.std.specs.Prelude.{List, ℕ};
-
-    ghost Value = { List ℕ };
-
-    ghost view = { λ t. t.words.items };
-}
-
-impl TableWords {
-    /// A table of these words.
-    pub fn of_vec(words: Vec<u32>) -> TableWords
-        ensures { result ≡ words.items }
-    {
-        TableWords { words }
-    }
-
-    /// The words of the table.
-    pub fn as_slice(&self) -> &[u32]
-        ensures { result.now ≡ self.now }
-    {
-        self.words.as_slice()
-    }
-}
+/// The words of a table.
+pub type TableWords = Seq<u32>;
 
 /// What the index says of a function (IHI 0038).
 #[derive(Debug, Drop)]

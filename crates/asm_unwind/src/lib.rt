@@ -1,4 +1,4 @@
-// Unwind directives of a function, and the words of its index entry or table (IHI 0038).
+//! Unwind directives of a function, and the words of its index entry or table (IHI 0038; docs/unwind-directives.md).
 #![tactic(auto)]
 
 ghost use Rattle.asm_unwind.specs.Meaning.{PadsRaise, FramePointersLower, SavesPop, NumbersRead, FunctionsUndo};
@@ -15,9 +15,6 @@ mod seen;
 pub use directive::{UnwindDirective, UnwindFault};
 pub use entry::{EntryWords, TableWords};
 pub use frame::{FrameText, new_frame};
-
-#[cfg(test)]
-mod tests;
 
 /// The codes of a directive undo just what it says: those of a pad raise the virtual stack pointer by its size, those of a frame
 /// pointer's offset lower it by that offset, those of a register list pop its registers, the lowest first, and none does more;

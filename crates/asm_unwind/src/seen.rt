@@ -1,3 +1,4 @@
+//! What of a frame's directives decides whether the next one is refused (docs/unwind-directives.md).
 ghost use Rattle.std.specs.Prelude.{◌≡◌, ◌<◌, [], IfNone};
 ghost use Rattle.std.specs.Bool.{OnFalse};
 ghost use Rattle.asm_unwind.specs.Refusals.{HasNarrowList, has_register, is_start, is_end, is_outside, is_bad_save, is_bad_pad, is_bad_personality, seen_in, refusal_of, with_next};

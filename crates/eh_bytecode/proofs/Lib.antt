@@ -5,3 +5,4 @@ pub mod Lists
 pub mod Unwinds
 pub mod Summing
 pub mod Near
+pub mod RecipeLaws

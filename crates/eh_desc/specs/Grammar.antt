@@ -2,6 +2,8 @@
 -- their segment; a place is an offset among them.
 use Rattle.std.specs.Prelude.{ℕ, zero, suc, ◌+◌, ◌-◌, ◌*◌, ◌/◌, ◌%◌, ◌^◌, ◌==◌, not, Bool, nat_le, nat_lt, if◌then◌else◌, List, [], ◌∷◌, length, Option, Some, None, Result, Ok, Err}
 use Rattle.eh_word.specs.Words.{number_at, prel31_of}
+use Rattle.elf_image.specs.Segments.{Segment}
+use Rattle.eh_index.specs.Places.{bytes_at}
 use Rattle.unwind_codes.specs.Words.{personality_of_word, code_words_behind}
 use Rattle.unwind_codes.specs.declared.row.Entry.{Entry}
 use Rattle.unwind_codes.specs.declared.row.EntryBody.{EntryBody}
@@ -152,9 +154,14 @@ abbrev pub type_of : ℕ → Option ℕ → Option ℕ
 type_of address None = None
 type_of address (Some word) = if word == 0 then None else Some ((address + word) % 2 ^ 32)
 
--- type i of a specification, by the words of a table
-abbrev pub type_in : ℕ → List ℕ → DescKind → ℕ → Option ℕ
-type_in address bytes (Spec types count _) i =
+-- the word at an address of a read-only segment
+abbrev pub first_word : Option (List ℕ) → Option ℕ
+first_word None = None
+first_word (Some bytes) = number_at 4 bytes 0
+
+-- type i of a specification, whose words stand in read-only segments
+abbrev pub type_in : List Segment → DescKind → ℕ → Option ℕ
+type_in segments (Spec types count _) i =
     if nat_le count i then None
-    else type_of ((types + 4 * i) % 2 ^ 32) (number_at 4 bytes ((types + 4 * i + (2 ^ 32 - address)) % 2 ^ 32))
-type_in address bytes _ i = None
+    else type_of ((types + 4 * i) % 2 ^ 32) (first_word (bytes_at segments ((types + 4 * i) % 2 ^ 32)))
+type_in segments _ i = None

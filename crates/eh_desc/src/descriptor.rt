@@ -1,10 +1,12 @@
 //! Descriptors and their iterator (IHI 0038). docs/descriptors.md has the formats.
-ghost use Rattle.std.specs.Prelude.{◌≡◌, ◌+◌, ◌-◌, ◌*◌, ◌/◌, ◌%◌, ◌^◌, ◌<◌, ◌≤◌, ◌==◌, [], length, IfSome, IsTrue, ◌↔◌, nat_le, Some, None, Ok, Err, option_copied};
+ghost use Rattle.std.specs.Prelude.{◌≡◌, ◌+◌, ◌-◌, ◌*◌, ◌/◌, ◌%◌, ◌^◌, ◌<◌, ◌≤◌, ◌==◌, [], length, IfSome, IsTrue, ◌↔◌, nat_le, Some, None, Ok, Err};
 ghost use Rattle.std.specs.Iterator.{YieldsFirst, item_count};
 ghost use Rattle.eh_desc.specs.Grammar.{word_at, address_at, even, pad_by, type_by, catch_type, found, cleanup_at, catch_at, padded_at, types_at, specification_at, kind_at, found_at, items_from, items_of, table_items, type_in};
 ghost use Rattle.eh_desc.specs.Tables.{form};
+ghost use Rattle.eh_index.specs.Places.{table_of};
 
 use eh_bytecode::Codes;
+use eh_index::Index;
 use eh_word::{get_word, prel31};
 use std::marker::Model;
 use unwind_codes::{Entry, EntryBody};
@@ -372,12 +374,12 @@ impl<'a> Descs<'a> {
         }
     }
 
-    /// The descriptors of an entry, by the bytes from its table's address to the end of the segment that holds it. An entry that
-    /// is no table, or whose codes can't be read, has none.
-    pub fn of(e: &Entry, table: Option<&'a [u8]>) -> Descs<'a>
-        ensures { result ≡ items_of e.now (option_copied table.entry) }
+    /// The descriptors of an entry, in the bytes from its table's address to the end of those of the read-only segment that holds
+    /// it. An entry that is no table, or whose codes can't be read, has none.
+    pub fn of(index: &Index<'a>, e: &Entry) -> Descs<'a>
+        ensures { result ≡ items_of e.now (table_of index.now e.now) }
     {
-        match (e.body, table) {
+        match (e.body, index.table(e)) {
             (EntryBody::Table(address), Some(bytes)) => Descs::behind(e.start, address, bytes),
             (EntryBody::Table(_) | EntryBody::CantUnwind | EntryBody::Inline(_), _) =>
                 Descs::none(),
@@ -414,10 +416,10 @@ impl<'a> Iterator for Descs<'a> {
     }
 }
 
-/// The address of type `i` of a specification, by the bytes that stand from `address` on. None for a word of 0, for one that these
-/// bytes don't hold, for an `i` that isn't below the count, and for a descriptor that is no specification.
-pub fn spec_type(bytes: &[u8], address: u32, d: &Desc, i: u32) -> Option<u32>
-    ensures { result ≡ type_in address bytes.now d.now.kind i }
+/// The address of type `i` of a specification. None for a word of 0, for one that the bytes of no read-only segment hold, for an `i`
+/// that isn't below the count, and for a descriptor that is no specification.
+pub fn spec_type(index: &Index, d: &Desc, i: u32) -> Option<u32>
+    ensures { result ≡ type_in index.now.segments d.now.kind i }
 {
     let DescKind::Spec { types, count, .. } = d.kind else {
         return None;
@@ -426,7 +428,11 @@ pub fn spec_type(bytes: &[u8], address: u32, d: &Desc, i: u32) -> Option<u32>
         return None;
     }
     let at = types.wrapping_add(i.wrapping_mul(4));
-    let word = get_word(bytes, at.wrapping_sub(address) as usize)?;
+    let place = Entry {
+        start: 0,
+        body: EntryBody::Table(at),
+    };
+    let word = get_word(index.table(&place)?, 0)?;
     if word == 0 {
         return None;
     }

@@ -16,11 +16,11 @@ use unwind_codes::row::{Entry, EntryBody};
 
 /// The exception index of an image, which contracts see as that image: its rows are accepted, and rise.
 #[derive(Drop)]
-pub struct Index<'a> {
-    image: &'a Image<'a>,
+pub struct Index<'i, 'a> {
+    image: &'i Image<'a>,
 }
 
-impl<'a> Model for Index<'a> {
+impl<'i, 'a> Model for Index<'i, 'a> {
     ghost use Rattle.std.specs.Prelude.{◌≡◌, None};
     ghost use Rattle.elf_image.specs.Image.{Image as Parts};
     ghost use Rattle.eh_index.specs.Refusal.{index_refusal};
@@ -106,11 +106,11 @@ fn rows_up_to(image: &Image, count: u32, site: u32) -> u32
     low
 }
 
-impl<'a> Index<'a> {
+impl<'i, 'a> Index<'i, 'a> {
     /// The index of an image; of one without an index, one without entries. Refused is the lowest row with a fault, by the
     /// first fault that `IndexFault` has.
     #[tactic(auto, unfolding(crate::specs::Refusal::index_refusal))]
-    pub fn read(image: &'a Image<'a>) -> Result<Index<'a>, IndexFault>
+    pub fn read(image: &'i Image<'a>) -> Result<Index<'i, 'a>, IndexFault>
         ensures { result ≡ read_of image.now }
     {
         if image.index_bytes().len() % 8 != 0 {

@@ -1,4 +1,4 @@
--- The text of the stubs, piece by piece.
+-- The text of the stubs, piece by piece (Itanium C++ ABI, "Run-Time Type Information", for the objects).
 use Rattle.std.specs.Prelude.{ℕ, List, ◌++◌, codes}
 
 -- a function that other objects may call, with these lines between `.fnstart` and `.fnend`

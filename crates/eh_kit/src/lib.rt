@@ -1,4 +1,4 @@
-//! The runtime's stubs: the assembly source that each program is linked with.
+//! The runtime's stubs: the assembly source that each program is linked with (docs/linking.md).
 #![tactic(auto)]
 
 ghost use Rattle.std.specs.Prelude.{◌≡◌};

@@ -1,5 +1,5 @@
 -- The fields of an object that the assembler gives: each stands alone in its place and whole in its section's bytes, so what the
--- law of fields says holds of every one of them. Of statements there are fewer than 2^64.
+-- law of fields says holds of every one of them. Of statements there are fewer than 2^64 (docs/linking.md, "What is proved").
 use Rattle.std.specs.Prelude.{◌≡◌, ◌+◌, ◌^◌, ◌<◌, ◌≤◌, List, ◌∷◌, ◌++◌, length, Ok}
 use Rattle.asm_read.specs.declared.statement.Stmt.{Stmt}
 use Rattle.asm_object.specs.declared.object.Object.{Object}

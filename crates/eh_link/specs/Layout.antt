@@ -1,7 +1,7 @@
 -- Where everything of an image stands. The first segment begins at 0x8000 and holds the texts of the objects, then their
 -- rodata, then their exception tables, then the index. The second one begins at the next multiple of 4,096 behind it and
 -- holds the data with given bytes, then the data that begins as zeros. Each object's part of a section, an empty one too,
--- and the index begin at the next multiple of 4.
+-- and the index begin at the next multiple of 4 (docs/linking.md, "Layout").
 use Rattle.std.specs.Prelude.{ℕ, ◌+◌, ◌-◌, ◌*◌, ◌%◌, ◌^◌, ◌≤◌, Bool, nat_lt, List, [], ◌∷◌, length, sum_by}
 use Rattle.asm_object.specs.declared.object.Object.{Object}
 use Rattle.asm_layout.specs.declared.place.Section.{Section}

@@ -1,5 +1,6 @@
 -- Where the bytes of the segments stand: each object's part at its address, the index behind the parts, and as many bytes as the
 -- layout tells. Addresses are sums of the parts' sizes, and the bytes are the parts joined: the law says that both agree.
+-- (docs/linking.md, "Layout")
 use Rattle.std.specs.Prelude.{◌≡◌, ℕ, ◌+◌, ◌-◌, ◌==◌, if◌then◌else◌, List, [], ◌∷◌, ◌++◌, length, map, All, Ok}
 use Rattle.asm_layout.specs.declared.place.Section.{Section}
 use Rattle.asm_layout.specs.declared.place.Section.TheVariants.{Text, Rodata, Extab, Init}

@@ -1,4 +1,4 @@
--- What objects link to: the parts of an image, or the first of the refusals in their order.
+-- What objects link to: the parts of an image, or the first of the refusals in their order (docs/linking.md).
 use Rattle.std.specs.Prelude.{ℕ, ◌-◌, ◌%◌, ◌==◌, not, Bool, true, false, if◌then◌else◌, List, [], ◌∷◌, ◌++◌, length, map, Option, Some, None, Result, Ok, Err}
 use Rattle.std.specs.Option.{option_map_or}
 use Rattle.asm_object.specs.declared.object.Object.{Object}

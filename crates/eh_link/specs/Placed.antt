@@ -1,4 +1,4 @@
--- An object, and where its parts begin.
+-- An object, and where its parts begin (docs/linking.md, "Layout").
 use Rattle.asm_object.specs.declared.object.Object.{Object}
 use Rattle.eh_link.specs.declared.places.Addresses.{Addresses}
 

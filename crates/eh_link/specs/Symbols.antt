@@ -1,4 +1,5 @@
 -- What names mean: which labels there are, which name is there twice or not at all, and the symbols of the image.
+-- (docs/linking.md, "Names")
 use Rattle.std.specs.Prelude.{ℕ, ◌==◌, not, ◌&&◌, ◌||◌, Bool, false, if◌then◌else◌, List, [], ◌∷◌, ◌++◌, map, filter, find, Option, None, codes}
 use Rattle.std.specs.List.{list_any, flat_map}
 use Rattle.std.specs.Option.{option_or, option_map}

@@ -1,4 +1,4 @@
-//! The static linker: objects to the parts of an image.
+//! The static linker: objects to the parts of an image (docs/linking.md).
 #![tactic(auto)]
 
 ghost use Rattle.eh_link.specs.FieldLaw.{OtherBytesStay, FieldsHold};

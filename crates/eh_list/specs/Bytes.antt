@@ -1,4 +1,4 @@
--- Zeros and multiples.
+-- Zeros and multiples. No standard: what several crates count and write.
 use Rattle.std.specs.Prelude.{◌≡◌, ℕ, ◌+◌, ◌-◌, ◌*◌, ◌/◌, ◌%◌, List, length, replicate}
 use Rattle.std.proofs.lemmas.List.{length-replicate}
 

@@ -103,6 +103,11 @@ pub fn run<R: rt::Env + rt::Files + Input + Print + AllocGlobal>(
     )
 }
 
+/// All that a program does: it ends with the status of its words, its files and its streams.
+pub fn program<R: rt::Env + rt::Files + Input + Print + AllocGlobal>(host: &R) -> ExitCode {
+    ended(run(host))
+}
+
 /// How a program ends: with the status that the call answered, and without memory for its words with `NO_MEMORY`.
 pub fn ended(status: Result<u8, AllocError>) -> ExitCode
     ensures { MatchResult status (λ n. exit_status result ≡ n) (λ _. exit_status result ≡ NO_MEMORY) }

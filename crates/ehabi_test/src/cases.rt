@@ -1,4 +1,4 @@
-// One table of calls of the program, each with what it reads, writes, answers and leaves.
+//! One table of calls of the program, each with what it reads, writes, answers and leaves.
 use eh_port::{Bytes, CallNumbers, FileList, MemFile, MemFiles, MemSink, MemSource};
 use ehabi_top::ehabi_main;
 use std::alloc::{AllocError, Global};
@@ -41,7 +41,7 @@ pub(crate) const ECHO: &[u8] = b"\x02\xdf\x00\xdf";
 /// svc #2; svc #1; svc #2; svc #1; svc #2; svc #0.
 pub(crate) const COPY: &[u8] = b"\x02\xdf\x01\xdf\x02\xdf\x01\xdf\x02\xdf\x00\xdf";
 
-static CASES: [Case; 17] = [
+static CASES: [Case; 10] = [
     Case {
         words: &["flat", "c.bin", "15"],
         files: &[("c.bin", COUNT)],
@@ -64,62 +64,6 @@ static CASES: [Case; 17] = [
         input: b"",
         status: 5,
         written: b"\n-- trap Unmapped 00008000 at 00008000\n",
-        left: b"",
-    },
-    Case {
-        words: &["flat", "c.bin", "0"],
-        files: &[("c.bin", COUNT)],
-        input: b"in",
-        status: 2,
-        written: USAGE,
-        left: b"in",
-    },
-    Case {
-        words: &["flat", "c.bin"],
-        files: &[("c.bin", COUNT)],
-        input: b"",
-        status: 2,
-        written: USAGE,
-        left: b"",
-    },
-    Case {
-        words: &["flat", "c.bin", "1000000001"],
-        files: &[("c.bin", COUNT)],
-        input: b"",
-        status: 2,
-        written: USAGE,
-        left: b"",
-    },
-    Case {
-        words: &["flat", "c.bin", "+15"],
-        files: &[("c.bin", COUNT)],
-        input: b"",
-        status: 2,
-        written: USAGE,
-        left: b"",
-    },
-    Case {
-        words: &["flat", "c.bin", "00000000015"],
-        files: &[("c.bin", COUNT)],
-        input: b"",
-        status: 2,
-        written: USAGE,
-        left: b"",
-    },
-    Case {
-        words: &["flat", "", "15"],
-        files: &[("", COUNT)],
-        input: b"",
-        status: 2,
-        written: USAGE,
-        left: b"",
-    },
-    Case {
-        words: &[],
-        files: &[],
-        input: b"",
-        status: 2,
-        written: USAGE,
         left: b"",
     },
     Case {
@@ -183,6 +127,23 @@ static CASES: [Case; 17] = [
         written: b"\n-- exit 0\n",
         left: b"",
     },
+];
+
+/// Words of no form, whatever the files hold.
+static NO_FORM: [&[&str]; 12] = [
+    &[],
+    &["flat", "c.bin"],
+    &["flat", "c.bin", "0"],
+    &["flat", "c.bin", "1000000001"],
+    &["flat", "c.bin", "+15"],
+    &["flat", "c.bin", "00000000015"],
+    &["flat", "", "15"],
+    &["build"],
+    &["build", "c.bin"],
+    &["run", "100"],
+    &["run", "", "100"],
+    // names of sources and of an image do not go together
+    &["run", "z.s", "c.bin", "100"],
 ];
 
 fn bytes(alloc: Global, of: &[u8]) -> Result<Bytes, AllocError> {
@@ -276,10 +237,38 @@ pub(crate) fn comes_out(alloc: Global, case: &Case) -> Result<bool, AllocError> 
     )
 }
 
+/// Whether a call answers this status, writes this text and leaves its input.
+pub(crate) fn answers(
+    alloc: Global,
+    words: &[&str],
+    files: &[(&str, &[u8])],
+    status: u8,
+    text: &[u8],
+) -> Result<bool, AllocError> {
+    let outcome = call(alloc, words, files, b"in", NONE)?;
+    Ok(
+        outcome.status == status
+            && outcome.out.written.as_slice() == text
+            && outcome.input.left.as_slice() == b"in".as_slice(),
+    )
+}
+
 #[test]
 fn cases(rt: HostRuntime) -> Result<(), Fail> {
     for (number, case) in CASES.iter().enumerate() {
         assert!(rt; comes_out(rt.alloc(), case)?, "case {number}");
+    }
+    Ok(())
+}
+
+#[test]
+fn words_of_no_form(rt: HostRuntime) -> Result<(), Fail> {
+    let files: [(&str, &[u8]); 4] = [("c.bin", COUNT), ("", COUNT), ("100", COUNT), ("z.s", b"")];
+    for (number, words) in NO_FORM.iter().enumerate() {
+        assert!(rt;
+            answers(rt.alloc(), words, &files, 2, USAGE)?,
+            "words {number}"
+        );
     }
     Ok(())
 }

@@ -1,4 +1,4 @@
-// Calls of files, source and sink that fail, and the forms that never fail or tell nothing.
+//! Calls of files, source and sink that fail, and the forms that never fail or tell nothing.
 use crate::cases::{COPY, COUNT, ECHO, Failing, NONE, Outcome, call, files};
 use crate::texts::{ECHO_MAIN, ECHO_PUT};
 use eh_port::{Bytes, HostSink, HostSource, SureFiles, SureSink, SureSource};

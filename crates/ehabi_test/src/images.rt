@@ -1,5 +1,5 @@
-// `run` of images: one that is written from its parts, and files that are none.
-use crate::cases::{COUNT, NONE, call};
+//! `run` of images: one that is written from its parts, and files that are none.
+use crate::cases::{COUNT, answers};
 use eh_word::Name;
 use elf_write::{
     ImageParts, OwnBytes, OwnSegment, OwnSegments, OwnSymbol, OwnSymbols, SymbolKind, write_image,
@@ -34,27 +34,11 @@ fn counting_parts(alloc: Global) -> Result<ImageParts, Fail> {
 fn written_image_runs(rt: HostRuntime) -> Result<(), Fail> {
     let alloc = rt.alloc();
     let image = write_image(alloc, &counting_parts(alloc)?)?;
-    let exits = call(
-        alloc,
-        &["run", "c.elf", "15"],
-        &[("c.elf", &image)],
-        b"in",
-        NONE,
-    )?;
-    let exits_well = exits.status == 0
-        && exits.out.written.as_slice() == b"AAA\n-- trace\n-- exit 0\n".as_slice()
-        && exits.input.left.as_slice() == b"in".as_slice();
-    assert!(rt; exits_well);
-    let spent = call(
-        alloc,
-        &["run", "c.elf", "14"],
-        &[("c.elf", &image)],
-        b"",
-        NONE,
-    )?;
-    let spent_well = spent.status == 6
-        && spent.out.written.as_slice() == b"AAA\n-- trace\n-- budget\n".as_slice();
-    assert!(rt; spent_well);
+    let files: [(&str, &[u8]); 1] = [("c.elf", &image)];
+    let exits = b"AAA\n-- trace\n-- exit 0\n";
+    let spent = b"AAA\n-- trace\n-- budget\n";
+    assert!(rt; answers(alloc, &["run", "c.elf", "15"], &files, 0, exits)?);
+    assert!(rt; answers(alloc, &["run", "c.elf", "14"], &files, 6, spent)?);
     Ok(())
 }
 
@@ -63,15 +47,9 @@ fn short_files_are_no_images(rt: HostRuntime) -> Result<(), Fail> {
     let alloc = rt.alloc();
     let zeros = [0u8; 51];
     for length in 0..52 {
-        let outcome = call(
-            alloc,
-            &["run", "x", "9"],
-            &[("x", &zeros[..length])],
-            b"",
-            NONE,
-        )?;
-        let refused = outcome.status == 3
-            && outcome.out.written.as_slice() == b"image: Truncated 52\n".as_slice();
+        let words = ["run", "x", "9"];
+        let file: [(&str, &[u8]); 1] = [("x", &zeros[..length])];
+        let refused = answers(alloc, &words, &file, 3, b"image: Truncated 52\n")?;
         assert!(rt; refused, "length {length}");
     }
     Ok(())

@@ -1,6 +1,6 @@
-// Sources by their bytes, their length and their number.
-use crate::cases::{NONE, USAGE, call};
-use crate::sources::{answers, refuses};
+//! Sources by their bytes, their length and their number.
+use crate::cases::{NONE, USAGE, answers, call};
+use crate::sources::refuses;
 use crate::texts::WRITES_A;
 use elf_image::read_image;
 use std::alloc::{AllocError, Global};

@@ -1,11 +1,11 @@
-// `build` and `run` of sources.
-use crate::cases::{Case, NONE, USAGE, call, comes_out};
+//! `build` and `run` of sources.
+use crate::cases::{Case, NONE, answers, call, comes_out};
 use crate::texts::{ECHO_MAIN, ECHO_PUT, HANDLER, HANDLER_IMAGE, WRITES_A, with_line};
 use elf_image::read_image;
 use std::alloc::{AllocError, Global};
 use std::test::Fail;
 
-static CASES: [Case; 8] = [
+static CASES: [Case; 4] = [
     Case {
         words: &["run", "z.s", "100"],
         files: &[("z.s", WRITES_A)],
@@ -29,39 +29,6 @@ static CASES: [Case; 8] = [
         status: 0,
         written: b"x\n-- trace\n-- exit 0\n",
         left: b"z",
-    },
-    Case {
-        words: &["build", "z"],
-        files: &[("z", WRITES_A)],
-        input: b"",
-        status: 2,
-        written: USAGE,
-        left: b"",
-    },
-    Case {
-        words: &["build"],
-        files: &[],
-        input: b"",
-        status: 2,
-        written: USAGE,
-        left: b"",
-    },
-    Case {
-        // names of sources and of an image do not go together
-        words: &["run", "z.s", "z", "100"],
-        files: &[("z.s", WRITES_A), ("z", WRITES_A)],
-        input: b"",
-        status: 2,
-        written: USAGE,
-        left: b"",
-    },
-    Case {
-        words: &["run", "100"],
-        files: &[("100", WRITES_A)],
-        input: b"",
-        status: 2,
-        written: USAGE,
-        left: b"",
     },
     Case {
         // a branch that just reaches: 2 + 2046 bytes, then two more before its label
@@ -187,10 +154,7 @@ static SEVERAL: [Refused; 6] = [
     },
     Refused {
         // sixteen names of one file
-        names: &[
-            "a.s", "a.s", "a.s", "a.s", "a.s", "a.s", "a.s", "a.s", "a.s", "a.s", "a.s", "a.s",
-            "a.s", "a.s", "a.s", "a.s",
-        ],
+        names: &["a.s"; 16],
         files: &[("a.s", WRITES_A)],
         status: 3,
         line: b"link: Duplicate main\n",
@@ -203,22 +167,6 @@ static EDITS: [(usize, &str, &[u8]); 3] = [
     (2, "movs r9, #1", b"a.s:3: RegisterRange\n"),
     (1, "frob r0", b"a.s:2:1: UnknownMnemonic\n"),
 ];
-
-/// Whether a call answers this status, writes this text and leaves its input.
-pub(crate) fn answers(
-    alloc: Global,
-    words: &[&str],
-    files: &[(&str, &[u8])],
-    status: u8,
-    text: &[u8],
-) -> Result<bool, AllocError> {
-    let outcome = call(alloc, words, files, b"in", NONE)?;
-    Ok(
-        outcome.status == status
-            && outcome.out.written.as_slice() == text
-            && outcome.input.left.as_slice() == b"in".as_slice(),
-    )
-}
 
 /// Whether both `build` and `run` of sources answer this status and write this line alone.
 pub(crate) fn refuses(
@@ -295,13 +243,9 @@ fn built_image_runs(rt: HostRuntime) -> Result<(), Fail> {
     let bytes = built.out.written.as_slice();
     let image = read_image(alloc, bytes)?;
     assert!(rt; image.function_of(image.entry()).is_some());
+    let wrote = b"A\n-- trace\n-- exit 0\n";
     let words = ["run", "z.elf", "100"];
-    let ran = call(alloc, &words, &[("z.elf", bytes)], b"", NONE)?;
-    assert_eq!(rt; ran.status, 0);
-    assert_eq!(rt;
-        ran.out.written.as_slice(),
-        b"A\n-- trace\n-- exit 0\n".as_slice()
-    );
+    assert!(rt; answers(alloc, &words, &[("z.elf", bytes)], 0, wrote)?);
     Ok(())
 }
 

@@ -1,4 +1,4 @@
-// Sources that the tests build and run, and texts that are made of them.
+//! Sources that the tests build and run, and texts that are made of them.
 use std::alloc::{AllocError, Global};
 
 /// A program that writes A and ends well.

@@ -1,9 +1,11 @@
 -- The parts of an ELF file of class 32, little-endian, by their places ("Tool Interface Standard, ELF"; "ELF for the Arm Architecture").
-use Rattle.std.specs.Prelude.{ℕ, ◌+◌, ◌*◌, ◌==◌, nat_lt, Bool, if◌then◌else◌, List, [], ◌∷◌, length, take, drop, map, Option, Some, None}
+use Rattle.std.specs.Prelude.{slice_index, ℕ, ◌+◌, ◌*◌, ◌==◌, nat_lt, Bool, if◌then◌else◌, List, [], ◌∷◌, length, take, drop, map, Option, Some, None}
 use Rattle.std.specs.List.{range_with_len}
 use Rattle.byteorder.specs.Endian.{little_number}
 use Rattle.elf_image.specs.declared.fault.ImageFault.{ImageFault}
 use Rattle.elf_image.specs.declared.fault.ImageFault.TheVariants.{Truncated}
+use Rattle.elf_image.specs.declared.format.FileHeader.{FileHeader}
+use Rattle.elf_image.specs.declared.format.TheConstants.{PROGRAM_HEADER_SIZE, SECTION_HEADER_SIZE}
 use Rattle.elf_image.specs.declared.format.ProgramHeader.{ProgramHeader}
 use Rattle.elf_image.specs.declared.format.SectionHeader.{SectionHeader}
 
@@ -31,32 +33,35 @@ when holds fault = if holds then Some fault else None
 
 -- ---- the file header
 
-abbrev pub file_type : List ℕ → ℕ
-file_type bytes = field 2 bytes 16
-
-abbrev pub machine : List ℕ → ℕ
-machine bytes = field 2 bytes 18
+-- the fields by their offsets; of the flags the top byte alone
+abbrev pub file_header : List ℕ → FileHeader
+file_header bytes = record {
+  kind = field 2 bytes 16;
+  machine = field 2 bytes 18;
+  entry = field 4 bytes 24;
+  program_offset = field 4 bytes 28;
+  section_offset = field 4 bytes 32;
+  abi_version = slice_index bytes 39;
+  program_size = field 2 bytes 42;
+  program_count = field 2 bytes 44;
+  section_size = field 2 bytes 46;
+  section_count = field 2 bytes 48;
+}
 
 abbrev pub entry_field : List ℕ → ℕ
-entry_field bytes = field 4 bytes 24
+entry_field bytes = (file_header bytes).entry
 
 abbrev pub program_offset : List ℕ → ℕ
-program_offset bytes = field 4 bytes 28
+program_offset bytes = (file_header bytes).program_offset
 
 abbrev pub section_offset : List ℕ → ℕ
-section_offset bytes = field 4 bytes 32
-
-abbrev pub program_size : List ℕ → ℕ
-program_size bytes = field 2 bytes 42
+section_offset bytes = (file_header bytes).section_offset
 
 abbrev pub program_count : List ℕ → ℕ
-program_count bytes = field 2 bytes 44
-
-abbrev pub section_size : List ℕ → ℕ
-section_size bytes = field 2 bytes 46
+program_count bytes = (file_header bytes).program_count
 
 abbrev pub section_count : List ℕ → ℕ
-section_count bytes = field 2 bytes 48
+section_count bytes = (file_header bytes).section_count
 
 -- ---- the tables of headers
 
@@ -79,7 +84,7 @@ section_header bytes at = record {
 }
 
 abbrev pub program_headers : List ℕ → List ProgramHeader
-program_headers bytes = map (λ i. program_header bytes (program_offset bytes + 32 * i)) (range_with_len 0 (program_count bytes))
+program_headers bytes = map (λ i. program_header bytes (program_offset bytes + PROGRAM_HEADER_SIZE * i)) (range_with_len 0 (program_count bytes))
 
 abbrev pub section_headers : List ℕ → List SectionHeader
-section_headers bytes = map (λ i. section_header bytes (section_offset bytes + 40 * i)) (range_with_len 0 (section_count bytes))
+section_headers bytes = map (λ i. section_header bytes (section_offset bytes + SECTION_HEADER_SIZE * i)) (range_with_len 0 (section_count bytes))

@@ -5,6 +5,7 @@ use Rattle.std.specs.BTreeMap.{insert_entry, is_at}
 use Rattle.std.specs.Map.{lookup, values_of}
 use Rattle.elf_image.specs.Segments.{Segment, holds, segment_end}
 use Rattle.elf_image.specs.Symbols.{Symbol}
+use Rattle.elf_image.specs.declared.symbol.TheConstants.{STT_FUNC, SHN_UNDEF}
 
 pub record Function : Type 0 where
   pub name : List ℕ
@@ -14,7 +15,7 @@ pub record Function : Type 0 where
 
 -- a defined symbol of type STT_FUNC whose value has bit 0 set, as Thumb code's has
 abbrev pub is_thumb_function : Symbol → Bool
-is_thumb_function s = s.info % 16 == 2 && s.value % 2 == 1 && not (s.section == 0)
+is_thumb_function s = s.info % 16 == STT_FUNC && s.value % 2 == 1 && not (s.section == SHN_UNDEF)
 
 abbrev pub segment_at : List Segment → ℕ → Option Segment
 segment_at segments a = find (holds a) segments

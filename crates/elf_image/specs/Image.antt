@@ -13,6 +13,8 @@ use Rattle.elf_image.specs.Index.{is_index, index_refusal, index_of}
 use Rattle.elf_image.specs.Symbols.{Symbol, tables_of, tables_refusal, symbol_count, symbols_of}
 use Rattle.elf_image.specs.Functions.{Function, segment_at, function_of_symbol, functions_of, is_inside, FunctionsFrom}
 use Rattle.elf_image.specs.Marks.{marks_of, marked}
+use Rattle.elf_image.specs.declared.limits.TheConstants.{MEMORY_LIMIT, SEGMENT_LIMIT, SYMBOL_LIMIT, FUNCTION_LIMIT}
+use Rattle.elf_image.specs.declared.symbol.TheConstants.{SHN_UNDEF}
 use Rattle.elf_image.specs.declared.fault.ImageFault.{ImageFault}
 use Rattle.elf_image.specs.declared.fault.ImageFault.TheVariants.{TooLarge, Entry}
 use Rattle.elf_image.specs.declared.format.ProgramHeader.{ProgramHeader}
@@ -40,7 +42,7 @@ pub record Image : Type 0 where
 -- ---- the symbols by name
 
 abbrev pub is_defined : Symbol → Bool
-is_defined s = not (s.section == 0)
+is_defined s = not (s.section == SHN_UNDEF)
 
 abbrev pub address_of : Symbol → Option Function → ℕ
 address_of s None = s.value
@@ -56,10 +58,10 @@ named_of segments symbols = map (λ s. named segments s) (filter is_defined symb
 -- ---- limits, and the entry
 
 unfoldable pub size_refusal : List Segment → ℕ → Option ImageFault
-size_refusal segments symbols = when (nat_lt 1048576 (sum_by (λ s. s.size) segments) || nat_lt 1024 (length segments) || nat_lt 65536 symbols) TooLarge
+size_refusal segments symbols = when (nat_lt MEMORY_LIMIT (sum_by (λ s. s.size) segments) || nat_lt SEGMENT_LIMIT (length segments) || nat_lt SYMBOL_LIMIT symbols) TooLarge
 
 unfoldable pub count_refusal : List Function → Option ImageFault
-count_refusal functions = when (nat_lt 4096 (length functions)) TooLarge
+count_refusal functions = when (nat_lt FUNCTION_LIMIT (length functions)) TooLarge
 
 -- bit 0 of the field is set, and a function begins at the address without it
 unfoldable pub entry_refusal : ℕ → List Function → Option ImageFault
@@ -165,10 +167,10 @@ IndexStands segments start bytes = ((start ≡ 0) × (bytes ≡ [])) ⊎ StandsA
 -- code, one of them at the even entry; marks rise; the index stands in a read-only segment
 pub record IsSound (image : Image) : Type 0 where
   pub rise : RiseFrom 0 image.segments
-  pub memory : sum_by (λ s. s.size) image.segments ≤ 1048576
-  pub count : length image.segments ≤ 1024
+  pub memory : sum_by (λ s. s.size) image.segments ≤ MEMORY_LIMIT
+  pub count : length image.segments ≤ SEGMENT_LIMIT
   pub functions : FunctionsFrom 0 image.functions
-  pub function_count : length image.functions ≤ 4096
+  pub function_count : length image.functions ≤ FUNCTION_LIMIT
   pub within : All (IsWithinCode image.segments) image.functions
   pub entry_even : image.entry % 2 ≡ 0
   pub entry_begins : list_any (λ f. f.start == image.entry) image.functions ≡ true

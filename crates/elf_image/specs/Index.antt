@@ -3,13 +3,14 @@ use Rattle.std.specs.Prelude.{ℕ, ◌+◌, ◌-◌, ◌%◌, ◌==◌, not, ◌
 use Rattle.std.specs.List.{list_any}
 use Rattle.elf_image.specs.Format.{when, part}
 use Rattle.elf_image.specs.Segments.{Segment}
+use Rattle.elf_image.specs.declared.format.TheConstants.{PT_ARM_EXIDX}
 use Rattle.elf_image.specs.declared.fault.ImageFault.{ImageFault}
 use Rattle.elf_image.specs.declared.fault.ImageFault.TheVariants.{IndexRange}
 use Rattle.elf_image.specs.declared.format.ProgramHeader.{ProgramHeader}
 
 -- a header of an exception index (PT_ARM_EXIDX)
 abbrev pub is_index : ProgramHeader → Bool
-is_index h = h.kind == 0x70000001
+is_index h = h.kind == PT_ARM_EXIDX
 
 -- the header's address and memory size lie in the file's bytes of a read-only segment, at a multiple of 4
 abbrev pub holds_index : ProgramHeader → Segment → Bool

@@ -5,6 +5,7 @@ use Rattle.std.specs.List.Sorted.{IsPermutation}
 use Rattle.eh_word.specs.Names.{same_bytes}
 use Rattle.elf_image.specs.Segments.{Segment, holds, segment_end, segment_of}
 use Rattle.elf_image.specs.Symbols.{Symbol}
+use Rattle.elf_image.specs.declared.symbol.TheConstants.{STT_FUNC, SHN_UNDEF}
 use Rattle.elf_image.specs.Functions.{Function, segment_at}
 use Rattle.elf_image.specs.Marks.{marked}
 use Rattle.elf_image.specs.Image.{Image, IsSound, image_of, file_loads, file_symbols}
@@ -18,7 +19,7 @@ is_in_code segments a = list_any (λ g. holds a g && (g.exec && not g.write)) se
 -- the symbol says that a function begins at the address: it is defined (its section isn't SHN_UNDEF) and of type STT_FUNC, and its value
 -- is the even address with bit 0 set, as Thumb code has it
 abbrev pub is_function_at : List Segment → ℕ → Symbol → Bool
-is_function_at segments a s = (s.info % 16 == 2) && not (s.section == 0) && (s.value == a + 1) && (a % 2 == 0) && is_in_code segments a
+is_function_at segments a s = (s.info % 16 == STT_FUNC) && not (s.section == SHN_UNDEF) && (s.value == a + 1) && (a % 2 == 0) && is_in_code segments a
 
 -- the function's end is the least of three: its start plus its size (for a size of 0 the segment's end), the next function's start,
 -- and the segment's end

@@ -1,3 +1,4 @@
+pub mod Fault
 pub mod Format
 pub mod Header
 pub mod Segments

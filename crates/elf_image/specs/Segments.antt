@@ -4,6 +4,8 @@ use Rattle.std.specs.List.{list_any}
 use Rattle.std.specs.Ordering.{nat_cmp}
 use Rattle.std.specs.BTreeMap.{insert_entry}
 use Rattle.elf_image.specs.Format.{first_of, when, missing, part, program_headers}
+use Rattle.elf_image.specs.declared.format.TheConstants.{PT_LOAD}
+use Rattle.elf_image.specs.declared.limits.TheConstants.{ADDRESS_LIMIT}
 use Rattle.elf_image.specs.declared.fault.ImageFault.{ImageFault}
 use Rattle.elf_image.specs.declared.fault.ImageFault.TheVariants.{SegmentRange, SegmentOverlap}
 use Rattle.elf_image.specs.declared.format.ProgramHeader.{ProgramHeader}
@@ -26,7 +28,7 @@ segment_end s = s.start + s.size
 
 -- a header of a segment to load (PT_LOAD) that has memory
 abbrev pub is_load : ProgramHeader → Bool
-is_load h = h.kind == 1 && not (h.memory_size == 0)
+is_load h = h.kind == PT_LOAD && not (h.memory_size == 0)
 
 unfoldable pub loads : List ℕ → List ProgramHeader
 loads bytes = filter is_load (program_headers bytes)
@@ -41,9 +43,9 @@ bytes_refusal bytes (h ∷ more) = first_of (missing bytes h.offset h.file_size 
 abbrev pub memory_end : ProgramHeader → ℕ
 memory_end h = h.address + h.memory_size
 
--- the end is above 0x30000000, or the file has more bytes than the memory
+-- the end is above ADDRESS_LIMIT, or the file has more bytes than the memory
 abbrev pub is_out_of_range : ProgramHeader → Bool
-is_out_of_range h = nat_lt 0x30000000 (memory_end h) || nat_lt h.memory_size h.file_size
+is_out_of_range h = nat_lt ADDRESS_LIMIT (memory_end h) || nat_lt h.memory_size h.file_size
 
 -- the two share a byte of memory
 abbrev pub overlap : ProgramHeader → ProgramHeader → Bool
@@ -82,7 +84,7 @@ segments_of bytes headers = map (λ entry. segment_of bytes entry.1) (by_address
 
 -- ---- what holds of the segments of every image
 
--- they rise from an address on, each with its bytes and at least one byte of memory, up to 0x30000000
+-- they rise from an address on, each with its bytes and at least one byte of memory, up to ADDRESS_LIMIT
 abbrev pub RiseFrom : ℕ → List Segment → Type 0
-RiseFrom low [] = low ≤ 0x30000000
+RiseFrom low [] = low ≤ ADDRESS_LIMIT
 RiseFrom low (s ∷ more) = (low ≤ s.start) × (0 < s.size) × (length s.bytes ≤ s.size) × RiseFrom (s.start + s.size) more

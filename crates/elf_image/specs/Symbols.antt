@@ -2,6 +2,8 @@
 use Rattle.std.specs.Prelude.{◌≢◌, All, ℕ, ◌+◌, ◌*◌, ◌/◌, ◌==◌, not, Bool, if◌then◌else◌, List, [], ◌∷◌, length, drop, map, find, slice_index, slice_index_or, nat_lt, take_while, Option, Some, None, option_and_then}
 use Rattle.std.specs.List.{range_with_len, slice_get, prefix_len}
 use Rattle.elf_image.specs.Format.{field, missing, first_of}
+use Rattle.elf_image.specs.declared.format.TheConstants.{SHT_SYMTAB, SHT_STRTAB}
+use Rattle.elf_image.specs.declared.symbol.TheConstants.{SYMBOL_SIZE}
 use Rattle.elf_image.specs.declared.fault.ImageFault.{ImageFault}
 use Rattle.elf_image.specs.declared.fault.ImageFault.TheVariants.{NoSymbols}
 use Rattle.elf_image.specs.declared.format.SectionHeader.{SectionHeader}
@@ -21,10 +23,10 @@ HasPlainName s = All (λ b. b ≢ 0) s.name
 -- ---- where they are
 
 abbrev pub is_symbol_table : SectionHeader → Bool
-is_symbol_table s = s.kind == 2
+is_symbol_table s = s.kind == SHT_SYMTAB
 
 abbrev pub if_strings : SectionHeader → Option SectionHeader
-if_strings s = if s.kind == 3 then Some s else None
+if_strings s = if s.kind == SHT_STRTAB then Some s else None
 
 abbrev pub with_strings : List SectionHeader → SectionHeader → Option (SectionHeader × SectionHeader)
 with_strings sections table = option_and_then (λ strings. Some (table, strings)) (option_and_then if_strings (slice_get sections table.link))
@@ -54,10 +56,10 @@ symbol_at table strings at = record {
 
 -- 16 bytes for each symbol; a rest is left out
 abbrev pub symbol_count : List ℕ → ℕ
-symbol_count table = length table / 16
+symbol_count table = length table / SYMBOL_SIZE
 
 unfoldable pub symbols_of : List ℕ → List ℕ → List Symbol
-symbols_of table strings = map (λ i. symbol_at table strings (16 * i)) (range_with_len 0 (symbol_count table))
+symbols_of table strings = map (λ i. symbol_at table strings (SYMBOL_SIZE * i)) (range_with_len 0 (symbol_count table))
 
 -- ---- the places of zero bytes, by which names are cut
 

@@ -1,4 +1,4 @@
-// What a function and a segment of an image are, for crates that see them as their values.
+//! What a function and a segment of an image are, for crates that see them as their values.
 ghost use Rattle.std.specs.Prelude.{◌≡◌};
 
 use crate::function::Function;

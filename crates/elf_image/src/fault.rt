@@ -1,3 +1,4 @@
+//! Why bytes stand for no image (docs/elf.md has the order of the tests).
 use std::alloc::AllocError;
 use thiserror::Error;
 
@@ -32,6 +33,33 @@ pub enum ImageFault {
     Entry,
     #[error("out of memory")]
     OutOfMemory,
+}
+
+impl ImageFault {
+    ghost use Rattle.std.specs.Prelude.{◌≡◌};
+    ghost use Rattle.elf_image.specs.Fault.{fault_name};
+
+    /// The variant's name, as it is printed.
+    pub fn name(&self) -> &'static [u8]
+        ensures { result.now ≡ fault_name self.now }
+    {
+        match self {
+            ImageFault::Truncated(_) => b"Truncated",
+            ImageFault::NotElf => b"NotElf",
+            ImageFault::Class => b"Class",
+            ImageFault::Machine => b"Machine",
+            ImageFault::Version => b"Version",
+            ImageFault::Type => b"Type",
+            ImageFault::EntrySize => b"EntrySize",
+            ImageFault::NoSymbols => b"NoSymbols",
+            ImageFault::SegmentRange => b"SegmentRange",
+            ImageFault::SegmentOverlap => b"SegmentOverlap",
+            ImageFault::IndexRange => b"IndexRange",
+            ImageFault::TooLarge => b"TooLarge",
+            ImageFault::Entry => b"Entry",
+            ImageFault::OutOfMemory => b"OutOfMemory",
+        }
+    }
 }
 
 impl From<AllocError> for ImageFault {

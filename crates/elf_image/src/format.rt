@@ -1,9 +1,50 @@
+//! The headers of an ELF file by their fields, and their numbers ("Tool Interface Standard: ELF"; IHI 0044; docs/elf.md).
 ghost use Rattle.std.specs.Prelude.{◌≡◌, ◌+◌, ◌*◌, ◌^◌, ◌<◌, ◌≤◌, length, IfOk, Some, None};
-ghost use Rattle.elf_image.specs.Format.{field, missing, program_header, section_header, program_headers, section_headers, program_offset, program_count, section_offset, section_count};
+ghost use Rattle.elf_image.specs.Format.{file_header, field, missing, program_header, section_header, program_headers, section_headers, program_offset, program_count, section_offset, section_count};
 
 use crate::fault::ImageFault;
 use byteorder::{ByteOrder, LittleEndian};
 use std::alloc::{AllocError, Global};
+
+/// The size of the file header in bytes.
+pub const FILE_HEADER_SIZE: u32 = 52;
+/// The size of a program header in bytes.
+pub const PROGRAM_HEADER_SIZE: u32 = 32;
+/// The size of a section header in bytes.
+pub const SECTION_HEADER_SIZE: u32 = 40;
+/// `e_type` of an executable file.
+pub const ET_EXEC: u16 = 2;
+/// `e_machine` of Arm.
+pub const EM_ARM: u16 = 40;
+/// The version of the ABI that the top byte of `e_flags` gives.
+pub const EABI_VERSION: u8 = 5;
+/// The type of a segment to load.
+pub const PT_LOAD: u32 = 1;
+/// The type of the exception index.
+pub const PT_ARM_EXIDX: u32 = 0x7000_0001;
+/// The type of a symbol table.
+pub const SHT_SYMTAB: u32 = 2;
+/// The type of a table of strings.
+pub const SHT_STRTAB: u32 = 3;
+
+/// The file header, as far as it is looked at.
+#[derive(Clone, Copy)]
+pub struct FileHeader {
+    /// What kind of file it is (`e_type`).
+    pub kind: u16,
+    pub machine: u16,
+    pub entry: u32,
+    /// The offset of the program headers in the file.
+    pub program_offset: u32,
+    /// The offset of the section headers in the file.
+    pub section_offset: u32,
+    /// The top byte of `e_flags`.
+    pub abi_version: u8,
+    pub program_size: u16,
+    pub program_count: u16,
+    pub section_size: u16,
+    pub section_count: u16,
+}
 
 /// A program header: what it is about, and where its bytes lie in the file and in memory.
 #[derive(Clone, Copy)]
@@ -56,6 +97,25 @@ pub(crate) fn missing(bytes: &[u8], at: u64, size: u64) -> Option<ImageFault>
     }
 }
 
+/// The file header, whose bytes are there.
+pub(crate) fn file_header(bytes: &[u8]) -> FileHeader
+    requires { 52 ≤ length bytes.now }
+    ensures { result ≡ file_header bytes.now }
+{
+    FileHeader {
+        kind: half(bytes, 16),
+        machine: half(bytes, 18),
+        entry: word(bytes, 24),
+        program_offset: word(bytes, 28),
+        section_offset: word(bytes, 32),
+        abi_version: bytes[39],
+        program_size: half(bytes, 42),
+        program_count: half(bytes, 44),
+        section_size: half(bytes, 46),
+        section_count: half(bytes, 48),
+    }
+}
+
 #[tactic(auto, unfolding(crate::specs::Format::program_header))]
 fn program_header(bytes: &[u8], at: usize) -> ProgramHeader
     requires { at + 32 ≤ length bytes.now }
@@ -91,11 +151,12 @@ pub(crate) fn program_headers(alloc: Global, bytes: &[u8]) -> Result<Vec<Program
     requires there { missing bytes.now (program_offset bytes.now) (32 * program_count bytes.now) ≡ None }
     ensures { IfOk result (λ headers. headers.items ≡ program_headers bytes.now) }
 {
-    let start = word(bytes, 28) as usize;
-    let count = usize::from(half(bytes, 44));
+    let header = file_header(bytes);
+    let start = header.program_offset as usize;
+    let count = usize::from(header.program_count);
     let mut headers = Vec::with_capacity(alloc, count)?;
     for i in 0..count {
-        headers.push(program_header(bytes, start + 32 * i))?;
+        headers.push(program_header(bytes, start + PROGRAM_HEADER_SIZE as usize * i))?;
     }
     Ok(headers)
 }
@@ -107,11 +168,12 @@ pub(crate) fn section_headers(alloc: Global, bytes: &[u8]) -> Result<Vec<Section
     requires there { missing bytes.now (section_offset bytes.now) (40 * section_count bytes.now) ≡ None }
     ensures { IfOk result (λ headers. headers.items ≡ section_headers bytes.now) }
 {
-    let start = word(bytes, 32) as usize;
-    let count = usize::from(half(bytes, 48));
+    let header = file_header(bytes);
+    let start = header.section_offset as usize;
+    let count = usize::from(header.section_count);
     let mut headers = Vec::with_capacity(alloc, count)?;
     for i in 0..count {
-        headers.push(section_header(bytes, start + 40 * i))?;
+        headers.push(section_header(bytes, start + SECTION_HEADER_SIZE as usize * i))?;
     }
     Ok(headers)
 }

@@ -1,3 +1,5 @@
+//! The functions of an image: which symbols are one, and where each ends (docs/elf.md).
+ghost use Rattle.elf_image.specs.declared.limits.TheConstants.{ADDRESS_LIMIT};
 ghost use Rattle.std.specs.Prelude.{◌≡◌, ◌+◌, ◌-◌, ◌^◌, ◌<◌, ◌≤◌, length, drop, nat_le, ◌==◌, min, if◌then◌else◌, IfOk, IfSome, Some, None, option_copied};
 ghost use Rattle.std.specs.List.{prefix_len, position_from};
 ghost use Rattle.std.specs.List.Sorted.{IsStrictlySortedBy};
@@ -8,7 +10,7 @@ ghost use Rattle.elf_image.specs.Functions.{Function as Range, is_thumb_function
 
 use crate::holder::segment_at;
 use crate::segment::Segment;
-use crate::symbol::Symbol;
+use crate::symbol::{SHN_UNDEF, STT_FUNC, Symbol};
 use std::alloc::{AllocError, Global};
 use std::collections::BTreeMap;
 use std::marker::Model;
@@ -32,13 +34,13 @@ impl<'a> Model for Function<'a> {
 fn is_thumb_function(s: &Symbol) -> bool
     ensures { result ≡ is_thumb_function s.now }
 {
-    s.info % 16 == 2 && s.value % 2 == 1 && s.section != 0
+    s.info % 16 == STT_FUNC && s.value % 2 == 1 && s.section != SHN_UNDEF
 }
 
 /// The first address above a function of that size, which ends with its segment at the latest. A size of 0 reaches to the
 /// segment's end.
 fn limit(segment: &Segment, start: u32, size: u32) -> u32
-    requires { segment_end segment.now ≤ 0x30000000 }
+    requires { segment_end segment.now ≤ ADDRESS_LIMIT }
     ensures { result ≡ (if size == 0 then segment_end segment.now else min (segment_end segment.now) (start + size)) }
 {
     let end = segment.start + segment.size;

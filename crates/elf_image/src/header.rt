@@ -1,8 +1,12 @@
+//! What is refused before any segment is looked at (docs/elf.md).
 ghost use Rattle.std.specs.Prelude.{◌≡◌, ◌+◌, ◌*◌, ◌≤◌, length, None};
 ghost use Rattle.elf_image.specs.Header.{header_refusal, table_refusal};
 
 use crate::fault::ImageFault;
-use crate::format::{half, missing, word};
+use crate::format::{
+    EABI_VERSION, EM_ARM, ET_EXEC, FILE_HEADER_SIZE, PROGRAM_HEADER_SIZE, SECTION_HEADER_SIZE,
+    file_header, missing,
+};
 
 /// What is refused of the file header.
 #[tactic(auto, unfolding(crate::specs::Header::header_refusal))]
@@ -10,8 +14,8 @@ pub(crate) fn header_refusal(bytes: &[u8]) -> Option<ImageFault>
     ensures refusal { result ≡ header_refusal bytes.now }
     ensures whole { result ≡ None → 52 ≤ length bytes.now }
 {
-    if bytes.len() < 52 {
-        return Some(ImageFault::Truncated(52));
+    if bytes.len() < FILE_HEADER_SIZE as usize {
+        return Some(ImageFault::Truncated(u64::from(FILE_HEADER_SIZE)));
     }
     if !(bytes[0] == 0x7f && bytes[1] == 0x45 && bytes[2] == 0x4c && bytes[3] == 0x46) {
         return Some(ImageFault::NotElf);
@@ -19,13 +23,14 @@ pub(crate) fn header_refusal(bytes: &[u8]) -> Option<ImageFault>
     if !(bytes[4] == 1 && bytes[5] == 1 && bytes[6] == 1) {
         return Some(ImageFault::Class);
     }
-    if half(bytes, 18) != 40 {
+    let header = file_header(bytes);
+    if header.machine != EM_ARM {
         return Some(ImageFault::Machine);
     }
-    if bytes[39] != 5 {
+    if header.abi_version != EABI_VERSION {
         return Some(ImageFault::Version);
     }
-    if half(bytes, 16) != 2 {
+    if header.kind != ET_EXEC {
         return Some(ImageFault::Type);
     }
     None
@@ -37,12 +42,17 @@ pub(crate) fn table_refusal(bytes: &[u8]) -> Option<ImageFault>
     requires { 52 ≤ length bytes.now }
     ensures { result ≡ table_refusal bytes.now }
 {
-    let (programs, sections) = (half(bytes, 44), half(bytes, 48));
-    if (programs != 0 && half(bytes, 42) != 32) || (sections != 0 && half(bytes, 46) != 40) {
+    let header = file_header(bytes);
+    let (programs, sections) = (header.program_count, header.section_count);
+    if (programs != 0 && u32::from(header.program_size) != PROGRAM_HEADER_SIZE)
+        || (sections != 0 && u32::from(header.section_size) != SECTION_HEADER_SIZE)
+    {
         return Some(ImageFault::EntrySize);
     }
-    if let Some(fault) = missing(bytes, u64::from(word(bytes, 28)), 32 * u64::from(programs)) {
+    let size = u64::from(PROGRAM_HEADER_SIZE) * u64::from(programs);
+    if let Some(fault) = missing(bytes, u64::from(header.program_offset), size) {
         return Some(fault);
     }
-    missing(bytes, u64::from(word(bytes, 32)), 40 * u64::from(sections))
+    let size = u64::from(SECTION_HEADER_SIZE) * u64::from(sections);
+    missing(bytes, u64::from(header.section_offset), size)
 }

@@ -1,4 +1,5 @@
 //! Which segment holds an address, by halving (docs/elf.md).
+ghost use Rattle.elf_image.specs.declared.limits.TheConstants.{ADDRESS_LIMIT};
 ghost use Rattle.std.specs.Prelude.{◌≡◌, ◌+◌, ◌<◌, ◌≤◌, length, nat_le, IfSome, option_copied};
 ghost use Rattle.std.specs.List.{prefix_len, position_from};
 ghost use Rattle.elf_image.specs.Segments.{RiseFrom, holds, segment_end};
@@ -39,7 +40,7 @@ pub(crate) fn segment_number(segments: &[Segment], a: u32) -> Option<usize>
 pub(crate) fn segment_at<'b, 'a>(segments: &'b [Segment<'a>], a: u32) -> Option<&'b Segment<'a>>
     requires { RiseFrom 0 segments.now }
     ensures found { option_copied result ≡ segment_at segments.now a }
-    ensures fits { IfSome result (λ s. segment_end s.now ≤ 0x30000000) }
+    ensures fits { IfSome result (λ s. segment_end s.now ≤ ADDRESS_LIMIT) }
 {
     let number = segment_number(segments, a)?;
     Some(&segments[number])

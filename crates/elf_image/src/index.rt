@@ -1,10 +1,11 @@
+//! The range of the exception index (IHI 0038; docs/elf.md).
 ghost use Rattle.std.specs.Prelude.{◌≡◌, IfOk, IfErr, Some, None, filter, Ok, Err, IfNone, IfSome, true, false, find};
 ghost use Rattle.std.specs.List.{list_any};
 ghost use Rattle.elf_image.specs.Index.{is_index, holds_index, index_bytes_in, index_refusal, index_of};
 ghost use Rattle.elf_image.specs.Segments.{RiseFrom};
 
 use crate::fault::ImageFault;
-use crate::format::ProgramHeader;
+use crate::format::{PT_ARM_EXIDX, ProgramHeader};
 use crate::segment::Segment;
 use std::alloc::{AllocError, Global};
 
@@ -18,7 +19,7 @@ pub(crate) fn index_headers(
     headers
         .iter()
         .copied()
-        .filter(|h| h.kind == 0x7000_0001)
+        .filter(|h| h.kind == PT_ARM_EXIDX)
         .collect(alloc)
 }
 

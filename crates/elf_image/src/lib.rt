@@ -1,4 +1,4 @@
-// Arm ELF images: reading them, and what they hold.
+//! Arm ELF images: reading them, and what they hold (docs/elf.md).
 #![tactic(auto)]
 
 mod access;
@@ -22,6 +22,3 @@ pub use function::Function;
 pub use image::Image;
 pub use read::read_image;
 pub use segment::Segment;
-
-#[cfg(test)]
-mod tests;

@@ -1,3 +1,4 @@
+//! Mapping symbols: where code and where data begin (IHI 0044; docs/elf.md).
 ghost use Rattle.std.specs.Prelude.{◌≡◌, ◌≤◌, length, nat_le, IfOk};
 ghost use Rattle.std.specs.List.Sorted.{IsStrictlySortedBy};
 ghost use Rattle.std.specs.Ordering.{nat_cmp};

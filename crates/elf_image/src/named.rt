@@ -1,3 +1,4 @@
+//! The defined symbols by name (docs/elf.md).
 ghost use Rattle.std.specs.Prelude.{◌≡◌, length, IfOk, codes, filter, map, nat_eq};
 ghost use Rattle.std.specs.List.{starts_with};
 ghost use Rattle.elf_image.specs.Segments.{RiseFrom};
@@ -5,7 +6,7 @@ ghost use Rattle.elf_image.specs.Image.{Named as Address, named, named_of, type_
 
 use crate::function::function_of_symbol;
 use crate::segment::Segment;
-use crate::symbol::Symbol;
+use crate::symbol::{SHN_UNDEF, Symbol};
 use std::alloc::{AllocError, Global};
 use std::marker::Model;
 
@@ -51,7 +52,7 @@ pub(crate) fn read_named<'a>(
 {
     let mut all = Vec::new(alloc);
     for s in symbols {
-        if s.section != 0 {
+        if s.section != SHN_UNDEF {
             all.push(make_named(segments, s))?;
         }
     }

@@ -1,3 +1,5 @@
+//! Reading an image: the tests in their order, and what is put together (docs/elf.md).
+ghost use Rattle.elf_image.specs.declared.limits.TheConstants.{MEMORY_LIMIT, SEGMENT_LIMIT};
 ghost use Rattle.std.specs.Prelude.{◌≡◌, ◌≢◌, All, ◌+◌, ◌*◌, ◌^◌, ◌<◌, ◌≤◌, [], ◌∷◌, length, sum_by, Option, Some, None, Ok, Err, filter, IfOk, IfErr};
 ghost use Rattle.elf_image.specs.Format.{missing, program_headers, program_offset, program_count, section_offset, section_count, section_headers, first_of};
 ghost use Rattle.elf_image.specs.Segments.{RiseFrom, segment_refusal, segments_of, is_load};
@@ -8,16 +10,16 @@ ghost use Rattle.elf_image.specs.Image.{Image as Parts, IndexStands, image_with,
 ghost use Rattle.elf_image.specs.declared.fault.ImageFault.TheVariants.{OutOfMemory};
 
 use crate::fault::ImageFault;
-use crate::format::{ProgramHeader, missing, program_headers, section_headers, word};
+use crate::format::{ProgramHeader, file_header, missing, program_headers, section_headers};
 use crate::function::read_functions;
 use crate::header::{header_refusal, table_refusal};
 use crate::image::Image;
 use crate::index::{index_headers, index_of};
-use crate::limits::{entry_refusal, is_too_large};
+use crate::limits::{FUNCTION_LIMIT, entry_refusal, is_too_large};
 use crate::mark::read_marks;
 use crate::named::{read_named, type_symbols};
 use crate::segment::{Segment, loads, part, segments_of};
-use crate::symbol::{Symbol, read_symbols, tables};
+use crate::symbol::{SYMBOL_SIZE, Symbol, read_symbols, tables};
 use std::alloc::Global;
 
 /// The segments to load, or what is refused of them.
@@ -86,8 +88,8 @@ fn build<'a>(
     symbols: &[Symbol<'a>],
 ) -> Result<Image<'a>, ImageFault>
     requires rise { RiseFrom 0 segments.items }
-    requires memory { sum_by (λ s. s.size) segments.items ≤ 1048576 }
-    requires count { length segments.items ≤ 1024 }
+    requires memory { sum_by (λ s. s.size) segments.items ≤ MEMORY_LIMIT }
+    requires count { length segments.items ≤ SEGMENT_LIMIT }
     requires index { IndexStands segments.items index.0 index.1.now }
     requires plain { All HasPlainName symbols.now }
     ensures accepted { IfOk result (λ image. build_refusal field (functions_of segments.entry.items symbols.now) ≡ None) }
@@ -95,7 +97,7 @@ fn build<'a>(
     ensures refused { IfErr result (λ fault. fault ≢ OutOfMemory → build_refusal field (functions_of segments.entry.items symbols.now) ≡ Some fault) }
 {
     let functions = read_functions(alloc, &segments, symbols)?;
-    if functions.len() > 4096 {
+    if functions.len() > FUNCTION_LIMIT {
         return Err(ImageFault::TooLarge);
     }
     if let Some(fault) = entry_refusal(field, &functions) {
@@ -135,9 +137,9 @@ pub fn read_image<'a>(alloc: Global, bytes: &'a [u8]) -> Result<Image<'a>, Image
     let segments = read_segments(alloc, bytes, &headers)?;
     let index = read_index(alloc, &headers, &segments)?;
     let (table, strings) = read_tables(alloc, bytes)?;
-    if is_too_large(&segments, table.len() / 16) {
+    if is_too_large(&segments, table.len() / SYMBOL_SIZE) {
         return Err(ImageFault::TooLarge);
     }
     let symbols = read_symbols(alloc, table, strings)?;
-    build(alloc, word(bytes, 24), segments, index, &symbols)
+    build(alloc, file_header(bytes).entry, segments, index, &symbols)
 }

@@ -1,3 +1,4 @@
+//! The segments to load: what is refused of them, and their order (docs/elf.md).
 ghost use Rattle.std.specs.Prelude.{◌≡◌, ◌+◌, ◌-◌, ◌^◌, ◌<◌, ◌≤◌, [], ◌∷◌, length, IfOk, IfSome, IfNone, MatchOption, OnOk, IsTrue, Option, Some, None, true, false, map, IfErr, All, filter, ◌≢◌};
 ghost use Rattle.elf_image.specs.declared.fault.ImageFault.TheVariants.{OutOfMemory};
 ghost use Rattle.std.specs.List.{list_any};
@@ -9,7 +10,8 @@ ghost use Rattle.elf_image.specs.Sorted.{overlap_from, Hold};
 ghost use Rattle.elf_image.specs.Segments.{Segment as Bytes, holds, is_load, loads, bytes_refusal, is_out_of_range, some_overlap, segment_refusal, segment_of, segments_of, by_address, RiseFrom};
 
 use crate::fault::ImageFault;
-use crate::format::{ProgramHeader, missing};
+use crate::format::{PT_LOAD, ProgramHeader, missing};
+use crate::limits::ADDRESS_LIMIT;
 use std::alloc::{AllocError, Global};
 use std::collections::BTreeMap;
 use std::marker::Model;
@@ -44,7 +46,7 @@ pub(crate) fn loads(
     headers
         .iter()
         .copied()
-        .filter(|h| h.kind == 1 && h.memory_size != 0)
+        .filter(|h| h.kind == PT_LOAD && h.memory_size != 0)
         .collect(alloc)
 }
 
@@ -63,7 +65,7 @@ fn bytes_refusal(bytes: &[u8], headers: &[ProgramHeader]) -> Option<ImageFault>
 fn is_out_of_range(h: &ProgramHeader) -> bool
     ensures { result ≡ is_out_of_range h.now }
 {
-    u64::from(h.address) + u64::from(h.memory_size) > 0x3000_0000 || h.file_size > h.memory_size
+    u64::from(h.address) + u64::from(h.memory_size) > ADDRESS_LIMIT || h.file_size > h.memory_size
 }
 
 fn some_out_of_range(headers: &[ProgramHeader]) -> bool

@@ -1,11 +1,19 @@
+//! The symbol table and its strings (docs/elf.md).
 ghost use Rattle.std.specs.Prelude.{◌≡◌, ◌+◌, ◌*◌, ◌/◌, ◌^◌, ◌<◌, ◌≤◌, length, drop, nat_lt, IfOk, IfErr, IfSome, Some, None, option_copied, find};
 ghost use Rattle.std.specs.List.{slice_get, prefix_len};
 ghost use Rattle.std.specs.List.Sorted.{IsNonDecreasing};
 ghost use Rattle.elf_image.specs.Symbols.{Symbol as Fields, is_symbol_table, tables_of, name_at, symbol_at, symbols_of, zeros_from, next_zero};
 
-use crate::format::{SectionHeader, half, word};
+use crate::format::{SHT_STRTAB, SHT_SYMTAB, SectionHeader, half, word};
 use std::alloc::{AllocError, Global};
 use std::marker::Model;
+
+/// The size of a symbol in its table in bytes.
+pub const SYMBOL_SIZE: usize = 16;
+/// The type of a function, in the low four bits of a symbol's `info`.
+pub const STT_FUNC: u8 = 2;
+/// The section of a symbol that is not defined.
+pub const SHN_UNDEF: u16 = 0;
 
 /// A symbol as the table has it, with its name.
 #[derive(Drop)]
@@ -31,7 +39,7 @@ impl<'a> Model for Symbol<'a> {
 fn symbol_table(sections: &[SectionHeader]) -> Option<SectionHeader>
     ensures { result ≡ find is_symbol_table sections.now }
 {
-    sections.iter().copied().find(|s| s.kind == 2)
+    sections.iter().copied().find(|s| s.kind == SHT_SYMTAB)
 }
 
 /// A section by its number.
@@ -49,7 +57,7 @@ pub(crate) fn tables(sections: &[SectionHeader]) -> Option<(SectionHeader, Secti
 {
     let table = symbol_table(sections)?;
     let strings = section(sections, table.link)?;
-    if strings.kind == 3 {
+    if strings.kind == SHT_STRTAB {
         Some((table, strings))
     } else {
         None
@@ -132,10 +140,10 @@ pub(crate) fn read_symbols<'a>(
     ensures { IfOk result (λ v. v.items ≡ symbols_of table.now strings.now) }
 {
     let zeros = zeros(alloc, strings)?;
-    let count = table.len() / 16;
+    let count = table.len() / SYMBOL_SIZE;
     let mut symbols = Vec::with_capacity(alloc, count)?;
     for i in 0..count {
-        symbols.push(symbol_at(table, strings, &zeros, 16 * i))?;
+        symbols.push(symbol_at(table, strings, &zeros, SYMBOL_SIZE * i))?;
     }
     Ok(symbols)
 }

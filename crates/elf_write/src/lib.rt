@@ -21,6 +21,3 @@ pub fn what_is_written_stands_for_its_parts()
 pub fn reading_gives_the_image_of_the_parts()
     ensures { ReadsBack }
 {}
-
-#[cfg(test)]
-mod tests;

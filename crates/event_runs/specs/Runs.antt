@@ -1,4 +1,4 @@
--- Runs of a machine whose states are S and whose ends are E: at most so many events, one after the other.
+-- Runs of a machine whose states are S and whose ends are E: at most so many events, one after the other (docs/runs.md).
 use Rattle.std.specs.Prelude.{ℕ, ◌≡◌, ◌+◌, ◌-◌, ◌<◌, List, [], ◌++◌, Bool, true, Option, Some, None, option_map}
 use Rattle.std.proofs.Common.{zero, suc}
 use Rattle.std.specs.Bool.{OnFalse, OnTrue}

@@ -1,4 +1,4 @@
-//! Runs of events of any machine: definitions, what a loop over events has to keep, and laws.
+//! Runs of events of any machine: definitions, what a loop over events has to keep, and laws (docs/runs.md).
 #![tactic(auto)]
 
 ghost use Rattle.event_runs.specs.Laws.{Splits, Spends, RunsAlike};

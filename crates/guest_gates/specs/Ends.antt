@@ -1,4 +1,4 @@
--- How a run ends by a trap of the core, and which ends are faults of the outside (docs/core.md).
+-- How a run ends by a trap of the core, and which ends are faults of the outside (docs/runs.md).
 use Rattle.std.specs.Prelude.{ℕ, Bool, true, false}
 use Rattle.eh_bus.specs.declared.fault.BusFault.{BusFault}
 use Rattle.eh_bus.specs.declared.fault.BusFault.TheVariants as bus

@@ -1,4 +1,4 @@
--- The gates 0 to 2, and a return to nobody (docs/core.md).
+-- The gates 0 to 2, and a return to nobody (docs/runs.md).
 use Rattle.std.specs.Prelude.{ℕ, ◌≡◌, ◌%◌, ◌==◌, Bool, false, List, [], ◌∷◌, drop, Option, Some, None, slice_get, slice_index, slice_set, if◌then◌else◌}
 use Rattle.event_runs.specs.Runs.{Event, Goes, Ends}
 use Rattle.guest_gates.specs.declared.gates.TheConstants.{NO_CALLER, EXIT_GATE, OUTPUT_GATE, INPUT_GATE, END_OF_INPUT}

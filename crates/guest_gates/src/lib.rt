@@ -1,4 +1,4 @@
-//! How the steps of a guest end, and the gates 0 to 2, which every machine has (docs/core.md, docs/outside.md).
+//! How the steps of a guest end, and the gates 0 to 2, which every machine has (docs/runs.md).
 #![tactic(auto)]
 
 mod ends;

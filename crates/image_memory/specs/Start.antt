@@ -1,4 +1,4 @@
--- The state that a run starts in: registers and memory, of an image and of raw code (docs/core.md, docs/memory-map.md).
+-- The state that a run starts in: registers and memory, of an image and of raw code (docs/runs.md).
 use Rattle.std.specs.Prelude.{ℕ, ◌-◌, ◌==◌, Bool, true, false, List, [], ◌∷◌, ◌++◌, length, map}
 use Rattle.std.specs.List.{list_any}
 use Rattle.eh_bus.specs.Built.{zeros, zeros_at}

@@ -1,4 +1,4 @@
-//! An image in memory: the bus that a run starts with, the registers at its start, and where functions begin (docs/core.md,
+//! An image in memory: the bus that a run starts with, the registers at its start, and where functions begin (docs/runs.md,
 //! docs/memory-map.md).
 #![tactic(auto)]
 

@@ -156,3 +156,15 @@ module _ (tests : Tests) (old : State) (what : Stepped) (regs : Regs) (memory : 
     };
     same = λ _. ended_leaves what end new bytes (is_fault end) goes l g.is g.fails;
   }
+
+  -- .. and it reads and writes nothing
+  pub done_goes : (told before : Option (List ℕ)) → what ≡ Done → tests what regs memory old.regs.pc ≡ None
+      → IfSome told (λ bytes. GoesOn (machine_event tests old bytes) (record { regs = regs; memory = memory }) told before before)
+  done_goes None before done e = tt
+  done_goes (Some bytes) before done e = record {
+    text = [];
+    rest = bytes;
+    is = tested bytes None e ∙ ap (λ w. in_memory old.memory memory (went_event w old.regs regs bytes)) done;
+    leaves = refl;
+    wrote = Appends-nil before;
+  }

@@ -1,5 +1,5 @@
 -- A machine without unwinding: one event is one instruction, then the machine's tests, then what the instruction goes on
--- to (docs/core.md). Raw code is not tested; of an image, calls go to functions and sp stays in the running stack.
+-- to (docs/runs.md). Raw code is not tested; of an image, calls go to functions and sp stays in the running stack.
 use Rattle.std.specs.Prelude.{ℕ, ◌≡◌, nat_lt, Bool, true, false, List, [], Option, Some, None, IfSome, slice_index, if◌then◌else◌}
 use Rattle.std.proofs.Common.{refl}
 use Rattle.event_runs.specs.Runs.{Event, Goes, Ends, EndsBy, Machine, Ran, Runs, ran_of}

@@ -81,5 +81,9 @@ pub(crate) fn turn<W: Watch, B: Bus, I: Source, O: Sink>(
         *regs = before;
         return Some(end);
     }
+    // most instructions, and they are not to pay for what the others go on to
+    if let Stepped::Done = what {
+        return None;
+    }
     went(what, &before, regs, input, out)
 }

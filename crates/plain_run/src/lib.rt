@@ -1,4 +1,4 @@
-//! Runs without unwinding: of raw code, and of an image (docs/core.md). One event is one instruction; there is no checker, no
+//! Runs without unwinding: of raw code, and of an image (docs/runs.md). One event is one instruction; there is no checker, no
 //! word is guarded, and the gates are 0 to 2.
 #![tactic(auto)]
 

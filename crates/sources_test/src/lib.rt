@@ -9,3 +9,5 @@ mod linker;
 mod reader;
 #[cfg(test)]
 mod stubs;
+#[cfg(test)]
+mod unwind;

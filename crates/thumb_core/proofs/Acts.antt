@@ -10,6 +10,7 @@ use Rattle.thumb_isa.specs.declared.instr.Instr.TheVariants.{Bx, Blx, LdrLit, Me
 use Rattle.thumb_isa.specs.declared.instr.Decoded.{Decoded}
 use Rattle.thumb_isa.specs.declared.instr.Decoded.TheVariants.{Is, Undefined, Unpredictable, NotInProfile}
 use Rattle.thumb_isa.specs.Rows.{decoded_of}
+use Rattle.thumb_core.specs.declared.regs.TheConstants.{SP, LR, PC}
 use Rattle.thumb_core.specs.declared.regs.Regs.{Regs}
 use Rattle.thumb_core.specs.declared.regs.CoreTrap.{CoreTrap}
 use Rattle.thumb_core.specs.declared.regs.CoreTrap.TheVariants.{EvenTarget}
@@ -24,8 +25,15 @@ use Rattle.thumb_core.specs.Branch.{target_of, link_of, call_to, return_to, if_o
 use Rattle.thumb_core.specs.Lists.{words_of, bytes_of, load_list, ldm_end, pop_to, pop_end}
 use Rattle.thumb_core.specs.Step.{effect, outcome_of, with_second, with_first, step_of, instr_of, instr_of_second, instr_of_first, instr_at}
 use Rattle.thumb_core.specs.Stores.{Span, span, SameApart, KeepsApart, stores_of, stores_of_some}
-use Rattle.thumb_core.specs.Laws.{Acts}
+use Rattle.thumb_core.specs.Laws.{Popped, Acts}
+use Rattle.thumb_core.proofs.PopLaws.{last_word, sp_behind, kept_register}
+use Rattle.thumb_core.proofs.Follows.{either}
 use Rattle.thumb_core.proofs.StoreLaws.{IsWidth, store_same, run_same}
+
+-- fifteen words
+pub record AreRegisters (regs : Regs) : Type 0 where
+  pub count : length regs.r ≡ 15
+  pub words : (k : ℕ) → slice_index regs.r k < 2 ^ 32
 
 -- an instruction and its size, or none
 abbrev At : Type 0
@@ -48,7 +56,7 @@ call_acts at target size regs m =
     let same : even (target % 2 ^ 32) ≡ even (even (target % 2 ^ 32) % 2 ^ 32) = omega arith in
     record {
       apart = refl;
-      leaves = ap (λ (x : ℕ). record (with_reg regs 14 (link_of size regs)) { pc = x }) same;
+      leaves = ap (λ (x : ℕ). record (with_reg regs LR (link_of size regs)) { pc = x }) same;
       memory = refl;
     }
 
@@ -67,10 +75,6 @@ odd_acts at target regs p m f = go (target % 2 == 0)
 both : {A : Type 0} {C : Type 0} (P : A → C → Type 0) (b : Bool) (x y : A) (v w : C) → P x v → P y w → P (cond b x y) (cond b v w)
 both P true x y v w px py = px
 both P false x y v w px py = py
-
-either : {A : Type 0} (P : A → Type 0) (b : Bool) (x y : A) → P x → P y → P (cond b x y)
-either P true x y px py = px
-either P false x y px py = py
 
 -- ---- instructions that leave the memory
 
@@ -147,7 +151,7 @@ mem_imm_acts at op t n off size regs m =
 
 mem_sp_acts : (at : At) (is_load : Bool) (t : ℕ) (off : ℤ) (size : ℕ) (regs : Regs) (m : Memory) → Acts at (stores_of (MemSp is_load t off) regs) regs m (mem_sp is_load t off size regs m)
 mem_sp_acts at true t off size regs m = load_acts at _ t size regs m
-mem_sp_acts at false t off size regs m = reg_acts at 4 t (forward (reg regs 13) off) size regs m (inr (inr refl)) (forward_word (reg regs 13) off)
+mem_sp_acts at false t off size regs m = reg_acts at 4 t (forward (reg regs SP) off) size regs m (inr (inr refl)) (forward_word (reg regs SP) off)
 
 -- ---- lists
 
@@ -155,47 +159,45 @@ ldm_acts : (at : At) (answer : Result (List ℕ) BusFault) (n mask size : ℕ) (
 ldm_acts at (Ok r) n mask size regs m = record { apart = refl; leaves = tt; memory = tt }
 ldm_acts at (Err fault) n mask size regs m = trap_acts at None _ regs m
 
-bit_set : (mask : ℕ) → (bit_at mask 15 == 1) ≡ true → bit_at mask 15 ≡ 1
+bit_set : (mask : ℕ) → (bit_at mask PC == 1) ≡ true → bit_at mask PC ≡ 1
 bit_set mask e = grind (arith, nat_tests)
 
-pop_acts : (mask size : ℕ) (regs : Regs) (m : Memory) (answer : Result (List ℕ) BusFault) → load_list mask (reg regs 13) regs m ≡ answer → Acts (Some (Pop mask, size)) None regs m (pop_end answer mask size regs m)
-pop_acts mask size regs m (Err fault) e = trap_acts _ None _ regs m
-pop_acts mask size regs m (Ok r) e = go (bit_at mask 15 == 1) refl
+pop_acts : (mask size : ℕ) (regs : Regs) (m : Memory) → length regs.r ≡ 15 → (answer : Result (List ℕ) BusFault) → load_list mask (reg regs SP) regs m ≡ answer → Acts (Some (Pop mask, size)) None regs m (pop_end answer mask size regs m)
+pop_acts mask size regs m count (Err fault) e = trap_acts _ None _ regs m
+pop_acts mask size regs m count (Ok r) e = go (bit_at mask PC == 1) refl
   where
-    after : Regs
-    after = with_all regs (put r 13 (reg regs 13 + bytes_of mask))
+    returned : (set : bit_at mask PC ≡ 1) → Popped mask (slice_index r PC % 2 ^ 32) regs m (with_pc (with_all regs (put r SP (reg regs SP + bytes_of mask))) (slice_index r PC))
+    returned set =
+        let a = reg regs SP in
+        let pc = last_word mask a regs m r count set e in
+        record {
+          takes_pc = set;
+          words = r;
+          loaded = e;
+          leaves = word_pc (with_all regs (put r SP (a + bytes_of mask))) (slice_index r PC);
+          word = pc.word;
+          last = pc.loaded;
+          target = rw pc.last (omega arith);
+          sp = sp_behind mask a (a + bytes_of mask) regs m r count e;
+          others = λ k other clear. kept_register mask a k (a + bytes_of mask) regs m r count e other clear;
+        }
 
-    go : (b : Bool) → (bit_at mask 15 == 1) ≡ b → Acts (Some (Pop mask, size)) None regs m (with_memory (pop_to b (slice_index r 15) size regs (with_all regs (put r 13 (reg regs 13 + bytes_of mask)))) m)
+    go : (b : Bool) → (bit_at mask PC == 1) ≡ b → Acts (Some (Pop mask, size)) None regs m (with_memory (pop_to b (slice_index r PC) size regs (with_all regs (put r SP (reg regs SP + bytes_of mask)))) m)
     go false s = record { apart = refl; leaves = tt; memory = tt }
     go true s =
-        odd_acts _ (slice_index r 15) regs _ m
-        (record {
-          apart = refl;
-          leaves = inr (
-            mask,
-            size,
-            refl,
-            record {
-              takes_pc = bit_set mask s;
-              words = r;
-              loaded = e;
-              target = refl;
-              leaves = word_pc (with_all regs (put r 13 (reg regs 13 + bytes_of mask))) (slice_index r 15);
-            },
-          );
-          memory = refl;
-        })
+        odd_acts _ (slice_index r PC) regs _ m
+        (record { apart = refl; leaves = inr (mask, size, refl, returned (bit_set mask s)); memory = refl })
 
 -- ---- a step
 
-effect_acts : (i : Instr) (size : ℕ) (regs : Regs) (m : Memory) → ((k : ℕ) → slice_index regs.r k < 2 ^ 32) → Acts (Some (i, size)) (stores_of i regs) regs m (effect i size regs m)
+effect_acts : (i : Instr) (size : ℕ) (regs : Regs) (m : Memory) → AreRegisters regs → Acts (Some (i, size)) (stores_of i regs) regs m (effect i size regs m)
 effect_acts (LdrLit t off) size regs m small = load_acts _ _ t size regs m
 effect_acts (MemReg op t n k) size regs m small = mem_reg_acts _ op t n k size regs m
 effect_acts (MemImm op t n off) size regs m small = mem_imm_acts _ op t n off size regs m
 effect_acts (MemSp is_load t off) size regs m small = mem_sp_acts _ is_load t off size regs m
-effect_acts (Push list) size regs m small = run_acts _ ((reg regs 13 + (2 ^ 32 - bytes_of list)) % 2 ^ 32) list size regs _ m (low_sum (reg regs 13) (2 ^ 32 - bytes_of list))
-effect_acts (Pop list) size regs m small = pop_acts list size regs m (load_list list (reg regs 13) regs m) refl
-effect_acts (Stm n list) size regs m small = run_acts _ (reg regs n) list size regs _ m (small n)
+effect_acts (Push list) size regs m small = run_acts _ ((reg regs SP + (2 ^ 32 - bytes_of list)) % 2 ^ 32) list size regs _ m (low_sum (reg regs SP) (2 ^ 32 - bytes_of list))
+effect_acts (Pop list) size regs m small = pop_acts list size regs m small.count (load_list list (reg regs SP) regs m) refl
+effect_acts (Stm n list) size regs m small = run_acts _ (reg regs n) list size regs _ m (small.words n)
 effect_acts (Ldm n list) size regs m small = ldm_acts _ (load_list list (reg regs n) regs m) n list size regs m
 effect_acts i size regs m small = register_acts i size regs m
 
@@ -203,22 +205,22 @@ effect_acts i size regs m small = register_acts i size regs m
 abbrev ActsAt : Regs → Memory → At → Outcome → Type 0
 ActsAt regs m at o = Acts at (stores_of_some at regs) regs m o
 
-outcome_acts : (d : Decoded) (first : ℕ) (regs : Regs) (m : Memory) → ((k : ℕ) → slice_index regs.r k < 2 ^ 32) → ActsAt regs m (instr_of d) (outcome_of d first regs m)
+outcome_acts : (d : Decoded) (first : ℕ) (regs : Regs) (m : Memory) → AreRegisters regs → ActsAt regs m (instr_of d) (outcome_of d first regs m)
 outcome_acts (Is i size) first regs m small = effect_acts i size regs m small
 outcome_acts Undefined first regs m small = trap_acts None None _ regs m
 outcome_acts Unpredictable first regs m small = trap_acts None None _ regs m
 outcome_acts NotInProfile first regs m small = trap_acts None None _ regs m
 
-second_acts : (half : Result ℕ BusFault) (first : ℕ) (regs : Regs) (m : Memory) → ((k : ℕ) → slice_index regs.r k < 2 ^ 32) → ActsAt regs m (instr_of_second half first) (with_second half first regs m)
+second_acts : (half : Result ℕ BusFault) (first : ℕ) (regs : Regs) (m : Memory) → AreRegisters regs → ActsAt regs m (instr_of_second half first) (with_second half first regs m)
 second_acts (Ok second) first regs m small = outcome_acts (decoded_of first second) first regs m small
 second_acts (Err fault) first regs m small = trap_acts None None _ regs m
 
-first_acts : (half : Result ℕ BusFault) (regs : Regs) (m : Memory) → ((k : ℕ) → slice_index regs.r k < 2 ^ 32) → ActsAt regs m (instr_of_first half m regs.pc) (with_first half regs m)
+first_acts : (half : Result ℕ BusFault) (regs : Regs) (m : Memory) → AreRegisters regs → ActsAt regs m (instr_of_first half m regs.pc) (with_first half regs m)
 first_acts (Ok first) regs m small =
     both (λ at o. ActsAt regs m at o) (nat_le 0xe800 first) _ _ _ _
     (second_acts (fetch m ((regs.pc + 2) % 2 ^ 32)) first regs m small)
     (outcome_acts (decoded_of first 0) first regs m small)
 first_acts (Err fault) regs m small = trap_acts None None _ regs m
 
-pub step_acts : (regs : Regs) (m : Memory) → ((k : ℕ) → slice_index regs.r k < 2 ^ 32) → Acts (instr_at m regs.pc) (stores_of_some (instr_at m regs.pc) regs) regs m (step_of regs m)
+pub step_acts : (regs : Regs) (m : Memory) → AreRegisters regs → Acts (instr_at m regs.pc) (stores_of_some (instr_at m regs.pc) regs) regs m (step_of regs m)
 step_acts regs m small = first_acts (fetch m regs.pc) regs m small

@@ -11,6 +11,7 @@ use Rattle.thumb_isa.specs.declared.instr.Instr.TheVariants.{ShiftImm, AddSubReg
 use Rattle.thumb_isa.specs.declared.instr.Decoded.{Decoded}
 use Rattle.thumb_isa.specs.declared.instr.Decoded.TheVariants.{Is, Undefined, Unpredictable, NotInProfile}
 use Rattle.thumb_isa.specs.Rows.{decoded_of}
+use Rattle.thumb_core.specs.declared.regs.TheConstants.{SP, LR, PC}
 use Rattle.thumb_core.specs.declared.regs.Regs.{Regs}
 use Rattle.thumb_core.specs.declared.regs.CoreTrap.{CoreTrap}
 use Rattle.thumb_core.specs.declared.regs.CoreTrap.TheVariants.{EvenTarget}
@@ -35,7 +36,7 @@ use Rattle.thumb_core.proofs.StoreLaws.{IsWidth, store_closed, run_closed}
 use Rattle.thumb_core.proofs.Sound.{words_put, words_load, words_all, words_take, sound_pc}
 
 -- what holds of both values holds of the one that a test chooses
-either : {A : Type 0} (P : A → Type 0) (b : Bool) (x y : A) → P x → P y → P (cond b x y)
+pub either : {A : Type 0} (P : A → Type 0) (b : Bool) (x y : A) → P x → P y → P (cond b x y)
 either P true x y px py = px
 either P false x y px py = py
 
@@ -83,18 +84,18 @@ even_even x = omega arith
 link_odd : (size : ℕ) (regs : Regs) → link_of size regs % 2 ≡ 1
 link_odd size regs = omega arith
 
-link_word : (size : ℕ) (regs : Regs) → word_in 14 (link_of size regs) ≡ link_of size regs
+link_word : (size : ℕ) (regs : Regs) → word_in LR (link_of size regs) ≡ link_of size regs
 link_word size regs = omega arith
 
-link_read : (size : ℕ) (regs : Regs) → length regs.r ≡ 15 → get_or (put regs.r 14 (link_of size regs)) 14 0 ≡ link_of size regs
+link_read : (size : ℕ) (regs : Regs) → length regs.r ≡ 15 → get_or (put regs.r LR (link_of size regs)) 14 0 ≡ link_of size regs
 link_read size regs count =
-    get_or-set_at regs.r 14 14 (word_in 14 (link_of size regs)) 0 refl (omega arith) ∙ link_word size regs
+    get_or-set_at regs.r 14 14 (word_in LR (link_of size regs)) 0 refl (omega arith) ∙ link_word size regs
 
 call_follows : (target size : ℕ) (regs : Regs) (m : Memory) → Follows regs m (with_memory (call_to target size regs) m)
 call_follows target size regs m = record {
   trap = tt;
   stands = λ count. (refl, even_even (target % 2 ^ 32), link_read size regs count, link_odd size regs);
-  sound = λ s. sound_pc (put regs.r 14 (link_of size regs)) target (words_put 15 regs.r 14 (link_of size regs) s.words);
+  sound = λ s. sound_pc (put regs.r LR (link_of size regs)) target (words_put 15 regs.r LR (link_of size regs) s.words);
   memory = same m;
 }
 
@@ -139,16 +140,16 @@ data_words (AddSubImm3 sub d n imm) regs s = sum_words d (sum_or_difference sub 
 data_words (Imm8 op d imm) regs s = imm8_words op d imm regs s
 data_words (Alu op d k) regs s = answer_words (alu_of op (reg regs d) (reg regs k) regs) d regs s
 data_words (Adr d off) regs s = sum_words d (forward (base regs) off) regs s
-data_words (AddRdSp d off) regs s = sum_words d (forward (reg regs 13) off) regs s
-data_words (AddSp off) regs s = sum_words 13 (forward (reg regs 13) off) regs s
-data_words (SubSp off) regs s = sum_words 13 (backward (reg regs 13) off) regs s
+data_words (AddRdSp d off) regs s = sum_words d (forward (reg regs SP) off) regs s
+data_words (AddSp off) regs s = sum_words SP (forward (reg regs SP) off) regs s
+data_words (SubSp off) regs s = sum_words SP (backward (reg regs SP) off) regs s
 data_words (Extend op d k) regs s = sum_words d (extension_of op (reg regs k)) regs s
 data_words (Rev op d k) regs s = sum_words d (reversal_of op (reg regs k)) regs s
 data_words i regs s = s.words
 
 high_sound : (d x size : ℕ) (regs : Regs) → AreSound regs.r regs.pc → AreSound (write_high d x size regs).r (write_high d x size regs).pc
 high_sound d x size regs s =
-    either (λ (a : Regs). AreSound a.r a.pc) (d == 15) (with_pc regs x) (with_next size (with_reg regs d x))
+    either (λ (a : Regs). AreSound a.r a.pc) (d == PC) (with_pc regs x) (with_next size (with_reg regs d x))
     (sound_pc regs.r x s.words)
     (sound_pc (put regs.r d x) (regs.pc + size) (sum_words d x regs s))
 
@@ -162,7 +163,7 @@ branch_if_sound condition off size regs s =
 
 high_even : (d x size : ℕ) (regs : Regs) → (write_high d x size regs).pc % 2 ≡ 0
 high_even d x size regs =
-    either (λ (a : Regs). a.pc % 2 ≡ 0) (d == 15) (with_pc regs x) (with_next size (with_reg regs d x)) (even_next x) (even_next (regs.pc + size))
+    either (λ (a : Regs). a.pc % 2 ≡ 0) (d == PC) (with_pc regs x) (with_next size (with_reg regs d x)) (even_next x) (even_next (regs.pc + size))
 
 branch_if_even : (condition : ℕ) (off : ℤ) (size : ℕ) (regs : Regs) → (branch_if condition off size regs).pc % 2 ≡ 0
 branch_if_even condition off size regs =
@@ -266,7 +267,7 @@ mem_imm_follows op t n off size regs m =
 
 mem_sp_follows : (is_load : Bool) (t : ℕ) (off : ℤ) (size : ℕ) (regs : Regs) (m : Memory) → Follows regs m (mem_sp is_load t off size regs m)
 mem_sp_follows is_load t off size regs m =
-    let a = forward (reg regs 13) off in
+    let a = forward (reg regs SP) off in
     either (λ o. Follows regs m o) is_load _ _ (load_reg_follows 4 t a size regs m) (reg_follows 4 t a size regs m (inr (inr refl)))
 
 -- ---- lists
@@ -289,9 +290,9 @@ pop_to_follows false target size regs after m keeps = plain_follows size regs af
 
 pop_follows : (mask a size : ℕ) (regs : Regs) (m : Memory) (answer : Result (List ℕ) BusFault) → load_list mask a regs m ≡ answer → Follows regs m (pop_end answer mask size regs m)
 pop_follows mask a size regs m (Ok r) e =
-    let x = reg regs 13 + bytes_of mask in
-    pop_to_follows (bit_at mask 15 == 1) (slice_index r 15) size regs (with_all regs (put r 13 x)) m
-    (λ s. words_take (put r 13 x) (words_put 16 r 13 x (list_words mask a regs m r e s)))
+    let x = reg regs SP + bytes_of mask in
+    pop_to_follows (bit_at mask PC == 1) (slice_index r PC) size regs (with_all regs (put r SP x)) m
+    (λ s. words_take (put r SP x) (words_put 16 r SP x (list_words mask a regs m r e s)))
 pop_follows mask a size regs m (Err fault) e = trap_follows _ regs m
 
 -- ---- a step
@@ -302,9 +303,9 @@ effect_follows (MemReg op t n k) size regs m = mem_reg_follows op t n k size reg
 effect_follows (MemImm op t n off) size regs m = mem_imm_follows op t n off size regs m
 effect_follows (MemSp is_load t off) size regs m = mem_sp_follows is_load t off size regs m
 effect_follows (Push list) size regs m =
-    let a = (reg regs 13 + (2 ^ 32 - bytes_of list)) % 2 ^ 32 in
-    store_follows _ _ size regs (with_reg regs 13 a) m (run_memory a (words_of list regs) m) (λ s. words_put 15 regs.r 13 a s.words)
-effect_follows (Pop list) size regs m = pop_follows list (reg regs 13) size regs m (load_list list (reg regs 13) regs m) refl
+    let a = (reg regs SP + (2 ^ 32 - bytes_of list)) % 2 ^ 32 in
+    store_follows _ _ size regs (with_reg regs SP a) m (run_memory a (words_of list regs) m) (λ s. words_put 15 regs.r SP a s.words)
+effect_follows (Pop list) size regs m = pop_follows list (reg regs SP) size regs m (load_list list (reg regs SP) regs m) refl
 effect_follows (Stm n list) size regs m =
     let x = reg regs n + bytes_of list in
     store_follows _ _ size regs (with_reg regs n x) m (run_memory (reg regs n) (words_of list regs) m) (λ s. words_put 15 regs.r n x s.words)

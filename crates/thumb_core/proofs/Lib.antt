@@ -3,6 +3,7 @@ pub mod Shifts
 pub mod Sound
 pub mod StoreLaws
 pub mod Follows
-pub mod Acts
 pub mod Loaded
+pub mod PopLaws
+pub mod Acts
 pub mod Popped

@@ -153,7 +153,7 @@ load_front segments base at (k ∷ more) r t count below =
     go (Err fault) next = refl
 
 -- loads of two lists, one after the other
-load_both :
+pub load_both :
     (segments : List Segment) (base at : ℕ) (ks js r : List ℕ)
     → load_words segments base (loads_from at (ks ++ js)) r
     ≡ (load_words segments base (loads_from at ks) r >>= λ after. load_words segments base (loads_from (at + 4 * length ks) js) after)

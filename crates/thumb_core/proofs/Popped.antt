@@ -6,6 +6,7 @@ use Rattle.std.proofs.Math.Seq.{take-append_seam}
 use Rattle.std.proofs.lemmas.List.{take_more_set, set-append_left, set-append_right, get_or-append_right}
 use Rattle.eh_bus.specs.Memory.{Memory, loads}
 use Rattle.eh_bus.specs.declared.fault.BusFault.{BusFault}
+use Rattle.thumb_core.specs.declared.regs.TheConstants.{SP, PC}
 use Rattle.thumb_core.specs.declared.regs.Regs.{Regs}
 use Rattle.thumb_core.specs.declared.regs.CoreTrap.TheVariants.{EvenTarget}
 use Rattle.thumb_core.specs.declared.regs.Stepped.TheVariants.{Return, Trap}
@@ -33,11 +34,11 @@ list_fault : (mask a : ℕ) (regs : Regs) (m : Memory) (e : BusFault) → length
     → load_words m.segments a (loads_from 0 (listed (mask % 2 ^ 8))) regs.r ≡ Err e → load_list mask a regs m ≡ Err e
 list_fault mask a regs m e count f = rw (load_list_low mask a regs m count, f) refl
 
-put_last : (r : List ℕ) (pc x : ℕ) → length r ≡ 15 → put (r ++ (pc ∷ [])) 15 x ≡ r ++ (word_in 15 x ∷ [])
-put_last r pc x size = set-append_right r (pc ∷ []) 15 15 (word_in 15 x) size (omega arith)
+put_last : (r : List ℕ) (pc x : ℕ) → length r ≡ 15 → put (r ++ (pc ∷ [])) 15 x ≡ r ++ (word_in PC x ∷ [])
+put_last r pc x size = set-append_right r (pc ∷ []) 15 15 (word_in PC x) size (omega arith)
 
 list_pc : (mask a x : ℕ) (regs : Regs) (m : Memory) (r : List ℕ) → Low mask a regs m r → listed_from 8 mask ≡ 15 ∷ []
-    → loads 4 m.segments ((a + low_bytes mask) % 2 ^ 32) ≡ Ok x → load_list mask a regs m ≡ Ok (r ++ (word_in 15 x ∷ []))
+    → loads 4 m.segments ((a + low_bytes mask) % 2 ^ 32) ≡ Ok x → load_list mask a regs m ≡ Ok (r ++ (word_in PC x ∷ []))
 list_pc mask a x regs m r low high e = rw (load_list_low mask a regs m low.count, low.loaded, high, e) (ap Ok (put_last r regs.pc x low.size))
 
 list_pc_fault : (mask a : ℕ) (e : BusFault) (regs : Regs) (m : Memory) (r : List ℕ) → Low mask a regs m r → listed_from 8 mask ≡ 15 ∷ []
@@ -70,43 +71,43 @@ bytes_pc mask high = rw (listed_low mask, high, length-append) (omega arith)
 -- ---- a POP
 
 pub pop_fault : (mask size : ℕ) (regs : Regs) (m : Memory) (e : BusFault) → length regs.r ≡ 15
-    → load_words m.segments (reg regs 13) (loads_from 0 (listed (mask % 2 ^ 8))) regs.r ≡ Err e → pop mask size regs m ≡ fault_outcome e regs m
-pop_fault mask size regs m e count f = ap (λ l. pop_end l mask size regs m) (list_fault mask (reg regs 13) regs m e count f)
+    → load_words m.segments (reg regs SP) (loads_from 0 (listed (mask % 2 ^ 8))) regs.r ≡ Err e → pop mask size regs m ≡ fault_outcome e regs m
+pop_fault mask size regs m e count f = ap (λ l. pop_end l mask size regs m) (list_fault mask (reg regs SP) regs m e count f)
 
-no_pc : (mask : ℕ) → mask % 2 ^ 15 < 2 ^ 8 → bit_at mask 15 ≡ 0 → listed_from 8 mask ≡ []
+no_pc : (mask : ℕ) → mask % 2 ^ 15 < 2 ^ 8 → bit_at mask PC ≡ 0 → listed_from 8 mask ≡ []
 no_pc mask l b = with_pc_high mask l ∙ rw b refl
 
-has_pc : (mask : ℕ) → mask % 2 ^ 15 < 2 ^ 8 → bit_at mask 15 ≡ 1 → listed_from 8 mask ≡ 15 ∷ []
+has_pc : (mask : ℕ) → mask % 2 ^ 15 < 2 ^ 8 → bit_at mask PC ≡ 1 → listed_from 8 mask ≡ 15 ∷ []
 has_pc mask l b = with_pc_high mask l ∙ rw b refl
 
-pub pop_plain : (mask size : ℕ) (regs : Regs) (m : Memory) (r : List ℕ) → Low mask (reg regs 13) regs m r → mask % 2 ^ 15 < 2 ^ 8 → bit_at mask 15 ≡ 0
-    → pop mask size regs m ≡ plain_outcome size (with_reg (record regs { r = r }) 13 ((reg regs 13 + low_bytes mask) % 2 ^ 32)) m
+pub pop_plain : (mask size : ℕ) (regs : Regs) (m : Memory) (r : List ℕ) → Low mask (reg regs SP) regs m r → mask % 2 ^ 15 < 2 ^ 8 → bit_at mask PC ≡ 0
+    → pop mask size regs m ≡ plain_outcome size (with_reg (record regs { r = r }) SP ((reg regs SP + low_bytes mask) % 2 ^ 32)) m
 pop_plain mask size regs m r low l b =
     let high = no_pc mask l b in
-    let a = reg regs 13 in
-    let same : word_in 13 (a + low_bytes mask) ≡ word_in 13 ((a + low_bytes mask) % 2 ^ 32) = word_same 13 _ _ (omega arith) in
-    rw (list_low mask a regs m r low high, b, front_put r 13 regs.pc (a + bytes_of mask) low.size (omega arith), bytes_none mask high, same) refl
+    let a = reg regs SP in
+    let same : word_in SP (a + low_bytes mask) ≡ word_in SP ((a + low_bytes mask) % 2 ^ 32) = word_same SP _ _ (omega arith) in
+    rw (list_low mask a regs m r low high, b, front_put r SP regs.pc (a + bytes_of mask) low.size (omega arith), bytes_none mask high, same) refl
 
-pub pop_pc_fault : (mask size : ℕ) (e : BusFault) (regs : Regs) (m : Memory) (r : List ℕ) → Low mask (reg regs 13) regs m r → mask % 2 ^ 15 < 2 ^ 8 → bit_at mask 15 ≡ 1
-    → loads 4 m.segments ((reg regs 13 + low_bytes mask) % 2 ^ 32) ≡ Err e → pop mask size regs m ≡ fault_outcome e regs m
-pop_pc_fault mask size e regs m r low l b f = ap (λ l. pop_end l mask size regs m) (list_pc_fault mask (reg regs 13) e regs m r low (has_pc mask l b) f)
+pub pop_pc_fault : (mask size : ℕ) (e : BusFault) (regs : Regs) (m : Memory) (r : List ℕ) → Low mask (reg regs SP) regs m r → mask % 2 ^ 15 < 2 ^ 8 → bit_at mask PC ≡ 1
+    → loads 4 m.segments ((reg regs SP + low_bytes mask) % 2 ^ 32) ≡ Err e → pop mask size regs m ≡ fault_outcome e regs m
+pop_pc_fault mask size e regs m r low l b f = ap (λ l. pop_end l mask size regs m) (list_pc_fault mask (reg regs SP) e regs m r low (has_pc mask l b) f)
 
-pub pop_even : (mask size x : ℕ) (regs : Regs) (m : Memory) (r : List ℕ) → Low mask (reg regs 13) regs m r → mask % 2 ^ 15 < 2 ^ 8 → bit_at mask 15 ≡ 1
-    → loads 4 m.segments ((reg regs 13 + low_bytes mask) % 2 ^ 32) ≡ Ok x → x < 2 ^ 32 → x % 2 ≡ 0 → pop mask size regs m ≡ (Trap (EvenTarget x), regs, m)
+pub pop_even : (mask size x : ℕ) (regs : Regs) (m : Memory) (r : List ℕ) → Low mask (reg regs SP) regs m r → mask % 2 ^ 15 < 2 ^ 8 → bit_at mask PC ≡ 1
+    → loads 4 m.segments ((reg regs SP + low_bytes mask) % 2 ^ 32) ≡ Ok x → x < 2 ^ 32 → x % 2 ≡ 0 → pop mask size regs m ≡ (Trap (EvenTarget x), regs, m)
 pop_even mask size x regs m r low l b f small even =
-    let word : word_in 15 x ≡ x = omega arith in
-    rw (list_pc mask (reg regs 13) x regs m r low (has_pc mask l b) f, b, last r (word_in 15 x) low.size, word, even) refl
+    let word : word_in PC x ≡ x = omega arith in
+    rw (list_pc mask (reg regs SP) x regs m r low (has_pc mask l b) f, b, last r (word_in PC x) low.size, word, even) refl
 
-pub pop_return : (mask size x : ℕ) (regs : Regs) (m : Memory) (r : List ℕ) → Low mask (reg regs 13) regs m r → mask % 2 ^ 15 < 2 ^ 8 → bit_at mask 15 ≡ 1
-    → loads 4 m.segments ((reg regs 13 + low_bytes mask) % 2 ^ 32) ≡ Ok x → x < 2 ^ 32 → x % 2 ≡ 1
-    → pop mask size regs m ≡ (Return x, with_pc (with_reg (record regs { r = r }) 13 (((reg regs 13 + low_bytes mask) % 2 ^ 32 + 4) % 2 ^ 32)) x, m)
+pub pop_return : (mask size x : ℕ) (regs : Regs) (m : Memory) (r : List ℕ) → Low mask (reg regs SP) regs m r → mask % 2 ^ 15 < 2 ^ 8 → bit_at mask PC ≡ 1
+    → loads 4 m.segments ((reg regs SP + low_bytes mask) % 2 ^ 32) ≡ Ok x → x < 2 ^ 32 → x % 2 ≡ 1
+    → pop mask size regs m ≡ (Return x, with_pc (with_reg (record regs { r = r }) SP (((reg regs SP + low_bytes mask) % 2 ^ 32 + 4) % 2 ^ 32)) x, m)
 pop_return mask size x regs m r low l b f small odd =
-    let a = reg regs 13 in
+    let a = reg regs SP in
     let high = has_pc mask l b in
-    let word : word_in 15 x ≡ x = omega arith in
+    let word : word_in PC x ≡ x = omega arith in
     let whole : x % 2 ^ 32 ≡ x = omega arith in
-    let same : word_in 13 (a + (low_bytes mask + 4)) ≡ word_in 13 (((a + low_bytes mask) % 2 ^ 32 + 4) % 2 ^ 32) = word_same 13 _ _ (omega arith) in
-    rw (list_pc mask a x regs m r low high f, b, last r (word_in 15 x) low.size, word, odd, front_put r 13 x (a + bytes_of mask) low.size (omega arith), bytes_pc mask high, same, whole, odd) refl
+    let same : word_in SP (a + (low_bytes mask + 4)) ≡ word_in SP (((a + low_bytes mask) % 2 ^ 32 + 4) % 2 ^ 32) = word_same SP _ _ (omega arith) in
+    rw (list_pc mask a x regs m r low high f, b, last r (word_in PC x) low.size, word, odd, front_put r SP x (a + bytes_of mask) low.size (omega arith), bytes_pc mask high, same, whole, odd) refl
 
 -- ---- an LDM
 

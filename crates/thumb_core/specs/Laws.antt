@@ -1,5 +1,5 @@
 -- What holds of every step, whatever the instruction was.
-use Rattle.std.specs.Prelude.{◌≡◌, ℕ, ◌+◌, ◌%◌, ◌^◌, ◌<◌, ◌⊎◌, true, List, length, slice_index, Option, Some, Ok}
+use Rattle.std.specs.Prelude.{◌≡◌, ◌≢◌, ℕ, ◌+◌, ◌-◌, ◌%◌, ◌^◌, ◌<◌, ◌⊎◌, true, List, length, slice_index, Option, Some, Ok}
 use Rattle.std.specs.Int.{bit_at}
 use Rattle.thumb_isa.specs.declared.instr.Instr.{Instr}
 use Rattle.thumb_isa.specs.declared.instr.Instr.TheVariants.{Bx, Pop, Svc}
@@ -10,7 +10,7 @@ use Rattle.thumb_core.specs.declared.regs.TheConstants.{SP, LR, PC}
 use Rattle.thumb_core.specs.declared.regs.Regs.{Regs}
 use Rattle.thumb_core.specs.declared.regs.Stepped.{Stepped}
 use Rattle.thumb_core.specs.declared.regs.Stepped.TheVariants.{Done, Call, Return, Gate, Trap}
-use Rattle.thumb_core.specs.Registers.{reg, operand, put, with_pc, with_reg, with_next, with_all}
+use Rattle.thumb_core.specs.Registers.{reg, operand, put, word_in, with_pc, with_reg, with_next, with_all}
 use Rattle.thumb_core.specs.Lists.{bytes_of, load_list}
 use Rattle.thumb_core.specs.Outcome.{Outcome}
 use Rattle.thumb_core.specs.Stores.{Span, KeepsApart}
@@ -68,8 +68,12 @@ pub record Popped (mask to : ℕ) (regs : Regs) (m : Memory) (after : Regs) : Ty
   pub takes_pc : bit_at mask PC ≡ 1
   pub words : List ℕ
   pub loaded : load_list mask (reg regs SP) regs m ≡ Ok words
-  pub target : to ≡ slice_index words PC % 2 ^ 32
   pub leaves : after ≡ with_pc (with_all regs (put words SP (reg regs SP + bytes_of mask))) to
+  pub word : ℕ
+  pub last : load 4 m ((reg regs SP + (bytes_of mask - 4)) % 2 ^ 32) ≡ Ok word
+  pub target : to ≡ word % 2 ^ 32
+  pub sp : slice_index after.r SP ≡ word_in SP (reg regs SP + bytes_of mask)
+  pub others : (k : ℕ) → k ≢ SP → bit_at mask k ≡ 0 → slice_index after.r k ≡ slice_index regs.r k
 
 -- a return: by BX only pc goes to the register, and by POP it is as said
 abbrev pub Returned : Option (Instr × ℕ) → ℕ → Regs → Memory → Regs → Type 0

@@ -1,4 +1,5 @@
-use Rattle.std.proofs.Common.{ℕ, List, ◌∙◌, sym, subst}
+use Rattle.elf_image.specs.declared.format.FileHeader.{FileHeader}
+use Rattle.std.proofs.Common.{ap, ℕ, List, ◌∙◌, sym, subst}
 use Rattle.std.proofs.lemmas.Result.{err_from_is_err_and}
 use Rattle.elf_image.proofs.Outcome.{refused_header, refused_table, known, exit_segments, exit_index, exit_tables, ready, finish_image, finish_refused}
 use Rattle.elf_image.proofs.Lookups.{sum_fits}
@@ -50,9 +51,9 @@ returns-clause-image c =
     let i = rw (c.deref-2.ensures.value, ← c.deref.ensures.value, c.deref-3.ensures.value) at c.in_ok-index.ensures.accepted in
     let j = rw (c.deref-2.ensures.value, ← c.deref.ensures.value, c.deref-3.ensures.value) at c.in_ok-index.ensures.index in
     let size = rw c.deref-4.ensures.value at (sym c.is_too_large.ensures ∙ c.if-is_too_large.false) in
-    let r = ready c.args.bytes.now c.deref.result.now c.in_ok-segments.segments.items _ c.in_ok-table.table.now c.in_ok-table.strings.now c.deref-5.result.now c.word.result k i j
-    c.in_ok-table.ensures.accepted c.in_ok-table.ensures.table c.in_ok-table.ensures.strings size (c.deref-5.ensures.value ∙ c.in_ok-symbols.ensures) c.word.ensures in
-    finish_image c.args.bytes.now c.in_ok-segments.segments.items _ c.deref-5.result.now c.word.result r c.build.result c.build.ensures.accepted c.build.ensures.image
+    let r = ready c.args.bytes.now c.deref.result.now c.in_ok-segments.segments.items _ c.in_ok-table.table.now c.in_ok-table.strings.now c.deref-5.result.now c.file_header.result.entry k i j
+    c.in_ok-table.ensures.accepted c.in_ok-table.ensures.table c.in_ok-table.ensures.strings size (c.deref-5.ensures.value ∙ c.in_ok-symbols.ensures) (ap (λ (h : FileHeader). h.entry) c.file_header.ensures) in
+    finish_image c.args.bytes.now c.in_ok-segments.segments.items _ c.deref-5.result.now c.file_header.result.entry r c.build.result c.build.ensures.accepted c.build.ensures.image
 
 pub returns-clause-refused : goal.returns-clause-refused
 returns-clause-refused c =
@@ -62,9 +63,9 @@ returns-clause-refused c =
     let i = rw (c.deref-2.ensures.value, ← c.deref.ensures.value, c.deref-3.ensures.value) at c.in_ok-index.ensures.accepted in
     let j = rw (c.deref-2.ensures.value, ← c.deref.ensures.value, c.deref-3.ensures.value) at c.in_ok-index.ensures.index in
     let size = rw c.deref-4.ensures.value at (sym c.is_too_large.ensures ∙ c.if-is_too_large.false) in
-    let r = ready c.args.bytes.now c.deref.result.now c.in_ok-segments.segments.items _ c.in_ok-table.table.now c.in_ok-table.strings.now c.deref-5.result.now c.word.result k i j
-    c.in_ok-table.ensures.accepted c.in_ok-table.ensures.table c.in_ok-table.ensures.strings size (c.deref-5.ensures.value ∙ c.in_ok-symbols.ensures) c.word.ensures in
-    finish_refused c.args.bytes.now c.in_ok-segments.segments.items _ c.deref-5.result.now c.word.result r c.build.result c.build.ensures.refused
+    let r = ready c.args.bytes.now c.deref.result.now c.in_ok-segments.segments.items _ c.in_ok-table.table.now c.in_ok-table.strings.now c.deref-5.result.now c.file_header.result.entry k i j
+    c.in_ok-table.ensures.accepted c.in_ok-table.ensures.table c.in_ok-table.ensures.strings size (c.deref-5.ensures.value ∙ c.in_ok-symbols.ensures) (ap (λ (h : FileHeader). h.entry) c.file_header.ensures) in
+    finish_refused c.args.bytes.now c.in_ok-segments.segments.items _ c.deref-5.result.now c.file_header.result.entry r c.build.result c.build.ensures.refused
 
 pub build-requires-clause-index : goal.build-requires-clause-index
 build-requires-clause-index c =

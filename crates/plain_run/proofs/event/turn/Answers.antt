@@ -1,6 +1,6 @@
 use Rattle.std.proofs.Common.{sym, ◌∙◌}
 use Rattle.image_memory.specs.Start.{State}
-use Rattle.plain_run.proofs.Turns.{trap_ends, refused_ends, went_on}
+use Rattle.plain_run.proofs.Turns.{trap_ends, refused_ends, went_on, done_goes}
 use Rattle.plain_run.proofs.event.turn.Goals as goal
 
 pub returns-in-Trap-clause-told : goal.returns-in-Trap-clause-told
@@ -18,6 +18,13 @@ returns-in-Some-clause-told g c =
     let e = sym c.refusal.ensures ∙ c.in-Some.is in
     refused_ends tests old what regs memory c.step-what.ensures.effect c.in_default.not-Trap _ _ c.in-Some.end e
     (rw e at (g.W.Watch.honest c.args.watch.now what regs memory old.regs.pc))
+
+pub returns-in-Done-clause-told : goal.returns-in-Done-clause-told
+returns-in-Done-clause-told g c =
+    let old : State = record { regs = c.args.regs.now; memory = g.B.Bus.memory c.args.bus.now } in
+    let tests = g.W.Watch.refuses c.args.watch.now in
+    done_goes tests old c.step-what.result c.step-what.new.regs (g.B.Bus.memory c.step-what.new.bus) c.step-what.ensures.effect c.in_default.not-Trap _ _ c.in-Done.is
+    (sym c.in_default-refusal.ensures)
 
 pub returns-clause-told : goal.returns-clause-told
 returns-clause-told g c =

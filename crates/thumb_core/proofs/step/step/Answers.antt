@@ -25,14 +25,14 @@ returns-clause-memory g c =
 pub returns-clause-apart : goal.returns-clause-apart
 returns-clause-apart g c =
     (subst (Acts (instr_at (g.B.Bus.memory c.args.bus.now) c.args.regs.now.pc) (stores_at (g.B.Bus.memory c.args.bus.now) c.args.regs.now) c.args.regs.now (g.B.Bus.memory c.args.bus.now))
-    (sym c.perform.ensures) (step_acts c.args.regs.now (g.B.Bus.memory c.args.bus.now) c.are_words.ensures)).apart
+    (sym c.perform.ensures) (step_acts c.args.regs.now (g.B.Bus.memory c.args.bus.now) (record { count = omega arith; words = c.are_words.ensures }))).apart
 
 pub returns-clause-leaves : goal.returns-clause-leaves
 returns-clause-leaves g c =
     (subst (Acts (instr_at (g.B.Bus.memory c.args.bus.now) c.args.regs.now.pc) (stores_at (g.B.Bus.memory c.args.bus.now) c.args.regs.now) c.args.regs.now (g.B.Bus.memory c.args.bus.now))
-    (sym c.perform.ensures) (step_acts c.args.regs.now (g.B.Bus.memory c.args.bus.now) c.are_words.ensures)).leaves
+    (sym c.perform.ensures) (step_acts c.args.regs.now (g.B.Bus.memory c.args.bus.now) (record { count = omega arith; words = c.are_words.ensures }))).leaves
 
 pub returns-clause-leaves_memory : goal.returns-clause-leaves_memory
 returns-clause-leaves_memory g c =
     (subst (Acts (instr_at (g.B.Bus.memory c.args.bus.now) c.args.regs.now.pc) (stores_at (g.B.Bus.memory c.args.bus.now) c.args.regs.now) c.args.regs.now (g.B.Bus.memory c.args.bus.now))
-    (sym c.perform.ensures) (step_acts c.args.regs.now (g.B.Bus.memory c.args.bus.now) c.are_words.ensures)).memory
+    (sym c.perform.ensures) (step_acts c.args.regs.now (g.B.Bus.memory c.args.bus.now) (record { count = omega arith; words = c.are_words.ensures }))).memory
