@@ -2,8 +2,8 @@
 #![tactic(auto)]
 
 #[cfg(test)]
-mod core;
-#[cfg(test)]
 mod encode;
 #[cfg(test)]
 mod isa;
+#[cfg(test)]
+mod steps;

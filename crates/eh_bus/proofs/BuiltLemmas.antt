@@ -11,16 +11,16 @@ use Rattle.eh_bus.specs.declared.segment.SegmentSpec.{SegmentSpec}
 use Rattle.eh_bus.proofs.Kept.{inside}
 use Rattle.eh_bus.specs.declared.map.TheConstants.{IMAGE_END, POOL_SIZE, POOL_START, STACK_SIZE, STACK_START}
 
-abbrev Ends : Segment → Type 0
+abbrev pub Ends : Segment → Type 0
 Ends s = s.start + length s.bytes ≤ IMAGE_END
 
-length-segment_of : (spec : SegmentSpec) → length spec.bytes.now ≤ spec.size → length (segment_of spec).bytes ≡ spec.size
+pub length-segment_of : (spec : SegmentSpec) → length spec.bytes.now ≤ spec.size → length (segment_of spec).bytes ≡ spec.size
 length-segment_of spec h = simp (length-append, length-zeros) (omega arith)
 
 fits_ends : (spec : SegmentSpec) → Fits spec → Ends (segment_of spec)
 fits_ends spec f = let e = length-segment_of spec f.0 in omega (arith, f.1)
 
-image_ends : (specs : List SegmentSpec) → All Fits specs → (i : ℕ) (d : Segment) → i < length (map segment_of specs) → Ends (get_or (map segment_of specs) i d)
+pub image_ends : (specs : List SegmentSpec) → All Fits specs → (i : ℕ) (d : Segment) → i < length (map segment_of specs) → Ends (get_or (map segment_of specs) i d)
 image_ends [] f i d h = absurd (omega arith)
 image_ends (s ∷ specs) f zero d h = fits_ends s (f 0 s (omega arith))
 image_ends (s ∷ specs) f (suc i) d h = image_ends specs (λ k e l. f (suc k) e (omega arith)) i d (omega arith)
@@ -35,7 +35,7 @@ in_zeros start size a h =
     let e = length-zeros size in
     (p.low, omega (arith, p.low, p.high))
 
-apart_all : (image : List Segment) → ((i : ℕ) (d : Segment) → i < length image → Ends (get_or image i d)) → AreApart image
+pub apart_all : (image : List Segment) → ((i : ℕ) (d : Segment) → i < length image → Ends (get_or image i d)) → AreApart image
     → AreApart (zeros_at STACK_START STACK_SIZE ∷ zeros_at POOL_START POOL_SIZE ∷ image)
 apart_all image e p a zero zero d h k x y = refl
 apart_all image e p a zero (suc zero) d h k x y = let s = in_zeros STACK_START STACK_SIZE a x in let t = in_zeros POOL_START POOL_SIZE a y in absurd (omega (arith, s.0, t.1))

@@ -5,6 +5,8 @@ use Rattle.eh_bus.specs.Memory.{Memory, store, store_run, host_load, host_store}
 use Rattle.eh_bus.specs.Map.{IsMap, Keeps, flat_home}
 use Rattle.eh_bus.specs.Undo.{Undoable, WordUndoable, RunUndoable}
 use Rattle.eh_bus.specs.Flat.{memory_of}
+use Rattle.eh_bus.specs.Paged.{memory_of as paged}
+use Rattle.eh_bus.specs.declared.paged.PagedBus.{PagedBus}
 use Rattle.eh_bus.specs.declared.fault.BusFault.{BusFault}
 use Rattle.eh_bus.specs.declared.flat.FlatBus.{FlatBus}
 use Rattle.eh_bus.specs.declared.map.TheConstants.{POOL_START, POOL_END}
@@ -15,6 +17,9 @@ use Rattle.eh_bus.proofs.UndoLaws.{store_undoable, word_undoable, run_undoable, 
 
 pub flat_map : (bus : FlatBus) → IsMap (memory_of bus)
 flat_map bus = record { segments = bus.mapped; guards = bus.rising; home = flat_home }
+
+pub paged_map : (bus : PagedBus) → IsMap (paged bus)
+paged_map bus = record { segments = bus.mapped; guards = bus.rising; home = flat_home }
 
 pub undone : (n : ℕ) (r : Result (Unit {0}) BusFault) (m m' : Memory) (a v : ℕ) → IsMap m → (r, m') ≡ store n m a v → IfOk r (λ _. Undoable n m a m')
 undone n (Ok tt) m m' a v x e = store_undoable n m a v m' x (sym e)

@@ -10,3 +10,5 @@ pub mod UndoLaws
 pub mod GuardLaws
 pub mod PartLaws
 pub mod CallLaws
+pub mod PageLaws
+pub mod PageBuild

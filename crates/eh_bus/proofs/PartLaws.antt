@@ -198,7 +198,7 @@ zero_from : (i n : ℕ) (xs : List ℕ) → ((k : ℕ) → get_or xs k 0 ≡ 0) 
 zero_from i zero xs h = refl
 zero_from i (suc n) xs h = rw (h i, zero_from (suc i) n xs h) refl
 
-get_or-zeros : (n k : ℕ) → get_or (zeros n) k 0 ≡ 0
+pub get_or-zeros : (n k : ℕ) → get_or (zeros n) k 0 ≡ 0
 unfolding zeros
 get_or-zeros zero k = refl
 get_or-zeros (suc n) zero = refl

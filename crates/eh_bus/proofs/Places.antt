@@ -1,10 +1,12 @@
 -- The first segment that holds an access.
-use Rattle.std.proofs.Common.{◌≡◌, ℕ, suc, ◌+◌, ◌<◌, Bool, true, false, List, [], ◌∷◌, length, Option, Some, None, IfSome, refl, arith, rules, ap, sym, drop, ◌%◌, ◌^◌}
+use Rattle.std.proofs.Common.{◌≡◌, ℕ, zero, suc, ◌+◌, ◌-◌, ◌<◌, get_or, le-leb, Bool, true, false, List, [], ◌∷◌, length, Option, Some, None, IfSome, refl, arith, rules, ap, sym, drop, ◌%◌, ◌^◌}
 use Rattle.std.specs.List.{position_from}
 use Rattle.eh_bus.specs.Segment.{Segment, holds}
-use Rattle.std.proofs.lemmas.List.{at_drop_more}
+use Rattle.std.proofs.lemmas.List.{at_drop_more, get_or_default}
 use Rattle.eh_bus.specs.Memory.{fault_in, number_in, written, run_fault, first_fault, store_fault}
 use Rattle.eh_bus.specs.Place.{IsPlace}
+use Rattle.eh_bus.specs.Map.{AreApart}
+use Rattle.eh_bus.proofs.Kept.{inside}
 use Rattle.eh_bus.specs.declared.fault.BusFault.{BusFault}
 use Rattle.eh_bus.specs.declared.fault.BusFault.TheVariants.{Unmapped}
 
@@ -84,3 +86,25 @@ unread n a (s ∷ more) e = by_cases (holds s a n) refl (unread n a more)
     by_cases : (b : Bool) → holds s a n ≡ b → (fault_in (λ s. None) n more a ≡ Some (Unmapped a) → number_in n more a ≡ 0) → number_in n (s ∷ more) a ≡ 0
     by_cases true h next = let g : None ≡ Some (Unmapped a) = rw h at e in cc
     by_cases false h next = rw h (next (rw h at e))
+
+-- ---- where no address lies in two segments, a segment that holds the access is the first one
+
+tail_apart : (s : Segment) (more : List Segment) → AreApart (s ∷ more) → AreApart more
+tail_apart s more p b i j d h k x y = let e : suc i ≡ suc j = p b (suc i) (suc j) d (omega arith) (omega arith) x y in omega arith
+
+-- what holds an access holds its first byte
+holds_first : (s : Segment) (a n : ℕ) → 0 < n → holds s a n ≡ true → holds s a 1 ≡ true
+holds_first s a n z h = let p = inside s a n h in rw (le-leb s.start a p.low, le-leb (a - s.start + 1) (length s.bytes) (omega (arith, p.high))) refl
+
+pub by_holding : (n a : ℕ) (ss : List Segment) (i : ℕ) → AreApart ss → 0 < n → i < length ss → ((d : Segment) → holds (get_or ss i d) a n ≡ true) → IsPlace n ss a i
+by_holding n a [] i p z l h = absurd (omega arith)
+by_holding n a (s ∷ more) zero p z l h = here n s more a (h s)
+by_holding n a (s ∷ more) (suc i) p z l h = by_cases (holds s a n) refl (by_holding n a more i (tail_apart s more p) z (omega arith) h)
+  where
+    by_cases : (t : Bool) → holds s a n ≡ t → IsPlace n more a i → IsPlace n (s ∷ more) a (suc i)
+    by_cases true t next = absurd (let e : 0 ≡ suc i = p a 0 (suc i) s (omega arith) l (holds_first s a n z t) (holds_first (get_or more i s) a n z (h s)) in omega arith)
+    by_cases false t next = later n s more a i t next
+
+-- the same for an element that was read
+pub by_read : (n a : ℕ) (ss : List Segment) (i : ℕ) (s : Segment) → AreApart ss → 0 < n → i < length ss → s ≡ get_or ss i s → holds s a n ≡ true → IsPlace n ss a i
+by_read n a ss i s p z l e h = by_holding n a ss i p z l (λ d. rw (get_or_default ss i d s l, ← e) h)

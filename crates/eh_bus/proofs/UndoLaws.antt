@@ -38,11 +38,11 @@ seg_back n a v s h b =
     let o = bytes_back n (drop i s.bytes) room (All-drop (λ x. x < 256) i s.bytes b) in
     ap (λ (bs : List ℕ). record s { bytes = bs }) (list_back i n v (little_bytes n (number_at n s a)) (little_bytes n v) s.bytes (length-bytes_low_first 0 n v) p.high o)
 
-new_byte : (i n k : ℕ) (new bs : List ℕ) → length new ≡ n → i + n ≤ length bs → i ≤ k → k < i + n
+pub new_byte : (i n k : ℕ) (new bs : List ℕ) → length new ≡ n → i + n ≤ length bs → i ≤ k → k < i + n
     → get_or (take i bs ++ (new ++ drop (i + n) bs)) k 0 ≡ get_or new (k - i) 0
 new_byte i n k new bs e h l m = grind (arith, places)
 
-length_put : (i n : ℕ) (new bs : List ℕ) → length new ≡ n → i + n ≤ length bs → length (take i bs ++ (new ++ drop (i + n) bs)) ≡ length bs
+pub length_put : (i n : ℕ) (new bs : List ℕ) → length new ≡ n → i + n ≤ length bs → length (take i bs ++ (new ++ drop (i + n) bs)) ≡ length bs
 length_put i n new bs e h = grind (arith, places)
 
 -- numbers that have no byte in common are written in either order

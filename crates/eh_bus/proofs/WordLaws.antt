@@ -9,7 +9,7 @@ use Rattle.eh_bus.specs.declared.fault.BusFault.{BusFault}
 use Rattle.eh_bus.proofs.Kept.{Inside, inside, length_with}
 
 -- the number reads its n bytes alone
-little_same : (i n : ℕ) (xs ys : List ℕ) → ((k : ℕ) → k < n → get_or xs (i + k) 0 ≡ get_or ys (i + k) 0) → little_from i n xs ≡ little_from i n ys
+pub little_same : (i n : ℕ) (xs ys : List ℕ) → ((k : ℕ) → k < n → get_or xs (i + k) 0 ≡ get_or ys (i + k) 0) → little_from i n xs ≡ little_from i n ys
 little_same i zero xs ys h = refl
 little_same i (suc n) xs ys h =
     let first : get_or xs i 0 ≡ get_or ys i 0 = let e = h 0 (omega arith) in rw Rattle.std.proofs.Math.Nat.add-zero at e in

@@ -8,3 +8,5 @@ pub mod Built
 pub mod Place
 pub mod Flags
 pub mod Flat
+pub mod Pages
+pub mod Paged

@@ -1,8 +1,8 @@
 //! Which segment an access lies in, and which fault it has, in the order of docs/memory-map.md.
 ghost use Rattle.std.specs.Prelude.{◌≡◌, ℕ, ◌+◌, ◌*◌, ◌%◌, ◌^◌, ◌<◌, ◌≤◌, ◌==◌, length, Some, None, IfOk, IfErr, Option, IsTrue};
-ghost use Rattle.eh_bus.specs.Segment.{holds, number_at};
+ghost use Rattle.eh_bus.specs.Segment.{Segment as Bytes, holds, number_at};
 ghost use Rattle.eh_bus.specs.Memory.{load_fault, store_fault, fetch_fault, fault_in, number_in, is_closed, is_open_word, run_fault, run_written, written};
-ghost use Rattle.eh_bus.specs.Map.{AreSegments};
+ghost use Rattle.eh_bus.specs.Map.{AreApart, AreSegments};
 ghost use Rattle.eh_bus.specs.Place.{IsPlace, IsWidth};
 
 use crate::fault::BusFault;
@@ -34,7 +34,8 @@ fn is_aligned(a: u32, n: u32) -> bool
     a % n == 0
 }
 
-fn load_fault(n: u32, a: u32) -> Option<BusFault>
+/// Why `n` bytes that a segment holds may not be loaded.
+pub(crate) fn load_fault(n: u32, a: u32) -> Option<BusFault>
     requires { IsWidth n }
     ensures { result ≡ load_fault n a }
 {
@@ -45,6 +46,39 @@ fn load_fault(n: u32, a: u32) -> Option<BusFault>
     } else {
         None
     }
+}
+
+/// Why a halfword that a segment holds may not be fetched, by whether the segment may be executed.
+pub(crate) fn fetch_fault(exec: bool, a: u32) -> Option<BusFault>
+    ensures { (s : Bytes) → s.exec ≡ exec → result ≡ fetch_fault s a }
+{
+    if !is_aligned(a, 2) {
+        Some(BusFault::Unaligned(a))
+    } else if !exec {
+        Some(BusFault::NotExecutable(a))
+    } else {
+        None
+    }
+}
+
+/// Why `n` bytes that a segment holds may not be stored, by whether the segment may be written.
+pub(crate) fn store_fault(n: u32, guards: &Guards, write: bool, a: u32) -> Option<BusFault>
+    requires { IsWidth n }
+    ensures { (s : Bytes) → s.write ≡ write → result ≡ store_fault n guards.now s a }
+{
+    if !is_aligned(a, n) {
+        return Some(BusFault::Unaligned(a));
+    }
+    if !write {
+        return Some(BusFault::ReadOnly(a));
+    }
+    if let Some(g) = guards.hit(a, n) {
+        return Some(BusFault::SavedSlot(g));
+    }
+    if is_closed(a) {
+        return Some(BusFault::Protected(a));
+    }
+    None
 }
 
 /// The segment of a load of `n` bytes.
@@ -66,21 +100,19 @@ pub(crate) fn load_place(segments: &Segments, a: u32, n: u32) -> Result<&Segment
 
 /// The segment of a fetch.
 pub(crate) fn fetch_place(segments: &Segments, a: u32) -> Result<&Segment, BusFault>
+    requires { AreApart segments.now }
     ensures place { IfOk result (λ s. IsTrue (holds s.now a 2) × (number_in 2 segments.now a ≡ number_at 2 s.now a)) }
     ensures ok { IfOk result (λ i. fault_in (λ s. fetch_fault s a) 2 segments.now a ≡ None) }
     ensures fault { IfErr result (λ fault. fault_in (λ s. fetch_fault s a) 2 segments.now a ≡ Some fault) }
 {
-    let Some(i) = segments.place_of(a, 2) else {
+    let Some(i) = segments.place_of_code(a) else {
         return Err(BusFault::Unmapped(a));
     };
     let segment = segments.get(i);
-    if !is_aligned(a, 2) {
-        return Err(BusFault::Unaligned(a));
+    match fetch_fault(segment.may_execute(), a) {
+        Some(fault) => Err(fault),
+        None => Ok(segment),
     }
-    if !segment.may_execute() {
-        return Err(BusFault::NotExecutable(a));
-    }
-    Ok(segment)
 }
 
 /// The place of a store of 1, 2 or 4 bytes.
@@ -98,20 +130,10 @@ pub(crate) fn store_place(
     let Some(i) = segments.place_of(a, n) else {
         return Err(BusFault::Unmapped(a));
     };
-    let segment = segments.get(i);
-    if !is_aligned(a, n) {
-        return Err(BusFault::Unaligned(a));
+    match store_fault(n, guards, segments.get(i).may_write(), a) {
+        Some(fault) => Err(fault),
+        None => Ok(i),
     }
-    if !segment.may_write() {
-        return Err(BusFault::ReadOnly(a));
-    }
-    if let Some(g) = guards.hit(a, n) {
-        return Err(BusFault::SavedSlot(g));
-    }
-    if is_closed(a) {
-        return Err(BusFault::Protected(a));
-    }
-    Ok(i)
 }
 
 /// Why a word may not be stored.

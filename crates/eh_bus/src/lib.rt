@@ -7,5 +7,8 @@ pub mod fault;
 pub mod flat;
 mod guards;
 pub mod map;
+pub mod paged;
+mod pages;
+mod part;
 pub mod segment;
 mod segments;

@@ -36,3 +36,9 @@ pub const IMAGE_END: u32 = 0x3000_0000;
 
 /// The most bytes that the segments of an image have together.
 pub const MAX_IMAGE_SIZE: u32 = 1_048_576;
+
+/// The size of a page.
+pub const PAGE_SIZE: u32 = 4096;
+
+/// How many pages lie below the end of the stack.
+pub const PAGE_COUNT: u32 = STACK_END / PAGE_SIZE;

@@ -142,21 +142,21 @@ fn filled(alloc: Global, given: &[u8], size: usize) -> Result<Vec<u8>, AllocErro
     Ok(bytes)
 }
 
-fn put8(bytes: &mut [u8], at: usize, v: u8)
+pub(crate) fn put8(bytes: &mut [u8], at: usize, v: u8)
     requires { at < length bytes.old }
     ensures { bytes.new ≡ take at bytes.old ++ (little_bytes 1 v ++ drop (at + 1) bytes.old) }
 {
     bytes[at] = v;
 }
 
-fn put16(bytes: &mut [u8], at: usize, v: u16)
+pub(crate) fn put16(bytes: &mut [u8], at: usize, v: u16)
     requires { at + 2 ≤ length bytes.old }
     ensures { bytes.new ≡ take at bytes.old ++ (little_bytes 2 v ++ drop (at + 2) bytes.old) }
 {
     bytes[at..at + 2].copy_from_slice(&v.to_le_bytes());
 }
 
-fn put32(bytes: &mut [u8], at: usize, v: u32)
+pub(crate) fn put32(bytes: &mut [u8], at: usize, v: u32)
     requires { at + 4 ≤ length bytes.old }
     ensures { bytes.new ≡ take at bytes.old ++ (little_bytes 4 v ++ drop (at + 4) bytes.old) }
 {

@@ -4,7 +4,7 @@ ghost use Rattle.std.specs.List.{position_from};
 ghost use Rattle.eh_bus.specs.Segment.{Segment as Bytes, AreBytes, holds};
 ghost use Rattle.eh_bus.specs.Memory.{fault_in, written};
 ghost use Rattle.eh_bus.specs.Built.{CanBuild, built};
-ghost use Rattle.eh_bus.specs.Map.{AreSegments};
+ghost use Rattle.eh_bus.specs.Map.{AreApart, AreSegments};
 ghost use Rattle.eh_bus.specs.declared.segment.SegmentSpec.{SegmentSpec as Spec};
 ghost use Rattle.eh_bus.specs.Place.{IsPlace};
 ghost use Rattle.eh_bus.specs.declared.fault.BusFault.{BusFault};
@@ -60,6 +60,21 @@ impl Segments {
         ensures unmapped { IfNone result ((f : Bytes → Option BusFault) → fault_in f n self.now a ≡ Some (Unmapped a)) }
     {
         self.position(a, n)
+    }
+
+    /// The segment that holds the halfword at `a`, where code is looked for: in the image's segments first.
+    #[tactic(auto, using(crate::proofs::Places::by_holding, crate::proofs::Places::unmapped))]
+    pub(crate) fn place_of_code(&self, a: u32) -> Option<usize>
+        requires { AreApart self.now }
+        ensures place { IfSome result (IsPlace 2 self.now a) }
+        ensures unmapped { IfNone result ((f : Bytes → Option BusFault) → fault_in f 2 self.now a ≡ Some (Unmapped a)) }
+    {
+        for i in 2..self.all.len() {
+            if self.all[i].holds(a, 2) {
+                return Some(i);
+            }
+        }
+        self.place_of(a, 2)
     }
 
     fn position(&self, a: u32, n: u32) -> Option<usize>

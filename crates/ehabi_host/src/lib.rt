@@ -6,7 +6,8 @@ ghost use Rattle.std.specs.Prelude.{◌≡◌, ◌≤◌, ◌↔◌, None, true,
 ghost use Rattle.std.specs.Process.{exit_status};
 ghost use Rattle.std.specs.Vec.Iter.{into_iter_items};
 ghost use Rattle.ehabi_top.specs.Words.{texts, command_of};
-ghost use Rattle.ehabi_top.specs.Report.{DoesWhole, IfTold, is_settled};
+ghost use Rattle.ehabi_top.specs.Loading.{is_settled};
+ghost use Rattle.ehabi_top.specs.Report.{DoesWhole, IfTold};
 ghost use Rattle.ehabi_host.specs.declared.TheConstants.{NO_MEMORY};
 
 use eh_port::{Files, HostFiles, HostSink, HostSource, Sink, Source};
@@ -61,8 +62,8 @@ pub fn run_words<F: Files, I: Source, O: Sink>(
 ) -> Result<u8, AllocError>
     ensures usage { IfOk result (λ status. is_settled status ≡ true
         → (status ≡ 2) ↔ (command_of (map string_bytes words.now) ≡ None)) }
-    ensures report { IfOk result (λ status. is_settled status ≡ true → IfTold (F.held files.old) (I.left input.old) (λ held bytes.
-        DoesWhole (command_of (map string_bytes words.now)) held bytes status (I.left input.new) (O.written out.old) (O.written out.new))) }
+    ensures report { IfOk result (λ status. is_settled status ≡ true → IfTold (command_of (map string_bytes words.now)) (F.held files.old) (I.left input.old) (I.left input.new) (λ held bytes left.
+        DoesWhole (command_of (map string_bytes words.now)) held bytes status left (O.written out.old) (O.written out.new))) }
     ensures nothing { OnErr result ((I.left input.new ≡ I.left input.old) × (O.written out.new ≡ O.written out.old)) }
 {
     let texts = texts_of(alloc, words)?;

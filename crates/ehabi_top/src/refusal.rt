@@ -1,7 +1,7 @@
 //! Why files give no image, and the lines that say so.
 ghost use Rattle.std.specs.Prelude.{◌≡◌, ◌≢◌, ◌≤◌, ◌++◌, length, codes, IfOk, true, false};
 ghost use Rattle.ehabi_top.specs.Building.{is_memory, is_link_memory, fault_line, wants_memory, refusal_of};
-ghost use Rattle.ehabi_top.specs.RefusalText.{source_place, encode_what, unwind_what, asm_what, asm_place, range_line, link_line};
+ghost use Rattle.ehabi_top.specs.RefusalText.{source_place, asm_place, range_line, link_line};
 ghost use Rattle.ehabi_top.specs.Loading.{IsOfCommand};
 ghost use Rattle.ehabi_top.specs.Writes.{Answers};
 
@@ -11,13 +11,11 @@ use crate::status::REFUSED;
 use crate::stop::Stop;
 use asm_layout::{AsmFault, AsmWhat};
 use asm_read::{SourceFault, SourceWhat};
-use asm_unwind::UnwindFault;
 use eh_link::LinkFault;
 use eh_port::Sink;
 use elf_image::ImageFault;
 use itoa::Buffer;
 use std::alloc::AllocFailed;
-use thumb_encode::code::EncodeFault;
 
 /// Why sources give no image.
 #[derive(Drop)]
@@ -69,51 +67,6 @@ pub(crate) fn is_memory(fault: &BuildFault) -> bool
     }
 }
 
-fn encode_what(fault: EncodeFault) -> &'static [u8]
-    ensures name { result.now ≡ encode_what fault }
-    ensures short { length result.now ≤ 16 }
-{
-    match fault {
-        EncodeFault::RegisterRange => b"RegisterRange",
-        EncodeFault::ListEmpty => b"ListEmpty",
-        EncodeFault::ImmediateRange => b"ImmediateRange",
-        EncodeFault::ImmediateAlign => b"ImmediateAlign",
-        EncodeFault::TargetRange => b"TargetRange",
-    }
-}
-
-fn unwind_what(fault: UnwindFault) -> &'static [u8]
-    ensures name { result.now ≡ unwind_what fault }
-    ensures short { length result.now ≤ 16 }
-{
-    match fault {
-        UnwindFault::OutsideFunction => b"OutsideFunction",
-        UnwindFault::NestedFunction => b"NestedFunction",
-        UnwindFault::SaveRange => b"SaveRange",
-        UnwindFault::PadRange => b"PadRange",
-        UnwindFault::TwoPersonalities => b"TwoPersonalities",
-        UnwindFault::AfterCantunwind => b"AfterCantunwind",
-        UnwindFault::TooLong => b"TooLong",
-        UnwindFault::OutOfMemory => b"OutOfMemory",
-    }
-}
-
-fn asm_what(what: AsmWhat) -> &'static [u8]
-    ensures name { result.now ≡ asm_what what }
-    ensures short { length result.now ≤ 16 }
-{
-    match what {
-        AsmWhat::DuplicateLabel => b"DuplicateLabel",
-        AsmWhat::UndefinedLocal => b"UndefinedLocal",
-        AsmWhat::Encode(fault) => encode_what(fault),
-        AsmWhat::PoolTooFar => b"PoolTooFar",
-        AsmWhat::SectionTooLarge => b"SectionTooLarge",
-        AsmWhat::Unwind(fault) => unwind_what(fault),
-        AsmWhat::Placement => b"Placement",
-        AsmWhat::OutOfMemory => b"OutOfMemory",
-    }
-}
-
 /// What stands behind the name of a source that is refused.
 fn source_place(fault: SourceFault) -> Line
     ensures { result.items ≡ source_place fault }
@@ -137,7 +90,7 @@ fn asm_place(fault: AsmFault) -> Line
     append(&mut line, b":");
     append(&mut line, Buffer::new().format(fault.line).as_bytes());
     append(&mut line, b": ");
-    append(&mut line, asm_what(fault.what));
+    append(&mut line, fault.what.name());
     append(&mut line, b"\n");
     line
 }

@@ -1,6 +1,6 @@
 //! Values worked by hand from the manual's pseudocode (DDI 0419: AddWithCarry, the shifts, the condition table).
 
-use crate::core::{bus_of, go};
+use crate::steps::{bus_of, go};
 use std::process::Abort;
 use std::test::Fail;
 use thumb_core::arith::add;

@@ -1,7 +1,7 @@
 //! One program for each group of instructions, run on a memory of segments. The codes are put together by hand from the
 //! manual's encodings (DDI 0419).
 
-use crate::core::{bus_of, go, start};
+use crate::steps::{bus_of, go, start};
 use eh_bus::bus::Bus;
 use eh_bus::fault::BusFault;
 use eh_bus::flat::FlatBus;

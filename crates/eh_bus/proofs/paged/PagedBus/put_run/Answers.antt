@@ -1,0 +1,11 @@
+use Rattle.std.proofs.Common.{sym, ◌∙◌}
+use Rattle.eh_bus.proofs.PageLaws.{run_aligned}
+use Rattle.eh_bus.proofs.paged.PagedBus.put_run.Goals as goal
+
+pub run_write-requires-clause-aligned : goal.run_write-requires-clause-aligned
+run_write-requires-clause-aligned c = run_aligned _ _ c.args.a c.args.words.now (sym c.run_fault.ensures ∙ c.in_default.is)
+
+pub invariant_of-self-2 : goal.invariant_of-self-2
+invariant_of-self-2 c =
+    let k = rw c.deref-2.ensures.value at c.run_write.ensures in
+    record { sound = k.sound; used = k.used; owned = k.owned; mapped = rw k.made k.mapped; rising = c.args.self.now.rising }

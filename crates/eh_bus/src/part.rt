@@ -1,0 +1,21 @@
+//! A segment of a memory in pages: where it lies and its rights. Its bytes stand in the pages.
+ghost use Rattle.std.specs.Prelude.{◌≡◌};
+ghost use Rattle.eh_bus.specs.Pages.{covers};
+
+/// A segment without its bytes.
+#[derive(Clone, Copy)]
+pub(crate) struct Part {
+    pub(crate) start: u32,
+    pub(crate) size: u32,
+    pub(crate) write: bool,
+    pub(crate) exec: bool,
+}
+
+impl Part {
+    /// Whether all of the `n` bytes from `a` on lie here.
+    pub(crate) fn covers(&self, a: u32, n: u32) -> bool
+        ensures { result ≡ covers self.now a n }
+    {
+        self.start <= a && u64::from(a - self.start) + u64::from(n) <= u64::from(self.size)
+    }
+}
