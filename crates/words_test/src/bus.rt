@@ -2,6 +2,7 @@
 use eh_bus::bus::Bus;
 use eh_bus::fault::{BusFault, BusMemory};
 use eh_bus::flat::FlatBus;
+use eh_bus::paged::PagedBus;
 use eh_bus::segment::SegmentSpec;
 use std::alloc::Global;
 use std::process::Abort;
@@ -207,5 +208,69 @@ fn guards_are_a_set(rt: HostRuntime) -> Result<(), Fail> {
     check(&rt, &mut bus, &rows);
     bus.release_below(0x4000_0000);
     assert_eq!(rt; bus.store32(0x3fff_8000, 1), Ok(()));
+    Ok(())
+}
+
+/// 32 bytes, 0 to 31, that lie half in one page and half in the next, and may be written.
+fn two_pages(alloc: Global) -> Result<PagedBus, BusMemory> {
+    let bytes = [
+        0, 1, 2, 3, 4, 5, 6, 7, 8, 9, 10, 11, 12, 13, 14, 15, 16, 17, 18, 19, 20, 21, 22, 23, 24,
+        25, 26, 27, 28, 29, 30, 31,
+    ];
+    let data = SegmentSpec {
+        start: 0x8ff0,
+        bytes: &bytes,
+        size: 32,
+        write: true,
+        exec: false,
+    };
+    PagedBus::build(alloc, &[data])
+}
+
+#[test]
+fn pages_are_lent_as_they_are_now(rt: HostRuntime) -> Result<(), Fail> {
+    let mut bus = two_pages(rt.alloc())?;
+    assert_eq!(rt; bus.page_count(), 26);
+    assert!(rt; bus.page(10).is_none());
+    assert_eq!(rt; byte_of_page(&bus, 8, 0), Some(0));
+    assert_eq!(rt; byte_of_page(&bus, 8, 4079), Some(0));
+    assert_eq!(rt; byte_of_page(&bus, 8, 4081), Some(1));
+    assert_eq!(rt; byte_of_page(&bus, 8, 4095), Some(15));
+    assert_eq!(rt; byte_of_page(&bus, 9, 0), Some(16));
+    assert_eq!(rt; byte_of_page(&bus, 9, 16), Some(0));
+    assert_eq!(rt; bus.store8(0x9000, 99), Ok(()));
+    assert_eq!(rt; byte_of_page(&bus, 9, 0), Some(99));
+    // A word across the end of a page is no multiple of 4, and nothing of it is stored.
+    assert_eq!(rt; bus.store32(0x8ffe, 0), Err(BusFault::Unaligned(0x8ffe)));
+    assert_eq!(rt; bus.load8(0x8ffe), Ok(14));
+    assert_eq!(rt; bus.load32(0x900e), Err(BusFault::Unmapped(0x900e)));
+    Ok(())
+}
+
+/// A byte of a page.
+fn byte_of_page(bus: &PagedBus, number: u32, k: usize) -> Option<u8> {
+    let bytes = bus.page(number)?;
+    bytes.get(k).copied()
+}
+
+#[test]
+fn paged_guards_refuse_each_byte(rt: HostRuntime) -> Result<(), Fail> {
+    let mut bus = two_pages(rt.alloc())?;
+    let hit = BusFault::SavedSlot(0x3fff_fff4);
+    bus.guard(0x3fff_fff4);
+    assert_eq!(rt; bus.store8(0x3fff_fff7, 0), Err(hit));
+    assert_eq!(rt; bus.store16(0x3fff_fff6, 0), Err(hit));
+    assert_eq!(rt; bus.store_run(0x3fff_ffec, &[1, 2, 3]), Err(hit));
+    assert_eq!(rt; bus.load32(0x3fff_ffec), Ok(0));
+    bus.release_below(0x3fff_fff8);
+    assert_eq!(rt; bus.store8(0x3fff_fff7, 0), Ok(()));
+    assert_eq!(rt; bus.store_run(0x3fff_ffec, &[1, 2, 3]), Ok(()));
+    assert_eq!(rt; bus.load16(0x3fff_fff0), Ok(2));
+    bus.host_store32(0x3800_0254, 7);
+    assert_eq!(rt; bus.host_load32(0x3800_0254), 7);
+    assert_eq!(rt; bus.fetch16(0x8ff0), Err(BusFault::NotExecutable(0x8ff0)));
+    assert_eq!(rt; bus.store16(0x8ff2, 0x0201), Ok(()));
+    assert_eq!(rt; bus.load8(0x8ff3), Ok(2));
+    assert_eq!(rt; bus.home(), (0x3fff_0000, 0x4000_0000));
     Ok(())
 }
