@@ -1,0 +1,11 @@
+//! Tests of the readers of the unwind tables, through their public calls. Expected values are by hand from IHI 0038.
+#![tactic(auto)]
+
+#[cfg(test)]
+mod descriptors;
+#[cfg(test)]
+mod first_bytes;
+#[cfg(test)]
+mod rows;
+#[cfg(test)]
+mod unwinding;
