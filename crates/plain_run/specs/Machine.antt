@@ -5,6 +5,7 @@ use Rattle.std.proofs.Common.{refl}
 use Rattle.event_runs.specs.Runs.{Event, Goes, Ends, EndsBy, Machine, Ran, Runs, ran_of}
 use Rattle.eh_bus.specs.Memory.{Memory}
 use Rattle.elf_image.specs.Functions.{Function}
+use Rattle.elf_image.specs.Image.{Image}
 use Rattle.guest_gates.specs.Ends.{is_fault, trap_end}
 use Rattle.guest_gates.specs.Gates.{gate_event, gate_may_fail, return_event}
 use Rattle.image_memory.specs.Start.{State, begins_function}
@@ -62,6 +63,16 @@ pub image_honest : (functions : List Function) (what : Stepped) (regs : Regs) (m
     → IfSome (image_refusal functions what regs memory pc) (λ end. is_fault end ≡ false)
 image_honest functions what regs memory pc =
     refused_or (nat_lt (slice_index regs.r 13) memory.home.0) (slice_index regs.r 13) pc (call_refusal functions what pc) (call_honest functions what pc)
+
+-- the tests of an image, or none of raw code
+abbrev pub tests_of : Option Image → Tests
+tests_of None = no_refusal
+tests_of (Some image) = image_refusal image.functions
+
+pub tests_honest : (image : Option Image) (what : Stepped) (regs : Regs) (memory : Memory) (pc : ℕ)
+    → IfSome (tests_of image what regs memory pc) (λ end. is_fault end ≡ false)
+tests_honest None what regs memory pc = tt
+tests_honest (Some image) what regs memory pc = image_honest image.functions what regs memory pc
 
 -- ---- one event
 

@@ -5,7 +5,7 @@ ghost use Rattle.image_memory.specs.Start.{State};
 ghost use Rattle.plain_run.specs.Machine.{FlatRuns, ImageRuns, WatchedRuns};
 
 use crate::event::turn;
-use crate::watch::{Unwatched, Watch};
+use crate::watch::{Tests, Watch};
 use eh_bus::bus::Bus;
 use eh_port::{Sink, Source};
 use elf_image::image::Image;
@@ -61,7 +61,7 @@ pub fn flat_run<B: Bus, I: Source, O: Sink>(
     ensures input_later { I.faults input.old ≤ I.faults input.new }
     ensures out_later { O.faults out.old ≤ O.faults out.new }
 {
-    watched_run(&Unwatched, regs, bus, budget, input, out)
+    watched_run(&Tests { image: None }, regs, bus, budget, input, out)
 }
 
 /// Runs at most `budget` instructions of an image from these registers and this memory. A call goes to a function, and sp
@@ -84,5 +84,6 @@ pub fn image_run<B: Bus, I: Source, O: Sink>(
     ensures input_later { I.faults input.old ≤ I.faults input.new }
     ensures out_later { O.faults out.old ≤ O.faults out.new }
 {
-    watched_run(image, regs, bus, budget, input, out)
+    let tests = Tests { image: Some(image) };
+    watched_run(&tests, regs, bus, budget, input, out)
 }

@@ -1,8 +1,8 @@
 //! What a machine tests between an instruction and what it goes on to.
-ghost use Rattle.std.specs.Prelude.{◌≡◌, ℕ, false, Option, None, IfSome};
+ghost use Rattle.std.specs.Prelude.{◌≡◌, ℕ, false, Option, None, IfSome, option_copied};
 ghost use Rattle.eh_bus.specs.Memory.{Memory};
 ghost use Rattle.guest_gates.specs.Ends.{is_fault};
-ghost use Rattle.plain_run.specs.Machine.{image_refusal, no_refusal, image_honest};
+ghost use Rattle.plain_run.specs.Machine.{tests_of, tests_honest};
 ghost use Rattle.thumb_core.specs.declared.regs.Regs.{Regs as Registers};
 ghost use Rattle.thumb_core.specs.declared.regs.Stepped.{Stepped as Deed};
 ghost use Rattle.thumb_core.specs.declared.ends.End.{End as TheEnd};
@@ -11,7 +11,7 @@ use eh_bus::bus::Bus;
 use elf_image::image::Image;
 use image_memory::begins_function;
 use thumb_core::ends::{End, TrapKind};
-use thumb_core::regs::{Regs, Stepped};
+use thumb_core::regs::{Regs, SP, Stepped};
 
 /// Tests behind an instruction that did not trap.
 pub(crate) trait Watch {
@@ -26,32 +26,27 @@ pub(crate) trait Watch {
         ensures { result ≡ refuses self.now what regs.now (B.memory bus.now) pc };
 }
 
-/// Raw code goes everywhere.
-pub(crate) struct Unwatched;
-
-impl Watch for Unwatched {
-    ghost refuses = { λ _. no_refusal };
-
-    ghost honest = { λ _ _ _ _ _. tt };
-
-    fn refusal<B: Bus>(&self, _what: Stepped, _regs: &Regs, _bus: &B, _pc: u32) -> Option<End> {
-        None
-    }
+/// The tests of an image's functions, or none for raw code. It is one type for both, so that the program has one loop, into
+/// which a step is built whole.
+#[derive(Clone, Copy)]
+pub(crate) struct Tests<'i, 'a> {
+    pub image: Option<&'i Image<'a>>,
 }
 
-/// Calls go to functions, and sp stays at or above the start of the running stack.
-impl<'a> Watch for Image<'a> {
-    ghost refuses = { λ image. image_refusal image.functions };
+/// Raw code goes everywhere. Of an image calls go to functions, and sp stays at or above the start of the running stack.
+impl<'i, 'a> Watch for Tests<'i, 'a> {
+    ghost refuses = { λ t. tests_of (option_copied t.image) };
 
-    ghost honest = { λ image. image_honest image.functions };
+    ghost honest = { λ t. tests_honest (option_copied t.image) };
 
     fn refusal<B: Bus>(&self, what: Stepped, regs: &Regs, bus: &B, pc: u32) -> Option<End> {
-        let sp = regs.r[13];
+        let image = self.image?;
+        let sp = regs.r[SP as usize];
         if sp < bus.home().0 {
             return Some(End::Trap(TrapKind::StackLimit, sp, pc));
         }
         if let Stepped::Call { target, .. } = what {
-            if !begins_function(self, target) {
+            if !begins_function(image, target) {
                 return Some(End::Trap(TrapKind::BadCallTarget, target, pc));
             }
         }
