@@ -376,7 +376,7 @@ impl<'a> Descs<'a> {
 
     /// The descriptors of an entry, in the bytes from its table's address to the end of those of the read-only segment that holds
     /// it. An entry that is no table, or whose codes can't be read, has none.
-    pub fn of(index: &Index<'a>, e: &Entry) -> Descs<'a>
+    pub fn of(index: &Index<'_, 'a>, e: &Entry) -> Descs<'a>
         ensures { result ≡ items_of e.now (table_of index.now e.now) }
     {
         match (e.body, index.table(e)) {

@@ -11,7 +11,11 @@ const BLOCK: usize = 4096;
 fn marked(alloc: Global, count: usize) -> Result<Vec<u8>, AllocError> {
     let mut bytes = Vec::new(alloc);
     for at in 0..count {
-        let number = if at % BLOCK == 0 { at / BLOCK + 1 } else { at % 251 };
+        let number = if at % BLOCK == 0 {
+            at / BLOCK + 1
+        } else {
+            at % 251
+        };
         bytes.push((number % 256) as u8)?;
     }
     Ok(bytes)
@@ -33,16 +37,33 @@ fn a_file_is_its_bytes_up_to_the_limit(rt: HostRuntime) -> Result<(), Fail> {
         host: &rt,
         faults: 0,
     };
-    for count in [1usize, BLOCK - 1, BLOCK, BLOCK + 1, 2 * BLOCK, 10_000, 1_048_576] {
+    for count in [
+        1usize,
+        BLOCK - 1,
+        BLOCK,
+        BLOCK + 1,
+        2 * BLOCK,
+        10_000,
+        1_048_576,
+    ] {
         let bytes = marked(alloc, count)?;
         fs::write(&rt, name, bytes.as_slice())?;
         let whole = files.read(alloc, name, count);
         let roomy = files.read(alloc, name, count + 1);
         let short = files.read(alloc, name, count - 1);
         fs::remove_file(&rt, name)?;
-        assert!(rt; is_found(&whole, bytes.as_slice()), "{count} of {count} bytes");
-        assert!(rt; is_found(&roomy, bytes.as_slice()), "{count} bytes and room");
-        assert!(rt; matches!(&short, Ok(FileAnswer::TooLong)), "{count} bytes, one too many");
+        assert!(rt;
+            is_found(&whole, bytes.as_slice()),
+            "{count} of {count} bytes"
+        );
+        assert!(rt;
+            is_found(&roomy, bytes.as_slice()),
+            "{count} bytes and room"
+        );
+        assert!(rt;
+            matches!(&short, Ok(FileAnswer::TooLong)),
+            "{count} bytes, one too many"
+        );
     }
     assert_eq!(rt; files.faults, 0);
     Ok(())
