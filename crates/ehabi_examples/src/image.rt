@@ -1,4 +1,4 @@
-// What `build` writes, beside the parts that the sources link to.
+//! What `build` writes, beside the parts that the sources link to.
 use asm_object::{Object, assemble};
 use asm_read::read_source;
 use eh_kit::stubs;
