@@ -1,14 +1,18 @@
 -- The bytecode of a function is bytes, and its entry holds it.
-use Rattle.std.proofs.Common.{◌≡◌, ℕ, ◌+◌, ◌-◌, ◌/◌, ◌%◌, ◌^◌, ◌<◌, ◌≤◌, Bool, true, false, cond, List, [], ◌∷◌, ◌++◌, Option, Some, None, refl, arith, replicate, length}
+use Rattle.std.proofs.Common.{◌≡◌, ◌≢◌, ℕ, ◌+◌, ◌*◌, ◌-◌, ◌/◌, ◌%◌, ◌^◌, ◌<◌, ◌≤◌, Bool, true, false, cond, List, [], ◌∷◌, ◌++◌, Option, Some, None, refl, arith, replicate, length}
 use Rattle.std.specs.Prelude.{◌==◌, not, nat_lt, nat_le, flat_map, reverse, All, MatchOption, ⊤, Result, Ok, Err}
 use Rattle.std.specs.List.{prefix_len}
 use Rattle.std.proofs.lemmas.Bool.Decides.{nat_tests}
-use Rattle.std.proofs.lemmas.Bool.{ltb-true, ltb-false}
+use Rattle.std.proofs.lemmas.Bool.{ltb-true, ltb-false, eqb-false}
 use Rattle.std.proofs.lemmas.List.{reverse-append}
 use Rattle.std.proofs.lemmas.List.Elements.{All-nil, All-cons, All-head, All-tail, All-append, All-replicate, All-take, All-drop, All-filter}
 use Rattle.std.proofs.lemmas.List.Quantifiers.{position-Some}
-use Rattle.asm_unwind.specs.declared.code.Code.{Code}
-use Rattle.asm_unwind.specs.declared.code.Code.TheVariants.{Raise, Lower, PopMask, Restore, PopRange, PopRangeAndLr, PopLow, RaiseLong}
+use Rattle.unwind_codes.specs.declared.code.Code.{Code}
+use Rattle.unwind_codes.specs.declared.code.Code.TheVariants.{Raise, Lower, Refuse, PopMask, Restore, PopRange, PopRangeAndLr, Finish, PopLow, RaiseLong}
+use Rattle.unwind_codes.specs.declared.code.TheConstants.{RAISE, LOWER, POP_MASK, RESTORE, POP_RANGE, POP_RANGE_AND_LR, FINISH, POP_LOW, RAISE_LONG, LONG_LEAST}
+use Rattle.unwind_codes.specs.Bytes.{code_bytes, shortest_uleb128, HasBytes, IsCode}
+use Rattle.asm_unwind.specs.declared.code.TheConstants.{MOST_STEP, WORDS_OF_MOST_STEP}
+use Rattle.asm_unwind.specs.declared.directive.TheConstants.{MOST_PAD}
 use Rattle.asm_unwind.specs.declared.directive.UnwindDirective.{UnwindDirective}
 use Rattle.asm_unwind.specs.declared.directive.UnwindDirective.TheVariants.{FnStart, FnEnd, Save, Pad, SetFp, CantUnwind, PersonalityIndex, HandlerData}
 use Rattle.asm_unwind.specs.declared.directive.UnwindFault.{UnwindFault}
@@ -16,7 +20,7 @@ use Rattle.asm_unwind.specs.declared.directive.UnwindFault.TheVariants.{OutsideF
 use Rattle.asm_unwind.specs.declared.entry.EntryWords.{EntryWords}
 use Rattle.asm_unwind.specs.declared.entry.EntryWords.TheVariants.{CantUnwind as Unwindless}
 use Rattle.asm_unwind.specs.Refusals.{is_frame_pointer, seen_in}
-use Rattle.asm_unwind.specs.Codes.{code_bytes, shortest_uleb128, HasBytes, IsWritable, ranges, range_of, mask_code, high_code, lower_codes, directive_codes, is_no_pad, before_frame_pointer, from_frame_pointer, written, kept, codes_of, bytecode_of}
+use Rattle.asm_unwind.specs.Codes.{IsWritable, ranges, range_of, mask_code, high_code, lower_codes, directive_codes, is_no_pad, before_frame_pointer, from_frame_pointer, written, kept, codes_of, bytecode_of}
 use Rattle.asm_unwind.specs.Entries.{room, index_of, entry_of, entry_of_code, entry_words_of}
 use Rattle.asm_unwind.specs.EntryLaw.{FunctionsHoldTheirCode}
 use Rattle.asm_unwind.proofs.EntryLaws.{law_of_entries}
@@ -35,14 +39,16 @@ uleb128_small number true s h = one_byte number (let low : number < 128 = ltb-tr
 uleb128_small number false s h = two_bytes (128 + number % 128) (number / 128) (omega arith) (omega arith)
 
 code_small : (code : Code) → HasBytes code → All IsByte (code_bytes code)
-code_small (Raise words) h = one_byte words (omega arith)
-code_small (Lower words) h = one_byte (0x40 + words) (omega arith)
-code_small (PopMask mask) h = two_bytes (0x80 + mask / 256) (mask % 256) (omega arith) (omega arith)
-code_small (Restore register) h = one_byte (0x90 + register) (omega arith)
-code_small (PopRange last) h = one_byte (0xA0 + last) (omega arith)
-code_small (PopRangeAndLr last) h = one_byte (0xA8 + last) (omega arith)
-code_small (PopLow mask) h = two_bytes 0xB1 mask (omega arith) (omega arith)
-code_small (RaiseLong words) h = All-cons IsByte 0xB2 (shortest_uleb128 words) (omega arith) (uleb128_small words (nat_lt words 128) refl h)
+code_small (Raise words) h = one_byte (RAISE + words) (omega arith)
+code_small (Lower words) h = one_byte (LOWER + words) (omega arith)
+code_small Refuse h = two_bytes POP_MASK 0 (omega arith) (omega arith)
+code_small (PopMask mask) h = two_bytes (POP_MASK + mask / 256) (mask % 256) (omega arith) (omega arith)
+code_small (Restore register) h = one_byte (RESTORE + register) (omega arith)
+code_small (PopRange last) h = one_byte (POP_RANGE + last) (omega arith)
+code_small (PopRangeAndLr last) h = one_byte (POP_RANGE_AND_LR + last) (omega arith)
+code_small Finish h = one_byte FINISH (omega arith)
+code_small (PopLow mask) h = two_bytes POP_LOW mask (omega arith) (omega arith)
+code_small (RaiseLong words) h = All-cons IsByte RAISE_LONG (shortest_uleb128 words) (omega arith) (uleb128_small words (nat_lt words 128) refl h)
 
 All-flat_map : {X Y : Type 0} (P : X → Type 0) (Q : Y → Type 0) (f : X → List Y) → ((x : X) → P x → All Q (f x)) → (xs : List X) → All P xs → All Q (flat_map f xs)
 All-flat_map P Q f each [] h = All-nil Q
@@ -53,13 +59,17 @@ All-reverse P [] h = h
 All-reverse P (x ∷ xs) h =
     rw (reverse-append (x ∷ []) xs) (All-append P (reverse xs) (x ∷ []) (All-reverse P xs (All-tail P x xs h)) (All-cons P x [] (All-head P x xs h) (All-nil P)))
 
-one_code : (code : Code) → HasBytes code → All HasBytes (code ∷ [])
-one_code code h = All-cons HasBytes code [] h (All-nil HasBytes)
+-- a code of the standard, whose fields fit its bits
+abbrev Fits : Code → Type 0
+Fits code = IsCode code × HasBytes code
 
-mask_fits : (h : ℕ) (a b : Option ℕ) → h < 2 ^ 12 → ((n : ℕ) → a ≡ Some n → n < 8) → ((n : ℕ) → b ≡ Some n → n < 8) → HasBytes (mask_code h a b)
-mask_fits h (Some n) b small f g = f n refl
-mask_fits h None (Some n) small f g = g n refl
-mask_fits h None None small f g = small
+one_code : (code : Code) → Fits code → All Fits (code ∷ [])
+one_code code h = All-cons Fits code [] h (All-nil Fits)
+
+mask_fits : (h : ℕ) (a b : Option ℕ) → h < 2 ^ 12 → h ≢ 0 → h / 2 ^ 9 % 2 ≡ 0 → ((n : ℕ) → a ≡ Some n → n < 8) → ((n : ℕ) → b ≡ Some n → n < 8) → Fits (mask_code h a b)
+mask_fits h (Some n) b small some no_sp f g = (f n refl, f n refl)
+mask_fits h None (Some n) small some no_sp f g = (g n refl, g n refl)
+mask_fits h None None small some no_sp f g = ((small, some, no_sp), small)
 
 range_small : (h n : ℕ) → range_of h ≡ Some n → n < 8
 range_small h n e = (position-Some (λ range. range == h) ranges n 0 e).0
@@ -68,47 +78,73 @@ lr_small : (h n : ℕ) (small : Bool) → cond small None (range_of (h - 0x400))
 lr_small h n true e = cc
 lr_small h n false e = range_small (h - 0x400) n e
 
-high_fits : (h : ℕ) → h < 2 ^ 12 → HasBytes (high_code h)
+high_fits : (h : ℕ) → h < 2 ^ 12 → h ≢ 0 → h / 2 ^ 9 % 2 ≡ 0 → Fits (high_code h)
 unfolding high_code
-high_fits h small = mask_fits h (range_of h) (cond (nat_lt h 0x400) None (range_of (h - 0x400))) small (λ n. range_small h n) (λ n. lr_small h n (nat_lt h 0x400))
+high_fits h small some no_sp = mask_fits h (range_of h) (cond (nat_lt h 0x400) None (range_of (h - 0x400))) small some no_sp (λ n. range_small h n) (λ n. lr_small h n (nat_lt h 0x400))
 
-code_or_none_fits : (none : Bool) (code : Code) → HasBytes code → All HasBytes (cond none [] (code ∷ []))
-code_or_none_fits true code h = All-nil HasBytes
-code_or_none_fits false code h = one_code code h
+code_or_none_fits : (n : ℕ) (none : Bool) (code : Code) → (n == 0) ≡ none → (n ≢ 0 → Fits code) → All Fits (cond none [] (code ∷ []))
+code_or_none_fits n true code s h = All-nil Fits
+code_or_none_fits n false code s h = one_code code (h (eqb-false n 0 s))
 
-pad_fits : (size : ℕ) (short middle : Bool) → nat_le size 0x100 ≡ short → nat_le size 0x200 ≡ middle → size ≤ 65536 →
-    All HasBytes (cond short (Raise ((size - 4) / 4) ∷ []) (cond middle (Raise 0x3F ∷ Raise ((size - 0x104) / 4) ∷ []) (RaiseLong ((size - 0x204) / 4) ∷ [])))
-pad_fits size true middle s m h = one_code (Raise ((size - 4) / 4)) (grind (arith, nat_tests))
-pad_fits size false true s m h = All-cons HasBytes (Raise 0x3F) (Raise ((size - 0x104) / 4) ∷ []) (omega arith) (one_code (Raise ((size - 0x104) / 4)) (grind (arith, nat_tests)))
-pad_fits size false false s m h = one_code (RaiseLong ((size - 0x204) / 4)) (omega arith)
+raise_fits : (words : ℕ) → words < 64 → Fits (Raise words)
+raise_fits words h = (h, h)
 
-lower_fits : (size : ℕ) (none : Bool) → All HasBytes (cond none [] (replicate ((size - 4) / 0x100) (Lower 0x3F) ++ Lower ((size - 4) % 0x100 / 4) ∷ []))
-lower_fits size true = All-nil HasBytes
+lower_step_fits : (words : ℕ) → words < 64 → Fits (Lower words)
+lower_step_fits words h = (h, h)
+
+long_fits : (words : ℕ) → words < 2 ^ 14 → Fits (RaiseLong words)
+long_fits words h = (omega arith, h)
+
+pad_fits : (size : ℕ) (short middle : Bool) → nat_le size MOST_STEP ≡ short → nat_le size (2 * MOST_STEP) ≡ middle → size ≤ MOST_PAD →
+    All Fits (cond short (Raise ((size - 4) / 4) ∷ []) (cond middle (Raise WORDS_OF_MOST_STEP ∷ Raise ((size - (MOST_STEP + 4)) / 4) ∷ []) (RaiseLong ((size - LONG_LEAST) / 4) ∷ [])))
+pad_fits size true middle s m h = one_code (Raise ((size - 4) / 4)) (raise_fits ((size - 4) / 4) (grind (arith, nat_tests)))
+pad_fits size false true s m h =
+    All-cons Fits (Raise WORDS_OF_MOST_STEP) (Raise ((size - (MOST_STEP + 4)) / 4) ∷ []) (raise_fits WORDS_OF_MOST_STEP (omega arith))
+    (one_code (Raise ((size - (MOST_STEP + 4)) / 4)) (raise_fits ((size - (MOST_STEP + 4)) / 4) (grind (arith, nat_tests))))
+pad_fits size false false s m h = one_code (RaiseLong ((size - LONG_LEAST) / 4)) (long_fits ((size - LONG_LEAST) / 4) (omega arith))
+
+lower_fits : (size : ℕ) (none : Bool) → All Fits (cond none [] (replicate ((size - 4) / MOST_STEP) (Lower WORDS_OF_MOST_STEP) ++ Lower ((size - 4) % MOST_STEP / 4) ∷ []))
+lower_fits size true = All-nil Fits
 lower_fits size false =
-    let last : Code = Lower ((size - 4) % 0x100 / 4) in
-    All-append HasBytes (replicate ((size - 4) / 0x100) (Lower 0x3F)) (last ∷ []) (All-replicate HasBytes ((size - 4) / 0x100) (Lower 0x3F) (omega arith)) (one_code last (omega arith))
+    let last : Code = Lower ((size - 4) % MOST_STEP / 4) in
+    All-append Fits (replicate ((size - 4) / MOST_STEP) (Lower WORDS_OF_MOST_STEP)) (last ∷ [])
+    (All-replicate Fits ((size - 4) / MOST_STEP) (Lower WORDS_OF_MOST_STEP) (lower_step_fits WORDS_OF_MOST_STEP (omega arith)))
+    (one_code last (lower_step_fits ((size - 4) % MOST_STEP / 4) (omega arith)))
 
-directive_fits : (d : UnwindDirective) → IsWritable d → All HasBytes (directive_codes d)
+low_fits : (n : ℕ) → n < 16 → n ≢ 0 → Fits (PopLow n)
+low_fits n small some = ((small, some), small)
+
+directive_fits : (d : UnwindDirective) → IsWritable d → All Fits (directive_codes d)
 directive_fits (Save registers) h =
-    All-append HasBytes (cond (registers % 16 == 0) [] (PopLow (registers % 16) ∷ [])) (cond (registers / 16 == 0) [] (high_code (registers / 16) ∷ []))
-    (code_or_none_fits (registers % 16 == 0) (PopLow (registers % 16)) (omega arith))
-    (code_or_none_fits (registers / 16 == 0) (high_code (registers / 16)) (high_fits (registers / 16) (omega arith)))
-directive_fits (Pad size) h = pad_fits size (nat_le size 0x100) (nat_le size 0x200) refl refl h
-directive_fits (SetFp register offset) h = All-cons HasBytes (Restore register) (lower_codes offset) h (lower_fits offset (offset == 0))
-directive_fits FnStart h = All-nil HasBytes
-directive_fits FnEnd h = All-nil HasBytes
-directive_fits CantUnwind h = All-nil HasBytes
-directive_fits (PersonalityIndex index) h = All-nil HasBytes
-directive_fits HandlerData h = All-nil HasBytes
+    let narrow : registers < 2 ^ 15 = h.0 in
+    let no_sp : registers / 2 ^ 13 % 2 ≡ 0 = h.1 in
+    All-append Fits (cond (registers % 16 == 0) [] (PopLow (registers % 16) ∷ [])) (cond (registers / 16 == 0) [] (high_code (registers / 16) ∷ []))
+    (code_or_none_fits (registers % 16) (registers % 16 == 0) (PopLow (registers % 16)) refl (λ some. low_fits (registers % 16) (omega arith) some))
+    (code_or_none_fits (registers / 16) (registers / 16 == 0) (high_code (registers / 16)) refl (λ some. high_fits (registers / 16) (omega arith) some (omega arith)))
+directive_fits (Pad size) h = pad_fits size (nat_le size MOST_STEP) (nat_le size (2 * MOST_STEP)) refl refl h
+directive_fits (SetFp register offset) h =
+    let low : register ≤ 11 = h in
+    All-cons Fits (Restore register) (lower_codes offset) ((omega arith, (λ e. absurd (omega arith)), (λ e. absurd (omega arith))), omega arith) (lower_fits offset (offset == 0))
+directive_fits FnStart h = All-nil Fits
+directive_fits FnEnd h = All-nil Fits
+directive_fits CantUnwind h = All-nil Fits
+directive_fits (PersonalityIndex index) h = All-nil Fits
+directive_fits HandlerData h = All-nil Fits
 
--- the codes of a function fit their bits
-pub codes_fit : (directives : List UnwindDirective) → All IsWritable directives → All HasBytes (codes_of directives)
+-- the codes of a function are codes of the standard, and fit their bits
+all_fit : (directives : List UnwindDirective) → All IsWritable directives → All Fits (codes_of directives)
 unfolding codes_of
-codes_fit directives h =
+all_fit directives h =
     let before : All IsWritable (before_frame_pointer directives) = All-take IsWritable (prefix_len (λ d. not (is_frame_pointer d)) directives) directives h in
     let behind : All IsWritable (kept false (from_frame_pointer directives)) = All-filter is_no_pad IsWritable (from_frame_pointer directives) (All-drop IsWritable (length (before_frame_pointer directives)) directives h) in
-    All-flat_map IsWritable HasBytes directive_codes directive_fits (reverse (written directives))
+    All-flat_map IsWritable Fits directive_codes directive_fits (reverse (written directives))
     (All-reverse IsWritable (written directives) (All-append IsWritable (before_frame_pointer directives) (kept false (from_frame_pointer directives)) before behind))
+
+pub codes_are : (directives : List UnwindDirective) → All IsWritable directives → All IsCode (codes_of directives)
+codes_are directives h k or l = (all_fit directives h k or l).0
+
+pub codes_fit : (directives : List UnwindDirective) → All IsWritable directives → All HasBytes (codes_of directives)
+codes_fit directives h k or l = (all_fit directives h k or l).1
 
 -- and its bytecode is bytes
 bytecode_small : (directives : List UnwindDirective) → All IsWritable directives → All IsByte (bytecode_of directives)

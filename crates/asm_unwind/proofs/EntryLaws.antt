@@ -8,7 +8,9 @@ use Rattle.std.proofs.lemmas.List.{length-replicate, get_or_past, take_at, drop_
 use Rattle.std.proofs.lemmas.List.FromFn.{map-range_with_len_more, fill_by_all, length-map-range_with_len}
 use Rattle.asm_unwind.specs.declared.entry.EntryWords.TheVariants.{Table}
 use Rattle.asm_unwind.specs.Entries.{code_byte, word, word_at, further, short_entry, long_entry, entry_of}
-use Rattle.asm_unwind.specs.EntryLaw.{bytes_of_word, personality_of_word, code_words_behind, code_in_first, code_of, words_behind_code, HoldsCode, EntriesHoldTheirCode}
+use Rattle.asm_unwind.specs.EntryLaw.{HoldsCode, EntriesHoldTheirCode}
+use Rattle.unwind_codes.specs.declared.code.TheConstants.{FINISH}
+use Rattle.unwind_codes.specs.Words.{bytes_of_word, personality_of_word, code_words_behind, code_in_first, code_of_words, words_behind_code}
 
 -- a word of bytes has these bytes
 bytes_of_word-word : (a b c d : ℕ) → b < 2 ^ 8 → c < 2 ^ 8 → d < 2 ^ 8 → bytes_of_word (word a b c d) ≡ a ∷ b ∷ c ∷ d ∷ []
@@ -23,12 +25,12 @@ bytes_of_word-word a b c d small_b small_c small_d =
 code_byte_small : (bytes : List ℕ) (at : ℕ) → All (λ b. b < 2 ^ 8) bytes → code_byte bytes at < 2 ^ 8
 code_byte_small bytes at small =
     elim (cases_lt at (length bytes)) as (λ _. code_byte bytes at < 2 ^ 8) [
-      | inl here ↦ small at 0xB0 here
-      | inr past ↦ rw (get_or_past bytes at 0xB0 past) (omega arith)
+      | inl here ↦ small at FINISH here
+      | inr past ↦ rw (get_or_past bytes at FINISH past) (omega arith)
     ]
 
 -- reading past the end of a list and reading what fills it up are one
-get_or-filled : (bytes : List ℕ) (fill at : ℕ) → get_or (bytes ++ replicate fill 0xB0) at 0xB0 ≡ get_or bytes at 0xB0
+get_or-filled : (bytes : List ℕ) (fill at : ℕ) → get_or (bytes ++ replicate fill FINISH) at FINISH ≡ get_or bytes at FINISH
 get_or-filled [] zero at = refl
 get_or-filled [] (suc fill) zero = refl
 get_or-filled [] (suc fill) (suc at) = get_or-filled [] fill at
@@ -37,11 +39,11 @@ get_or-filled (b ∷ bytes) fill (suc at) = get_or-filled bytes fill at
 
 -- the bytes at the first places are the bytecode and what fills it up
 filled : (bytes : List ℕ) (size : ℕ) → length bytes ≤ size →
-    map (code_byte bytes) (range_with_len 0 size) ≡ bytes ++ replicate (size - length bytes) 0xB0
+    map (code_byte bytes) (range_with_len 0 size) ≡ bytes ++ replicate (size - length bytes) FINISH
 filled bytes size short =
     let fill : ℕ = size - length bytes in
-    let long : length (bytes ++ replicate fill 0xB0) ≡ size = length-append bytes (replicate fill 0xB0) ∙ ap (λ n. length bytes + n) (length-replicate fill 0xB0) ∙ omega arith in
-    sym (fill_by_all (code_byte bytes) (bytes ++ replicate fill 0xB0) size 0xB0 long (λ k h. get_or-filled bytes fill k))
+    let long : length (bytes ++ replicate fill FINISH) ≡ size = length-append bytes (replicate fill FINISH) ∙ ap (λ n. length bytes + n) (length-replicate fill FINISH) ∙ omega arith in
+    sym (fill_by_all (code_byte bytes) (bytes ++ replicate fill FINISH) size FINISH long (λ k h. get_or-filled bytes fill k))
 
 more_at : (f : ℕ → ℕ) (n m : ℕ) → m ≡ n + 1 → map f (range_with_len 0 m) ≡ map f (range_with_len 0 n) ++ f n ∷ []
 more_at f n m e = ap (λ k. map f (range_with_len 0 k)) e ∙ map-range_with_len_more f 0 n n (omega arith)
@@ -88,10 +90,21 @@ short_top bytes small =
     let third : code_byte bytes 2 < 2 ^ 8 = code_byte_small bytes 2 small in
     omega arith
 
-short_code : (bytes : List ℕ) → length bytes ≤ 3 → All (λ b. b < 2 ^ 8) bytes → code_in_first (short_entry bytes) ≡ bytes ++ replicate (3 - length bytes) 0xB0
+short_code : (bytes : List ℕ) → length bytes ≤ 3 → All (λ b. b < 2 ^ 8) bytes → code_in_first (short_entry bytes) ≡ bytes ++ replicate (3 - length bytes) FINISH
 short_code bytes short small =
     let personality : personality_of_word (short_entry bytes) ≡ 0 = ap (λ (top : ℕ). top % 16) (short_top bytes small) in
     ap (λ (n : ℕ). drop (cond (n == 0) 1 2) (bytes_of_word (short_entry bytes))) personality ∙ ap (drop 1) (short_word bytes short small) ∙ filled bytes 3 short
+
+short_behind : (bytes : List ℕ) → All (λ b. b < 2 ^ 8) bytes → code_words_behind (short_entry bytes) ≡ 0
+short_behind bytes small =
+    let personality : personality_of_word (short_entry bytes) ≡ 0 = ap (λ (top : ℕ). top % 16) (short_top bytes small) in
+    rw personality refl
+
+short_all : (bytes : List ℕ) → length bytes ≤ 3 → All (λ b. b < 2 ^ 8) bytes → code_of_words (short_entry bytes ∷ []) ≡ bytes ++ replicate (3 - length bytes) FINISH
+short_all bytes short small = rw (short_behind bytes small) (append-nil (code_in_first (short_entry bytes)) ∙ short_code bytes short small)
+
+short_none : (bytes : List ℕ) → All (λ b. b < 2 ^ 8) bytes → words_behind_code (short_entry bytes ∷ []) ≡ []
+short_none bytes small = rw (short_behind bytes small) refl
 
 short_holds : (handler_data : Bool) (bytes : List ℕ) → length bytes ≤ 3 → All (λ b. b < 2 ^ 8) bytes → HoldsCode (entry_of 0 handler_data bytes) 0 handler_data bytes
 unfolding entry_of
@@ -99,21 +112,18 @@ short_holds false bytes short small = record {
   top = short_top bytes small;
   fill = 3 - length bytes;
   fill_is_short = omega arith;
-  code = short_code bytes short small;
-  behind = refl;
+  code = short_all bytes short small;
+  behind = short_none bytes small;
   place = refl;
 }
-short_holds true bytes short small =
-    let personality : personality_of_word (short_entry bytes) ≡ 0 = ap (λ (top : ℕ). top % 16) (short_top bytes small) in
-    let none : code_words_behind (short_entry bytes) ≡ 0 = rw personality refl in
-    record {
-      top = short_top bytes small;
-      fill = 3 - length bytes;
-      fill_is_short = omega arith;
-      code = rw none (append-nil (code_in_first (short_entry bytes)) ∙ short_code bytes short small);
-      behind = rw none refl;
-      place = refl;
-    }
+short_holds true bytes short small = record {
+  top = short_top bytes small;
+  fill = 3 - length bytes;
+  fill_is_short = omega arith;
+  code = short_all bytes short small;
+  behind = short_none bytes small;
+  place = refl;
+}
 
 -- a table whose first word counts the words of its code
 words_counted : (first index a b : ℕ) (words : List ℕ) → bytes_of_word first ≡ (0x80 + index) ∷ length words ∷ a ∷ b ∷ [] → (personality_of_word first == 0) ≡ false →
@@ -123,7 +133,7 @@ words_counted first index a b words is other =
     ap (λ t. cond t 0 (first / 2 ^ 16 % 2 ^ 8)) other ∙ count
 
 table_code : (first index a b : ℕ) (words closing : List ℕ) → bytes_of_word first ≡ (0x80 + index) ∷ length words ∷ a ∷ b ∷ [] → (personality_of_word first == 0) ≡ false →
-    code_of (Table (first ∷ words ++ closing)) ≡ a ∷ b ∷ flat_map bytes_of_word words
+    code_of_words (first ∷ words ++ closing) ≡ a ∷ b ∷ flat_map bytes_of_word words
 table_code first index a b words closing is other =
     let two : code_in_first first ≡ a ∷ b ∷ [] = ap (λ t. drop (cond t 1 2) (bytes_of_word first)) other ∙ ap (drop 2) is in
     ap (λ l. l ++ flat_map bytes_of_word (take (code_words_behind first) (words ++ closing))) two
@@ -131,7 +141,7 @@ table_code first index a b words closing is other =
     ∙ ap (λ (l : List ℕ). a ∷ b ∷ flat_map bytes_of_word l) (take_at words closing (length words) refl)
 
 table_behind : (first index a b : ℕ) (words closing : List ℕ) → bytes_of_word first ≡ (0x80 + index) ∷ length words ∷ a ∷ b ∷ [] → (personality_of_word first == 0) ≡ false →
-    words_behind_code (Table (first ∷ words ++ closing)) ≡ closing
+    words_behind_code (first ∷ words ++ closing) ≡ closing
 table_behind first index a b words closing is other =
     ap (λ (n : ℕ). drop n (words ++ closing)) (words_counted first index a b words is other) ∙ drop_at words closing (length words) refl
 

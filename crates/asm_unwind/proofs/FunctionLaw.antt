@@ -9,6 +9,7 @@ use Rattle.std.proofs.lemmas.List.Elements.{All-head, All-tail}
 use Rattle.std.proofs.lemmas.List.Sums.{sum_by-cons, take_while-cons}
 use Rattle.asm_unwind.specs.declared.directive.UnwindDirective.{UnwindDirective}
 use Rattle.asm_unwind.specs.declared.directive.UnwindDirective.TheVariants.{FnStart, FnEnd, Save, Pad, SetFp, CantUnwind, PersonalityIndex, HandlerData}
+use Rattle.asm_unwind.specs.declared.directive.TheConstants.{MOST_PAD}
 use Rattle.asm_unwind.specs.Refusals.{is_frame_pointer, is_bad_pad}
 use Rattle.asm_unwind.specs.Codes.{pad_codes, kept, directive_codes, before_frame_pointer, from_frame_pointer, written, reversed_codes, codes_of}
 use Rattle.asm_unwind.specs.Meaning.{InAll, FunctionsUndo, pad_size, saved_registers}
@@ -41,14 +42,14 @@ all_written xs none =
 -- the codes of a pad that isn't refused
 pub pad_in_all : (size : ℕ) → is_bad_pad (Pad size) ≡ false → InAll (pad_codes size) size 0 []
 pad_in_all size good =
-    let parts = or_no (size == 0 || nat_lt 65536 size) (not (size % 4 == 0)) good in
-    let some : size ≢ 0 = eqb-false size 0 (or_no (size == 0) (nat_lt 65536 size) parts.0).0 in
+    let parts = or_no (size == 0 || nat_lt MOST_PAD size) (not (size % 4 == 0)) good in
+    let some : size ≢ 0 = eqb-false size 0 (or_no (size == 0) (nat_lt MOST_PAD size) parts.0).0 in
     let whole : size % 4 ≡ 0 = eqb-true (size % 4) 0 (not_false (size % 4 == 0) parts.1) in
     law_of_pads size (omega arith) whole
 
 -- the codes of one directive
 one_directive : (d : UnwindDirective) → is_frame_pointer d ≡ false → not (is_bad_pad d) ≡ true → InAll (directive_codes d) (pad_size d) 0 (saved_registers d)
-one_directive (Save registers) none fine = (law_of_saves registers).1
+one_directive (Save registers) none fine = law_of_saves registers
 one_directive (Pad size) none fine = pad_in_all size (not_true (is_bad_pad (Pad size)) fine)
 one_directive (SetFp register offset) none fine = cc
 one_directive FnStart none fine = in_all_none

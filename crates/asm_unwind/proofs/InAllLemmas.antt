@@ -3,18 +3,18 @@ use Rattle.std.proofs.Common.{◌≡◌, ℕ, ◌+◌, false, List, [], ◌∷�
 use Rattle.std.proofs.lemmas.Grind.{flat_map-append}
 use Rattle.std.proofs.lemmas.List.Folds.{list_any-append}
 use Rattle.std.proofs.lemmas.List.Sums.{sum_by-append}
-use Rattle.asm_unwind.specs.declared.code.Code.{Code}
-use Rattle.asm_unwind.specs.Meaning.{raised, lowered, popped, is_restore, registers_in, InAll}
+use Rattle.unwind_codes.specs.declared.code.Code.{Code}
+use Rattle.asm_unwind.specs.Meaning.{raised, lowered, popped, does_other, InAll}
 
 -- what codes do in all, for none, for one, and for two lists one behind the other
 pub in_all_none : InAll [] 0 0 []
 in_all_none = record { raise = refl; lower = refl; pop = refl; keep = refl }
 
-pub in_all_one : (code : Code) → is_restore code ≡ false → InAll (code ∷ []) (raised code) (lowered code) (registers_in (popped code))
+pub in_all_one : (code : Code) → does_other code ≡ false → InAll (code ∷ []) (raised code) (lowered code) (popped code)
 in_all_one code other = record {
   raise = omega arith;
   lower = omega arith;
-  pop = append-nil (registers_in (popped code));
+  pop = append-nil (popped code);
   keep = rw other refl;
 }
 
@@ -23,8 +23,8 @@ pub in_all-append : (xs ys : List Code) (up down up' down' : ℕ) (registers reg
 in_all-append xs ys up down up' down' registers registers' a b = record {
   raise = rw (sum_by-append raised xs ys, a.raise, b.raise) refl;
   lower = rw (sum_by-append lowered xs ys, a.lower, b.lower) refl;
-  pop = rw (flat_map-append (λ (code : Code). registers_in (popped code)) xs ys, a.pop, b.pop) refl;
-  keep = rw (list_any-append is_restore xs ys, a.keep, b.keep) refl;
+  pop = rw (flat_map-append popped xs ys, a.pop, b.pop) refl;
+  keep = rw (list_any-append does_other xs ys, a.keep, b.keep) refl;
 }
 
 pub in_all_as : (codes : List Code) (up down up' down' : ℕ) (registers : List ℕ) → up ≡ up' → down ≡ down' → InAll codes up down registers → InAll codes up' down' registers

@@ -1,14 +1,15 @@
 -- What a frame keeps when it takes a directive more.
-use Rattle.std.proofs.Common.{◌≡◌, ℕ, ◌%◌, ◌≤◌, Bool, true, false, List, [], ◌∷◌, ◌++◌, Option, Some, None, ap, sym, ◌∙◌, refl, arith}
+use Rattle.std.proofs.Common.{◌≡◌, ◌≢◌, ℕ, ◌/◌, ◌%◌, ◌^◌, ◌≤◌, Bool, true, false, List, [], ◌∷◌, ◌++◌, Option, Some, None, ap, sym, ◌∙◌, refl, arith}
 use Rattle.std.specs.Prelude.{◌||◌, ◌==◌, not, is_some, nat_lt, MatchOption, ⊤}
-use Rattle.std.proofs.lemmas.Bool.{ltb-false}
+use Rattle.std.proofs.lemmas.Bool.{ltb-false, eqb-false}
 use Rattle.asm_unwind.specs.declared.directive.UnwindFault.TheVariants.{OutsideFunction, NestedFunction, SaveRange, PadRange, TwoPersonalities, AfterCantunwind}
 use Rattle.std.specs.List.{list_any}
 use Rattle.std.proofs.lemmas.List.Elements.{All-nil, All-push}
 use Rattle.asm_unwind.specs.declared.directive.UnwindDirective.{UnwindDirective}
 use Rattle.asm_unwind.specs.declared.directive.UnwindDirective.TheVariants.{FnStart, FnEnd, Save, Pad, SetFp, CantUnwind, PersonalityIndex, HandlerData}
 use Rattle.asm_unwind.specs.declared.seen.Seen.{Seen}
-use Rattle.asm_unwind.specs.Refusals.{is_start, is_end, is_frame_pointer, is_cant_unwind, is_handler_data, personality_in, seen_in, refusal_of, first_shown, is_outside, is_nested, is_bad_save, is_bad_pad, is_bad_personality, is_after_cant_unwind, with_next, HasNarrowList}
+use Rattle.asm_unwind.specs.Refusals.{is_start, is_end, is_frame_pointer, is_cant_unwind, is_handler_data, personality_in, seen_in, refusal_of, first_shown, is_outside, is_nested, is_bad_save, is_bad_pad, is_bad_personality, is_after_cant_unwind, with_next, HasNarrowList, has_register}
+use Rattle.asm_unwind.specs.declared.directive.TheConstants.{MOST_PAD, MOST_FRAME_OFFSET}
 use Rattle.asm_unwind.specs.Codes.{IsWritable}
 use Rattle.asm_unwind.specs.Kept.{IsKept}
 
@@ -90,18 +91,26 @@ pub kept_none : IsKept [] (seen_in [])
 unfolding seen_in
 kept_none = record { seen_so_far = refl; writable = All-nil IsWritable; small_index = tt }
 
-writable_of : (d : UnwindDirective) → HasNarrowList d → is_bad_pad d ≡ false → IsWritable d
-writable_of (Save r) h p = h
-writable_of (Pad n) h p = ltb-false 65536 n (or_no (n == 0) (nat_lt 65536 n) (or_no (n == 0 || nat_lt 65536 n) (not (n % 4 == 0)) p).0).1
-writable_of (SetFp r k) h p = let least : r ≤ 11 = ltb-false 11 r (or_no ((nat_lt 1020 k || not (k % 4 == 0)) || nat_lt r 4) (nat_lt 11 r) p).1 in omega arith
-writable_of FnStart h p = tt
-writable_of FnEnd h p = tt
-writable_of CantUnwind h p = tt
-writable_of (PersonalityIndex i) h p = tt
-writable_of HandlerData h p = tt
+no_sp : (seen : Seen) (r : ℕ) → is_bad_save seen (Save r) ≡ false → r / 2 ^ 13 % 2 ≡ 0
+no_sp seen r s =
+    let first = (or_no ((r == 0 || has_register r 13) || has_register r 15) seen.frame_pointer s).0 in
+    let second = (or_no (r == 0 || has_register r 13) (has_register r 15) first).0 in
+    let none : (r / 2 ^ 13 % 2 == 1) ≡ false = (or_no (r == 0) (has_register r 13) second).1 in
+    let other : r / 2 ^ 13 % 2 ≢ 1 = eqb-false (r / 2 ^ 13 % 2) 1 none in
+    omega arith
+
+writable_of : (seen : Seen) (d : UnwindDirective) → HasNarrowList d → is_bad_save seen d ≡ false → is_bad_pad d ≡ false → IsWritable d
+writable_of seen (Save r) h s p = (h, no_sp seen r s)
+writable_of seen (Pad n) h s p = ltb-false MOST_PAD n (or_no (n == 0) (nat_lt MOST_PAD n) (or_no (n == 0 || nat_lt MOST_PAD n) (not (n % 4 == 0)) p).0).1
+writable_of seen (SetFp r k) h s p = ltb-false 11 r (or_no ((nat_lt MOST_FRAME_OFFSET k || not (k % 4 == 0)) || nat_lt r 4) (nat_lt 11 r) p).1
+writable_of seen FnStart h s p = tt
+writable_of seen FnEnd h s p = tt
+writable_of seen CantUnwind h s p = tt
+writable_of seen (PersonalityIndex i) h s p = tt
+writable_of seen HandlerData h s p = tt
 
 pub kept_writable : (seen : Seen) (d : UnwindDirective) → HasNarrowList d → refusal_of seen d ≡ None → IsWritable d
-kept_writable seen d narrow h = writable_of d narrow (clear seen d h).0
+kept_writable seen d narrow h = writable_of seen d narrow (clear seen d h).2 (clear seen d h).0
 
 small_index_more : (seen : Seen) (d : UnwindDirective) → refusal_of seen d ≡ None → MatchOption seen.personality ⊤ (λ index. index ≤ 2) →
     MatchOption (with_next seen d).personality ⊤ (λ index. index ≤ 2)

@@ -7,6 +7,4 @@ pub mod Laws
 pub mod FunctionLaw
 pub mod EntryLaws
 pub mod ByteLaws
-pub mod Unwinding
-pub mod PrologueLaws
 pub mod ReadLaws

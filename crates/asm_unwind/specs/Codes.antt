@@ -1,36 +1,15 @@
 -- The unwinding bytecode that directives stand for (IHI 0038, "Frame unwinding instructions").
-use Rattle.std.specs.Prelude.{ℕ, ◌<◌, ◌≤◌, ◌+◌, ◌-◌, ◌/◌, ◌%◌, ◌^◌, ◌==◌, not, Bool, true, false, nat_lt, nat_le, if◌then◌else◌, List, [], ◌∷◌, ◌++◌, replicate, reverse, filter, take_while, drop, length, position, flat_map, Option, Some, None}
+use Rattle.std.specs.Prelude.{◌≡◌, ℕ, ◌*◌, ◌<◌, ◌≤◌, ◌+◌, ◌-◌, ◌/◌, ◌%◌, ◌^◌, ◌==◌, not, Bool, true, false, nat_lt, nat_le, if◌then◌else◌, List, [], ◌∷◌, ◌++◌, replicate, reverse, filter, take_while, drop, length, position, flat_map, Option, Some, None}
 use Rattle.asm_unwind.specs.declared.directive.UnwindDirective.{UnwindDirective}
 use Rattle.asm_unwind.specs.declared.directive.UnwindDirective.TheVariants.{Save, Pad, SetFp}
-use Rattle.asm_unwind.specs.declared.code.Code.{Code}
-use Rattle.asm_unwind.specs.declared.code.Code.TheVariants.{Raise, Lower, PopMask, Restore, PopRange, PopRangeAndLr, PopLow, RaiseLong}
+use Rattle.asm_unwind.specs.declared.directive.TheConstants.{MOST_PAD}
+use Rattle.asm_unwind.specs.declared.code.TheConstants.{MOST_STEP, WORDS_OF_MOST_STEP}
+use Rattle.unwind_codes.specs.declared.code.Code.{Code}
+use Rattle.unwind_codes.specs.declared.code.Code.TheVariants.{Raise, Lower, PopMask, Restore, PopRange, PopRangeAndLr, PopLow, RaiseLong}
+use Rattle.unwind_codes.specs.declared.code.TheConstants.{LONG_LEAST}
+use Rattle.unwind_codes.specs.Bytes.{code_bytes}
+use Rattle.std.specs.Int.{bit_at}
 use Rattle.asm_unwind.specs.Refusals.{is_frame_pointer}
-
--- the shortest ULEB128 of a number below 2 ^ 14
-abbrev pub shortest_uleb128 : ℕ → List ℕ
-shortest_uleb128 number = if nat_lt number 128 then number ∷ [] else (128 + number % 128) ∷ (number / 128) ∷ []
-
--- the bytes of a code
-abbrev pub code_bytes : Code → List ℕ
-code_bytes (Raise words) = words ∷ []
-code_bytes (Lower words) = (0x40 + words) ∷ []
-code_bytes (PopMask mask) = (0x80 + mask / 256) ∷ (mask % 256) ∷ []
-code_bytes (Restore register) = (0x90 + register) ∷ []
-code_bytes (PopRange last) = (0xA0 + last) ∷ []
-code_bytes (PopRangeAndLr last) = (0xA8 + last) ∷ []
-code_bytes (PopLow mask) = 0xB1 ∷ mask ∷ []
-code_bytes (RaiseLong words) = 0xB2 ∷ shortest_uleb128 words
-
--- the code's fields fit its bits
-abbrev pub HasBytes : Code → Type 0
-HasBytes (Raise words) = words < 64
-HasBytes (Lower words) = words < 64
-HasBytes (PopMask mask) = mask < 2 ^ 12
-HasBytes (Restore register) = register < 16
-HasBytes (PopRange last) = last < 8
-HasBytes (PopRangeAndLr last) = last < 8
-HasBytes (PopLow mask) = mask < 16
-HasBytes (RaiseLong words) = words < 2 ^ 14
 
 -- the masks of r4 to r4+n, for n from 0 to 7; bit 0 is r4
 abbrev pub ranges : List ℕ
@@ -56,18 +35,18 @@ save_codes registers =
     (if registers % 16 == 0 then [] else PopLow (registers % 16) ∷ [])
     ++ (if registers / 16 == 0 then [] else high_code (registers / 16) ∷ [])
 
--- the codes that take a number of bytes off the stack
+-- the codes that take a number of bytes off the stack: one step, two, or a long one
 abbrev pub pad_codes : ℕ → List Code
 pad_codes size =
-    if nat_le size 0x100 then Raise ((size - 4) / 4) ∷ []
-    else (if nat_le size 0x200 then Raise 0x3F ∷ Raise ((size - 0x104) / 4) ∷ []
-    else RaiseLong ((size - 0x204) / 4) ∷ [])
+    if nat_le size MOST_STEP then Raise ((size - 4) / 4) ∷ []
+    else (if nat_le size (2 * MOST_STEP) then Raise WORDS_OF_MOST_STEP ∷ Raise ((size - (MOST_STEP + 4)) / 4) ∷ []
+    else RaiseLong ((size - LONG_LEAST) / 4) ∷ [])
 
--- the codes that put a number of bytes back: steps of 0x100 and a last one
+-- the codes that put a number of bytes back: steps of the most that a code moves, and a last one
 abbrev pub lower_codes : ℕ → List Code
 lower_codes size =
     if size == 0 then []
-    else replicate ((size - 4) / 0x100) (Lower 0x3F) ++ Lower ((size - 4) % 0x100 / 4) ∷ []
+    else replicate ((size - 4) / MOST_STEP) (Lower WORDS_OF_MOST_STEP) ++ Lower ((size - 4) % MOST_STEP / 4) ∷ []
 
 -- the codes that undo a directive
 abbrev pub directive_codes : UnwindDirective → List Code
@@ -76,11 +55,12 @@ directive_codes (Pad size) = pad_codes size
 directive_codes (SetFp register offset) = Restore register ∷ lower_codes offset
 directive_codes _ = []
 
--- the directive's numbers are within their limits
+-- the directive's numbers are within their limits: a list has no register above lr and not the stack pointer, and a frame pointer
+-- is none above r11
 abbrev pub IsWritable : UnwindDirective → Type 0
-IsWritable (Save registers) = registers < 2 ^ 15
-IsWritable (Pad size) = size ≤ 65536
-IsWritable (SetFp register _) = register < 16
+IsWritable (Save registers) = (registers < 2 ^ 15) × (bit_at registers 13 ≡ 0)
+IsWritable (Pad size) = size ≤ MOST_PAD
+IsWritable (SetFp register _) = register ≤ 11
 IsWritable _ = Unit {0}
 
 abbrev pub is_no_pad : UnwindDirective → Bool

@@ -6,12 +6,14 @@ use Rattle.asm_unwind.specs.declared.directive.UnwindFault.{UnwindFault}
 use Rattle.asm_unwind.specs.declared.directive.UnwindFault.TheVariants.{OutsideFunction, TooLong}
 use Rattle.asm_unwind.specs.declared.entry.EntryWords.{EntryWords}
 use Rattle.asm_unwind.specs.declared.entry.EntryWords.TheVariants.{CantUnwind, Inline, Table}
+use Rattle.asm_unwind.specs.declared.entry.TheConstants.{SHORT_ROOM, LONG_ROOM}
+use Rattle.unwind_codes.specs.declared.code.TheConstants.{FINISH}
 use Rattle.asm_unwind.specs.Refusals.{seen_in}
 use Rattle.asm_unwind.specs.Codes.{bytecode_of}
 
 -- the byte of bytecode at a place; behind its end stands "finish"
 abbrev pub code_byte : List ℕ → ℕ → ℕ
-code_byte bytes at = slice_index_or bytes at 0xB0
+code_byte bytes at = slice_index_or bytes at FINISH
 
 -- a word of four bytes, its top byte first
 abbrev pub word : ℕ → ℕ → ℕ → ℕ → ℕ
@@ -21,13 +23,13 @@ word a b c d = a * 2 ^ 24 + b * 2 ^ 16 + c * 2 ^ 8 + d
 unfoldable pub word_at : List ℕ → ℕ → ℕ
 word_at bytes at = word (code_byte bytes at) (code_byte bytes (at + 1)) (code_byte bytes (at + 2)) (code_byte bytes (at + 3))
 
--- the number of the personality routine: the given one, else 0 for up to three bytes, else 1
+-- the number of the personality routine: the given one, else 0 where the bytes have room in a short entry, else 1
 abbrev pub index_of : Option ℕ → List ℕ → ℕ
-index_of given bytes = unwrap_or given (if nat_le (length bytes) 3 then 0 else 1)
+index_of given bytes = unwrap_or given (if nat_le (length bytes) SHORT_ROOM then 0 else 1)
 
 -- how many bytes of bytecode an entry has room for
 abbrev pub room : ℕ → ℕ
-room index = if index == 0 then 3 else 1022
+room index = if index == 0 then SHORT_ROOM else LONG_ROOM
 
 -- how many further words hold the bytes behind the first two
 abbrev pub further : List ℕ → ℕ

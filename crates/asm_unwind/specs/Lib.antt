@@ -3,6 +3,4 @@ pub mod Codes
 pub mod Entries
 pub mod Kept
 pub mod Meaning
-pub mod Reading
 pub mod EntryLaw
-pub mod PrologueLaw

@@ -1,60 +1,59 @@
--- What codes do to the virtual stack pointer, and which registers they pop (IHI 0038, "Frame unwinding instructions"); and
--- that the codes of directives undo what these say.
-use Rattle.std.specs.Prelude.{◌≡◌, ℕ, ◌<◌, ◌+◌, ◌-◌, ◌*◌, ◌%◌, ◌^◌, not, Bool, true, false, nat_lt, if◌then◌else◌, List, [], ◌∷◌, ◌++◌, Option, Some, None, option_map, sum_by, filter, flat_map, reverse}
+-- What the codes of directives do in all, by what each code does (IHI 0038, "Frame unwinding instructions"); and that they undo what
+-- the directives say.
+use Rattle.std.specs.Prelude.{◌≡◌, ℕ, ◌<◌, ◌%◌, not, Bool, true, false, List, [], sum_by, filter, flat_map, reverse}
 use Rattle.std.specs.List.{range_with_len, list_any, AllPass}
+use Rattle.unwind_codes.specs.declared.code.Code.{Code}
+use Rattle.unwind_codes.specs.Meaning.{Effect, Rises, Falls, Pops, Takes, Refuses, Finishes, effect}
 use Rattle.asm_unwind.specs.declared.directive.UnwindDirective.{UnwindDirective}
 use Rattle.asm_unwind.specs.declared.directive.UnwindDirective.TheVariants.{Save, Pad}
-use Rattle.asm_unwind.specs.declared.code.Code.{Code}
-use Rattle.asm_unwind.specs.declared.code.Code.TheVariants.{Raise, Lower, PopMask, Restore, PopRange, PopRangeAndLr, PopLow, RaiseLong}
 use Rattle.asm_unwind.specs.Refusals.{has_register, is_frame_pointer, is_bad_pad}
-use Rattle.asm_unwind.specs.Codes.{shortest_uleb128, save_codes, pad_codes, lower_codes, codes_of}
+use Rattle.asm_unwind.specs.Codes.{save_codes, pad_codes, lower_codes, codes_of}
 
--- by how many bytes a code raises the virtual stack pointer, besides what it pops
+-- by how many bytes an effect raises the virtual stack pointer, besides what it pops; by how many it lowers it; and the registers
+-- that it pops, in this order
+abbrev pub risen : Effect → ℕ
+risen (Rises by) = by
+risen _ = 0
+
+abbrev pub fallen : Effect → ℕ
+fallen (Falls by) = by
+fallen _ = 0
+
+abbrev pub pops : Effect → List ℕ
+pops (Pops registers) = registers
+pops _ = []
+
+-- it takes the pointer from a register, or ends the codes
+abbrev pub is_other : Effect → Bool
+is_other (Takes _) = true
+is_other Refuses = true
+is_other Finishes = true
+is_other _ = false
+
+-- the same of a code
 abbrev pub raised : Code → ℕ
-raised (Raise words) = words * 4 + 4
-raised (RaiseLong words) = 0x204 + words * 4
-raised _ = 0
+raised code = risen (effect code)
 
--- by how many bytes a code lowers it
 abbrev pub lowered : Code → ℕ
-lowered (Lower words) = words * 4 + 4
-lowered _ = 0
+lowered code = fallen (effect code)
 
--- the registers that a code pops, as a list with bit n for register n
-abbrev pub popped : Code → ℕ
-popped (PopMask mask) = 16 * mask
-popped (PopRange last) = 16 * (2 ^ (last + 1) - 1)
-popped (PopRangeAndLr last) = 16 * (2 ^ (last + 1) - 1) + 2 ^ 14
-popped (PopLow mask) = mask
-popped _ = 0
+abbrev pub popped : Code → List ℕ
+popped code = pops (effect code)
 
--- it takes the virtual stack pointer from a register
-abbrev pub is_restore : Code → Bool
-is_restore (Restore _) = true
-is_restore _ = false
+abbrev pub does_other : Code → Bool
+does_other code = is_other (effect code)
 
 -- the numbers of the registers in a list, in the order of their words on the stack: the lowest first
 abbrev pub registers_in : ℕ → List ℕ
 registers_in registers = filter (has_register registers) (range_with_len 0 16)
 
--- the registers that codes pop, one behind the other
-abbrev pub popped_registers : List Code → List ℕ
-popped_registers codes = flat_map (λ code. registers_in (popped code)) codes
-
--- the number whose ULEB128 stands at the front, and the bytes behind it: seven bits a byte, the lowest first, to the first
--- byte below 128
-abbrev pub uleb128_front : List ℕ → Option (ℕ × List ℕ)
-uleb128_front [] = None
-uleb128_front (byte ∷ more) =
-    if nat_lt byte 128 then Some (byte, more) else option_map (λ read. (byte - 128 + 128 * read.0, read.1)) (uleb128_front more)
-
 -- what codes do in all: they raise the virtual stack pointer by so many bytes, besides what they pop, and lower it by so
--- many; they pop these registers in this order; and they take the pointer from no register
+-- many; they pop these registers in this order; and they take the pointer from no register and go on to the codes behind them
 pub record InAll (codes : List Code) (up down : ℕ) (registers : List ℕ) : Type 0 where
   pub raise : sum_by raised codes ≡ up
   pub lower : sum_by lowered codes ≡ down
-  pub pop : popped_registers codes ≡ registers
-  pub keep : list_any is_restore codes ≡ false
+  pub pop : flat_map popped codes ≡ registers
+  pub keep : list_any does_other codes ≡ false
 
 -- the codes of a pad raise the virtual stack pointer by just its size, and do no more
 abbrev pub PadsRaise : Type 0
@@ -66,11 +65,7 @@ FramePointersLower = (offset : ℕ) → offset % 4 ≡ 0 → InAll (lower_codes 
 
 -- the codes of a register list pop just its registers, each once, the lowest first, and do no more
 abbrev pub SavesPop : Type 0
-SavesPop = (registers : ℕ) → (sum_by popped (save_codes registers) ≡ registers) × InAll (save_codes registers) 0 0 (registers_in registers)
-
--- the shortest ULEB128 of a number of at most 14 bits is read as that number, whatever stands behind it
-abbrev pub NumbersRead : Type 0
-NumbersRead = (n : ℕ) (more : List ℕ) → n < 2 ^ 14 → uleb128_front (shortest_uleb128 n ++ more) ≡ Some (n, more)
+SavesPop = (registers : ℕ) → InAll (save_codes registers) 0 0 (registers_in registers)
 
 -- the bytes of a pad
 abbrev pub pad_size : UnwindDirective → ℕ

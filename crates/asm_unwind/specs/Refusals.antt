@@ -3,6 +3,7 @@ use Rattle.std.specs.Prelude.{ℕ, ◌<◌, ◌/◌, ◌%◌, ◌^◌, ◌==◌,
 use Rattle.std.specs.List.{list_any}
 use Rattle.asm_unwind.specs.declared.directive.UnwindDirective.{UnwindDirective}
 use Rattle.asm_unwind.specs.declared.directive.UnwindDirective.TheVariants.{FnStart, FnEnd, Save, Pad, SetFp, CantUnwind, PersonalityIndex, HandlerData}
+use Rattle.asm_unwind.specs.declared.directive.TheConstants.{MOST_PAD, MOST_FRAME_OFFSET}
 use Rattle.asm_unwind.specs.declared.directive.UnwindFault.{UnwindFault}
 use Rattle.asm_unwind.specs.declared.directive.UnwindFault.TheVariants.{OutsideFunction, NestedFunction, SaveRange, PadRange, TwoPersonalities, AfterCantunwind}
 use Rattle.asm_unwind.specs.declared.seen.Seen.{Seen}
@@ -67,12 +68,12 @@ abbrev pub HasNarrowList : UnwindDirective → Type 0
 HasNarrowList (Save registers) = registers < 2 ^ 15
 HasNarrowList _ = Unit {0}
 
--- a pad of 0, above 65,536 or no multiple of 4; an offset above 1,020 or no multiple of 4, or a register
+-- a pad of 0, above its limit or no multiple of 4; an offset above its limit or no multiple of 4, or a register
 -- other than r4 to r11
 abbrev pub is_bad_pad : UnwindDirective → Bool
-is_bad_pad (Pad size) = size == 0 || nat_lt 65536 size || not (size % 4 == 0)
+is_bad_pad (Pad size) = size == 0 || nat_lt MOST_PAD size || not (size % 4 == 0)
 is_bad_pad (SetFp register offset) =
-    nat_lt 1020 offset || not (offset % 4 == 0) || nat_lt register 4 || nat_lt 11 register
+    nat_lt MOST_FRAME_OFFSET offset || not (offset % 4 == 0) || nat_lt register 4 || nat_lt 11 register
 is_bad_pad _ = false
 
 -- a second personality index, or one above 2

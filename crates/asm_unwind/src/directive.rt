@@ -1,6 +1,11 @@
 //! Unwind directives, and why one is refused (docs/unwind-directives.md).
 use std::alloc::{AllocError, AllocFailed};
 
+/// The largest pad, in bytes.
+pub const MOST_PAD: u32 = 65_536;
+/// The largest offset of a frame pointer from the stack pointer, in bytes.
+pub const MOST_FRAME_OFFSET: u32 = 1020;
+
 /// A directive on the frame of the function that it stands in. Register lists have bit n set for register n.
 #[derive(Clone, Copy, PartialEq, Eq, Debug)]
 pub enum UnwindDirective {
@@ -32,14 +37,15 @@ pub enum UnwindFault {
     NestedFunction,
     /// An empty register list, one with r13 or r15, or a list behind `.setfp`.
     SaveRange,
-    /// A pad of 0, above 65,536 or no multiple of 4; for a frame pointer an offset above 1,020 or no multiple of 4, or a
-    /// register other than r4 to r11.
+    /// A pad of 0, above `MOST_PAD` or no multiple of 4; for a frame pointer an offset above `MOST_FRAME_OFFSET` or no
+    /// multiple of 4, or a register other than r4 to r11.
     PadRange,
     /// A second personality index, or one above 2.
     TwoPersonalities,
     /// Anything but `.fnend` behind `.cantunwind`.
     AfterCantunwind,
-    /// More bytecode than the entry has room for: above 3 bytes with personality 0, above 1,022 with 1 and 2.
+    /// More bytecode than the entry has room for: above `SHORT_ROOM` bytes with personality 0, above `LONG_ROOM` with 1
+    /// and 2.
     TooLong,
     /// Want of memory.
     OutOfMemory,

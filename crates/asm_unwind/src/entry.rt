@@ -1,11 +1,18 @@
 //! The words of a function's entry, by its bytecode (IHI 0038, "The compact model"; docs/unwind-directives.md).
 ghost use Rattle.std.specs.Prelude.{◌≡◌, ℕ, ◌+◌, ◌*◌, ◌/◌, ◌%◌, ◌^◌, ◌<◌, ◌≤◌, ◌==◌, ◌++◌, ◌≢◌, IfOk, IfErr, MatchOption, ⊤, length};
+ghost use Rattle.asm_unwind.specs.declared.entry.TheConstants.{LONG_ROOM};
 ghost use Rattle.asm_unwind.specs.Entries.{code_byte, word_at, word, index_of, room, further, short_entry, long_entry, entry_of, entry_of_code};
 ghost use Rattle.asm_unwind.specs.declared.directive.UnwindFault.{UnwindFault};
 
 use crate::directive::UnwindFault;
 use eh_list::Seq;
 use std::alloc::{AllocError, Global};
+use unwind_codes::code::FINISH;
+
+/// The bytes of bytecode that an entry of personality 0 has room for.
+pub const SHORT_ROOM: usize = 3;
+/// The bytes of bytecode that an entry of personality 1 or 2 has room for: two, and four in each of 255 words.
+pub const LONG_ROOM: usize = 1022;
 
 /// The words of a table.
 pub type TableWords = Seq<u32>;
@@ -20,9 +27,6 @@ pub enum EntryWords {
     /// The words of its table, without those that the source gives behind `.handlerdata`.
     Table(TableWords),
 }
-
-/// The code "finish".
-const FINISH: u8 = 0xB0;
 
 /// The byte of bytecode at a place; behind its end stands "finish".
 fn code_byte(bytes: &[u8], at: usize) -> u8
@@ -69,7 +73,7 @@ fn short_entry(bytes: &[u8]) -> u32
 #[tactic(auto, unfolding(crate::specs::Entries::long_entry))]
 fn long_entry(alloc: Global, index: u8, bytes: &[u8]) -> Result<Vec<u32>, AllocError>
     requires index { index ≤ 2 }
-    requires room { length bytes.now ≤ 1022 }
+    requires room { length bytes.now ≤ LONG_ROOM }
     ensures { IfOk result (λ words. words.items ≡ long_entry index bytes.now) }
 {
     let further = (bytes.len() + 1) / 4;
@@ -91,14 +95,14 @@ fn long_entry(alloc: Global, index: u8, bytes: &[u8]) -> Result<Vec<u32>, AllocE
 fn room(index: u8) -> usize
     ensures { result ≡ room index }
 {
-    if index == 0 { 3 } else { 1022 }
+    if index == 0 { SHORT_ROOM } else { LONG_ROOM }
 }
 
-/// The number of the personality routine: the given one, else 0 for up to three bytes, else 1.
+/// The number of the personality routine: the given one, else 0 where the bytes have room in a short entry, else 1.
 fn index_of(given: Option<u8>, bytes: &[u8]) -> u8
     ensures { result ≡ index_of given bytes.now }
 {
-    given.unwrap_or(if bytes.len() <= 3 { 0 } else { 1 })
+    given.unwrap_or(if bytes.len() <= SHORT_ROOM { 0 } else { 1 })
 }
 
 /// The entry of bytecode that has room in it.

@@ -1,7 +1,8 @@
 //! The text of a frame: the directives of one function, and the entry that they make (docs/unwind-directives.md).
 ghost use Rattle.std.specs.Prelude.{◌≡◌, ℕ, ◌+◌, ◌≤◌, ◌++◌, ◌≢◌, Option, Some, None, IfOk, IfErr, OnOk, OnErr, All, List, [], ◌∷◌, Ok, Err, take_while, not, length};
 ghost use Rattle.asm_unwind.specs.Refusals.{is_frame_pointer, seen_in, refusal_of};
-ghost use Rattle.asm_unwind.specs.Codes.{is_no_pad, kept, reversed_bytes, bytecode_of, IsWritable, code_bytes, directive_codes};
+ghost use Rattle.asm_unwind.specs.Codes.{is_no_pad, kept, reversed_bytes, bytecode_of, IsWritable, directive_codes};
+ghost use Rattle.unwind_codes.specs.Bytes.{code_bytes};
 ghost use Rattle.asm_unwind.specs.Entries.{entry_words_of};
 ghost use Rattle.asm_unwind.specs.declared.directive.UnwindFault.{UnwindFault};
 

@@ -3,7 +3,7 @@ ghost use Rattle.std.specs.Prelude.{◌≡◌, ◌<◌, [], IfNone};
 ghost use Rattle.std.specs.Bool.{OnFalse};
 ghost use Rattle.asm_unwind.specs.Refusals.{HasNarrowList, has_register, is_start, is_end, is_outside, is_bad_save, is_bad_pad, is_bad_personality, seen_in, refusal_of, with_next};
 
-use crate::directive::{UnwindDirective, UnwindFault};
+use crate::directive::{MOST_FRAME_OFFSET, MOST_PAD, UnwindDirective, UnwindFault};
 
 /// What the directives of a function so far say that later ones depend on.
 #[derive(Clone, Copy)]
@@ -82,9 +82,9 @@ impl Seen {
         ensures { result ≡ is_bad_pad next }
     {
         match next {
-            UnwindDirective::Pad(size) => size == 0 || size > 65_536 || size % 4 != 0,
+            UnwindDirective::Pad(size) => size == 0 || size > MOST_PAD || size % 4 != 0,
             UnwindDirective::SetFp(register, offset) => {
-                offset > 1020 || offset % 4 != 0 || register < 4 || register > 11
+                offset > MOST_FRAME_OFFSET || offset % 4 != 0 || register < 4 || register > 11
             }
             _ => false,
         }

@@ -1,5 +1,5 @@
 -- The bytes of codes are cut into these codes.
-use Rattle.std.proofs.Common.{◌≡◌, ◌≢◌, ℕ, suc, ◌+◌, ◌-◌, ◌*◌, ◌/◌, ◌%◌, ◌^◌, ◌<◌, ◌==◌, Bool, true, false, List, [], ◌∷◌, ◌++◌, map, length, Option, Some, refl, arith, ◌∙◌, ap, sym, append_assoc, length-append}
+use Rattle.std.proofs.Common.{◌≡◌, ◌≢◌, ℕ, zero, suc, replicate, ◌+◌, ◌-◌, ◌*◌, ◌/◌, ◌%◌, ◌^◌, ◌<◌, ◌==◌, Bool, true, false, List, [], ◌∷◌, ◌++◌, map, length, Option, Some, refl, arith, ◌∙◌, ap, sym, append_assoc, length-append}
 use Rattle.std.specs.Prelude.{flat_map}
 use Rattle.std.specs.Option.{option_map_or}
 use Rattle.std.specs.Result.{result_ok}
@@ -8,10 +8,12 @@ use Rattle.std.proofs.lemmas.Grind.{common_steps}
 use Rattle.std.proofs.lemmas.List.Elements.{All-head, All-tail}
 use Rattle.unwind_codes.specs.declared.code.Code.{Code}
 use Rattle.unwind_codes.specs.declared.code.Code.TheVariants.{Raise, Lower, Refuse, PopMask, Restore, PopRange, PopRangeAndLr, Finish, PopLow, RaiseLong}
+use Rattle.unwind_codes.specs.declared.code.TheConstants.{FINISH}
 use Rattle.unwind_codes.specs.Bytes.{code_bytes, shortest_uleb128, IsCode, HasBytes}
 use Rattle.unwind_codes.specs.Table.{code_front}
 use Rattle.unwind_codes.specs.Cut.{Is, Bad, cut_behind, cut_from}
 use Rattle.unwind_codes.specs.Laws.{CodesAreCut, NumbersRead}
+use Rattle.unwind_codes.proofs.CutSteps.{cut_nothing}
 use Rattle.unwind_codes.proofs.Table as table
 
 pub law_of_numbers : NumbersRead
@@ -112,3 +114,8 @@ law_of_codes (code ∷ codes) place behind is fit =
     ap (cut_from place) (append_assoc own others behind)
     ∙ each_cut code place (others ++ behind) (All-head IsCode code codes is) (All-head HasBytes code codes fit)
     ∙ ap (λ l. Is code ∷ l) (law_of_codes codes (place + length own) behind (All-tail IsCode code codes is) (All-tail HasBytes code codes fit) ∙ ap (λ p. map Is codes ++ cut_from p behind) all)
+
+-- "finish" that fills up the words of an entry is cut into as many codes
+pub finish_cut : (n place : ℕ) → cut_from place (replicate n FINISH) ≡ replicate n (Is Finish)
+finish_cut zero place = cut_nothing place
+finish_cut (suc n) place = one_cut Finish FINISH [] place (replicate n FINISH) (table.finish FINISH (replicate n FINISH) refl) ∙ ap (λ l. Is Finish ∷ l) (finish_cut n (place + 1))

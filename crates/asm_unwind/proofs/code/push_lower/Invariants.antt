@@ -1,8 +1,9 @@
 use Rattle.std.proofs.Common.{◌≡◌, ◌++◌, replicate}
 use Rattle.std.specs.Prelude.{flat_map}
-use Rattle.asm_unwind.specs.Codes.{code_bytes}
-use Rattle.asm_unwind.specs.declared.code.Code.TheVariants.{Lower}
+use Rattle.unwind_codes.specs.declared.code.Code.TheVariants.{Lower}
+use Rattle.unwind_codes.specs.Bytes.{code_bytes}
+use Rattle.asm_unwind.specs.declared.code.TheConstants.{WORDS_OF_MOST_STEP}
 use Rattle.asm_unwind.proofs.code.push_lower.Given as goal
 
 abbrev pub invariant-loop-step : goal.invariant-loop-step
-invariant-loop-step l = l.bytes.items ≡ l.initial.bytes.items ++ flat_map code_bytes (replicate l._step (Lower 0x3F))
+invariant-loop-step l = l.bytes.items ≡ l.initial.bytes.items ++ flat_map code_bytes (replicate l._step (Lower WORDS_OF_MOST_STEP))
