@@ -1,0 +1,57 @@
+-- Directives of which none is refused.
+use Rattle.std.proofs.Common.{◌≡◌, ℕ, ◌%◌, List, [], ◌∷◌, ◌++◌, None, false, subst, sym, ◌∙◌, refl, append_assoc, append-nil}
+use Rattle.std.specs.Prelude.{◌||◌, ◌==◌, not, nat_lt, All}
+use Rattle.std.proofs.lemmas.Bool.{eqb-true}
+use Rattle.std.proofs.lemmas.List.Elements.{All-head, All-tail}
+use Rattle.asm_unwind.specs.declared.directive.UnwindDirective.{UnwindDirective}
+use Rattle.asm_unwind.specs.declared.directive.UnwindDirective.TheVariants.{Save, SetFp}
+use Rattle.asm_unwind.specs.declared.directive.TheConstants.{MOST_FRAME_OFFSET}
+use Rattle.asm_unwind.specs.declared.seen.Seen.{Seen}
+use Rattle.asm_unwind.specs.Refusals.{HasNarrowList, has_register, is_bad_pad, is_bad_save, seen_in, refusal_of, with_next}
+use Rattle.asm_unwind.specs.Kept.{IsKept}
+use Rattle.asm_unwind.proofs.FunctionLaw.{not_false}
+use Rattle.asm_unwind.proofs.KeptLemmas.{or_no, seen_more, kept_none, kept_more}
+use Rattle.unwind_laws.specs.PrologueLaw.{NoneRefused}
+
+-- each directive is taken behind those before it
+abbrev pub Accepted : Seen → List UnwindDirective → Type 0
+Accepted seen [] = Unit {0}
+Accepted seen (d ∷ more) = (refusal_of seen d ≡ None) × Accepted (with_next seen d) more
+
+accepted_from : (done rest : List UnwindDirective) →
+    ((before : List UnwindDirective) (next : UnwindDirective) (more : List UnwindDirective) → done ++ rest ≡ before ++ next ∷ more → refusal_of (seen_in before) next ≡ None) →
+    Accepted (seen_in done) rest
+accepted_from done [] h = tt
+accepted_from done (d ∷ rest) h =
+    let here : refusal_of (seen_in done) d ≡ None = h done d rest refl in
+    let more : Accepted (seen_in (done ++ d ∷ [])) rest = accepted_from (done ++ d ∷ []) rest (λ before next more e. h before next more (sym (append_assoc done (d ∷ []) rest) ∙ e)) in
+    (here, (let P : Seen → Type 0 = λ seen. Accepted seen rest in subst P (seen_more done d here) more))
+
+pub accepted : (directives : List UnwindDirective) → NoneRefused directives → Accepted (seen_in []) directives
+accepted directives h = accepted_from [] directives h
+
+-- a frame keeps directives of which none is refused
+kept_from : (done rest : List UnwindDirective) → IsKept done (seen_in done) → Accepted (seen_in done) rest → All HasNarrowList rest → IsKept (done ++ rest) (seen_in (done ++ rest))
+kept_from done [] is fine narrow = let P : List UnwindDirective → Type 0 = λ l. IsKept l (seen_in l) in subst P (sym (append-nil done)) is
+kept_from done (d ∷ rest) is fine narrow =
+    let P : List UnwindDirective → Type 0 = λ l. IsKept l (seen_in l) in
+    let Q : Seen → Type 0 = λ seen. Accepted seen rest in
+    let here : IsKept (done ++ d ∷ []) (seen_in (done ++ d ∷ [])) =
+    kept_more done (done ++ d ∷ []) (seen_in done) (seen_in (done ++ d ∷ [])) d is (All-head HasNarrowList d rest narrow) fine.0 refl (seen_more done d fine.0) in
+    subst P (append_assoc done (d ∷ []) rest) (kept_from (done ++ d ∷ []) rest here (subst Q (sym (seen_more done d fine.0)) fine.1) (All-tail HasNarrowList d rest narrow))
+
+pub kept_all : (directives : List UnwindDirective) → NoneRefused directives → All HasNarrowList directives → IsKept directives (seen_in directives)
+kept_all directives fine narrow = kept_from [] directives kept_none (accepted directives fine) narrow
+
+-- what a directive that isn't refused says
+pub offset_whole : (register offset : ℕ) → is_bad_pad (SetFp register offset) ≡ false → offset % 4 ≡ 0
+offset_whole register offset fine =
+    let first = (or_no ((nat_lt MOST_FRAME_OFFSET offset || not (offset % 4 == 0)) || nat_lt register 4) (nat_lt 11 register) fine).0 in
+    let second = (or_no (nat_lt MOST_FRAME_OFFSET offset || not (offset % 4 == 0)) (nat_lt register 4) first).0 in
+    eqb-true (offset % 4) 0 (not_false (offset % 4 == 0) (or_no (nat_lt MOST_FRAME_OFFSET offset) (not (offset % 4 == 0)) second).1)
+
+pub save_plain : (seen : Seen) (registers : ℕ) → is_bad_save seen (Save registers) ≡ false → (has_register registers 13 ≡ false) × (has_register registers 15 ≡ false) × (seen.frame_pointer ≡ false)
+save_plain seen registers fine =
+    let first = or_no ((registers == 0 || has_register registers 13) || has_register registers 15) seen.frame_pointer fine in
+    let second = or_no (registers == 0 || has_register registers 13) (has_register registers 15) first.0 in
+    ((or_no (registers == 0) (has_register registers 13) second.0).1, second.1, first.1)

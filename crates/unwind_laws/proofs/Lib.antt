@@ -1,0 +1,5 @@
+pub mod Accepted
+pub mod Steps
+pub mod Loading
+pub mod Prologue
+pub mod Caller

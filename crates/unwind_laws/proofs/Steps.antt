@@ -1,0 +1,102 @@
+-- Codes that only move the virtual stack pointer.
+use Rattle.std.proofs.Common.{◌≡◌, ℕ, ◌+◌, ◌-◌, ◌*◌, ◌%◌, ◌^◌, ◌<◌, false, List, [], ◌∷◌, ◌++◌, map, ap, sym, ◌∙◌, refl, arith, append_assoc}
+use Rattle.std.specs.Prelude.{sum_by, flat_map}
+use Rattle.std.specs.List.{list_any}
+use Rattle.std.proofs.lemmas.List.{map-append}
+use Rattle.std.proofs.lemmas.List.Sums.{sum_by-cons}
+use Rattle.eh_bus.specs.Segment.{Segment}
+use Rattle.unwind_codes.specs.declared.code.Code.{Code}
+use Rattle.unwind_codes.specs.Cut.{Item, Is}
+use Rattle.unwind_codes.specs.Meaning.{Effect, Rises, Falls, Pops, Takes, Refuses, Finishes, effect}
+use Rattle.asm_unwind.specs.Meaning.{risen, fallen, pops, is_other, raised, lowered, popped, does_other}
+use Rattle.asm_unwind.proofs.KeptLemmas.{or_no}
+use Rattle.eh_bytecode.specs.declared.frame.Unwinding.{Unwinding}
+use Rattle.eh_bytecode.specs.Meaning.{Goes, after, goes_on, runs}
+
+-- an unwinding that has popped no pc
+abbrev pub at : ℕ → List ℕ → Unwinding
+at vsp r = record { vsp = vsp; r = r; popped_pc = false }
+
+pub same_at : (v w : ℕ) (r : List ℕ) → v ≡ w → at v r ≡ at w r
+same_at v w r e = ap (λ v. at v r) e
+
+-- codes lead from one state to another, whatever stands behind them
+abbrev pub Reaches : List Segment → Unwinding → List Code → Unwinding → Type 0
+Reaches segments s codes t = (behind : List Item) → runs segments s (map Is codes ++ behind) ≡ runs segments t behind
+
+pub reaches_append : (segments : List Segment) (s t u : Unwinding) (xs ys : List Code) → Reaches segments s xs t → Reaches segments t ys u → Reaches segments s (xs ++ ys) u
+reaches_append segments s t u xs ys first second behind =
+    ap (λ l. runs segments s (l ++ behind)) (map-append Is xs ys) ∙ ap (runs segments s) (append_assoc (map Is xs) (map Is ys) behind)
+    ∙ first (map Is ys ++ behind) ∙ second behind
+
+pub reaches_to : (segments : List Segment) (s t u : Unwinding) (codes : List Code) → t ≡ u → Reaches segments s codes t → Reaches segments s codes u
+reaches_to segments s t u codes e h behind = h behind ∙ ap (λ t. runs segments t behind) e
+
+pub reaches_by : (segments : List Segment) (s t : Unwinding) (xs ys : List Code) → xs ≡ ys → Reaches segments s ys t → Reaches segments s xs t
+reaches_by segments s t xs ys e h behind = ap (λ (l : List Code). runs segments s (map Is l ++ behind)) e ∙ h behind
+
+pub reaches_more : (segments : List Segment) (s t u : Unwinding) (code : Code) (codes : List Code) → after segments s (effect code) ≡ Goes t → Reaches segments t codes u → Reaches segments s (code ∷ codes) u
+reaches_more segments s t u code codes e h behind = ap (goes_on (λ next. runs segments next (map Is codes ++ behind))) e ∙ h behind
+
+pub no_elements : {X : Type 0} (xs ys : List X) → xs ++ ys ≡ [] → (xs ≡ []) × (ys ≡ [])
+no_elements [] ys h = (refl, h)
+no_elements (x ∷ xs) ys h = cc
+
+-- one that pops nothing only moves the pointer
+moved : (v : ℕ) (e : Effect) → ℕ
+moved v e = (v + risen e + (2 ^ 32 - fallen e)) % 2 ^ 32
+
+pops_none : (segments : List Segment) (v : ℕ) (r registers : List ℕ) → registers ≡ [] → after segments (at v r) (Pops registers) ≡ Goes (at ((v + 4 * 0) % 2 ^ 32) r)
+pops_none segments v r registers none = ap (λ l. after segments (at v r) (Pops l)) none
+
+one_moves : (segments : List Segment) (v : ℕ) (r : List ℕ) (e : Effect) → is_other e ≡ false → pops e ≡ [] → after segments (at v r) e ≡ Goes (at (moved v e) r)
+unfolding moved
+one_moves segments v r (Rises by) other none = ap (λ v. Goes (at v r)) (let e : (v + by) % 2 ^ 32 ≡ (v + by + (2 ^ 32 - 0)) % 2 ^ 32 = omega arith in e)
+one_moves segments v r (Falls by) other none = ap (λ v. Goes (at v r)) (let e : (v + (2 ^ 32 - by)) % 2 ^ 32 ≡ (v + 0 + (2 ^ 32 - by)) % 2 ^ 32 = omega arith in e)
+one_moves segments v r (Pops registers) other none =
+    pops_none segments v r registers none ∙ ap (λ v. Goes (at v r)) (let e : (v + 4 * 0) % 2 ^ 32 ≡ (v + 0 + (2 ^ 32 - 0)) % 2 ^ 32 = omega arith in e)
+one_moves segments v r (Takes register) other none = cc
+one_moves segments v r Refuses other none = cc
+one_moves segments v r Finishes other none = cc
+
+-- codes that only raise the pointer, and codes that only lower it
+pub rising : (segments : List Segment) (v w : ℕ) (r : List ℕ) (codes : List Code) → sum_by lowered codes ≡ 0 → flat_map popped codes ≡ [] → list_any does_other codes ≡ false →
+    v + sum_by raised codes ≡ w → w < 2 ^ 32 → Reaches segments (at v r) codes (at w r)
+unfolding moved
+rising segments v w r [] low none keep is small = λ behind. ap (λ v. runs segments (at v r) behind) (let e : v ≡ w = omega arith in e)
+rising segments v w r (code ∷ codes) low none keep is small =
+    let other = or_no (does_other code) (list_any does_other codes) keep in
+    let nothing = no_elements (popped code) (flat_map popped codes) none in
+    let lows : lowered code + sum_by lowered codes ≡ 0 = sym (sum_by-cons lowered code codes) ∙ low in
+    let ups : sum_by raised (code ∷ codes) ≡ raised code + sum_by raised codes = sum_by-cons raised code codes in
+    reaches_more segments (at v r) (at (moved v (effect code)) r) (at w r) code codes (one_moves segments v r (effect code) other.0 nothing.0)
+    (rising segments (moved v (effect code)) w r codes (omega (arith, lows)) nothing.1 other.1 (omega (arith, lows, ups)) small)
+
+pub falling : (segments : List Segment) (v w : ℕ) (r : List ℕ) (codes : List Code) → sum_by raised codes ≡ 0 → flat_map popped codes ≡ [] → list_any does_other codes ≡ false →
+    v ≡ w + sum_by lowered codes → v < 2 ^ 32 → Reaches segments (at v r) codes (at w r)
+unfolding moved
+falling segments v w r [] up none keep is small = λ behind. ap (λ v. runs segments (at v r) behind) (let e : v ≡ w = omega arith in e)
+falling segments v w r (code ∷ codes) up none keep is small =
+    let other = or_no (does_other code) (list_any does_other codes) keep in
+    let nothing = no_elements (popped code) (flat_map popped codes) none in
+    let ups : raised code + sum_by raised codes ≡ 0 = sym (sum_by-cons raised code codes) ∙ up in
+    let lows : sum_by lowered (code ∷ codes) ≡ lowered code + sum_by lowered codes = sum_by-cons lowered code codes in
+    reaches_more segments (at v r) (at (moved v (effect code)) r) (at w r) code codes (one_moves segments v r (effect code) other.0 nothing.0)
+    (falling segments (moved v (effect code)) w r codes (omega (arith, ups)) nothing.1 other.1 (omega (arith, ups, lows)) (omega arith))
+
+-- codes lead to some pointer and change no register
+pub record Leads (segments : List Segment) (v : ℕ) (r : List ℕ) (codes : List Code) : Type 0 where
+  pub to : ℕ
+  pub reaches : Reaches segments (at v r) codes (at to r)
+
+-- codes that pop nothing and don't end do
+pub moving : (segments : List Segment) (v : ℕ) (r : List ℕ) (codes : List Code) → flat_map popped codes ≡ [] → list_any does_other codes ≡ false → Leads segments v r codes
+moving segments v r [] none keep = record { to = v; reaches = λ behind. refl }
+moving segments v r (code ∷ codes) none keep =
+    let other = or_no (does_other code) (list_any does_other codes) keep in
+    let nothing = no_elements (popped code) (flat_map popped codes) none in
+    let on = moving segments (moved v (effect code)) r codes nothing.1 other.1 in
+    record {
+      to = on.to;
+      reaches = reaches_more segments (at v r) (at (moved v (effect code)) r) (at on.to r) code codes (one_moves segments v r (effect code) other.0 nothing.0) on.reaches;
+    }

@@ -1,0 +1,5 @@
+use Rattle.unwind_laws.proofs.Caller.{law_of_prologues}
+use Rattle.unwind_laws.proofs.prologues_are_taken_back.Goals as goal
+
+pub returns : goal.returns
+returns c = law_of_prologues

@@ -1,0 +1,81 @@
+-- Unwinding takes back what a function's directives say of its prologue: the stack pointer and the stores of a prologue, and the law
+-- that joins them with the unwinding of the entry's codes (IHI 0038, "Frame unwinding instructions").
+use Rattle.std.specs.Prelude.{◌≡◌, ◌≢◌, ℕ, ◌+◌, ◌-◌, ◌*◌, ◌<◌, ◌≤◌, Bool, false, if◌then◌else◌, List, [], ◌∷◌, ◌++◌, None, length, sum_by, slice_index, All, Ok, ⊤}
+use Rattle.std.specs.List.{list_any}
+use Rattle.eh_bus.specs.Segment.{Segment}
+use Rattle.eh_bus.specs.Memory.{loads}
+use Rattle.unwind_codes.specs.Cut.{Item, cut}
+use Rattle.asm_unwind.specs.declared.directive.UnwindDirective.{UnwindDirective}
+use Rattle.asm_unwind.specs.declared.directive.UnwindDirective.TheVariants.{Save, Pad, SetFp}
+use Rattle.asm_unwind.specs.declared.entry.EntryWords.{EntryWords}
+use Rattle.asm_unwind.specs.Refusals.{HasNarrowList, has_register, is_frame_pointer, seen_in, refusal_of}
+use Rattle.asm_unwind.specs.Meaning.{registers_in, saved_registers}
+use Rattle.asm_unwind.specs.Entries.{entry_words_of}
+use Rattle.asm_unwind.specs.EntryLaw.{code_of}
+use Rattle.eh_bytecode.specs.Meaning.{unwound}
+use Rattle.eh_bytecode.specs.RecipeLaw.{Small}
+
+-- ---- what directives say of a prologue
+
+-- how many bytes the stack pointer goes down by a directive
+abbrev pub bytes_taken : UnwindDirective → ℕ
+bytes_taken (Save registers) = 4 * length (registers_in registers)
+bytes_taken (Pad size) = size
+bytes_taken _ = 0
+
+-- registers with the addresses of their words, which stand one behind the other from an address on
+abbrev pub words_from : ℕ → List ℕ → List (ℕ × ℕ)
+words_from address [] = []
+words_from address (register ∷ more) = (register, address) ∷ words_from (address + 4) more
+
+-- the registers that directives push, each with the address of its word, from a stack pointer down: the last list first, each
+-- list from the new stack pointer up, the lowest register first
+abbrev pub stores : ℕ → List UnwindDirective → List (ℕ × ℕ)
+stores sp [] = []
+stores sp (d ∷ more) = stores (sp - bytes_taken d) more ++ words_from (sp - bytes_taken d) (saved_registers d)
+
+-- the first frame pointer holds the stack pointer at its place plus its offset
+abbrev pub FramePointerHolds : List ℕ → ℕ → List UnwindDirective → Type 0
+FramePointerHolds r sp [] = ⊤
+FramePointerHolds r sp (SetFp register offset ∷ _) = slice_index r register ≡ sp + offset
+FramePointerHolds r sp (d ∷ more) = FramePointerHolds r (sp - bytes_taken d) more
+
+-- a directive saves a register
+abbrev pub saves : ℕ → UnwindDirective → Bool
+saves register (Save registers) = has_register registers register
+saves register _ = false
+
+-- no directive is refused behind those before it
+abbrev pub NoneRefused : List UnwindDirective → Type 0
+NoneRefused directives =
+    (before : List UnwindDirective) (next : UnwindDirective) (more : List UnwindDirective)
+    → directives ≡ before ++ next ∷ more → refusal_of (seen_in before) next ≡ None
+
+-- ---- registers and a memory behind a prologue
+
+-- Registers `r` and the segments of a memory behind a prologue that began with the registers `old`: what it took fits below the
+-- stack pointer; each word that it pushed can be read, and is still what its register held; and the frame pointer holds what its
+-- directive says, or without one the stack pointer is where the prologue left it.
+pub record BehindPrologue (directives : List UnwindDirective) (segments : List Segment) (old r : List ℕ) : Type 0 where
+  pub room : sum_by bytes_taken directives ≤ slice_index old 13
+  pub pushed : All (λ store. loads 4 segments store.1 ≡ Ok (slice_index old store.0)) (stores (slice_index old 13) directives)
+  pub frame_pointer : FramePointerHolds r (slice_index old 13) directives
+  pub stack_pointer : list_any is_frame_pointer directives ≡ false → slice_index r 13 ≡ slice_index old 13 - sum_by bytes_taken directives
+
+-- Unwinding from registers `r` by items comes to an end, and gives the caller the stack pointer of the function's entry, each saved
+-- register as it was there, the others as they are, and the link register as pc.
+pub record TakesBack (directives : List UnwindDirective) (segments : List Segment) (old r : List ℕ) (items : List Item) : Type 0 where
+  pub caller : List ℕ
+  pub ends : unwound segments r items ≡ Ok caller
+  pub wide : length caller ≡ 16
+  pub sp : slice_index caller 13 ≡ slice_index old 13
+  pub pc : slice_index caller 15 ≡ slice_index caller 14
+  pub others : (k : ℕ) → k < 15 → k ≢ 13 → slice_index caller k ≡ (if list_any (saves k) directives then slice_index old k else slice_index r k)
+
+-- the codes in the entry of a function, unless nothing unwinds through it, take its prologue back
+abbrev pub ProloguesAreTakenBack : Type 0
+ProloguesAreTakenBack =
+    (directives : List UnwindDirective) (entry : EntryWords) (segments : List Segment) (old r : List ℕ)
+    → NoneRefused directives → All HasNarrowList directives → (seen_in directives).cant_unwind ≡ false → entry_words_of directives ≡ Ok entry
+    → length old ≡ 16 → Small old → length r ≡ 16 → Small r → BehindPrologue directives segments old r
+    → TakesBack directives segments old r (cut (code_of entry))
