@@ -1,6 +1,6 @@
 //! Why statements have no object, and which of several refusals is answered (docs/objects.md).
 ghost use Rattle.std.specs.Prelude.{◌≡◌, ◌≤◌, length};
-ghost use Rattle.asm_layout.specs.FaultNames.{encode_name, unwind_name, what_name};
+ghost use Rattle.asm_layout.specs.FaultNames.{what_name};
 ghost use Rattle.asm_layout.specs.Faults.{number_of, is_before, first_with, first_of, fault_if, first_of_all};
 
 use asm_unwind::UnwindFault;
@@ -37,37 +37,6 @@ pub enum AsmWhat {
     OutOfMemory,
 }
 
-/// The name of a refusal of the encoder.
-fn encode_name(fault: EncodeFault) -> &'static [u8]
-    ensures name { result.now ≡ encode_name fault }
-    ensures short { length result.now ≤ 16 }
-{
-    match fault {
-        EncodeFault::RegisterRange => b"RegisterRange",
-        EncodeFault::ListEmpty => b"ListEmpty",
-        EncodeFault::ImmediateRange => b"ImmediateRange",
-        EncodeFault::ImmediateAlign => b"ImmediateAlign",
-        EncodeFault::TargetRange => b"TargetRange",
-    }
-}
-
-/// The name of a refusal of unwind directives.
-fn unwind_name(fault: UnwindFault) -> &'static [u8]
-    ensures name { result.now ≡ unwind_name fault }
-    ensures short { length result.now ≤ 16 }
-{
-    match fault {
-        UnwindFault::OutsideFunction => b"OutsideFunction",
-        UnwindFault::NestedFunction => b"NestedFunction",
-        UnwindFault::SaveRange => b"SaveRange",
-        UnwindFault::PadRange => b"PadRange",
-        UnwindFault::TwoPersonalities => b"TwoPersonalities",
-        UnwindFault::AfterCantunwind => b"AfterCantunwind",
-        UnwindFault::TooLong => b"TooLong",
-        UnwindFault::OutOfMemory => b"OutOfMemory",
-    }
-}
-
 impl AsmWhat {
     /// The name of the refusal, as a report writes it: of one of the encoder or of unwind directives that refusal's own.
     pub fn name(self) -> &'static [u8]
@@ -77,10 +46,10 @@ impl AsmWhat {
         match self {
             AsmWhat::DuplicateLabel => b"DuplicateLabel",
             AsmWhat::UndefinedLocal => b"UndefinedLocal",
-            AsmWhat::Encode(fault) => encode_name(fault),
+            AsmWhat::Encode(fault) => fault.name(),
             AsmWhat::PoolTooFar => b"PoolTooFar",
             AsmWhat::SectionTooLarge => b"SectionTooLarge",
-            AsmWhat::Unwind(fault) => unwind_name(fault),
+            AsmWhat::Unwind(fault) => fault.name(),
             AsmWhat::Placement => b"Placement",
             AsmWhat::OutOfMemory => b"OutOfMemory",
         }

@@ -100,6 +100,9 @@ short_behind bytes small =
     let personality : personality_of_word (short_entry bytes) ≡ 0 = ap (λ (top : ℕ). top % 16) (short_top bytes small) in
     rw personality refl
 
+short_whole : (bytes : List ℕ) → All (λ b. b < 2 ^ 8) bytes → code_words_behind (short_entry bytes) ≤ 0
+short_whole bytes small = omega (arith, short_behind bytes small)
+
 short_all : (bytes : List ℕ) → length bytes ≤ 3 → All (λ b. b < 2 ^ 8) bytes → code_of_words (short_entry bytes ∷ []) ≡ bytes ++ replicate (3 - length bytes) FINISH
 short_all bytes short small = rw (short_behind bytes small) (append-nil (code_in_first (short_entry bytes)) ∙ short_code bytes short small)
 
@@ -110,6 +113,7 @@ short_holds : (handler_data : Bool) (bytes : List ℕ) → length bytes ≤ 3 �
 unfolding entry_of
 short_holds false bytes short small = record {
   top = short_top bytes small;
+  whole = short_whole bytes small;
   fill = 3 - length bytes;
   fill_is_short = omega arith;
   code = short_all bytes short small;
@@ -118,6 +122,7 @@ short_holds false bytes short small = record {
 }
 short_holds true bytes short small = record {
   top = short_top bytes small;
+  whole = short_whole bytes small;
   fill = 3 - length bytes;
   fill_is_short = omega arith;
   code = short_all bytes short small;
@@ -144,6 +149,10 @@ table_behind : (first index a b : ℕ) (words closing : List ℕ) → bytes_of_w
     words_behind_code (first ∷ words ++ closing) ≡ closing
 table_behind first index a b words closing is other =
     ap (λ (n : ℕ). drop n (words ++ closing)) (words_counted first index a b words is other) ∙ drop_at words closing (length words) refl
+
+counted_words : (first index a b : ℕ) (words closing : List ℕ) → bytes_of_word first ≡ (0x80 + index) ∷ length words ∷ a ∷ b ∷ [] → (personality_of_word first == 0) ≡ false →
+    code_words_behind first ≤ length (words ++ closing)
+counted_words first index a b words closing is other = omega (arith, words_counted first index a b words is other, length-append words closing)
 
 -- the words of code of personality 1 and 2, as long_entry has them behind the first one
 words_of : List ℕ → List ℕ
@@ -181,6 +190,7 @@ long_holds index handler_data bytes closing other low short small ends =
     ap (λ (n : ℕ). n % 16 == 0) top ∙ ap (λ (n : ℕ). n == 0) (let e : (0x80 + index) % 16 ≡ index = omega arith in e) ∙ other in
     record {
       top = top;
+      whole = counted_words (long_first index bytes) index (code_byte bytes 0) (code_byte bytes 1) (words_of bytes) closing is number;
       fill = 2 + 4 * further bytes - length bytes;
       fill_is_short = omega arith;
       code = table_code (long_first index bytes) index (code_byte bytes 0) (code_byte bytes 1) (words_of bytes) closing is number ∙ further_bytes bytes (further bytes) small ∙ filled bytes (2 + 4 * further bytes) (omega arith);

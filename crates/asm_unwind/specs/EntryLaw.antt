@@ -5,7 +5,7 @@ use Rattle.unwind_codes.specs.declared.code.Code.{Code}
 use Rattle.unwind_codes.specs.declared.code.Code.TheVariants.{Finish}
 use Rattle.unwind_codes.specs.declared.code.TheConstants.{FINISH}
 use Rattle.unwind_codes.specs.Cut.{Is, cut}
-use Rattle.unwind_codes.specs.Words.{code_of_words, words_behind_code}
+use Rattle.unwind_codes.specs.Words.{code_words_behind, code_of_words, words_behind_code}
 use Rattle.asm_unwind.specs.declared.directive.UnwindDirective.{UnwindDirective}
 use Rattle.asm_unwind.specs.declared.entry.EntryWords.{EntryWords}
 use Rattle.asm_unwind.specs.declared.entry.EntryWords.TheVariants.{CantUnwind, Inline, Table}
@@ -28,15 +28,21 @@ abbrev pub top_byte : List ℕ → ℕ
 top_byte [] = 0
 top_byte (first ∷ _) = first / 2 ^ 24
 
+-- the words that the first one counts are there
+abbrev pub HasItsWords : List ℕ → Type 0
+HasItsWords [] = ⊤
+HasItsWords (first ∷ more) = code_words_behind first ≤ length more
+
 abbrev pub is_inline : EntryWords → Bool
 is_inline (Inline _) = true
 is_inline _ = false
 
--- what an entry says of bytecode: its top byte has the highest bit and the personality's number; its code is the bytecode
--- and at most three "finish" behind it; a zero word stands behind the code in a table of personality 1 or 2 where the source
+-- what an entry says of bytecode: its top byte has the highest bit and the personality's number; the words that it counts are
+-- there; its code is the bytecode and at most three "finish" behind it; a zero word stands behind the code in a table of personality 1 or 2 where the source
 -- gives no words of its own, and else nothing does; and only with personality 0 and no such words there is no table
 pub record HoldsCode (entry : EntryWords) (index : ℕ) (handler_data : Bool) (bytes : List ℕ) : Type 0 where
   pub top : top_byte (words_in_entry entry) ≡ 0x80 + index
+  pub whole : HasItsWords (words_in_entry entry)
   pub fill : ℕ
   pub fill_is_short : fill ≤ 3
   pub code : code_of entry ≡ bytes ++ replicate fill FINISH

@@ -1,4 +1,5 @@
 pub mod Refusals
+pub mod FaultNames
 pub mod Codes
 pub mod Entries
 pub mod Kept

@@ -1,4 +1,7 @@
 //! Unwind directives, and why one is refused (docs/unwind-directives.md).
+ghost use Rattle.std.specs.Prelude.{◌≡◌, ◌≤◌, length};
+ghost use Rattle.asm_unwind.specs.FaultNames.{fault_name};
+
 use std::alloc::{AllocError, AllocFailed};
 
 /// The largest pad, in bytes.
@@ -49,6 +52,25 @@ pub enum UnwindFault {
     TooLong,
     /// Want of memory.
     OutOfMemory,
+}
+
+impl UnwindFault {
+    /// The name of the refusal, as a report writes it.
+    pub fn name(self) -> &'static [u8]
+        ensures name { result.now ≡ fault_name self }
+        ensures short { length result.now ≤ 16 }
+    {
+        match self {
+            UnwindFault::OutsideFunction => b"OutsideFunction",
+            UnwindFault::NestedFunction => b"NestedFunction",
+            UnwindFault::SaveRange => b"SaveRange",
+            UnwindFault::PadRange => b"PadRange",
+            UnwindFault::TwoPersonalities => b"TwoPersonalities",
+            UnwindFault::AfterCantunwind => b"AfterCantunwind",
+            UnwindFault::TooLong => b"TooLong",
+            UnwindFault::OutOfMemory => b"OutOfMemory",
+        }
+    }
 }
 
 impl From<AllocError> for UnwindFault {

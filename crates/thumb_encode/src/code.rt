@@ -1,4 +1,7 @@
 //! The code of an instruction, and why it has none.
+ghost use Rattle.std.specs.Prelude.{◌≡◌, ◌≤◌, length};
+ghost use Rattle.thumb_encode.specs.FaultNames.{fault_name};
+
 /// The code of one instruction: its halfwords in the order of their addresses.
 #[derive(Clone, Copy, PartialEq, Eq, Debug)]
 pub enum Code {
@@ -24,4 +27,20 @@ pub enum EncodeFault {
     ImmediateAlign,
     /// A branch offset that is too far or odd.
     TargetRange,
+}
+
+impl EncodeFault {
+    /// The name of the refusal, as a report writes it.
+    pub fn name(self) -> &'static [u8]
+        ensures name { result.now ≡ fault_name self }
+        ensures short { length result.now ≤ 16 }
+    {
+        match self {
+            EncodeFault::RegisterRange => b"RegisterRange",
+            EncodeFault::ListEmpty => b"ListEmpty",
+            EncodeFault::ImmediateRange => b"ImmediateRange",
+            EncodeFault::ImmediateAlign => b"ImmediateAlign",
+            EncodeFault::TargetRange => b"TargetRange",
+        }
+    }
 }

@@ -3,3 +3,4 @@ pub mod Steps
 pub mod Loading
 pub mod Prologue
 pub mod Caller
+pub mod Entries

@@ -1,1 +1,2 @@
 pub mod PrologueLaw
+pub mod ReadLaw
