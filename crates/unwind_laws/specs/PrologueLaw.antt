@@ -1,6 +1,6 @@
 -- Unwinding takes back what a function's directives say of its prologue: the stack pointer and the stores of a prologue, and the law
 -- that joins them with the unwinding of the entry's codes (IHI 0038, "Frame unwinding instructions").
-use Rattle.std.specs.Prelude.{◌≡◌, ◌≢◌, ℕ, ◌+◌, ◌-◌, ◌*◌, ◌<◌, ◌≤◌, Bool, false, if◌then◌else◌, List, [], ◌∷◌, ◌++◌, None, length, sum_by, slice_index, All, Ok, ⊤}
+use Rattle.std.specs.Prelude.{◌≡◌, ◌≢◌, ℕ, ◌+◌, ◌-◌, ◌*◌, ◌^◌, ◌<◌, ◌≤◌, Bool, false, if◌then◌else◌, List, [], ◌∷◌, ◌++◌, None, length, sum_by, slice_index, All, Ok, ⊤}
 use Rattle.std.specs.List.{list_any}
 use Rattle.eh_bus.specs.Segment.{Segment}
 use Rattle.eh_bus.specs.Memory.{loads}
@@ -8,7 +8,7 @@ use Rattle.unwind_codes.specs.Cut.{Item, cut}
 use Rattle.asm_unwind.specs.declared.directive.UnwindDirective.{UnwindDirective}
 use Rattle.asm_unwind.specs.declared.directive.UnwindDirective.TheVariants.{Save, Pad, SetFp}
 use Rattle.asm_unwind.specs.declared.entry.EntryWords.{EntryWords}
-use Rattle.asm_unwind.specs.Refusals.{HasNarrowList, has_register, is_frame_pointer, seen_in, refusal_of}
+use Rattle.asm_unwind.specs.Refusals.{has_register, is_frame_pointer, seen_in, refusal_of}
 use Rattle.asm_unwind.specs.Meaning.{registers_in, saved_registers}
 use Rattle.asm_unwind.specs.Entries.{entry_words_of}
 use Rattle.asm_unwind.specs.EntryLaw.{code_of}
@@ -45,6 +45,11 @@ abbrev pub saves : ℕ → UnwindDirective → Bool
 saves register (Save registers) = has_register registers register
 saves register _ = false
 
+-- a register list has 16 bits, as the type of directives says
+abbrev pub IsOfItsType : UnwindDirective → Type 0
+IsOfItsType (Save registers) = registers < 2 ^ 16
+IsOfItsType _ = ⊤
+
 -- no directive is refused behind those before it
 abbrev pub NoneRefused : List UnwindDirective → Type 0
 NoneRefused directives =
@@ -76,6 +81,6 @@ pub record TakesBack (directives : List UnwindDirective) (segments : List Segmen
 abbrev pub ProloguesAreTakenBack : Type 0
 ProloguesAreTakenBack =
     (directives : List UnwindDirective) (entry : EntryWords) (segments : List Segment) (old r : List ℕ)
-    → NoneRefused directives → All HasNarrowList directives → (seen_in directives).cant_unwind ≡ false → entry_words_of directives ≡ Ok entry
+    → NoneRefused directives → All IsOfItsType directives → (seen_in directives).cant_unwind ≡ false → entry_words_of directives ≡ Ok entry
     → length old ≡ 16 → Small old → length r ≡ 16 → Small r → BehindPrologue directives segments old r
     → TakesBack directives segments old r (cut (code_of entry))

@@ -3,13 +3,13 @@ use Rattle.std.specs.Prelude.{◌≡◌, ℕ, List, false, All, Result, Ok, Err}
 use Rattle.asm_unwind.specs.declared.directive.UnwindDirective.{UnwindDirective}
 use Rattle.asm_unwind.specs.declared.entry.EntryWords.{EntryWords}
 use Rattle.asm_unwind.specs.declared.entry.EntryWords.TheVariants.{CantUnwind, Inline, Table}
-use Rattle.asm_unwind.specs.Refusals.{HasNarrowList, seen_in}
+use Rattle.asm_unwind.specs.Refusals.{seen_in}
 use Rattle.asm_unwind.specs.Entries.{entry_words_of}
 use Rattle.asm_unwind.specs.EntryLaw.{code_of}
 use Rattle.eh_bytecode.specs.declared.codes.CodesFault.{CodesFault}
 use Rattle.eh_bytecode.specs.declared.codes.CodesFault.TheVariants.{Short}
 use Rattle.eh_bytecode.specs.Codes.{inline_codes, codes_of_words}
-use Rattle.unwind_laws.specs.PrologueLaw.{NoneRefused}
+use Rattle.unwind_laws.specs.PrologueLaw.{IsOfItsType, NoneRefused}
 
 -- the code bytes that a reader takes from an entry: from the word in the row, or from the words in the table
 abbrev pub codes_in : EntryWords → Result (List ℕ) CodesFault
@@ -21,5 +21,5 @@ codes_in (Table words) = codes_of_words words
 abbrev pub EntriesAreRead : Type 0
 EntriesAreRead =
     (directives : List UnwindDirective) (entry : EntryWords)
-    → NoneRefused directives → All HasNarrowList directives → (seen_in directives).cant_unwind ≡ false → entry_words_of directives ≡ Ok entry
+    → NoneRefused directives → All IsOfItsType directives → (seen_in directives).cant_unwind ≡ false → entry_words_of directives ≡ Ok entry
     → codes_in entry ≡ Ok (code_of entry)
