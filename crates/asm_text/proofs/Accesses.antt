@@ -9,19 +9,20 @@ use Rattle.asm_read.specs.Forms.{register_sp_number, sp_number as sp_number_piec
 use Rattle.asm_read.specs.Statements.{kind_of as kind_made}
 use Rattle.asm_read.specs.Reading.{stmt, read_of}
 use Rattle.asm_text.specs.Written.{register, InRange, line, two, indexed, offset, sp_offset}
-use Rattle.asm_text.proofs.Toks.{Tok, reg, num, sign, by_register}
+use Rattle.asm_text.proofs.Toks.{by_register}
+use Rattle.asm_text.proofs.Items.{Item, reg, num, sign}
 use Rattle.asm_text.proofs.Fitted.{Vals, none_yet, Step, went, refused, if_so, and_then, fitted}
 use Rattle.asm_text.proofs.Standing.{values}
 use Rattle.asm_text.proofs.Chosen.{picked, chosen}
 use Rattle.asm_text.proofs.Shapes.{of_two, of_index, of_offset, of_sp_offset}
 
 -- a piece that may go or not, and a rest that is refused
-sp_then : (b : Bool) (ts : List Tok) (v : Vals) (f : List Tok → Vals → Step) → f ts v ≡ refused → and_then (if_so b ts v) f ≡ refused
+sp_then : (b : Bool) (ts : List Item) (v : Vals) (f : List Item → Vals → Step) → f ts v ≡ refused → and_then (if_so b ts v) f ≡ refused
 sp_then true ts v f h = h
 sp_then false ts v f h = refl
 
 -- a piece that doesn't go
-sp_not : (b : Bool) (ts : List Tok) (v : Vals) (f : List Tok → Vals → Step) → b ≡ false → and_then (if_so b ts v) f ≡ refused
+sp_not : (b : Bool) (ts : List Item) (v : Vals) (f : List Item → Vals → Step) → b ≡ false → and_then (if_so b ts v) f ≡ refused
 sp_not b ts v f h = rw h refl
 
 not_sp : (r : ℕ) → r < 16 → r ≢ 13 → same (register r) (codes "sp") ≡ false

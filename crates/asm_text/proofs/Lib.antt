@@ -1,6 +1,9 @@
 pub mod Texts
 pub mod Numbers
 pub mod Toks
+pub mod Heads
+pub mod Lists
+pub mod Items
 pub mod Fitted
 pub mod Chosen
 pub mod Standing

@@ -10,7 +10,7 @@ use Rattle.asm_read.specs.Statements.{kind_of as kind_made}
 use Rattle.asm_read.specs.Reading.{stmt, read_of}
 use Rattle.asm_text.specs.Written.{IsNameText, line, register_name as register_and_name}
 use Rattle.asm_text.proofs.Texts.{both}
-use Rattle.asm_text.proofs.Toks.{Tok, word, sign}
+use Rattle.asm_text.proofs.Items.{Item, word, sign}
 use Rattle.asm_text.proofs.Fitted.{Vals, none_yet, Step, went, if_so, and_then, fitted}
 use Rattle.asm_text.proofs.Standing.{values}
 use Rattle.asm_text.proofs.Chosen.{picked, chosen}
@@ -104,7 +104,7 @@ same_self : (w : List ℕ) → same w w ≡ true
 same_self [] = refl
 same_self (b ∷ bs) = both (b == b) (same bs bs) (eq-eqb b b refl) (same_self bs)
 
-same_then : (b : Bool) (ts : List Tok) (v : Vals) (f : List Tok → Vals → Step) (s : Step) → b ≡ true → f ts v ≡ s → and_then (if_so b ts v) f ≡ s
+same_then : (b : Bool) (ts : List Item) (v : Vals) (f : List Item → Vals → Step) (s : Step) → b ≡ true → f ts v ≡ s → and_then (if_so b ts v) f ≡ s
 same_then b ts v f s h e = rw h e
 
 size_went : (n : List ℕ) → fitted name_size (word n ∷ sign 44 ∷ word (codes ".") ∷ sign 45 ∷ word n ∷ []) none_yet ≡ went [] (values 0 0 0 (pos 0) n)
