@@ -7,6 +7,8 @@ pub mod Items
 pub mod Fitted
 pub mod Chosen
 pub mod Standing
+pub mod Braces
+pub mod Listing
 pub mod Shapes
 pub mod Plain
 pub mod Accesses

@@ -1,11 +1,12 @@
 -- The canonical line of a statement: its mnemonic, a blank, and its operands as the manual writes them (Armv6-M
 -- Architecture Reference Manual, DDI 0419), or as the assembler does those of a directive.
-use Rattle.std.specs.Prelude.{◌≡◌, ◌≢◌, ℕ, ◌+◌, ◌<◌, ◌≤◌, ◌==◌, ◌&&◌, not, nat_lt, Bool, true, false, if◌then◌else◌, List, [], ◌∷◌, ◌++◌, length, slice_index_or, Ok, ℤ, pos, negsuc, codes}
+use Rattle.std.specs.Prelude.{◌≡◌, ◌≢◌, ℕ, zero, suc, ◌+◌, ◌-◌, ◌<◌, ◌≤◌, ◌==◌, ◌&&◌, not, nat_lt, Bool, true, false, if◌then◌else◌, List, [], ◌∷◌, ◌++◌, length, slice_index_or, Ok, ℤ, pos, negsuc, codes}
 use Rattle.std.specs.List.{list_all}
 use Rattle.std.specs.Fmt.{signed_decimal}
 use Rattle.asm_read.specs.declared.statement.StmtKind.{StmtKind}
-use Rattle.asm_read.specs.declared.statement.StmtKind.TheVariants.{Label, MovsImm, MovsReg, Mov, CmpImm, CmpReg, AddSubTwo, AddSubReg, AddSubThree, AddReg, AddRdSp, AddSp, SubSp, ShiftImm, Alu, Rsbs, Adr, LdrLabel, MemImm, MemReg, MemSp, Extend, Rev, B, BCond, Bl, Bx, Blx, Svc, Udf, Hint, Barrier, Text, Data, Bss, Rodata, Global, TypeFunction, TypeObject, Size, Space, Align, Pool, FnStart, FnEnd, Pad, SetFp, CantUnwind, PersonalityIndex, HandlerData}
+use Rattle.asm_read.specs.declared.statement.StmtKind.TheVariants.{Label, MovsImm, MovsReg, Mov, CmpImm, CmpReg, AddSubTwo, AddSubReg, AddSubThree, AddReg, AddRdSp, AddSp, SubSp, ShiftImm, Alu, Rsbs, Adr, LdrLabel, MemImm, MemReg, MemSp, Push, Pop, Stm, LdmBack, Ldm, Extend, Rev, B, BCond, Bl, Bx, Blx, Svc, Udf, Hint, Barrier, Text, Data, Bss, Rodata, Global, TypeFunction, TypeObject, Size, Space, Align, Pool, FnStart, FnEnd, Save, Pad, SetFp, CantUnwind, PersonalityIndex, HandlerData}
 use Rattle.asm_read.specs.Tokens.{is_digit, is_name_byte}
+use Rattle.asm_read.specs.Operands.{has_register}
 use Rattle.asm_read.specs.Reading.{stmt, read_of}
 
 -- r0 to r12, sp, lr and pc
@@ -101,6 +102,22 @@ sp_offset t z = register t ++ (codes ", [sp, #" ++ (signed_decimal z ++ codes "]
 abbrev pub register_name : ℕ → List ℕ → List ℕ
 register_name a name = register a ++ (codes ", " ++ name)
 
+-- the last so many registers that a list has, rising
+unfoldable pub registers_from : ℕ → ℕ → List ℕ
+registers_from list zero = []
+registers_from list (suc n) =
+    if has_register list (15 - n) then (15 - n) ∷ registers_from list n else registers_from list n
+
+-- behind an opening brace: registers with commas between them, and the closing brace
+abbrev pub closed : List ℕ → List ℕ
+closed [] = codes "}"
+closed (r ∷ []) = register r ++ codes "}"
+closed (r ∷ s ∷ rs) = register r ++ (codes ", " ++ closed (s ∷ rs))
+
+-- {list}
+unfoldable pub braced : ℕ → List ℕ
+braced list = 123 ∷ closed (registers_from list 16)
+
 -- the line of a statement; none where the law below says nothing of it
 unfoldable pub written : StmtKind → List ℕ
 written (Label name) = name ++ codes ":"
@@ -124,6 +141,11 @@ written (LdrLabel t name) = line (codes "ldr") (register_name t name)
 written (MemImm op t n off) = line (word_of offset_words op) (offset t n off)
 written (MemReg op t n m) = line (word_of access_words op) (indexed t n m)
 written (MemSp load t off) = line (if load then codes "ldr" else codes "str") (sp_offset t off)
+written (Push list) = line (codes "push") (braced list)
+written (Pop list) = line (codes "pop") (braced list)
+written (Stm n list) = line (codes "stm") (register n ++ (codes "!, " ++ braced list))
+written (LdmBack n list) = line (codes "ldm") (register n ++ (codes "!, " ++ braced list))
+written (Ldm n list) = line (codes "ldm") (register n ++ (codes ", " ++ braced list))
 written (Extend op d m) = line (word_of extend_words op) (two d m)
 written (Rev op d m) = line (word_of reverse_words op) (two d m)
 written (B name) = line (codes "b") name
@@ -148,6 +170,7 @@ written (Align n) = line (codes ".align") (signed_decimal n)
 written Pool = codes ".pool"
 written FnStart = codes ".fnstart"
 written FnEnd = codes ".fnend"
+written (Save list) = line (codes ".save") (braced list)
 written (Pad n) = line (codes ".pad") (hash n)
 written (SetFp r off) = line (codes ".setfp") (sp_count r off)
 written CantUnwind = codes ".cantunwind"
@@ -196,6 +219,11 @@ IsWritable (LdrLabel t name) = (t < 16) × IsNameText name
 IsWritable (MemImm op t n off) = (op < 6) × (t < 16) × (n < 16) × (op < 2 → n ≢ 13) × InRange off
 IsWritable (MemReg op t n m) = (op < 8) × (t < 16) × (n < 16) × (m < 16)
 IsWritable (MemSp load t off) = (t < 16) × InRange off
+IsWritable (Push list) = list < 65536
+IsWritable (Pop list) = list < 65536
+IsWritable (Stm n list) = (n < 16) × (list < 65536)
+IsWritable (LdmBack n list) = (n < 16) × (list < 65536)
+IsWritable (Ldm n list) = (n < 16) × (list < 65536) × (has_register list n ≡ true)
 IsWritable (Extend op d m) = (op < 4) × (d < 16) × (m < 16)
 IsWritable (Rev op d m) = (op < 4) × (op ≢ 2) × (d < 16) × (m < 16)
 IsWritable (B name) = IsNameText name
@@ -220,6 +248,7 @@ IsWritable (Align n) = IsPower n
 IsWritable Pool = Unit {0}
 IsWritable FnStart = Unit {0}
 IsWritable FnEnd = Unit {0}
+IsWritable (Save list) = list < 65536
 IsWritable (Pad n) = InRange n
 IsWritable (SetFp r off) = (r < 16) × InRange off
 IsWritable CantUnwind = Unit {0}
