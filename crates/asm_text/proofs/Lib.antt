@@ -9,6 +9,7 @@ pub mod Chosen
 pub mod Standing
 pub mod Braces
 pub mod Listing
+pub mod Expressing
 pub mod Shapes
 pub mod Plain
 pub mod Accesses

@@ -33,7 +33,7 @@ unfoldable pub costs : List Tok → ℕ
 costs [] = 0
 costs (t ∷ ts) = cost t + costs ts
 
-register_short : (r : ℕ) → r < 16 → length (register r) ≤ 3
+pub register_short : (r : ℕ) → r < 16 → length (register r) ≤ 3
 unfolding register
 register_short = by_register (λ r. length (register r) ≤ 3) (omega arith) (omega arith) (omega arith) (omega arith) (omega arith) (omega arith) (omega arith) (omega arith) (omega arith) (omega arith) (omega arith) (omega arith) (omega arith) (omega arith) (omega arith) (omega arith)
 
@@ -96,18 +96,22 @@ behind_is : (w : List ℕ) (ts : List Tok) → 0 < length ts → w ++ behind_wor
 behind_is w [] h = absurd (omega arith)
 behind_is w (t ∷ ts) h = refl
 
--- a word with operands that no label's colon begins, as a statement
-pub stands : (w : List ℕ) (ts : List Item) (m : Makes) (v : Vals) (k : StmtKind) → IsMnemonic w → 0 < length (flat ts) → AllEnd (flat ts) → is_mark_of 58 (head_kind (flat ts)) ≡ false → costs (flat ts) ≤ 235 → chosen rows w ts ≡ picked m v → ((line : List ℕ) (o : Operands) → Agrees line o v → kind_made line (record { makes = m; operands = o }) ≡ k) → read_of (line w (spelled (flat ts))) ≡ Ok (stmt 1 k ∷ [])
-stands w ts m v k is some ends colon few choice makes =
+-- a word with operands that no label's colon begins, as a statement; the line is short
+pub stands_in : (w : List ℕ) (ts : List Item) (m : Makes) (v : Vals) (k : StmtKind) → IsMnemonic w → 0 < length (flat ts) → AllEnd (flat ts) → is_mark_of 58 (head_kind (flat ts)) ≡ false → length w + length (spelled (flat ts)) ≤ 255 → chosen rows w ts ≡ picked m v → ((line : List ℕ) (o : Operands) → Agrees line o v → kind_made line (record { makes = m; operands = o }) ≡ k) → read_of (line w (spelled (flat ts))) ≡ Ok (stmt 1 k ∷ [])
+stands_in w ts m v k is some ends colon few choice makes =
     let rest = spelled_plain (flat ts) ends in
     let long = length-append w (32 ∷ spelled (flat ts)) in
-    let short = spelled_short (flat ts) ends in
-    let brief = is.brief in
     let e = behind_is w (flat ts) some in
     subst (λ x. read_of x ≡ Ok (stmt 1 k ∷ [])) e
     (line_is w ts m v k is.named is.kept ends colon
     (ap plain e ∙ list_all-append (λ b. not (not_plain b)) w (32 ∷ spelled (flat ts)) ∙ both (plain w) (plain (32 ∷ spelled (flat ts))) is.clean rest)
     (let size = ap length e in omega arith) choice makes)
+
+pub stands : (w : List ℕ) (ts : List Item) (m : Makes) (v : Vals) (k : StmtKind) → IsMnemonic w → 0 < length (flat ts) → AllEnd (flat ts) → is_mark_of 58 (head_kind (flat ts)) ≡ false → costs (flat ts) ≤ 235 → chosen rows w ts ≡ picked m v → ((line : List ℕ) (o : Operands) → Agrees line o v → kind_made line (record { makes = m; operands = o }) ≡ k) → read_of (line w (spelled (flat ts))) ≡ Ok (stmt 1 k ∷ [])
+stands w ts m v k is some ends colon few choice makes =
+    let short = spelled_short (flat ts) ends in
+    let brief = is.brief in
+    stands_in w ts m v k is some ends colon (omega arith) choice makes
 
 -- a word alone
 pub alone : (w : List ℕ) (m : Makes) (k : StmtKind) → IsMnemonic w → chosen rows w [] ≡ picked m none_yet → ((line : List ℕ) (o : Operands) → kind_made line (record { makes = m; operands = o }) ≡ k) → read_of w ≡ Ok (stmt 1 k ∷ [])
@@ -142,12 +146,15 @@ unfolding front_of
 minus_front_of b bs d q = rw (q, d) refl
 
 -- a minus sign before a name is a mark
-pub minus_ends : (w : List ℕ) → is_name w ≡ true → Ends (sign 45) w
-minus_ends [] h = cc
-minus_ends (b ∷ bs) h =
+pub minus_before : (w rest : List ℕ) → is_name w ≡ true → Ends (sign 45) (w ++ rest)
+minus_before [] rest h = cc
+minus_before (b ∷ bs) rest h =
     let digit = not_true (is_digit b) (and_left (not (is_digit b)) (list_all is_name_byte (b ∷ bs)) h) in
     let named = and_left (is_name_byte b) (list_all is_name_byte bs) (and_right (not (is_digit b)) (list_all is_name_byte (b ∷ bs)) h) in
-    (minus_front_of b bs digit (differ is_name_byte b 39 named refl), refl, refl)
+    (minus_front_of b (bs ++ rest) digit (differ is_name_byte b 39 named refl), refl, refl)
+
+pub minus_ends : (w : List ℕ) → is_name w ≡ true → Ends (sign 45) w
+minus_ends w h = subst (λ x. Ends (sign 45) x) (append-nil w) (minus_before w [] h)
 
 -- the word sp
 abbrev pub sp : Item

@@ -4,7 +4,9 @@ use Rattle.std.specs.Prelude.{◌≡◌, ◌≢◌, ℕ, zero, suc, ◌+◌, ◌
 use Rattle.std.specs.List.{list_all}
 use Rattle.std.specs.Fmt.{signed_decimal}
 use Rattle.asm_read.specs.declared.statement.StmtKind.{StmtKind}
-use Rattle.asm_read.specs.declared.statement.StmtKind.TheVariants.{Label, MovsImm, MovsReg, Mov, CmpImm, CmpReg, AddSubTwo, AddSubReg, AddSubThree, AddReg, AddRdSp, AddSp, SubSp, ShiftImm, Alu, Rsbs, Adr, LdrLabel, MemImm, MemReg, MemSp, Push, Pop, Stm, LdmBack, Ldm, Extend, Rev, B, BCond, Bl, Bx, Blx, Svc, Udf, Hint, Barrier, Text, Data, Bss, Rodata, Global, TypeFunction, TypeObject, Size, Space, Align, Pool, FnStart, FnEnd, Save, Pad, SetFp, CantUnwind, PersonalityIndex, HandlerData}
+use Rattle.asm_read.specs.declared.statement.StmtKind.TheVariants.{Label, MovsImm, MovsReg, Mov, CmpImm, CmpReg, AddSubTwo, AddSubReg, AddSubThree, AddReg, AddRdSp, AddSp, SubSp, ShiftImm, Alu, Rsbs, Adr, LdrLabel, LdrPool, MemImm, MemReg, MemSp, Push, Pop, Stm, LdmBack, Ldm, Extend, Rev, B, BCond, Bl, Bx, Blx, Svc, Udf, Hint, Barrier, Text, Data, Bss, Rodata, Global, TypeFunction, TypeObject, Size, Words, Halves, Bytes, Space, Align, Pool, FnStart, FnEnd, Save, Pad, SetFp, CantUnwind, PersonalityIndex, HandlerData}
+use Rattle.asm_read.specs.declared.statement.Expr.{Expr}
+use Rattle.asm_read.specs.declared.statement.Expr.TheVariants.{Num, Of, Diff, Prel31, Prel31Ref, Target2, Rel}
 use Rattle.asm_read.specs.Tokens.{is_digit, is_name_byte}
 use Rattle.asm_read.specs.Operands.{has_register}
 use Rattle.asm_read.specs.Reading.{stmt, read_of}
@@ -118,7 +120,28 @@ closed (r ∷ s ∷ rs) = register r ++ (codes ", " ++ closed (s ∷ rs))
 unfoldable pub braced : ℕ → List ℕ
 braced list = 123 ∷ closed (registers_from list 16)
 
--- the line of a statement; none where the law below says nothing of it
+-- what is added to a name; nothing where that is 0
+abbrev pub plus : ℤ → List ℕ
+plus (pos zero) = []
+plus (pos (suc n)) = 43 ∷ signed_decimal (pos (suc n))
+plus (negsuc n) = 43 ∷ signed_decimal (negsuc n)
+
+abbrev pub expression : Expr → List ℕ
+expression (Num n) = signed_decimal n
+expression (Of a n) = a ++ plus n
+expression (Diff a b n) = a ++ (codes "-" ++ (b ++ plus n))
+expression (Prel31 a) = a ++ codes "(prel31)"
+expression (Prel31Ref a) = a ++ codes "(prel31ref)"
+expression (Target2 a) = a ++ codes "(target2)"
+expression (Rel a) = a ++ codes "(rel)"
+
+-- expressions with commas between them
+abbrev pub expressions : List Expr → List ℕ
+expressions [] = []
+expressions (e ∷ []) = expression e
+expressions (e ∷ f ∷ es) = expression e ++ (codes ", " ++ expressions (f ∷ es))
+
+-- the line of a statement
 unfoldable pub written : StmtKind → List ℕ
 written (Label name) = name ++ codes ":"
 written (MovsImm d imm) = line (codes "movs") (register_number d imm)
@@ -138,6 +161,7 @@ written (Alu op d m) = line (word_of alu_words op) (two d m)
 written (Rsbs d m) = line (codes "rsbs") (register d ++ (codes ", " ++ (register m ++ codes ", #0")))
 written (Adr d name) = line (codes "adr") (register_name d name)
 written (LdrLabel t name) = line (codes "ldr") (register_name t name)
+written (LdrPool t value) = line (codes "ldr") (register t ++ (codes ", =" ++ expression value))
 written (MemImm op t n off) = line (word_of offset_words op) (offset t n off)
 written (MemReg op t n m) = line (word_of access_words op) (indexed t n m)
 written (MemSp load t off) = line (if load then codes "ldr" else codes "str") (sp_offset t off)
@@ -165,6 +189,9 @@ written (Global name) = line (codes ".global") name
 written (TypeFunction name) = line (codes ".type") (name ++ codes ", %function")
 written (TypeObject name) = line (codes ".type") (name ++ codes ", %object")
 written (Size name) = line (codes ".size") (name ++ (codes ", .-" ++ name))
+written (Words es) = line (codes ".word") (expressions es)
+written (Halves es) = line (codes ".half") (expressions es)
+written (Bytes es) = line (codes ".byte") (expressions es)
 written (Space n) = line (codes ".space") (signed_decimal n)
 written (Align n) = line (codes ".align") (signed_decimal n)
 written Pool = codes ".pool"
@@ -195,6 +222,25 @@ abbrev pub IsPower : ℤ → Type 0
 IsPower (pos n) = n < 4
 IsPower (negsuc n) = ⊥
 
+-- an expression of 32-bit numbers and names; names with a word in parentheses stand in words alone
+abbrev pub IsExpression : Bool → Expr → Type 0
+IsExpression word (Num n) = InRange n
+IsExpression word (Of a n) = IsNameText a × InRange n
+IsExpression word (Diff a b n) = IsNameText a × IsNameText b × InRange n
+IsExpression word (Prel31 a) = (word ≡ true) × IsNameText a
+IsExpression word (Prel31Ref a) = (word ≡ true) × IsNameText a
+IsExpression word (Target2 a) = (word ≡ true) × IsNameText a
+IsExpression word (Rel a) = (word ≡ true) × IsNameText a
+
+abbrev pub AreExpressions : Bool → List Expr → Type 0
+AreExpressions word [] = Unit {0}
+AreExpressions word (e ∷ es) = IsExpression word e × AreExpressions word es
+
+-- one expression at least, and no more than a line holds
+abbrev pub IsList : Bool → List Expr → Type 0
+IsList word [] = ⊥
+IsList word (e ∷ es) = AreExpressions word (e ∷ es) × (length (expressions (e ∷ es)) ≤ 240)
+
 -- a statement whose fields the text has words for: registers, numbers of 32 bits, names, and fields of encodings with a
 -- mnemonic. A load or store of a word at sp is a statement of its own
 abbrev pub IsWritable : StmtKind → Type 0
@@ -216,6 +262,7 @@ IsWritable (Alu op d m) = (op < 16) × (op ≢ 9) × (op ≢ 10) × (d < 16) × 
 IsWritable (Rsbs d m) = (d < 16) × (m < 16)
 IsWritable (Adr d name) = (d < 16) × IsNameText name
 IsWritable (LdrLabel t name) = (t < 16) × IsNameText name
+IsWritable (LdrPool t value) = (t < 16) × IsExpression false value × (length (expression value) ≤ 240)
 IsWritable (MemImm op t n off) = (op < 6) × (t < 16) × (n < 16) × (op < 2 → n ≢ 13) × InRange off
 IsWritable (MemReg op t n m) = (op < 8) × (t < 16) × (n < 16) × (m < 16)
 IsWritable (MemSp load t off) = (t < 16) × InRange off
@@ -243,6 +290,9 @@ IsWritable (Global name) = IsNameText name
 IsWritable (TypeFunction name) = IsNameText name
 IsWritable (TypeObject name) = IsNameText name
 IsWritable (Size name) = IsNameText name
+IsWritable (Words es) = IsList true es
+IsWritable (Halves es) = IsList false es
+IsWritable (Bytes es) = IsList false es
 IsWritable (Space n) = InRange n
 IsWritable (Align n) = IsPower n
 IsWritable Pool = Unit {0}
