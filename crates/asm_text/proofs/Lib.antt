@@ -10,6 +10,7 @@ pub mod Standing
 pub mod Braces
 pub mod Listing
 pub mod Expressing
+pub mod Quoting
 pub mod Shapes
 pub mod Plain
 pub mod Accesses

@@ -1,6 +1,6 @@
 -- Every statement of the law.
 use Rattle.std.proofs.Common.{◌≡◌, ℕ, zero, suc, ◌<◌, true, false, List, [], ◌∷◌, Ok, ℤ, pos, negsuc, refl, arith}
-use Rattle.asm_read.specs.declared.statement.StmtKind.TheVariants.{Label, MovsImm, MovsReg, Mov, CmpImm, CmpReg, AddSubTwo, AddSubReg, AddSubThree, AddReg, AddRdSp, AddSp, SubSp, ShiftImm, Alu, Rsbs, Adr, LdrLabel, LdrPool, MemImm, MemReg, MemSp, Push, Pop, Stm, LdmBack, Ldm, Extend, Rev, B, BCond, Bl, Bx, Blx, Svc, Udf, Hint, Barrier, Text, Data, Bss, Rodata, Global, TypeFunction, TypeObject, Size, Words, Halves, Bytes, Space, Align, Pool, FnStart, FnEnd, Save, Pad, SetFp, CantUnwind, PersonalityIndex, HandlerData}
+use Rattle.asm_read.specs.declared.statement.StmtKind.TheVariants.{Label, MovsImm, MovsReg, Mov, CmpImm, CmpReg, AddSubTwo, AddSubReg, AddSubThree, AddReg, AddRdSp, AddSp, SubSp, ShiftImm, Alu, Rsbs, Adr, LdrLabel, LdrPool, MemImm, MemReg, MemSp, Push, Pop, Stm, LdmBack, Ldm, Extend, Rev, B, BCond, Bl, Bx, Blx, Svc, Udf, Hint, Barrier, Text, Data, Bss, Rodata, Global, TypeFunction, TypeObject, Size, Words, Halves, Bytes, Ascii, Asciz, Space, Align, Pool, FnStart, FnEnd, Save, Pad, SetFp, CantUnwind, PersonalityIndex, HandlerData}
 use Rattle.asm_read.specs.Reading.{stmt, read_of}
 use Rattle.asm_text.specs.Written.{written, IsWritable, ReadsBack}
 use Rattle.asm_text.proofs.Chosen.{label_is}
@@ -8,6 +8,7 @@ use Rattle.asm_text.proofs.Plain.{movs_line, mov_line, cmp_line, ands_line, eors
 use Rattle.asm_text.proofs.Accesses.{add_line, str_index_line, strh_index_line, strb_index_line, ldrsb_index_line, ldr_index_line, ldrh_index_line, ldrb_index_line, ldrsh_index_line, str_offset_line, ldr_offset_line, strb_offset_line, ldrb_offset_line, strh_offset_line, ldrh_offset_line, ldr_sp_line, str_sp_line}
 use Rattle.asm_text.proofs.Listing.{push_line, pop_line, stm_line, ldm_back_line, ldm_line, save_line}
 use Rattle.asm_text.proofs.Expressing.{words_line, halves_line, bytes_line, pool_word_line}
+use Rattle.asm_text.proofs.Quoting.{ascii_line, asciz_line}
 use Rattle.asm_text.proofs.Numbered.{movs_number_line, cmp_number_line, adds_number_line, adds_three_line, subs_number_line, subs_three_line, lsls_number_line, lsrs_number_line, asrs_number_line, add_register_sp_line, add_sp_line, sub_sp_line, svc_line, udf_line, space_line, pad_line, index_line, setfp_line, align_line, rsbs_line}
 use Rattle.asm_text.proofs.Naming.{b_line, bl_line, beq_line, bne_line, bcs_line, bcc_line, bmi_line, bpl_line, bvs_line, bvc_line, bhi_line, bls_line, bge_line, blt_line, bgt_line, ble_line, global_line, function_line, object_line, adr_line, ldr_label_line, size_line}
 
@@ -165,6 +166,8 @@ reads_back (Size n) h = size_line n h
 reads_back (Words es) h = words_line es h
 reads_back (Halves es) h = halves_line es h
 reads_back (Bytes es) h = bytes_line es h
+reads_back (Ascii bs) h = ascii_line bs h
+reads_back (Asciz bs) h = asciz_line bs h
 reads_back (Space z) h = space_line z h
 reads_back (Align (pos n)) h = align_line n h
 reads_back (Align (negsuc n)) h = absurd h
@@ -177,4 +180,3 @@ reads_back (SetFp r z) h = setfp_line r z h.0 h.1
 reads_back CantUnwind h = cantunwind_line
 reads_back (PersonalityIndex z) h = index_line z h
 reads_back HandlerData h = handlerdata_line
-reads_back kind h = absurd h

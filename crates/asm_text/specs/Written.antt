@@ -1,13 +1,13 @@
 -- The canonical line of a statement: its mnemonic, a blank, and its operands as the manual writes them (Armv6-M
 -- Architecture Reference Manual, DDI 0419), or as the assembler does those of a directive.
-use Rattle.std.specs.Prelude.{◌≡◌, ◌≢◌, ℕ, zero, suc, ◌+◌, ◌-◌, ◌<◌, ◌≤◌, ◌==◌, ◌&&◌, not, nat_lt, Bool, true, false, if◌then◌else◌, List, [], ◌∷◌, ◌++◌, length, slice_index_or, Ok, ℤ, pos, negsuc, codes}
+use Rattle.std.specs.Prelude.{◌≡◌, ◌≢◌, ℕ, zero, suc, ◌+◌, ◌-◌, ◌<◌, ◌≤◌, ◌==◌, ◌&&◌, ◌||◌, not, nat_lt, Bool, true, false, if◌then◌else◌, List, [], ◌∷◌, ◌++◌, length, slice_index_or, Ok, ℤ, pos, negsuc, codes}
 use Rattle.std.specs.List.{list_all}
 use Rattle.std.specs.Fmt.{signed_decimal}
 use Rattle.asm_read.specs.declared.statement.StmtKind.{StmtKind}
-use Rattle.asm_read.specs.declared.statement.StmtKind.TheVariants.{Label, MovsImm, MovsReg, Mov, CmpImm, CmpReg, AddSubTwo, AddSubReg, AddSubThree, AddReg, AddRdSp, AddSp, SubSp, ShiftImm, Alu, Rsbs, Adr, LdrLabel, LdrPool, MemImm, MemReg, MemSp, Push, Pop, Stm, LdmBack, Ldm, Extend, Rev, B, BCond, Bl, Bx, Blx, Svc, Udf, Hint, Barrier, Text, Data, Bss, Rodata, Global, TypeFunction, TypeObject, Size, Words, Halves, Bytes, Space, Align, Pool, FnStart, FnEnd, Save, Pad, SetFp, CantUnwind, PersonalityIndex, HandlerData}
+use Rattle.asm_read.specs.declared.statement.StmtKind.TheVariants.{Label, MovsImm, MovsReg, Mov, CmpImm, CmpReg, AddSubTwo, AddSubReg, AddSubThree, AddReg, AddRdSp, AddSp, SubSp, ShiftImm, Alu, Rsbs, Adr, LdrLabel, LdrPool, MemImm, MemReg, MemSp, Push, Pop, Stm, LdmBack, Ldm, Extend, Rev, B, BCond, Bl, Bx, Blx, Svc, Udf, Hint, Barrier, Text, Data, Bss, Rodata, Global, TypeFunction, TypeObject, Size, Words, Halves, Bytes, Ascii, Asciz, Space, Align, Pool, FnStart, FnEnd, Save, Pad, SetFp, CantUnwind, PersonalityIndex, HandlerData}
 use Rattle.asm_read.specs.declared.statement.Expr.{Expr}
 use Rattle.asm_read.specs.declared.statement.Expr.TheVariants.{Num, Of, Diff, Prel31, Prel31Ref, Target2, Rel}
-use Rattle.asm_read.specs.Tokens.{is_digit, is_name_byte}
+use Rattle.asm_read.specs.Tokens.{within, is_digit, is_name_byte}
 use Rattle.asm_read.specs.Operands.{has_register}
 use Rattle.asm_read.specs.Reading.{stmt, read_of}
 
@@ -141,6 +141,20 @@ expressions [] = []
 expressions (e ∷ []) = expression e
 expressions (e ∷ f ∷ es) = expression e ++ (codes ", " ++ expressions (f ∷ es))
 
+-- a byte of a text: behind a backslash where it can't stand for itself
+abbrev pub escaped_byte : ℕ → List ℕ
+escaped_byte b =
+    if b == 10 then 92 ∷ 110 ∷ [] else if b == 9 then 92 ∷ 116 ∷ [] else if b == 13 then 92 ∷ 114 ∷ [] else if b == 0 then 92 ∷ 48 ∷ []
+    else if b == 92 then 92 ∷ 92 ∷ [] else if b == 34 then 92 ∷ 34 ∷ [] else b ∷ []
+
+abbrev pub escaped : List ℕ → List ℕ
+escaped [] = []
+escaped (b ∷ bs) = escaped_byte b ++ escaped bs
+
+-- "text"
+abbrev pub quoted : List ℕ → List ℕ
+quoted bytes = 34 ∷ (escaped bytes ++ (34 ∷ []))
+
 -- the line of a statement
 unfoldable pub written : StmtKind → List ℕ
 written (Label name) = name ++ codes ":"
@@ -192,6 +206,8 @@ written (Size name) = line (codes ".size") (name ++ (codes ", .-" ++ name))
 written (Words es) = line (codes ".word") (expressions es)
 written (Halves es) = line (codes ".half") (expressions es)
 written (Bytes es) = line (codes ".byte") (expressions es)
+written (Ascii bytes) = line (codes ".ascii") (quoted bytes)
+written (Asciz bytes) = line (codes ".asciz") (quoted bytes)
 written (Space n) = line (codes ".space") (signed_decimal n)
 written (Align n) = line (codes ".align") (signed_decimal n)
 written Pool = codes ".pool"
@@ -203,7 +219,6 @@ written (SetFp r off) = line (codes ".setfp") (sp_count r off)
 written CantUnwind = codes ".cantunwind"
 written (PersonalityIndex n) = line (codes ".personalityindex") (signed_decimal n)
 written HandlerData = codes ".handlerdata"
-written kind = []
 
 -- from -2,147,483,648 to 4,294,967,295
 abbrev pub InRange : ℤ → Type 0
@@ -240,6 +255,13 @@ AreExpressions word (e ∷ es) = IsExpression word e × AreExpressions word es
 abbrev pub IsList : Bool → List Expr → Type 0
 IsList word [] = ⊥
 IsList word (e ∷ es) = AreExpressions word (e ∷ es) × (length (expressions (e ∷ es)) ≤ 240)
+
+-- what a text has characters and escapes for, and no more than a line holds
+abbrev pub can_stand : ℕ → Bool
+can_stand b = b == 10 || b == 9 || b == 13 || b == 0 || within 32 126 b
+
+abbrev pub IsText : List ℕ → Type 0
+IsText bytes = (list_all can_stand bytes ≡ true) × (length (escaped bytes) ≤ 230)
 
 -- a statement whose fields the text has words for: registers, numbers of 32 bits, names, and fields of encodings with a
 -- mnemonic. A load or store of a word at sp is a statement of its own
@@ -293,6 +315,8 @@ IsWritable (Size name) = IsNameText name
 IsWritable (Words es) = IsList true es
 IsWritable (Halves es) = IsList false es
 IsWritable (Bytes es) = IsList false es
+IsWritable (Ascii bytes) = IsText bytes
+IsWritable (Asciz bytes) = IsText bytes
 IsWritable (Space n) = InRange n
 IsWritable (Align n) = IsPower n
 IsWritable Pool = Unit {0}
@@ -304,7 +328,6 @@ IsWritable (SetFp r off) = (r < 16) × InRange off
 IsWritable CantUnwind = Unit {0}
 IsWritable (PersonalityIndex n) = InRange n
 IsWritable HandlerData = Unit {0}
-IsWritable kind = ⊥
 
 -- a text of this one line is the statement at line 1
 abbrev pub ReadsBack : Type 0
