@@ -22,10 +22,10 @@ sp_then true ts v f h = h
 sp_then false ts v f h = refl
 
 -- a piece that doesn't go
-sp_not : (b : Bool) (ts : List Item) (v : Vals) (f : List Item → Vals → Step) → b ≡ false → and_then (if_so b ts v) f ≡ refused
+pub sp_not : (b : Bool) (ts : List Item) (v : Vals) (f : List Item → Vals → Step) → b ≡ false → and_then (if_so b ts v) f ≡ refused
 sp_not b ts v f h = rw h refl
 
-not_sp : (r : ℕ) → r < 16 → r ≢ 13 → same (register r) (codes "sp") ≡ false
+pub not_sp : (r : ℕ) → r < 16 → r ≢ 13 → same (register r) (codes "sp") ≡ false
 unfolding register
 not_sp = by_register (λ r. r ≢ 13 → same (register r) (codes "sp") ≡ false) (λ n. refl) (λ n. refl) (λ n. refl) (λ n. refl) (λ n. refl) (λ n. refl) (λ n. refl) (λ n. refl) (λ n. refl) (λ n. refl) (λ n. refl) (λ n. refl) (λ n. refl) (λ n. absurd (n refl)) (λ n. refl) (λ n. refl)
 

@@ -135,7 +135,7 @@ exprs_end w e (f ∷ fs) h = expr_end w e (sign 44 ∷ exprs_toks f fs []) h.0 (
 
 -- ---- and they stand where they may
 
-expr_stands : (w : Bool) (e : Expr) → IsExpression w e → Stands w e
+pub expr_stands : (w : Bool) (e : Expr) → IsExpression w e → Stands w e
 expr_stands w (Num z) h = tt
 expr_stands w (Of a n) h = tt
 expr_stands w (Diff a b n) h = tt
@@ -144,7 +144,7 @@ expr_stands w (Prel31Ref a) h = h.0
 expr_stands w (Target2 a) h = h.0
 expr_stands w (Rel a) h = h.0
 
-exprs_stand : (w : Bool) (e : Expr) (es : List Expr) → AreExpressions w (e ∷ es) → AllStand w e es
+pub exprs_stand : (w : Bool) (e : Expr) (es : List Expr) → AreExpressions w (e ∷ es) → AllStand w e es
 exprs_stand w e [] h = expr_stands w e h.0
 exprs_stand w e (f ∷ fs) h = (expr_stands w e h.0, exprs_stand w f fs h.1)
 
@@ -162,7 +162,7 @@ no_colons e [] = no_colon e []
 no_colons e (f ∷ fs) = no_colon e (sign 44 ∷ exprs_toks f fs [])
 
 -- a list of expressions
-of_values : (b : Bool) (w : List ℕ) (m : Makes) (k : StmtKind) (e : Expr) (es : List Expr) → IsMnemonic w → length w ≤ 15 → (h : IsList b (e ∷ es)) → chosen rows w (values b e es (exprs_stand b e es h.0) ∷ []) ≡ picked m (record none_yet { value = many b e es }) → ((text : List ℕ) (o : Operands) → Agrees text o (record none_yet { value = many b e es }) → kind_made text (record { makes = m; operands = o }) ≡ k) → read_of (line w (expressions (e ∷ es))) ≡ Ok (stmt 1 k ∷ [])
+pub of_values : (b : Bool) (w : List ℕ) (m : Makes) (k : StmtKind) (e : Expr) (es : List Expr) → IsMnemonic w → length w ≤ 15 → (h : IsList b (e ∷ es)) → chosen rows w (values b e es (exprs_stand b e es h.0) ∷ []) ≡ picked m (record none_yet { value = many b e es }) → ((text : List ℕ) (o : Operands) → Agrees text o (record none_yet { value = many b e es }) → kind_made text (record { makes = m; operands = o }) ≡ k) → read_of (line w (expressions (e ∷ es))) ≡ Ok (stmt 1 k ∷ [])
 of_values b w m k e es is brief h choice makes =
     let text = exprs_spelled e es in
     let size = ap length text in

@@ -16,4 +16,5 @@ pub mod Plain
 pub mod Accesses
 pub mod Numbered
 pub mod Naming
+pub mod Aliases
 pub mod Whole

@@ -220,6 +220,35 @@ written CantUnwind = codes ".cantunwind"
 written (PersonalityIndex n) = line (codes ".personalityindex") (signed_decimal n)
 written HandlerData = codes ".handlerdata"
 
+-- rd, sp, n
+abbrev pub sp_count_plain : ℕ → ℤ → List ℕ
+sp_count_plain a z = register a ++ (codes ", sp, " ++ signed_decimal z)
+
+-- rt, [rn]
+abbrev pub address : ℕ → ℕ → List ℕ
+address t n = register t ++ (codes ", [" ++ (register n ++ codes "]"))
+
+-- rt, [sp]
+abbrev pub sp_address : ℕ → List ℕ
+sp_address t = register t ++ codes ", [sp]"
+
+-- other lines of a statement: other names of its word, a number without its # or with one, no offset where it is 0
+unfoldable pub also : StmtKind → List (List ℕ)
+also (MemImm op t n (pos zero)) = line (word_of offset_words op) (address t n) ∷ []
+also (MemSp load t (pos zero)) = line (if load then codes "ldr" else codes "str") (sp_address t) ∷ []
+also (BCond (suc (suc zero)) name) = line (codes "bhs") name ∷ []
+also (BCond (suc (suc (suc zero))) name) = line (codes "blo") name ∷ []
+also (Global name) = line (codes ".globl") name ∷ []
+also (Words es) = line (codes ".long") (expressions es) ∷ line (codes ".4byte") (expressions es) ∷ []
+also (Halves es) = line (codes ".short") (expressions es) ∷ line (codes ".2byte") (expressions es) ∷ []
+also (Space n) = line (codes ".space") (hash n) ∷ line (codes ".zero") (signed_decimal n) ∷ line (codes ".zero") (hash n) ∷ []
+also (Align n) = line (codes ".align") (hash n) ∷ line (codes ".p2align") (signed_decimal n) ∷ line (codes ".p2align") (hash n) ∷ []
+also Pool = codes ".ltorg" ∷ []
+also (Pad n) = line (codes ".pad") (signed_decimal n) ∷ []
+also (SetFp r off) = line (codes ".setfp") (sp_count_plain r off) ∷ []
+also (PersonalityIndex n) = line (codes ".personalityindex") (hash n) ∷ []
+also kind = []
+
 -- from -2,147,483,648 to 4,294,967,295
 abbrev pub InRange : ℤ → Type 0
 InRange (pos n) = n ≤ 4294967295
@@ -329,6 +358,10 @@ IsWritable CantUnwind = Unit {0}
 IsWritable (PersonalityIndex n) = InRange n
 IsWritable HandlerData = Unit {0}
 
--- a text of this one line is the statement at line 1
+-- each of these texts, of one line, is the statement at line 1
+abbrev pub AllRead : List (List ℕ) → StmtKind → Type 0
+AllRead [] kind = Unit {0}
+AllRead (text ∷ texts) kind = (read_of text ≡ Ok (stmt 1 kind ∷ [])) × AllRead texts kind
+
 abbrev pub ReadsBack : Type 0
-ReadsBack = (kind : StmtKind) → IsWritable kind → read_of (written kind) ≡ Ok (stmt 1 kind ∷ [])
+ReadsBack = (kind : StmtKind) → IsWritable kind → AllRead (written kind ∷ also kind) kind
