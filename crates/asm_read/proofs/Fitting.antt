@@ -2,9 +2,8 @@
 use Rattle.std.proofs.lemmas.List.{drop_all}
 use Rattle.std.proofs.Common.{◌<◌, ◌≤◌, ◌+◌, suc, length, drop, map, get_or, drop-cons, arith, ◌≡◌, ℕ, List, [], ◌∷◌, Option, Ok, Err, refl, ap, ◌∙◌}
 use Rattle.asm_read.specs.declared.line.Stop.{Stop}
-use Rattle.asm_read.specs.declared.table.Row.{Row}
-use Rattle.asm_read.specs.Forms.{Form}
-use Rattle.asm_read.specs.Search.{form_of, try_form, otherwise, first_fit}
+use Rattle.asm_read.specs.Forms.{Row, form_of, Form}
+use Rattle.asm_read.specs.Search.{try_form, otherwise, first_fit}
 use Rattle.asm_read.specs.declared.form.Piece.{Piece}
 use Rattle.asm_read.specs.declared.form.Operands.{Operands}
 use Rattle.asm_read.specs.Operands.{◌>>=◌}

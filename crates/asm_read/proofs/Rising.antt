@@ -8,15 +8,14 @@ use Rattle.std.proofs.lemmas.List.{take_all}
 use Rattle.std.proofs.lemmas.List.Sums.{prefix_len_is}
 use Rattle.std.specs.Cmp.Lexicographic.{slice_cmp, slice_partial_cmp, lists_agrees, nat_list_cmp_total, texts_ties, same_text}
 use Rattle.std.specs.Ordering.{nat_cmp, ordering_reverse, is_lt, is_eq, is_some_and}
-use Rattle.asm_read.specs.declared.table.Row.{Row}
 use Rattle.asm_read.specs.declared.line.Stop.{Stop}
 use Rattle.asm_read.specs.declared.choice.Statement.{Statement}
 use Rattle.asm_read.specs.Operands.{same}
 use Rattle.asm_read.specs.Fits.{fresh, fits}
 use Rattle.asm_read.specs.declared.table.Group.{Group}
 use Rattle.asm_read.specs.declared.table.Group.TheVariants as group
-use Rattle.asm_read.specs.Forms.{Form, group_of, forms_in, directives, a_to_b, c_to_l, m_to_z, rows}
-use Rattle.asm_read.specs.Search.{form_of, is_before, rises, tried, try_form, otherwise, first_fit}
+use Rattle.asm_read.specs.Forms.{Row, form_of, Form, group_of, forms_in, directives, a_to_b, c_to_l, m_to_z, rows}
+use Rattle.asm_read.specs.Search.{is_before, rises, tried, try_form, otherwise, first_fit}
 use Rattle.asm_read.proofs.Fitting.{first_fit_none, first_fit_step}
 
 -- ---- the order of words
@@ -130,31 +129,31 @@ none_behind (f ∷ fs) v w line from best h r =
     ∙ none_behind fs f.word w line from best next (more_rise v f fs r)
 
 abbrev pub words_before : List ℕ → List Row → ℕ
-words_before w rows = prefix_len (λ (r : Row). is_before r.word.now w) rows
+words_before w rows = prefix_len (λ (r : Row). is_before (form_of r).word w) rows
 
 -- forms of words before a word are passed over
-skip_by : (r : Row) (rs : List Row) (w line : List ℕ) (from : ℕ) (best : Option Stop) (b : Bool) → is_before r.word.now w ≡ b → first_fit (map form_of (drop (words_before w rs) rs)) w line from best ≡ first_fit (map form_of rs) w line from best → first_fit (map form_of (drop (cond b (1 + words_before w rs) 0) (r ∷ rs))) w line from best ≡ first_fit (map form_of (r ∷ rs)) w line from best
+skip_by : (r : Row) (rs : List Row) (w line : List ℕ) (from : ℕ) (best : Option Stop) (b : Bool) → is_before (form_of r).word w ≡ b → first_fit (map form_of (drop (words_before w rs) rs)) w line from best ≡ first_fit (map form_of rs) w line from best → first_fit (map form_of (drop (cond b (1 + words_before w rs) 0) (r ∷ rs))) w line from best ≡ first_fit (map form_of (r ∷ rs)) w line from best
 skip_by r rs w line from best true e h =
     ap (λ k. first_fit (map form_of (drop k (r ∷ rs))) w line from best) (let j : 1 + words_before w rs ≡ suc (words_before w rs) = omega arith in j)
     ∙ h
-    ∙ sym (other_form (form_of r) (map form_of rs) w line from best (before_other r.word.now w e))
+    ∙ sym (other_form (form_of r) (map form_of rs) w line from best (before_other (form_of r).word w e))
 skip_by r rs w line from best false e h = refl
 
 skipped : (rs : List Row) (w line : List ℕ) (from : ℕ) (best : Option Stop) → first_fit (map form_of (drop (words_before w rs) rs)) w line from best ≡ first_fit (map form_of rs) w line from best
 skipped [] w line from best = refl
-skipped (r ∷ rs) w line from best = skip_by r rs w line from best (is_before r.word.now w) refl (skipped rs w line from best)
+skipped (r ∷ rs) w line from best = skip_by r rs w line from best (is_before (form_of r).word w) refl (skipped rs w line from best)
 
 -- and behind them none is before it
-rest_by : (r : Row) (rs : List Row) (v w : List ℕ) (b : Bool) → is_before r.word.now w ≡ b → rises v (map form_of (r ∷ rs)) ≡ true → rises w (map form_of (drop (words_before w rs) rs)) ≡ true → rises w (map form_of (drop (cond b (1 + words_before w rs) 0) (r ∷ rs))) ≡ true
+rest_by : (r : Row) (rs : List Row) (v w : List ℕ) (b : Bool) → is_before (form_of r).word w ≡ b → rises v (map form_of (r ∷ rs)) ≡ true → rises w (map form_of (drop (words_before w rs) rs)) ≡ true → rises w (map form_of (drop (cond b (1 + words_before w rs) 0) (r ∷ rs))) ≡ true
 rest_by r rs v w true e h i =
     ap (λ k. rises w (map form_of (drop k (r ∷ rs)))) (let j : 1 + words_before w rs ≡ suc (words_before w rs) = omega arith in j) ∙ i
 rest_by r rs v w false e h i =
-    ap (λ b. not b && rises r.word.now (map form_of rs)) e ∙ more_rise v (form_of r) (map form_of rs) h
+    ap (λ b. not b && rises (form_of r).word (map form_of rs)) e ∙ more_rise v (form_of r) (map form_of rs) h
 
 rest_rises : (rs : List Row) (v w : List ℕ) → rises v (map form_of rs) ≡ true → rises w (map form_of (drop (words_before w rs) rs)) ≡ true
 rest_rises [] v w h = refl
 rest_rises (r ∷ rs) v w h =
-    rest_by r rs v w (is_before r.word.now w) refl h (rest_rises rs r.word.now w (more_rise v (form_of r) (map form_of rs) h))
+    rest_by r rs v w (is_before (form_of r).word w) refl h (rest_rises rs (form_of r).word w (more_rise v (form_of r) (map form_of rs) h))
 
 -- the forms from where those of a word begin
 pub begun : (rs : List Row) (begin : ℕ) (w line : List ℕ) (from : ℕ) (best : Option Stop) → begin ≡ words_before w rs → first_fit (map form_of (drop begin rs)) w line from best ≡ first_fit (map form_of rs) w line from best
@@ -163,22 +162,22 @@ begun rs begin w line from best e = ap (λ k. first_fit (map form_of (drop k rs)
 pub begun_rises : (rs : List Row) (begin : ℕ) (w : List ℕ) → begin ≡ words_before w rs → rises [] (map form_of rs) ≡ true → rises w (map form_of (drop begin rs)) ≡ true
 begun_rises rs begin w e h = ap (λ k. rises w (map form_of (drop k rs))) e ∙ rest_rises rs [] w h
 
-floor_before : (rs : List Row) (v w : List ℕ) (j : ℕ) (d : Row) → rises v (map form_of rs) ≡ true → j < length rs → is_before (get_or rs j d).word.now w ≡ true → is_before v w ≡ true
+floor_before : (rs : List Row) (v w : List ℕ) (j : ℕ) (d : Row) → rises v (map form_of rs) ≡ true → j < length rs → is_before (form_of (get_or rs j d)).word w ≡ true → is_before v w ≡ true
 floor_before [] v w j d h i e = absurd (omega arith)
-floor_before (r ∷ rs) v w zero d h i e = before_nearer r.word.now v w (first_rises v (form_of r) (map form_of rs) h) e
+floor_before (r ∷ rs) v w zero d h i e = before_nearer (form_of r).word v w (first_rises v (form_of r) (map form_of rs) h) e
 floor_before (r ∷ rs) v w (suc j) d h i e =
-    before_nearer r.word.now v w (first_rises v (form_of r) (map form_of rs) h)
-    (floor_before rs r.word.now w j d (more_rise v (form_of r) (map form_of rs) h) (omega arith) e)
+    before_nearer (form_of r).word v w (first_rises v (form_of r) (map form_of rs) h)
+    (floor_before rs (form_of r).word w j d (more_rise v (form_of r) (map form_of rs) h) (omega arith) e)
 
 -- halving finds where they begin
-pub parted : (rs : List Row) (v w : List ℕ) → rises v (map form_of rs) ≡ true → IsPartitionedBy (λ (r : Row). is_before r.word.now w) rs
+pub parted : (rs : List Row) (v w : List ℕ) → rises v (map form_of rs) ≡ true → IsPartitionedBy (λ (r : Row). is_before (form_of r).word w) rs
 parted [] v w h i j d le lt e = absurd (omega arith)
 parted (r ∷ rs) v w h zero zero d le lt e = e
 parted (r ∷ rs) v w h zero (suc j) d le lt e =
-    floor_before rs r.word.now w j d (more_rise v (form_of r) (map form_of rs) h) (omega arith) e
+    floor_before rs (form_of r).word w j d (more_rise v (form_of r) (map form_of rs) h) (omega arith) e
 parted (r ∷ rs) v w h (suc i) zero d le lt e = absurd (omega arith)
 parted (r ∷ rs) v w h (suc i) (suc j) d le lt e =
-    parted rs r.word.now w (more_rise v (form_of r) (map form_of rs) h) i j d (omega arith) (omega arith) e
+    parted rs (form_of r).word w (more_rise v (form_of r) (map form_of rs) h) i j d (omega arith) (omega arith) e
 
 partition_by : {X : Type 0} (p : X → Bool) (xs : List X) (i : ℕ) (d : X) → i ≤ length xs → IsPartitionPoint (λ y. p y ≡ true) (λ y. p y ≡ false) xs i → i ≡ prefix_len p xs
 partition_by p xs i d fits h = sym (prefix_len_is p xs i d fits (λ k b. h.0 k d (omega arith) b) (λ b. h.1 i d (omega arith) b))
@@ -188,41 +187,45 @@ pub partition_is : {X : Type 0} (p : X → Bool) (xs : List X) (i : ℕ) → i �
 partition_is p [] i fits h = omega arith
 partition_is p (x ∷ xs) i fits h = partition_by p (x ∷ xs) i x fits h
 
+pub not_other : (b : Bool) → false ≡ not b → b ≡ true
+not_other true h = refl
+not_other false h = cc
+
 -- ---- one row after another
 
 row_here : (rs : List Row) (i : ℕ) (d : Row) → i < length rs → drop i rs ≡ get_or rs i d ∷ drop (i + 1) rs
 row_here rs i d h = drop-cons rs i d h ∙ ap (λ j. get_or rs i d ∷ drop j rs) (let j : suc i ≡ i + 1 = omega arith in j)
 
-row_fit : (rs : List Row) (i : ℕ) (d : Row) (w line : List ℕ) (from : ℕ) (best : Option Stop) → i < length rs → same (get_or rs i d).word.now w ≡ true → first_fit (map form_of (drop i rs)) w line from best ≡ otherwise (tried (get_or rs i d).makes best (fits (get_or rs i d).pieces.now line (fresh from))) (λ c. first_fit (map form_of (drop (i + 1) rs)) w line from c)
+row_fit : (rs : List Row) (i : ℕ) (d : Row) (w line : List ℕ) (from : ℕ) (best : Option Stop) → i < length rs → same (form_of (get_or rs i d)).word w ≡ true → first_fit (map form_of (drop i rs)) w line from best ≡ otherwise (tried (form_of (get_or rs i d)).makes best (fits (form_of (get_or rs i d)).pieces line (fresh from))) (λ c. first_fit (map form_of (drop (i + 1) rs)) w line from c)
 row_fit rs i d w line from best h s =
     ap (λ x. first_fit (map form_of x) w line from best) (row_here rs i d h)
     ∙ form_of_word (form_of (get_or rs i d)) (map form_of (drop (i + 1) rs)) w line from best s
 
-pub row_hit : (rs : List Row) (i : ℕ) (d : Row) (w line : List ℕ) (from : ℕ) (best : Option Stop) (s : Statement) → i < length rs → same (get_or rs i d).word.now w ≡ true → tried (get_or rs i d).makes best (fits (get_or rs i d).pieces.now line (fresh from)) ≡ Ok s → first_fit (map form_of (drop i rs)) w line from best ≡ Ok s
+pub row_hit : (rs : List Row) (i : ℕ) (d : Row) (w line : List ℕ) (from : ℕ) (best : Option Stop) (s : Statement) → i < length rs → same (form_of (get_or rs i d)).word w ≡ true → tried (form_of (get_or rs i d)).makes best (fits (form_of (get_or rs i d)).pieces line (fresh from)) ≡ Ok s → first_fit (map form_of (drop i rs)) w line from best ≡ Ok s
 row_hit rs i d w line from best s h e t =
     row_fit rs i d w line from best h e ∙ ap (λ r. otherwise r (λ c. first_fit (map form_of (drop (i + 1) rs)) w line from c)) t
 
-pub row_miss : (rs : List Row) (i : ℕ) (d : Row) (w line : List ℕ) (from : ℕ) (best next : Option Stop) → i < length rs → same (get_or rs i d).word.now w ≡ true → tried (get_or rs i d).makes best (fits (get_or rs i d).pieces.now line (fresh from)) ≡ Err next → first_fit (map form_of (drop i rs)) w line from best ≡ first_fit (map form_of (drop (i + 1) rs)) w line from next
+pub row_miss : (rs : List Row) (i : ℕ) (d : Row) (w line : List ℕ) (from : ℕ) (best next : Option Stop) → i < length rs → same (form_of (get_or rs i d)).word w ≡ true → tried (form_of (get_or rs i d)).makes best (fits (form_of (get_or rs i d)).pieces line (fresh from)) ≡ Err next → first_fit (map form_of (drop i rs)) w line from best ≡ first_fit (map form_of (drop (i + 1) rs)) w line from next
 row_miss rs i d w line from best next h e t =
     row_fit rs i d w line from best h e ∙ ap (λ r. otherwise r (λ c. first_fit (map form_of (drop (i + 1) rs)) w line from c)) t
 
 -- behind a form of the word none is before it
-pub row_rises : (rs : List Row) (i : ℕ) (d : Row) (w : List ℕ) → i < length rs → same (get_or rs i d).word.now w ≡ true → rises w (map form_of (drop i rs)) ≡ true → rises w (map form_of (drop (i + 1) rs)) ≡ true
+pub row_rises : (rs : List Row) (i : ℕ) (d : Row) (w : List ℕ) → i < length rs → same (form_of (get_or rs i d)).word w ≡ true → rises w (map form_of (drop i rs)) ≡ true → rises w (map form_of (drop (i + 1) rs)) ≡ true
 row_rises rs i d w h e r =
     let here = sym (ap (λ x. rises w (map form_of x)) (row_here rs i d h)) ∙ r in
-    subst (λ x. rises x (map form_of (drop (i + 1) rs)) ≡ true) (same_text (get_or rs i d).word.now w (sym e))
+    subst (λ x. rises x (map form_of (drop (i + 1) rs)) ≡ true) (same_text (form_of (get_or rs i d)).word w (sym e))
     (more_rise w (form_of (get_or rs i d)) (map form_of (drop (i + 1) rs)) here)
 
 -- a form of another word, and all behind it
-pub row_other : (rs : List Row) (i : ℕ) (d : Row) (w line : List ℕ) (from : ℕ) (best : Option Stop) → i < length rs → rises w (map form_of (drop i rs)) ≡ true → same (get_or rs i d).word.now w ≡ false → first_fit (map form_of (drop i rs)) w line from best ≡ Err best
+pub row_other : (rs : List Row) (i : ℕ) (d : Row) (w line : List ℕ) (from : ℕ) (best : Option Stop) → i < length rs → rises w (map form_of (drop i rs)) ≡ true → same (form_of (get_or rs i d)).word w ≡ false → first_fit (map form_of (drop i rs)) w line from best ≡ Err best
 row_other rs i d w line from best h r e =
     let row = get_or rs i d in
     let more = map form_of (drop (i + 1) rs) in
     let here = sym (ap (λ x. rises w (map form_of x)) (row_here rs i d h)) ∙ r in
-    let behind = other_behind row.word.now w (first_rises w (form_of row) more here) e in
+    let behind = other_behind (form_of row).word w (first_rises w (form_of row) more here) e in
     ap (λ x. first_fit (map form_of x) w line from best) (row_here rs i d h)
     ∙ other_form (form_of row) more w line from best e
-    ∙ none_behind more row.word.now w line from best behind (more_rise w (form_of row) more here)
+    ∙ none_behind more (form_of row).word w line from best behind (more_rise w (form_of row) more here)
 
 pub rest_of : (rs : List Row) (begin : ℕ) → take (length rs - begin) (drop begin rs) ≡ drop begin rs
 rest_of rs begin = take_all (length rs - begin) (drop begin rs) (omega (arith, length-drop begin rs))

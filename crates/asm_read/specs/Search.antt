@@ -5,17 +5,12 @@ use Rattle.std.specs.Cmp.Lexicographic.{slice_cmp}
 use Rattle.asm_read.specs.declared.fault.SourceWhat.{SourceWhat}
 use Rattle.asm_read.specs.declared.fault.SourceWhat.TheVariants.{BadOperand}
 use Rattle.asm_read.specs.declared.line.Stop.{Stop}
-use Rattle.asm_read.specs.declared.table.Row.{Row}
 use Rattle.asm_read.specs.declared.form.Operands.{Operands}
 use Rattle.asm_read.specs.declared.makes.Makes.{Makes}
 use Rattle.asm_read.specs.declared.choice.Statement.{Statement}
 use Rattle.asm_read.specs.Operands.{same}
 use Rattle.asm_read.specs.Fits.{fresh, fits}
-use Rattle.asm_read.specs.Forms.{Form, form}
-
--- a row of the code's table as a form
-abbrev pub form_of : Row → Form
-form_of row = form row.word.now row.pieces.now row.makes
+use Rattle.asm_read.specs.Forms.{Form}
 
 -- whether a word stands before another, byte by byte
 abbrev pub is_before : List ℕ → List ℕ → Bool

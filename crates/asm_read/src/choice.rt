@@ -1,10 +1,9 @@
 //! The form that fits the tokens of a line (docs/source-language.md).
 ghost use Rattle.std.specs.Prelude.{◌≡◌, ◌≤◌, ◌⊎◌, [], true, length, map, Option, None, IfErr, IfSome, MatchOption};
 ghost use Rattle.std.specs.List.{prefix_len};
-ghost use Rattle.asm_read.specs.declared.table.Row.{Row};
 ghost use Rattle.asm_read.specs.Fits.{fresh, fits};
-ghost use Rattle.asm_read.specs.Forms.{rows};
-ghost use Rattle.asm_read.specs.Search.{form_of, farther, is_operand, is_before, rises, tried, first_fit};
+ghost use Rattle.asm_read.specs.Forms.{Row as FormRow, form_of, rows};
+ghost use Rattle.asm_read.specs.Search.{farther, is_operand, is_before, rises, tried, first_fit};
 
 use crate::fault::SourceWhat;
 use crate::form::{Operands, fits, fresh};
@@ -55,14 +54,12 @@ fn try_form(
 ) -> Result<Statement, Option<Stop>>
     requires from { from ≤ length line.now }
     requires best { IfSome best (λ s. s.at ≤ length line.now) }
-    ensures fit { result ≡ tried row.now.makes best (fits row.now.pieces.now line.now (fresh from)) }
+    ensures fit { let form = form_of row.now in result ≡ tried form.makes best (fits form.pieces line.now (fresh from)) }
     ensures stop { IfErr result (λ b. IfSome b (λ s. s.at ≤ length line.now)) }
 {
-    match fits(row.pieces, line, fresh(from)) {
-        Ok(operands) => Ok(Statement {
-            makes: row.makes,
-            operands,
-        }),
+    let (_, pieces, makes) = *row;
+    match fits(pieces, line, fresh(from)) {
+        Ok(operands) => Ok(Statement { makes, operands }),
         Err(stop) => Err(Some(farther(best, stop))),
     }
 }
@@ -78,10 +75,10 @@ fn is_before(word: &[u8], other: &[u8]) -> bool
 /// How many of these forms have words before a word.
 fn begin_of(rows: &[Row], word: &[u8]) -> usize
     requires { rises [] (map form_of rows.now) ≡ true }
-    ensures count { result ≡ prefix_len (λ (r : Row). is_before r.word.now word.now) rows.now }
+    ensures count { result ≡ prefix_len (λ (r : FormRow). is_before (form_of r).word word.now) rows.now }
     ensures within { result ≤ length rows.now }
 {
-    rows.partition_point(|row| is_before(row.word, word))
+    rows.partition_point(|row| is_before(row.0, word))
 }
 
 /// The first of these forms that begins with a word and fits; else the farthest stop, where one begins with it. None of
@@ -95,7 +92,7 @@ fn first_fit(rows: &[Row], word: &[u8], line: &[u8], from: usize) -> Result<Stat
 {
     let mut so_far = None;
     for row in rows {
-        if row.word != word {
+        if row.0 != word {
             return Err(so_far);
         }
         match try_form(row, line, from, so_far) {

@@ -11,7 +11,8 @@ use Rattle.asm_read.specs.declared.statement.Expr.{Expr}
 use Rattle.asm_read.specs.declared.statement.StmtKind.{StmtKind}
 use Rattle.asm_read.specs.declared.statement.StmtKind.TheVariants.{MemImm, MemSp, BCond, Global, Words, Halves, Space, Align, Pool, Pad, SetFp, PersonalityIndex}
 use Rattle.asm_read.specs.Operands.{same}
-use Rattle.asm_read.specs.Forms.{register_name, register_value, sp_offset as sp_offset_pieces, sp_alone, base_offset, base_alone, directives, a_to_b, c_to_l, m_to_z, rows}
+use Rattle.asm_read.specs.Forms.{directives, a_to_b, c_to_l, m_to_z, rows}
+use Rattle.asm_text.proofs.Pieces.{register_name, register_value, sp_offset as sp_offset_pieces, sp_alone, base_offset, base_alone}
 use Rattle.asm_read.specs.Statements.{kind_of as kind_made}
 use Rattle.asm_read.specs.Reading.{stmt, read_of}
 use Rattle.asm_text.specs.Written.{register, InRange, IsNameText, IsList, IsWritable, AllRead, also, line, hash, address, sp_address, sp_count_plain, expressions}

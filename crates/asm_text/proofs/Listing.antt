@@ -8,7 +8,8 @@ use Rattle.asm_read.specs.declared.makes.Directive.TheVariants as directive
 use Rattle.asm_read.specs.declared.statement.StmtKind.{StmtKind}
 use Rattle.asm_read.specs.declared.statement.StmtKind.TheVariants.{Push, Pop, Stm, LdmBack, Ldm, Save}
 use Rattle.asm_read.specs.Operands.{has_register}
-use Rattle.asm_read.specs.Forms.{base_list, base_back_list, directives, a_to_b, c_to_l, m_to_z, rows}
+use Rattle.asm_read.specs.Forms.{directives, a_to_b, c_to_l, m_to_z, rows}
+use Rattle.asm_text.proofs.Pieces.{base_list, base_back_list}
 use Rattle.asm_read.specs.Statements.{kind_of as kind_made}
 use Rattle.asm_read.specs.Reading.{stmt, read_of}
 use Rattle.asm_text.specs.Written.{register, registers_from, braced, line}

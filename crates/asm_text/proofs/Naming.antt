@@ -5,7 +5,8 @@ use Rattle.asm_read.specs.declared.makes.Makes.TheVariants as makes
 use Rattle.asm_read.specs.declared.makes.Named.TheVariants as name
 use Rattle.asm_read.specs.declared.statement.StmtKind.TheVariants.{Adr, LdrLabel, B, BCond, Bl, Global, TypeFunction, TypeObject, Size}
 use Rattle.asm_read.specs.Operands.{same}
-use Rattle.asm_read.specs.Forms.{name_size, directives, a_to_b, c_to_l, m_to_z, rows}
+use Rattle.asm_read.specs.Forms.{directives, a_to_b, c_to_l, m_to_z, rows}
+use Rattle.asm_text.proofs.Pieces.{name_size}
 use Rattle.asm_read.specs.Statements.{kind_of as kind_made}
 use Rattle.asm_read.specs.Reading.{stmt, read_of}
 use Rattle.asm_text.specs.Written.{IsNameText, line, register_name as register_and_name}

@@ -1,5 +1,6 @@
 use Rattle.std.proofs.Common.{◌≡◌, ◌≤◌, true, length, drop, map, None, IfSome}
-use Rattle.asm_read.specs.Search.{form_of, rises, first_fit}
+use Rattle.asm_read.specs.Forms.{form_of}
+use Rattle.asm_read.specs.Search.{rises, first_fit}
 use Rattle.asm_read.proofs.choice.first_fit.Given as goal
 
 abbrev pub invariant-loop-row : goal.invariant-loop-row

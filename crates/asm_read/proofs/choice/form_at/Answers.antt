@@ -1,6 +1,6 @@
 use Rattle.std.proofs.Common.{◌∙◌, ap, [], map, None}
-use Rattle.asm_read.specs.Forms.{forms_in}
-use Rattle.asm_read.specs.Search.{form_of, rises, first_fit}
+use Rattle.asm_read.specs.Forms.{form_of, forms_in}
+use Rattle.asm_read.specs.Search.{rises, first_fit}
 use Rattle.asm_read.proofs.Rising.{group_rises, begun, begun_rises, rest_of, word_grouped}
 use Rattle.asm_read.proofs.choice.form_at.Goals as goal
 
