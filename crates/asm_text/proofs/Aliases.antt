@@ -1,5 +1,5 @@
 -- Other lines of a statement: other names of its word, numbers with and without a #, and addresses without an offset.
-use Rattle.std.proofs.Common.{◌≡◌, ◌≢◌, ℕ, zero, suc, ◌<◌, ◌≤◌, true, false, List, [], ◌∷◌, length, Ok, ℤ, pos, negsuc, refl, ap, arith, codes}
+use Rattle.std.proofs.Common.{◌≡◌, ◌≢◌, ℕ, zero, suc, ◌<◌, true, false, List, [], ◌∷◌, Ok, ℤ, pos, negsuc, refl, ap, arith, codes}
 use Rattle.std.specs.Fmt.{signed_decimal}
 use Rattle.asm_read.specs.declared.form.Operands.{Operands}
 use Rattle.asm_read.specs.declared.makes.Makes.{Makes}
@@ -16,8 +16,8 @@ use Rattle.asm_text.proofs.Pieces.{register_name, register_value, sp_offset as s
 use Rattle.asm_read.specs.Statements.{kind_of as kind_made}
 use Rattle.asm_read.specs.Reading.{stmt, read_of}
 use Rattle.asm_text.specs.Written.{register, InRange, IsNameText, IsList, IsWritable, AllRead, also, line, hash, address, sp_address, sp_count_plain, expressions}
-use Rattle.asm_text.proofs.Items.{Item, reg, num, sign}
-use Rattle.asm_text.proofs.Fitted.{none_yet, Agrees, Step, went, refused, fitted}
+use Rattle.asm_text.proofs.Items.{reg, num, sign}
+use Rattle.asm_text.proofs.Fitted.{none_yet, Agrees, went, refused, fitted}
 use Rattle.asm_text.proofs.Chosen.{picked, chosen}
 use Rattle.asm_text.proofs.Standing.{cost, costs, IsMnemonic, stands, alone, comma_ends, open_ends, close_ends, sp, values}
 use Rattle.asm_text.proofs.Shapes.{of_name, of_number, of_hash}

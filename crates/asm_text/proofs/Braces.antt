@@ -1,13 +1,13 @@
 -- The text of a register list: its registers are those that the list has.
-use Rattle.std.proofs.Common.{◌≡◌, ℕ, zero, suc, ◌+◌, ◌-◌, ◌*◌, ◌/◌, ◌%◌, ◌<◌, ◌≤◌, ◌==◌, Bool, true, false, if◌then◌else◌, List, [], ◌∷◌, ◌++◌, length, bit_or, refl, ap, sym, ◌∙◌, arith, codes}
+use Rattle.std.proofs.Common.{◌≡◌, ℕ, zero, suc, ◌+◌, ◌-◌, ◌*◌, ◌/◌, ◌%◌, ◌<◌, ◌≤◌, ◌==◌, Bool, true, false, if◌then◌else◌, List, [], ◌∷◌, ◌++◌, length, bit_or, refl, ap, ◌∙◌, arith}
 use Rattle.std.proofs.lemmas.Nat.{or_comm, or_shifted}
 use Rattle.std.proofs.lemmas.Bool.Decides.{nat_tests}
 use Rattle.asm_read.specs.Tokens.{front_of}
 use Rattle.asm_read.specs.Operands.{has_register, register_mask}
 use Rattle.asm_text.specs.Written.{register, registers_from, closed, braced}
-use Rattle.asm_text.proofs.Toks.{Tok, reg, sign, spelled, Ends, AllEnd, behind}
+use Rattle.asm_text.proofs.Toks.{sign, spelled, Ends, AllEnd}
 use Rattle.asm_text.proofs.Lists.{list_toks, masked}
-use Rattle.asm_text.proofs.Standing.{cost, costs, comma_ends}
+use Rattle.asm_text.proofs.Standing.{cost, costs}
 
 -- registers, each of 16
 abbrev pub AreRegisters : List ℕ → Type 0

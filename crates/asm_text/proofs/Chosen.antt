@@ -3,7 +3,6 @@ use Rattle.std.proofs.Common.{◌≡◌, ℕ, ◌+◌, ◌≤◌, ◌==◌, ◌&
 use Rattle.std.proofs.lemmas.List.{append-nil, drop_at}
 use Rattle.std.proofs.lemmas.Bool.{ne_eqb, le-ltb}
 use Rattle.asm_read.specs.declared.token.Kind.TheVariants.{Word}
-use Rattle.asm_read.specs.declared.token.Token.{Token}
 use Rattle.asm_read.specs.declared.line.Stop.{Stop}
 use Rattle.asm_read.specs.declared.form.Operands.{Operands}
 use Rattle.asm_read.specs.declared.makes.Makes.{Makes}
@@ -26,7 +25,7 @@ use Rattle.asm_read.specs.declared.statement.StmtKind.TheVariants.{Label}
 use Rattle.std.proofs.lemmas.List.Folds.{list_all-append}
 use Rattle.asm_text.proofs.Heads.{head_of}
 use Rattle.asm_text.proofs.Items.{Item, flat}
-use Rattle.asm_text.proofs.Toks.{Tok, word, spelled, AllEnd, head_kind, Heads, Reads, reads, token_lead, bytes_at, filled, toks_few, sign, Ends}
+use Rattle.asm_text.proofs.Toks.{Tok, word, spelled, AllEnd, head_kind, Reads, reads, token_lead, bytes_at, filled, toks_few, sign, Ends}
 use Rattle.asm_text.proofs.Fitted.{Vals, none_yet, Step, went, refused, unknown, fitted, Agrees, Follows, fits_follows}
 
 pub data Choice : Type 0 where

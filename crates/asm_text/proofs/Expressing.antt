@@ -1,5 +1,5 @@
 -- Statements with expressions.
-use Rattle.std.proofs.Common.{◌≡◌, ℕ, zero, suc, ◌+◌, ◌<◌, ◌≤◌, ◌==◌, Bool, true, false, if◌then◌else◌, List, [], ◌∷◌, ◌++◌, length, length-append, append_assoc, Ok, ℤ, pos, negsuc, refl, ap, sym, subst, ◌∙◌, arith, codes}
+use Rattle.std.proofs.Common.{◌≡◌, ℕ, zero, suc, ◌<◌, ◌≤◌, ◌==◌, Bool, true, false, if◌then◌else◌, List, [], ◌∷◌, ◌++◌, length, length-append, append_assoc, Ok, ℤ, pos, negsuc, refl, ap, sym, subst, ◌∙◌, arith, codes}
 use Rattle.std.proofs.lemmas.List.{append-nil}
 use Rattle.std.specs.List.{prefix_len}
 use Rattle.std.specs.Fmt.{signed_decimal}
@@ -16,13 +16,13 @@ use Rattle.asm_read.specs.Operands.{is_mark_of}
 use Rattle.asm_read.specs.Forms.{directives, a_to_b, c_to_l, m_to_z, rows}
 use Rattle.asm_read.specs.Statements.{kind_of as kind_made}
 use Rattle.asm_read.specs.Reading.{stmt, read_of}
-use Rattle.asm_text.specs.Written.{register, InRange, IsNameText, is_name, plus, expression, expressions, IsExpression, AreExpressions, IsList, line}
+use Rattle.asm_text.specs.Written.{register, InRange, IsNameText, plus, expression, expressions, IsExpression, AreExpressions, IsList, line}
 use Rattle.asm_text.proofs.Texts.{Stops}
-use Rattle.asm_text.proofs.Toks.{Tok, reg, word, num, sign, spelled, spelling, behind, Ends, AllEnd, head_kind}
+use Rattle.asm_text.proofs.Toks.{Tok, reg, word, num, sign, spelled, behind, Ends, AllEnd, head_kind}
 use Rattle.asm_text.proofs.Lists.{plus_toks, relation_toks, expr_toks, exprs_toks, Stands, AllStand}
 use Rattle.asm_text.proofs.Items.{Item, value, values, flat}
 use Rattle.asm_text.proofs.Items as items
-use Rattle.asm_text.proofs.Fitted.{Vals, one, many, none_yet, Agrees, fitted}
+use Rattle.asm_text.proofs.Fitted.{one, many, none_yet, Agrees, fitted}
 use Rattle.asm_text.proofs.Chosen.{picked, chosen}
 use Rattle.asm_text.proofs.Standing.{IsMnemonic, stands_in, register_short, comma_ends, minus_before, values as vals}
 

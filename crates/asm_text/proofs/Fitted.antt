@@ -9,17 +9,17 @@ use Rattle.asm_read.specs.declared.line.Numeral.{Numeral}
 use Rattle.asm_read.specs.declared.form.Piece.{Piece}
 use Rattle.asm_read.specs.declared.form.Piece.TheVariants.{First, Second, Third, Sp, Mark, MaybeHash, Number, Zero, UpToThree, Name, SameName, Dot, Rodata, Function, Object, Registers, RegistersWithFirst, Text, Expression, Expressions, WordExpressions}
 use Rattle.asm_read.specs.declared.form.Operands.{Operands}
-use Rattle.asm_read.specs.Operands.{◌>>=◌, span, bytes_of, same, name_of, name_in, register_of, register_in as registered, register_at, past_if, is_mark_of, mark_at, mark_or_nothing, word_at, name_span, name_at, text_span, text_at, numeral, number_at, limited, limited_at, has_register, list_at, stop, stopped}
-use Rattle.asm_read.specs.Fits.{piece_at, end_if, end_at, fits}
+use Rattle.asm_read.specs.Operands.{◌>>=◌, span, bytes_of, same, name_of, name_in, register_in as registered, register_at, past_if, is_mark_of, mark_at, mark_or_nothing, word_at, name_at, text_at, number_at, limited_at, has_register, list_at, stop, stopped}
+use Rattle.asm_read.specs.Fits.{piece_at, end_if, fits}
 use Rattle.asm_text.specs.Written.{register}
 use Rattle.asm_read.specs.declared.fault.SourceWhat.TheVariants.{BadOperand}
 use Rattle.asm_read.specs.declared.line.Listed.{Listed}
 use Rattle.asm_read.specs.declared.expression.Shaped.{Shaped}
 use Rattle.asm_read.specs.Expressions.{expression_at, expressions_at, expr_of, expr_from, expr_or_zero, exprs_of}
 use Rattle.asm_read.specs.declared.statement.Expr.{Expr}
-use Rattle.asm_text.proofs.Toks.{Tok, reg, word, num, sign, quote, kind_of, word_in, register_in, head_kind, head_word, head_register, Heads, Reads}
+use Rattle.asm_text.proofs.Toks.{Tok, reg, word, num, sign, quote, kind_of, word_in, register_in, Reads}
 use Rattle.asm_text.proofs.Heads.{register_heads, mark_heads, word_heads, hash_heads, name_heads, number_heads, limited_heads, text_heads, end_heads, head_of}
-use Rattle.asm_text.proofs.Lists.{masked, listed_reads, expr_reads, exprs_reads, Stands, AllStand, Over, expr_toks, exprs_toks}
+use Rattle.asm_text.proofs.Lists.{masked, listed_reads, expr_reads, exprs_reads, AllStand, Over, exprs_toks}
 use Rattle.asm_text.proofs.Items.{Item, tok, regs, value, values, flat}
 
 -- the expressions that operands hold

@@ -3,7 +3,6 @@ use Rattle.std.proofs.Common.{◌≡◌, ℕ, if◌then◌else◌, List, [], ◌
 use Rattle.asm_read.specs.declared.token.Kind.TheVariants.{Word}
 use Rattle.asm_read.specs.declared.token.Token.{Token}
 use Rattle.asm_read.specs.declared.form.Operands.{Operands}
-use Rattle.asm_read.specs.Tokens.{token_at}
 use Rattle.asm_read.specs.Operands.{span, bytes_of, same, name_of, name_in, register_of, register_in as registered, register_at, past_if, is_mark_of, mark_at, mark_or_nothing, word_at, name_span, name_at, text_span, text_at, numeral, number_at, limited, limited_at}
 use Rattle.asm_read.specs.Fits.{end_if, end_at}
 use Rattle.asm_text.proofs.Toks.{Tok, head_kind, head_word, head_register, Heads, Reads}

@@ -1,5 +1,5 @@
 -- Statements with a register list.
-use Rattle.std.proofs.Common.{◌≡◌, ℕ, ◌<◌, ◌≤◌, Bool, true, List, [], ◌∷◌, ◌++◌, length, Ok, pos, refl, ap, sym, subst, ◌∙◌, arith, codes}
+use Rattle.std.proofs.Common.{◌≡◌, ℕ, ◌<◌, ◌≤◌, Bool, true, List, [], ◌∷◌, ◌++◌, Ok, pos, refl, ap, subst, ◌∙◌, arith, codes}
 use Rattle.asm_read.specs.declared.form.Operands.{Operands}
 use Rattle.asm_read.specs.declared.makes.Makes.{Makes}
 use Rattle.asm_read.specs.declared.makes.Makes.TheVariants as makes
@@ -13,8 +13,6 @@ use Rattle.asm_text.proofs.Pieces.{base_list, base_back_list}
 use Rattle.asm_read.specs.Statements.{kind_of as kind_made}
 use Rattle.asm_read.specs.Reading.{stmt, read_of}
 use Rattle.asm_text.specs.Written.{register, registers_from, braced, line}
-use Rattle.asm_text.proofs.Toks.{spelled}
-use Rattle.asm_text.proofs.Toks as toks
 use Rattle.asm_text.proofs.Lists.{list_toks, masked}
 use Rattle.asm_text.proofs.Items.{Item, reg, sign, regs}
 use Rattle.asm_text.proofs.Fitted.{Vals, none_yet, Agrees, Step, went, refused, if_so, and_then, fitted}

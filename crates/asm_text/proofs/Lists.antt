@@ -1,21 +1,17 @@
 -- Register lists and expressions as tokens, and that the reader reads them.
-use Rattle.std.proofs.Common.{◌≡◌, ℕ, zero, suc, ◌-◌, ◌<◌, ◌≤◌, ◌==◌, ◌&&◌, Bool, true, false, if◌then◌else◌, List, [], ◌∷◌, ◌++◌, map, length, Option, Some, None, Result, Ok, Err, ℤ, pos, negsuc, bit_or, refl, ap, sym, ◌∙◌, arith, codes}
-use Rattle.asm_read.specs.declared.line.Stop.{Stop}
+use Rattle.std.proofs.Common.{◌≡◌, ℕ, zero, suc, ◌<◌, ◌≤◌, ◌==◌, ◌&&◌, Bool, true, false, List, [], ◌∷◌, map, length, Some, None, Ok, ℤ, pos, negsuc, bit_or, refl, ap, ◌∙◌, arith, codes}
 use Rattle.asm_read.specs.declared.line.Span.{Span}
-use Rattle.asm_read.specs.declared.line.Item.{Item}
 use Rattle.asm_read.specs.declared.line.Listed.{Listed}
-use Rattle.asm_read.specs.declared.token.Token.{Token}
 use Rattle.asm_read.specs.declared.token.Kind.{Kind}
-use Rattle.asm_read.specs.declared.token.Kind.TheVariants.{Word, Number}
 use Rattle.asm_read.specs.declared.expression.Shape.TheVariants as shape
 use Rattle.asm_read.specs.declared.expression.Shaped.{Shaped}
 use Rattle.asm_read.specs.declared.expression.ListItem.{ListItem}
 use Rattle.asm_read.specs.declared.statement.Expr.{Expr}
 use Rattle.asm_read.specs.declared.statement.Expr.TheVariants.{Num, Of, Diff, Prel31, Prel31Ref, Target2, Rel}
 use Rattle.asm_read.specs.Tokens.{token_at}
-use Rattle.asm_read.specs.Operands.{◌>>=◌, span, stop, stopped, past_if, bytes_of, same, name_of, is_mark_of, mark_at, register_at, register_mask, item_at, list_from, list_at}
-use Rattle.asm_read.specs.Expressions.{shaped, relation_of, related_as, related, difference, behind_name, expression_of, expression_at, listed_at, item, list_item_at, Series, series, and_more, expressions_at, expr_of, exprs_of}
-use Rattle.asm_text.proofs.Toks.{Tok, reg, word, num, sign, head_kind, head_word, Heads, Reads}
+use Rattle.asm_read.specs.Operands.{◌>>=◌, span, bytes_of, is_mark_of, register_mask, item_at, list_from, list_at}
+use Rattle.asm_read.specs.Expressions.{shaped, relation_of, related, difference, behind_name, expression_of, expression_at, listed_at, item, list_item_at, Series, series, and_more, expressions_at, expr_of}
+use Rattle.asm_text.proofs.Toks.{Tok, reg, word, num, sign, head_kind, Reads}
 use Rattle.asm_text.proofs.Heads.{head_of, name_bytes, register_heads, mark_heads, name_heads, number_heads}
 
 -- ---- register lists

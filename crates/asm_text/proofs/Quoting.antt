@@ -1,5 +1,5 @@
 -- Statements with a text: its escapes stand for its bytes.
-use Rattle.std.proofs.Common.{◌≡◌, ℕ, ◌+◌, ◌-◌, ◌<◌, ◌≤◌, ◌==◌, ◌&&◌, ◌||◌, Bool, true, false, not, if◌then◌else◌, List, [], ◌∷◌, ◌++◌, length, take, drop, length-append, append_assoc, Option, Some, None, is_some, unwrap_or, Ok, pos, refl, ap, sym, subst, ◌∙◌, arith, codes}
+use Rattle.std.proofs.Common.{◌≡◌, ℕ, ◌+◌, ◌-◌, ◌≤◌, ◌==◌, ◌&&◌, Bool, true, false, not, if◌then◌else◌, List, [], ◌∷◌, ◌++◌, length, take, length-append, append_assoc, Some, None, is_some, unwrap_or, Ok, pos, refl, ap, sym, subst, ◌∙◌, arith, codes}
 use Rattle.std.proofs.lemmas.Bool.{eqb-true}
 use Rattle.std.proofs.lemmas.Bool.Decides.{nat_tests}
 use Rattle.std.proofs.lemmas.List.{take_at}
@@ -21,8 +21,8 @@ use Rattle.asm_text.specs.Written.{escaped_byte, escaped, quoted, can_stand, IsT
 use Rattle.asm_text.proofs.Texts.{plain, both, and_left, and_right}
 use Rattle.asm_text.proofs.Toks as toks
 use Rattle.asm_text.proofs.Toks.{Ends}
-use Rattle.asm_text.proofs.Items.{Item, quote}
-use Rattle.asm_text.proofs.Fitted.{Vals, none_yet, Agrees, fitted}
+use Rattle.asm_text.proofs.Items.{quote}
+use Rattle.asm_text.proofs.Fitted.{Agrees, fitted}
 use Rattle.asm_text.proofs.Chosen.{picked, chosen}
 use Rattle.asm_text.proofs.Standing.{IsMnemonic, stands_in, values}
 
