@@ -6,7 +6,7 @@ use Rattle.asm_read.specs.declared.token.Kind.TheVariants.{End}
 use Rattle.asm_read.specs.declared.statement.Expr.TheVariants.{Num}
 use Rattle.asm_read.specs.Tokens.{is_blank, token_at, token, front_of}
 use Rattle.asm_read.specs.Operands.{stopped}
-use Rattle.asm_read.specs.Expressions.{expression_at, listed_at, expr_from, exprs_from}
+use Rattle.asm_read.specs.Expressions.{expression_at, listed_at, list_item_at, expressions_at, expr_from, exprs_of}
 
 token_past : (line : List ℕ) (from : ℕ) → length line ≤ from → token_at line from ≡ token from from End
 unfolding token_at front_of
@@ -30,10 +30,10 @@ pub expr_past : (line : List ℕ) (from : ℕ) → length line < from → expr_f
 unfolding expr_from
 expr_past line from h = let e = expression_past false line from (omega arith) in rw e refl
 
-none_past : (n : ℕ) (word : Bool) (line : List ℕ) (from : ℕ) → length line ≤ from → exprs_from n word line from ≡ []
-unfolding exprs_from
+none_past : (n : ℕ) (word : Bool) (line : List ℕ) (from : ℕ) → length line ≤ from → exprs_of line (expressions_at n word line from) ≡ []
+unfolding expressions_at list_item_at
 none_past zero word line from h = refl
 none_past (suc n) word line from h = let e = listed_past word line from h in rw e refl
 
-pub exprs_past : (word : Bool) (line : List ℕ) (from : ℕ) → length line < from → exprs_from (length line) word line from ≡ []
+pub exprs_past : (word : Bool) (line : List ℕ) (from : ℕ) → length line < from → exprs_of line (expressions_at (length line) word line from) ≡ []
 exprs_past word line from h = none_past (length line) word line from (omega arith)

@@ -1,5 +1,5 @@
 -- Expressions at a place of a line: a grammar by cases on tokens (docs/source-language.md, "Directives").
-use Rattle.std.specs.Prelude.{ℕ, zero, suc, ◌&&◌, Bool, false, if◌then◌else◌, List, [], ◌∷◌, Option, Some, None, Result, Ok, Err, pos, codes}
+use Rattle.std.specs.Prelude.{ℕ, zero, suc, ◌&&◌, Bool, false, if◌then◌else◌, List, [], ◌∷◌, map, Option, Some, None, Result, Ok, Err, pos, codes}
 use Rattle.asm_read.specs.declared.fault.SourceWhat.TheVariants.{NumberRange}
 use Rattle.asm_read.specs.declared.token.Kind.{Kind}
 use Rattle.asm_read.specs.declared.token.Kind.TheVariants.{Word, Number, Wide}
@@ -9,6 +9,7 @@ use Rattle.asm_read.specs.declared.line.Stop.{Stop}
 use Rattle.asm_read.specs.declared.expression.Shape.{Shape}
 use Rattle.asm_read.specs.declared.expression.Shape.TheVariants.{Num, Of, Diff, Prel31, Prel31Ref, Target2, Rel}
 use Rattle.asm_read.specs.declared.expression.Shaped.{Shaped}
+use Rattle.asm_read.specs.declared.expression.ListItem.{ListItem}
 use Rattle.asm_read.specs.declared.statement.Expr.{Expr}
 use Rattle.asm_read.specs.declared.statement.Expr.TheVariants.{Num as NumExpr, Of as OfExpr, Diff as DiffExpr, Prel31 as Prel31Expr, Prel31Ref as Prel31RefExpr, Target2 as Target2Expr, Rel as RelExpr}
 use Rattle.asm_read.specs.Tokens.{token_at}
@@ -71,13 +72,38 @@ listed_at word line from =
     then number_at line token.end >>= (λ n. Ok (shaped (Num n.value) n.end))
     else expression_at word line from
 
--- the place behind expressions between commas; at most so many
-unfoldable pub expressions_end : ℕ → Bool → List ℕ → ℕ → Result ℕ Stop
-expressions_end zero word line from = Err (stopped (token_at line from))
-expressions_end (suc n) word line from =
-    listed_at word line from >>= (λ e.
-    let token = token_at line e.end in
-    if is_mark_of 44 token.kind then expressions_end n word line token.end else Ok e.end)
+-- where the next expression of a list begins: behind a comma
+abbrev pub next_of : Token → Option ℕ
+next_of token = if is_mark_of 44 token.kind then Some token.end else None
+
+abbrev pub item : Shaped → Token → ListItem
+item e token = record { shape = e.shape; end = e.end; next = next_of token }
+
+unfoldable pub list_item_at : Bool → List ℕ → ℕ → Result ListItem Stop
+list_item_at word line from = listed_at word line from >>= (λ e. Ok (item e (token_at line e.end)))
+
+-- expressions one after another, and the place behind them
+pub record Series : Type 0 where
+  pub shapes : List Shape
+  pub end : ℕ
+
+abbrev pub series : List Shape → ℕ → Series
+series shapes end = record { shapes = shapes; end = end }
+
+-- an expression and those behind it
+abbrev pub and_more : ListItem → Option ℕ → (ℕ → Result Series Stop) → Result Series Stop
+and_more i None more = Ok (series (i.shape ∷ []) i.end)
+and_more i (Some at) more = more at >>= (λ rest. Ok (series (i.shape ∷ rest.shapes) rest.end))
+
+-- the expressions between commas that begin at a place; at most so many
+unfoldable pub expressions_at : ℕ → Bool → List ℕ → ℕ → Result Series Stop
+expressions_at zero word line from = Err (stopped (token_at line from))
+expressions_at (suc n) word line from =
+    list_item_at word line from >>= (λ i. and_more i i.next (λ at. expressions_at n word line at))
+
+-- the place behind them
+abbrev pub end_of : Result Series Stop → Result ℕ Stop
+end_of r = r >>= (λ s. Ok s.end)
 
 abbrev pub expr_of : List ℕ → Shape → Expr
 expr_of line (Num n) = NumExpr n
@@ -96,15 +122,7 @@ expr_or_zero line (Err s) = NumExpr (pos 0)
 unfoldable pub expr_from : List ℕ → ℕ → Expr
 expr_from line from = expr_or_zero line (expression_at false line from)
 
--- the first expression and, behind a comma, what follows
-abbrev pub listed_with : List ℕ → Result Shaped Stop → (ℕ → List Expr) → List Expr
-listed_with line (Err s) more = []
-listed_with line (Ok e) more =
-    let token = token_at line e.end in
-    expr_of line e.shape ∷ (if is_mark_of 44 token.kind then more token.end else [])
-
--- the expressions between commas that begin at a place; at most so many
-unfoldable pub exprs_from : ℕ → Bool → List ℕ → ℕ → List Expr
-exprs_from zero word line from = []
-exprs_from (suc n) word line from =
-    listed_with line (listed_at word line from) (λ at. exprs_from n word line at)
+-- the expressions of a list; none where it is no list
+abbrev pub exprs_of : List ℕ → Result Series Stop → List Expr
+exprs_of line (Ok s) = map (expr_of line) s.shapes
+exprs_of line (Err s) = []

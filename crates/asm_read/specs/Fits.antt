@@ -10,7 +10,7 @@ use Rattle.asm_read.specs.declared.form.Piece.TheVariants.{First, Second, Third,
 use Rattle.asm_read.specs.declared.form.Operands.{Operands}
 use Rattle.asm_read.specs.Tokens.{token_at}
 use Rattle.asm_read.specs.Operands.{◌>>=◌, span, stop, stopped, bytes_of, register_at, mark_at, mark_or_nothing, word_at, name_at, text_at, number_at, limited_at, has_register, list_at}
-use Rattle.asm_read.specs.Expressions.{expression_at, expressions_end}
+use Rattle.asm_read.specs.Expressions.{expression_at, expressions_at}
 
 -- no operand yet, at a place
 abbrev pub fresh : ℕ → Operands
@@ -60,7 +60,7 @@ with_expression line o = expression_at false line o.at >>= (λ e. Ok (record o {
 
 abbrev pub with_expressions : Bool → List ℕ → Operands → Result Operands Stop
 with_expressions word line o =
-    expressions_end (length line) word line o.at >>= (λ at. Ok (record o { at = at; from = o.at }))
+    expressions_at (length line) word line o.at >>= (λ s. Ok (record o { at = s.end; from = o.at }))
 
 -- the operands with one piece more
 unfoldable pub piece_at : Piece → List ℕ → Operands → Result Operands Stop

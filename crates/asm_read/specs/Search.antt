@@ -1,20 +1,25 @@
 -- The first form of a word that fits; else the first token with which none goes on (docs/source-language.md, "Refusals").
-use Rattle.std.specs.Prelude.{ℕ, ◌==◌, ◌&&◌, ◌||◌, nat_lt, Bool, true, false, if◌then◌else◌, List, [], ◌∷◌, Option, Some, None, Result, Ok, Err}
-use Rattle.std.specs.Borrow.{Bor}
+use Rattle.std.specs.Prelude.{ℕ, ◌==◌, ◌&&◌, ◌||◌, not, nat_lt, Bool, true, false, if◌then◌else◌, List, [], ◌∷◌, Option, Some, None, Result, Ok, Err}
+use Rattle.std.specs.Ordering.{nat_cmp, is_lt}
+use Rattle.std.specs.Cmp.Lexicographic.{slice_cmp}
 use Rattle.asm_read.specs.declared.fault.SourceWhat.{SourceWhat}
 use Rattle.asm_read.specs.declared.fault.SourceWhat.TheVariants.{BadOperand}
 use Rattle.asm_read.specs.declared.line.Stop.{Stop}
-use Rattle.asm_read.specs.declared.form.Piece.{Piece}
 use Rattle.asm_read.specs.declared.form.Operands.{Operands}
 use Rattle.asm_read.specs.declared.makes.Makes.{Makes}
 use Rattle.asm_read.specs.declared.choice.Statement.{Statement}
 use Rattle.asm_read.specs.Operands.{same}
 use Rattle.asm_read.specs.Fits.{fresh, fits}
-use Rattle.asm_read.specs.Forms.{Form, form}
+use Rattle.asm_read.specs.Forms.{Form}
 
--- a row of the code's table as a form
-abbrev pub form_of : Bor (List ℕ) × Bor (List Piece) × Makes → Form
-form_of row = form row.0.now row.1.now row.2
+-- whether a word stands before another, byte by byte
+abbrev pub is_before : List ℕ → List ℕ → Bool
+is_before word other = is_lt (slice_cmp nat_cmp word other)
+
+-- whether no word of these forms stands before the one that comes before it
+abbrev pub rises : List ℕ → List Form → Bool
+rises low [] = true
+rises low (f ∷ fs) = not (is_before f.word low) && rises f.word fs
 
 abbrev pub is_operand : SourceWhat → Bool
 is_operand BadOperand = true

@@ -19,7 +19,7 @@ use Rattle.asm_read.specs.declared.statement.StmtKind.{StmtKind}
 use Rattle.asm_read.specs.declared.statement.StmtKind.TheVariants.{MovsImm, MovsReg, Mov, CmpImm, CmpReg, AddSubTwo, AddSubReg, AddSubThree, AddReg, AddRdSp, AddSp, SubSp, ShiftImm, Alu, Rsbs, Adr, LdrLabel, LdrPool, MemImm, MemReg, MemSp, Push, Pop, Stm, LdmBack, Ldm, Extend, Rev, B, BCond, Bl, Bx, Blx, Svc, Udf, Hint, Barrier, Text, Data, Bss, Rodata, Global, TypeFunction, TypeObject, Size, Words, Halves, Bytes, Ascii, Asciz, Space, Align, Pool, FnStart, FnEnd, Save, Pad, SetFp, CantUnwind, PersonalityIndex, HandlerData}
 use Rattle.asm_read.specs.Tokens.{unescaped}
 use Rattle.asm_read.specs.Operands.{bytes_of}
-use Rattle.asm_read.specs.Expressions.{expr_from, exprs_from}
+use Rattle.asm_read.specs.Expressions.{expr_from, expressions_at, exprs_of}
 
 -- what stands between the first and the last byte
 abbrev pub inside : List ℕ → List ℕ
@@ -99,9 +99,9 @@ named_of line named.Global o = Global (bytes_of line o.name)
 named_of line named.TypeFunction o = TypeFunction (bytes_of line o.name)
 named_of line named.TypeObject o = TypeObject (bytes_of line o.name)
 named_of line named.Size o = Size (bytes_of line o.name)
-named_of line named.Words o = Words (exprs_from (length line) true line o.from)
-named_of line named.Halves o = Halves (exprs_from (length line) false line o.from)
-named_of line named.Bytes o = Bytes (exprs_from (length line) false line o.from)
+named_of line named.Words o = Words (exprs_of line (expressions_at (length line) true line o.from))
+named_of line named.Halves o = Halves (exprs_of line (expressions_at (length line) false line o.from))
+named_of line named.Bytes o = Bytes (exprs_of line (expressions_at (length line) false line o.from))
 named_of line named.Ascii o = Ascii (text_of line o.name)
 named_of line named.Asciz o = Asciz (text_of line o.name)
 

@@ -2,16 +2,16 @@
 ghost use Rattle.std.specs.Prelude.{◌≡◌, ◌+◌, ◌<◌, ◌≤◌, ◌++◌, ◌∷◌, [], false, length, Option, IfOk, OnOk};
 ghost use Rattle.asm_read.specs.Tokens.{unescaped};
 ghost use Rattle.asm_read.specs.Operands.{bytes_of};
-ghost use Rattle.asm_read.specs.Expressions.{expr_of, expr_from, exprs_from};
+ghost use Rattle.asm_read.specs.Expressions.{expr_of, expr_from, expressions_at, exprs_of};
 ghost use Rattle.asm_read.specs.Statements.{text_of, computation_of, transfer_of, control_of, directive_of, named_of, kind_of};
 
 use crate::choice::Statement;
-use crate::expression::{Shape, expression_at, listed_at};
+use crate::expression::{Shape, expression_at, list_item_at};
 use crate::form::Operands;
-use crate::line::{Span, bytes_of, is_mark_of};
+use crate::line::{Span, bytes_of};
 use crate::makes::{Computation, Control, Directive, Makes, Named, Transfer};
 use crate::statement::{Expr, Exprs, StmtKind};
-use crate::token::{escape, token_at};
+use crate::token::escape;
 use eh_word::{Name, NameMemory};
 use std::alloc::{AllocError, Global};
 
@@ -44,7 +44,7 @@ fn unescaped(alloc: Global, inside: &[u8]) -> Result<Vec<u8>, AllocError>
 /// The expressions between commas at an offset; none past the line's end.
 #[tactic(auto, using(crate::proofs::Past::exprs_past))]
 fn exprs(alloc: Global, word: bool, line: &[u8], from: usize) -> Result<Exprs, NameMemory>
-    ensures { IfOk result (λ e. e ≡ exprs_from (length line.now) word line.now from) }
+    ensures { IfOk result (λ e. e ≡ exprs_of line.now (expressions_at (length line.now) word line.now from)) }
 {
     if from > line.len() {
         return Ok(Exprs::of_vec(Vec::new(alloc)));
@@ -98,28 +98,27 @@ fn push_expr(exprs: &mut Vec<Expr>, expr: Expr) -> Result<(), AllocError>
     Ok(())
 }
 
-/// The expressions between commas at an offset.
-#[tactic(auto, using(crate::proofs::Steps::exprs_stop, crate::proofs::Steps::exprs_more, crate::proofs::Steps::exprs_last, crate::proofs::Steps::exprs_end))]
+/// The expressions between commas at an offset; none where no list stands there.
+#[tactic(auto, using(crate::proofs::Steps::joined_none, crate::proofs::Steps::joined_stop, crate::proofs::Steps::joined_more, crate::proofs::Steps::joined_last, crate::proofs::Steps::joined_end))]
 fn exprs_from(alloc: Global, word: bool, line: &[u8], from: usize) -> Result<Vec<Expr>, NameMemory>
     requires { from ≤ length line.now }
-    ensures { IfOk result (λ v. v.items ≡ exprs_from (length line.now) word line.now from) }
+    ensures { IfOk result (λ v. v.items ≡ exprs_of line.now (expressions_at (length line.now) word line.now from)) }
 {
     let mut exprs = Vec::new(alloc);
     let mut at = from;
     let mut left = line.len();
     while left > 0 {
-        let Ok(shaped) = listed_at(word, line, at) else {
-            return Ok(exprs);
+        let Ok(item) = list_item_at(word, line, at) else {
+            return Ok(Vec::new(alloc));
         };
-        push_expr(&mut exprs, expr(alloc, line, shaped.shape)?)?;
-        let token = token_at(line, shaped.end);
-        if !is_mark_of(b',', token.kind) {
-            return Ok(exprs);
+        push_expr(&mut exprs, expr(alloc, line, item.shape)?)?;
+        match item.next {
+            None => return Ok(exprs),
+            Some(next) => at = next,
         }
-        at = token.end;
         left -= 1;
     }
-    Ok(exprs)
+    Ok(Vec::new(alloc))
 }
 
 /// Moves, comparisons, sums, shifts and extensions of registers.

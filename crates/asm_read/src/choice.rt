@@ -1,13 +1,15 @@
 //! The form that fits the tokens of a line (docs/source-language.md).
-ghost use Rattle.std.specs.Prelude.{◌≡◌, ◌≤◌, ◌⊎◌, length, map, Option, None, IfErr, IfSome, MatchOption};
-ghost use Rattle.asm_read.specs.Forms.{rows};
-ghost use Rattle.asm_read.specs.Search.{form_of, farther, is_operand, try_form, first_fit};
+ghost use Rattle.std.specs.Prelude.{◌≡◌, ◌≤◌, ◌⊎◌, [], true, length, map, Option, None, IfErr, IfSome, MatchOption};
+ghost use Rattle.std.specs.List.{prefix_len};
+ghost use Rattle.asm_read.specs.Fits.{fresh, fits};
+ghost use Rattle.asm_read.specs.Forms.{Row as FormRow, form_of, rows};
+ghost use Rattle.asm_read.specs.Search.{farther, is_operand, is_before, rises, tried, first_fit};
 
 use crate::fault::SourceWhat;
 use crate::form::{Operands, fits, fresh};
 use crate::line::Stop;
 use crate::makes::Makes;
-use crate::table::{GROUPS, Row, forms_in};
+use crate::table::{Group, Row, forms_in};
 
 /// A statement: what its form makes, and its operands.
 #[derive(Clone, Copy)]
@@ -43,49 +45,57 @@ fn is_operand(what: SourceWhat) -> bool
     }
 }
 
-/// One form: it fits, or it stops, or it begins with another word.
-#[tactic(auto, unfolding(crate::specs::Search::try_form))]
+/// One form of a line's word: it fits, or it stops.
 fn try_form(
     row: &Row,
-    word: &[u8],
     line: &[u8],
     from: usize,
     best: Option<Stop>,
 ) -> Result<Statement, Option<Stop>>
     requires from { from ≤ length line.now }
     requires best { IfSome best (λ s. s.at ≤ length line.now) }
-    ensures fit { result ≡ try_form (form_of row.now) word.now line.now from best }
+    ensures fit { let form = form_of row.now in result ≡ tried form.makes best (fits form.pieces line.now (fresh from)) }
     ensures stop { IfErr result (λ b. IfSome b (λ s. s.at ≤ length line.now)) }
 {
-    if row.0 != word {
-        return Err(best);
-    }
-    match fits(row.1, line, fresh(from)) {
-        Ok(operands) => Ok(Statement {
-            makes: row.2,
-            operands,
-        }),
+    let (_, pieces, makes) = *row;
+    match fits(pieces, line, fresh(from)) {
+        Ok(operands) => Ok(Statement { makes, operands }),
         Err(stop) => Err(Some(farther(best, stop))),
     }
 }
 
-/// The first of these forms that begins with a word and fits; else the farthest stop, where one begins with it.
-#[tactic(auto, using(crate::proofs::Fitting::rows_hit, crate::proofs::Fitting::rows_miss, crate::proofs::Fitting::rows_end))]
-fn first_fit(
-    rows: &[Row],
-    word: &[u8],
-    line: &[u8],
-    from: usize,
-    best: Option<Stop>,
-) -> Result<Statement, Option<Stop>>
+/// Whether a word stands before another, byte by byte.
+#[tactic(auto, using(crate::proofs::Rising::before_is))]
+fn is_before(word: &[u8], other: &[u8]) -> bool
+    ensures { result ≡ is_before word.now other.now }
+{
+    word < other
+}
+
+/// How many of these forms have words before a word.
+fn begin_of(rows: &[Row], word: &[u8]) -> usize
+    requires { rises [] (map form_of rows.now) ≡ true }
+    ensures count { result ≡ prefix_len (λ (r : FormRow). is_before (form_of r).word word.now) rows.now }
+    ensures within { result ≤ length rows.now }
+{
+    rows.partition_point(|row| is_before(row.0, word))
+}
+
+/// The first of these forms that begins with a word and fits; else the farthest stop, where one begins with it. None of
+/// them has a word before it, and their words rise.
+#[tactic(auto, using(crate::proofs::Rising::row_other, crate::proofs::Rising::row_hit, crate::proofs::Rising::row_miss, crate::proofs::Rising::row_rises, crate::proofs::Fitting::rows_end))]
+fn first_fit(rows: &[Row], word: &[u8], line: &[u8], from: usize) -> Result<Statement, Option<Stop>>
     requires from { from ≤ length line.now }
-    requires best { IfSome best (λ s. s.at ≤ length line.now) }
-    ensures fit { result ≡ first_fit (map form_of rows.now) word.now line.now from best }
+    requires rise { rises word.now (map form_of rows.now) ≡ true }
+    ensures fit { result ≡ first_fit (map form_of rows.now) word.now line.now from None }
     ensures stop { IfErr result (λ b. IfSome b (λ s. s.at ≤ length line.now)) }
 {
-    let mut so_far = best;
+    let mut so_far = None;
     for row in rows {
-        match try_form(row, word, line, from, so_far) {
+        if row.0 != word {
+            return Err(so_far);
+        }
+        match try_form(row, line, from, so_far) {
             Ok(statement) => return Ok(statement),
             Err(stop) => so_far = stop,
         }
@@ -94,18 +104,11 @@ fn first_fit(
 }
 
 /// The first form of a word that fits, else where the form that goes on longest stops; None where the word has no form.
-#[tactic(auto, using(crate::proofs::Fitting::groups_hit, crate::proofs::Fitting::groups_miss, crate::proofs::Fitting::groups_end), unfolding(crate::specs::Forms::rows))]
 pub fn form_at(word: &[u8], line: &[u8], from: usize) -> Result<Statement, Option<Stop>>
     requires { from ≤ length line.now }
     ensures fit { result ≡ first_fit rows word.now line.now from None }
     ensures stop { IfErr result (λ b. IfSome b (λ s. s.at ≤ length line.now)) }
 {
-    let mut so_far = None;
-    for group in &GROUPS {
-        match first_fit(forms_in(*group), word, line, from, so_far) {
-            Ok(statement) => return Ok(statement),
-            Err(stop) => so_far = stop,
-        }
-    }
-    Err(so_far)
+    let rows = forms_in(Group::of(word));
+    first_fit(&rows[begin_of(rows, word)..], word, line, from)
 }

@@ -1,6 +1,6 @@
 //! Expressions: numbers, names and what is added to them (docs/source-language.md, "Directives").
-ghost use Rattle.std.specs.Prelude.{◌≡◌, ◌<◌, ◌≤◌, ◌-ℤ◌, pos, length, false, Option, IfOk, IfErr};
-ghost use Rattle.asm_read.specs.Expressions.{relation_of, related, difference, behind_name, expression_at, listed_at, expressions_end};
+ghost use Rattle.std.specs.Prelude.{◌≡◌, ◌<◌, ◌≤◌, ◌-ℤ◌, pos, length, false, Option, IfOk, IfErr, IfSome};
+ghost use Rattle.asm_read.specs.Expressions.{relation_of, related, difference, behind_name, expression_at, listed_at, list_item_at, expressions_at, end_of};
 
 use crate::fault::SourceWhat;
 use crate::line::{Span, Stop, is_mark_of, mark_at, name_at, name_of, number_at, stopped};
@@ -143,7 +143,7 @@ pub fn expression_at(word: bool, line: &[u8], from: usize) -> Result<Shaped, Sto
 
 /// The expression at an offset in a directive's list, where a number may have a `#`.
 #[tactic(auto, unfolding(crate::specs::Expressions::listed_at))]
-pub fn listed_at(word: bool, line: &[u8], from: usize) -> Result<Shaped, Stop>
+fn listed_at(word: bool, line: &[u8], from: usize) -> Result<Shaped, Stop>
     requires { from ≤ length line.now }
     ensures shaped { result ≡ listed_at word line.now from }
     ensures end { IfOk result (λ e. e.end ≤ length line.now) }
@@ -160,23 +160,53 @@ pub fn listed_at(word: bool, line: &[u8], from: usize) -> Result<Shaped, Stop>
     })
 }
 
+/// An expression of a list, the offset behind it, and where the next one begins: behind a comma.
+#[derive(Clone, Copy)]
+pub struct ListItem {
+    pub shape: Shape,
+    pub end: usize,
+    pub next: Option<usize>,
+}
+
+/// The expression of a list at an offset.
+#[tactic(auto, unfolding(crate::specs::Expressions::list_item_at))]
+pub fn list_item_at(word: bool, line: &[u8], from: usize) -> Result<ListItem, Stop>
+    requires { from ≤ length line.now }
+    ensures item { result ≡ list_item_at word line.now from }
+    ensures end { IfOk result (λ i. i.end ≤ length line.now) }
+    ensures next { IfOk result (λ i. IfSome i.next (λ at. at ≤ length line.now)) }
+    ensures stop { IfErr result (λ s. s.at ≤ length line.now) }
+{
+    let shaped = listed_at(word, line, from)?;
+    let token = token_at(line, shaped.end);
+    let next = if is_mark_of(b',', token.kind) {
+        Some(token.end)
+    } else {
+        None
+    };
+    Ok(ListItem {
+        shape: shaped.shape,
+        end: shaped.end,
+        next,
+    })
+}
+
 /// The offset behind the expressions between commas that begin at an offset.
-#[tactic(auto, using(crate::proofs::Steps::expressions_step, crate::proofs::Steps::expressions_none))]
+#[tactic(auto, using(crate::proofs::Steps::end_stop, crate::proofs::Steps::end_last, crate::proofs::Steps::end_more, crate::proofs::Steps::end_none))]
 pub fn expressions_end(word: bool, line: &[u8], from: usize) -> Result<usize, Stop>
     requires { from ≤ length line.now }
-    ensures place { result ≡ expressions_end (length line.now) word line.now from }
+    ensures place { result ≡ end_of (expressions_at (length line.now) word line.now from) }
     ensures end { IfOk result (λ at. at ≤ length line.now) }
     ensures stop { IfErr result (λ s. s.at ≤ length line.now) }
 {
     let mut at = from;
     let mut left = line.len();
     while left > 0 {
-        let shaped = listed_at(word, line, at)?;
-        let token = token_at(line, shaped.end);
-        if !is_mark_of(b',', token.kind) {
-            return Ok(shaped.end);
+        let item = list_item_at(word, line, at)?;
+        match item.next {
+            None => return Ok(item.end),
+            Some(next) => at = next,
         }
-        at = token.end;
         left -= 1;
     }
     Err(stopped(token_at(line, at)))

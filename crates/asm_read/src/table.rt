@@ -1,7 +1,6 @@
 //! The forms of statements as tables (docs/source-language.md, "Statements" and "Directives").
 ghost use Rattle.std.specs.Prelude.{◌≡◌, map};
-ghost use Rattle.asm_read.specs.Forms.{forms_in};
-ghost use Rattle.asm_read.specs.Search.{form_of};
+ghost use Rattle.asm_read.specs.Forms.{form_of, group_of, forms_in};
 
 use crate::form::Piece;
 use crate::makes::Computation::{
@@ -20,44 +19,36 @@ use crate::makes::Named::{
 };
 use crate::makes::Transfer::{Ldm, LdmBack, MemImm, MemReg, MemSp, Pop, Push, Stm};
 
-/// A form: the word that it begins with, its operands, and the statement that it makes.
+/// A form: the word that it begins with, its operands, and the statement that it makes. The definitions name the tables
+/// below, which a struct with references would keep them from.
 pub type Row = (&'static [u8], &'static [Piece], Makes);
 
-/// A group of forms.
+/// The forms by the first byte of their word.
 #[derive(Clone, Copy)]
 pub enum Group {
-    /// Moves, comparisons, sums and differences.
-    Sums,
-    /// Shifts and the forms of two registers.
-    Logic,
-    /// Addresses, loads and stores of words and bytes.
-    Accesses,
-    /// Loads and stores of halfwords, signed loads, and register lists.
-    Halves,
-    /// Extensions, reversals, returns, gates, hints and barriers.
-    Others,
-    /// Branches.
-    Branches,
-    /// Sections, symbols and pools.
-    Sections,
-    /// Bytes and filling.
-    Contents,
-    /// Unwinding.
-    Unwinding,
+    /// Directives.
+    Directives,
+    /// Mnemonics that begin with a or b.
+    AToB,
+    /// Mnemonics that begin with c to l.
+    CToL,
+    /// Mnemonics that begin with m to z.
+    MToZ,
 }
 
-/// The groups in the order in which their forms are tried.
-pub static GROUPS: [Group; 9] = [
-    Group::Sums,
-    Group::Logic,
-    Group::Accesses,
-    Group::Halves,
-    Group::Others,
-    Group::Branches,
-    Group::Sections,
-    Group::Contents,
-    Group::Unwinding,
-];
+impl Group {
+    /// The group that has the forms of a word, if it has any.
+    pub fn of(word: &[u8]) -> Group
+        ensures { result ≡ group_of word.now }
+    {
+        match word {
+            [b'.', ..] => Group::Directives,
+            [b'a'..=b'b', ..] => Group::AToB,
+            [b'c'..=b'l', ..] => Group::CToL,
+            _ => Group::MToZ,
+        }
+    }
+}
 
 const REGISTER_NUMBER: &[Piece] = &[
     Piece::First,
@@ -229,190 +220,166 @@ const REGISTER_SP_COUNT: &[Piece] = &[
     Piece::Number,
 ];
 
-/// Moves, comparisons, sums and differences.
-static SUMS: [Row; 16] = [
-    (b"movs", REGISTER_NUMBER, Computes(MovsImm)),
-    (b"movs", TWO_REGISTERS, Computes(MovsReg)),
-    (b"mov", TWO_REGISTERS, Computes(Mov)),
-    (b"cmp", REGISTER_NUMBER, Computes(CmpImm)),
-    (b"cmp", TWO_REGISTERS, Computes(CmpReg)),
-    (b"adds", REGISTER_NUMBER, Computes(AddSubTwo(false))),
-    (b"adds", THREE_REGISTERS, Computes(AddSubReg(false))),
-    (b"adds", TWO_REGISTERS_NUMBER, Computes(AddSubThree(false))),
-    (b"subs", REGISTER_NUMBER, Computes(AddSubTwo(true))),
-    (b"subs", THREE_REGISTERS, Computes(AddSubReg(true))),
-    (b"subs", TWO_REGISTERS_NUMBER, Computes(AddSubThree(true))),
+/// Directives.
+pub static DIRECTIVES: [Row; 32] = [
+    (b".2byte", EXPRESSIONS, Names(Halves)),
+    (b".4byte", WORD_EXPRESSIONS, Names(Words)),
+    (b".align", POWER, Directs(Align)),
+    (b".ascii", TEXT, Names(Ascii)),
+    (b".asciz", TEXT, Names(Asciz)),
+    (b".bss", NOTHING, Directs(Bss)),
+    (b".byte", EXPRESSIONS, Names(Bytes)),
+    (b".cantunwind", NOTHING, Directs(CantUnwind)),
+    (b".data", NOTHING, Directs(Data)),
+    (b".fnend", NOTHING, Directs(FnEnd)),
+    (b".fnstart", NOTHING, Directs(FnStart)),
+    (b".global", NAME, Names(Global)),
+    (b".globl", NAME, Names(Global)),
+    (b".half", EXPRESSIONS, Names(Halves)),
+    (b".handlerdata", NOTHING, Directs(HandlerData)),
+    (b".long", WORD_EXPRESSIONS, Names(Words)),
+    (b".ltorg", NOTHING, Directs(Pool)),
+    (b".p2align", POWER, Directs(Align)),
+    (b".pad", COUNT, Directs(Pad)),
+    (b".personalityindex", COUNT, Directs(PersonalityIndex)),
+    (b".pool", NOTHING, Directs(Pool)),
+    (b".save", LIST, Directs(Save)),
+    (b".section", RODATA, Directs(Rodata)),
+    (b".setfp", REGISTER_SP_COUNT, Directs(SetFp)),
+    (b".short", EXPRESSIONS, Names(Halves)),
+    (b".size", NAME_SIZE, Names(Size)),
+    (b".space", COUNT, Directs(Space)),
+    (b".text", NOTHING, Directs(Text)),
+    (b".type", NAME_FUNCTION, Names(TypeFunction)),
+    (b".type", NAME_OBJECT, Names(TypeObject)),
+    (b".word", WORD_EXPRESSIONS, Names(Words)),
+    (b".zero", COUNT, Directs(Space)),
+];
+
+/// Mnemonics that begin with a or b.
+pub static A_TO_B: [Row; 32] = [
+    (b"adcs", TWO_REGISTERS, Computes(Alu(5))),
     (b"add", REGISTER_SP_NUMBER, Computes(AddRdSp)),
     (b"add", SP_NUMBER, Computes(AddSp)),
     (b"add", TWO_REGISTERS, Computes(AddReg)),
-    (b"sub", SP_NUMBER, Computes(SubSp)),
-    (b"rsbs", TWO_REGISTERS_ZERO, Computes(Rsbs)),
-];
-
-/// Shifts and the forms of two registers.
-static LOGIC: [Row; 17] = [
-    (b"lsls", TWO_REGISTERS_NUMBER, Computes(ShiftImm(0))),
-    (b"lsrs", TWO_REGISTERS_NUMBER, Computes(ShiftImm(1))),
-    (b"asrs", TWO_REGISTERS_NUMBER, Computes(ShiftImm(2))),
-    (b"ands", TWO_REGISTERS, Computes(Alu(0))),
-    (b"eors", TWO_REGISTERS, Computes(Alu(1))),
-    (b"lsls", TWO_REGISTERS, Computes(Alu(2))),
-    (b"lsrs", TWO_REGISTERS, Computes(Alu(3))),
-    (b"asrs", TWO_REGISTERS, Computes(Alu(4))),
-    (b"adcs", TWO_REGISTERS, Computes(Alu(5))),
-    (b"sbcs", TWO_REGISTERS, Computes(Alu(6))),
-    (b"rors", TWO_REGISTERS, Computes(Alu(7))),
-    (b"tst", TWO_REGISTERS, Computes(Alu(8))),
-    (b"cmn", TWO_REGISTERS, Computes(Alu(11))),
-    (b"orrs", TWO_REGISTERS, Computes(Alu(12))),
-    (b"muls", TWO_REGISTERS, Computes(Alu(13))),
-    (b"bics", TWO_REGISTERS, Computes(Alu(14))),
-    (b"mvns", TWO_REGISTERS, Computes(Alu(15))),
-];
-
-/// Addresses, loads and stores of words and bytes.
-static ACCESSES: [Row; 19] = [
+    (b"adds", REGISTER_NUMBER, Computes(AddSubTwo(false))),
+    (b"adds", THREE_REGISTERS, Computes(AddSubReg(false))),
+    (b"adds", TWO_REGISTERS_NUMBER, Computes(AddSubThree(false))),
     (b"adr", REGISTER_NAME, Names(Adr)),
+    (b"ands", TWO_REGISTERS, Computes(Alu(0))),
+    (b"asrs", TWO_REGISTERS_NUMBER, Computes(ShiftImm(2))),
+    (b"asrs", TWO_REGISTERS, Computes(Alu(4))),
+    (b"b", NAME, Names(B)),
+    (b"bcc", NAME, Names(BCond(3))),
+    (b"bcs", NAME, Names(BCond(2))),
+    (b"beq", NAME, Names(BCond(0))),
+    (b"bge", NAME, Names(BCond(10))),
+    (b"bgt", NAME, Names(BCond(12))),
+    (b"bhi", NAME, Names(BCond(8))),
+    (b"bhs", NAME, Names(BCond(2))),
+    (b"bics", TWO_REGISTERS, Computes(Alu(14))),
+    (b"bl", NAME, Names(Bl)),
+    (b"ble", NAME, Names(BCond(13))),
+    (b"blo", NAME, Names(BCond(3))),
+    (b"bls", NAME, Names(BCond(9))),
+    (b"blt", NAME, Names(BCond(11))),
+    (b"blx", REGISTER, Controls(Blx)),
+    (b"bmi", NAME, Names(BCond(4))),
+    (b"bne", NAME, Names(BCond(1))),
+    (b"bpl", NAME, Names(BCond(5))),
+    (b"bvc", NAME, Names(BCond(7))),
+    (b"bvs", NAME, Names(BCond(6))),
+    (b"bx", REGISTER, Controls(Bx)),
+];
+
+/// Mnemonics that begin with c to l.
+pub static C_TO_L: [Row; 28] = [
+    (b"cmn", TWO_REGISTERS, Computes(Alu(11))),
+    (b"cmp", REGISTER_NUMBER, Computes(CmpImm)),
+    (b"cmp", TWO_REGISTERS, Computes(CmpReg)),
+    (b"dmb", NOTHING, Controls(Barrier(1))),
+    (b"dsb", NOTHING, Controls(Barrier(0))),
+    (b"eors", TWO_REGISTERS, Computes(Alu(1))),
+    (b"isb", NOTHING, Controls(Barrier(2))),
+    (b"ldm", BASE_BACK_LIST, Transfers(LdmBack)),
+    (b"ldm", BASE_LIST, Transfers(Ldm)),
     (b"ldr", REGISTER_NAME, Names(LdrLabel)),
     (b"ldr", REGISTER_VALUE, Names(LdrPool)),
     (b"ldr", SP_OFFSET, Transfers(MemSp(true))),
     (b"ldr", SP_ALONE, Transfers(MemSp(true))),
+    (b"ldr", BASE_OFFSET, Transfers(MemImm(1))),
+    (b"ldr", BASE_ALONE, Transfers(MemImm(1))),
+    (b"ldr", BASE_INDEX, Transfers(MemReg(4))),
+    (b"ldrb", BASE_OFFSET, Transfers(MemImm(3))),
+    (b"ldrb", BASE_ALONE, Transfers(MemImm(3))),
+    (b"ldrb", BASE_INDEX, Transfers(MemReg(6))),
+    (b"ldrh", BASE_OFFSET, Transfers(MemImm(5))),
+    (b"ldrh", BASE_ALONE, Transfers(MemImm(5))),
+    (b"ldrh", BASE_INDEX, Transfers(MemReg(5))),
+    (b"ldrsb", BASE_INDEX, Transfers(MemReg(3))),
+    (b"ldrsh", BASE_INDEX, Transfers(MemReg(7))),
+    (b"lsls", TWO_REGISTERS_NUMBER, Computes(ShiftImm(0))),
+    (b"lsls", TWO_REGISTERS, Computes(Alu(2))),
+    (b"lsrs", TWO_REGISTERS_NUMBER, Computes(ShiftImm(1))),
+    (b"lsrs", TWO_REGISTERS, Computes(Alu(3))),
+];
+
+/// Mnemonics that begin with m to z.
+pub static M_TO_Z: [Row; 42] = [
+    (b"mov", TWO_REGISTERS, Computes(Mov)),
+    (b"movs", REGISTER_NUMBER, Computes(MovsImm)),
+    (b"movs", TWO_REGISTERS, Computes(MovsReg)),
+    (b"muls", TWO_REGISTERS, Computes(Alu(13))),
+    (b"mvns", TWO_REGISTERS, Computes(Alu(15))),
+    (b"nop", NOTHING, Controls(Hint(0))),
+    (b"orrs", TWO_REGISTERS, Computes(Alu(12))),
+    (b"pop", LIST, Transfers(Pop)),
+    (b"push", LIST, Transfers(Push)),
+    (b"rev", TWO_REGISTERS, Computes(Rev(0))),
+    (b"rev16", TWO_REGISTERS, Computes(Rev(1))),
+    (b"revsh", TWO_REGISTERS, Computes(Rev(3))),
+    (b"rors", TWO_REGISTERS, Computes(Alu(7))),
+    (b"rsbs", TWO_REGISTERS_ZERO, Computes(Rsbs)),
+    (b"sbcs", TWO_REGISTERS, Computes(Alu(6))),
+    (b"sev", NOTHING, Controls(Hint(4))),
+    (b"stm", BASE_BACK_LIST, Transfers(Stm)),
     (b"str", SP_OFFSET, Transfers(MemSp(false))),
     (b"str", SP_ALONE, Transfers(MemSp(false))),
     (b"str", BASE_OFFSET, Transfers(MemImm(0))),
     (b"str", BASE_ALONE, Transfers(MemImm(0))),
-    (b"ldr", BASE_OFFSET, Transfers(MemImm(1))),
-    (b"ldr", BASE_ALONE, Transfers(MemImm(1))),
+    (b"str", BASE_INDEX, Transfers(MemReg(0))),
     (b"strb", BASE_OFFSET, Transfers(MemImm(2))),
     (b"strb", BASE_ALONE, Transfers(MemImm(2))),
-    (b"ldrb", BASE_OFFSET, Transfers(MemImm(3))),
-    (b"ldrb", BASE_ALONE, Transfers(MemImm(3))),
-    (b"str", BASE_INDEX, Transfers(MemReg(0))),
     (b"strb", BASE_INDEX, Transfers(MemReg(2))),
-    (b"ldr", BASE_INDEX, Transfers(MemReg(4))),
-    (b"ldrb", BASE_INDEX, Transfers(MemReg(6))),
-];
-
-/// Loads and stores of halfwords, signed loads, and register lists.
-static HALVES: [Row; 13] = [
     (b"strh", BASE_OFFSET, Transfers(MemImm(4))),
     (b"strh", BASE_ALONE, Transfers(MemImm(4))),
-    (b"ldrh", BASE_OFFSET, Transfers(MemImm(5))),
-    (b"ldrh", BASE_ALONE, Transfers(MemImm(5))),
     (b"strh", BASE_INDEX, Transfers(MemReg(1))),
-    (b"ldrsb", BASE_INDEX, Transfers(MemReg(3))),
-    (b"ldrh", BASE_INDEX, Transfers(MemReg(5))),
-    (b"ldrsh", BASE_INDEX, Transfers(MemReg(7))),
-    (b"push", LIST, Transfers(Push)),
-    (b"pop", LIST, Transfers(Pop)),
-    (b"stm", BASE_BACK_LIST, Transfers(Stm)),
-    (b"ldm", BASE_BACK_LIST, Transfers(LdmBack)),
-    (b"ldm", BASE_LIST, Transfers(Ldm)),
-];
-
-/// Extensions, reversals, returns, gates, hints and barriers.
-static OTHERS: [Row; 19] = [
-    (b"sxth", TWO_REGISTERS, Computes(Extend(0))),
-    (b"sxtb", TWO_REGISTERS, Computes(Extend(1))),
-    (b"uxth", TWO_REGISTERS, Computes(Extend(2))),
-    (b"uxtb", TWO_REGISTERS, Computes(Extend(3))),
-    (b"rev", TWO_REGISTERS, Computes(Rev(0))),
-    (b"rev16", TWO_REGISTERS, Computes(Rev(1))),
-    (b"revsh", TWO_REGISTERS, Computes(Rev(3))),
-    (b"bx", REGISTER, Controls(Bx)),
-    (b"blx", REGISTER, Controls(Blx)),
+    (b"sub", SP_NUMBER, Computes(SubSp)),
+    (b"subs", REGISTER_NUMBER, Computes(AddSubTwo(true))),
+    (b"subs", THREE_REGISTERS, Computes(AddSubReg(true))),
+    (b"subs", TWO_REGISTERS_NUMBER, Computes(AddSubThree(true))),
     (b"svc", NUMBER, Controls(Svc)),
+    (b"sxtb", TWO_REGISTERS, Computes(Extend(1))),
+    (b"sxth", TWO_REGISTERS, Computes(Extend(0))),
+    (b"tst", TWO_REGISTERS, Computes(Alu(8))),
     (b"udf", NUMBER, Controls(Udf)),
-    (b"nop", NOTHING, Controls(Hint(0))),
-    (b"yield", NOTHING, Controls(Hint(1))),
+    (b"uxtb", TWO_REGISTERS, Computes(Extend(3))),
+    (b"uxth", TWO_REGISTERS, Computes(Extend(2))),
     (b"wfe", NOTHING, Controls(Hint(2))),
     (b"wfi", NOTHING, Controls(Hint(3))),
-    (b"sev", NOTHING, Controls(Hint(4))),
-    (b"dsb", NOTHING, Controls(Barrier(0))),
-    (b"dmb", NOTHING, Controls(Barrier(1))),
-    (b"isb", NOTHING, Controls(Barrier(2))),
+    (b"yield", NOTHING, Controls(Hint(1))),
 ];
 
-/// Branches.
-static BRANCHES: [Row; 18] = [
-    (b"b", NAME, Names(B)),
-    (b"beq", NAME, Names(BCond(0))),
-    (b"bne", NAME, Names(BCond(1))),
-    (b"bcs", NAME, Names(BCond(2))),
-    (b"bcc", NAME, Names(BCond(3))),
-    (b"bmi", NAME, Names(BCond(4))),
-    (b"bpl", NAME, Names(BCond(5))),
-    (b"bvs", NAME, Names(BCond(6))),
-    (b"bvc", NAME, Names(BCond(7))),
-    (b"bhi", NAME, Names(BCond(8))),
-    (b"bls", NAME, Names(BCond(9))),
-    (b"bge", NAME, Names(BCond(10))),
-    (b"blt", NAME, Names(BCond(11))),
-    (b"bgt", NAME, Names(BCond(12))),
-    (b"ble", NAME, Names(BCond(13))),
-    (b"bhs", NAME, Names(BCond(2))),
-    (b"blo", NAME, Names(BCond(3))),
-    (b"bl", NAME, Names(Bl)),
-];
-
-/// Sections, symbols and pools.
-static SECTIONS: [Row; 11] = [
-    (b".text", NOTHING, Directs(Text)),
-    (b".data", NOTHING, Directs(Data)),
-    (b".bss", NOTHING, Directs(Bss)),
-    (b".section", RODATA, Directs(Rodata)),
-    (b".global", NAME, Names(Global)),
-    (b".globl", NAME, Names(Global)),
-    (b".type", NAME_FUNCTION, Names(TypeFunction)),
-    (b".type", NAME_OBJECT, Names(TypeObject)),
-    (b".size", NAME_SIZE, Names(Size)),
-    (b".pool", NOTHING, Directs(Pool)),
-    (b".ltorg", NOTHING, Directs(Pool)),
-];
-
-/// Bytes and filling.
-static CONTENTS: [Row; 13] = [
-    (b".word", WORD_EXPRESSIONS, Names(Words)),
-    (b".long", WORD_EXPRESSIONS, Names(Words)),
-    (b".4byte", WORD_EXPRESSIONS, Names(Words)),
-    (b".half", EXPRESSIONS, Names(Halves)),
-    (b".short", EXPRESSIONS, Names(Halves)),
-    (b".2byte", EXPRESSIONS, Names(Halves)),
-    (b".byte", EXPRESSIONS, Names(Bytes)),
-    (b".ascii", TEXT, Names(Ascii)),
-    (b".asciz", TEXT, Names(Asciz)),
-    (b".space", COUNT, Directs(Space)),
-    (b".zero", COUNT, Directs(Space)),
-    (b".align", POWER, Directs(Align)),
-    (b".p2align", POWER, Directs(Align)),
-];
-
-/// Unwinding.
-static UNWINDING: [Row; 8] = [
-    (b".fnstart", NOTHING, Directs(FnStart)),
-    (b".fnend", NOTHING, Directs(FnEnd)),
-    (b".save", LIST, Directs(Save)),
-    (b".pad", COUNT, Directs(Pad)),
-    (b".setfp", REGISTER_SP_COUNT, Directs(SetFp)),
-    (b".cantunwind", NOTHING, Directs(CantUnwind)),
-    (b".personalityindex", COUNT, Directs(PersonalityIndex)),
-    (b".handlerdata", NOTHING, Directs(HandlerData)),
-];
-
-/// The forms of a group, in the order in which they are tried.
-#[tactic(auto, unfolding(crate::specs::Forms::sums, crate::specs::Forms::logic, crate::specs::Forms::accesses, crate::specs::Forms::halves, crate::specs::Forms::others, crate::specs::Forms::branches, crate::specs::Forms::sections, crate::specs::Forms::contents, crate::specs::Forms::unwinding))]
+/// The forms of a group. Their words rise, byte by byte, so that those of one word stand together; these are tried in
+/// this order.
+#[tactic(auto, unfolding(crate::specs::Forms::directives, crate::specs::Forms::a_to_b, crate::specs::Forms::c_to_l, crate::specs::Forms::m_to_z))]
 pub fn forms_in(group: Group) -> &'static [Row]
     ensures { map form_of result.now ≡ forms_in group }
 {
     match group {
-        Group::Sums => &SUMS,
-        Group::Logic => &LOGIC,
-        Group::Accesses => &ACCESSES,
-        Group::Halves => &HALVES,
-        Group::Others => &OTHERS,
-        Group::Branches => &BRANCHES,
-        Group::Sections => &SECTIONS,
-        Group::Contents => &CONTENTS,
-        Group::Unwinding => &UNWINDING,
+        Group::Directives => &DIRECTIVES,
+        Group::AToB => &A_TO_B,
+        Group::CToL => &C_TO_L,
+        Group::MToZ => &M_TO_Z,
     }
 }

@@ -3,7 +3,6 @@ use Rattle.std.proofs.Common.{◌≡◌, ℕ, ◌+◌, ◌≤◌, ◌==◌, ◌&
 use Rattle.std.proofs.lemmas.List.{append-nil, drop_at}
 use Rattle.std.proofs.lemmas.Bool.{ne_eqb, le-ltb}
 use Rattle.asm_read.specs.declared.token.Kind.TheVariants.{Word}
-use Rattle.asm_read.specs.declared.token.Token.{Token}
 use Rattle.asm_read.specs.declared.line.Stop.{Stop}
 use Rattle.asm_read.specs.declared.form.Operands.{Operands}
 use Rattle.asm_read.specs.declared.makes.Makes.{Makes}
@@ -24,7 +23,9 @@ use Rattle.asm_text.proofs.Texts.{plain, and_left, and_right, not_true, front_of
 use Rattle.asm_read.specs.declared.line.Span.{Span}
 use Rattle.asm_read.specs.declared.statement.StmtKind.TheVariants.{Label}
 use Rattle.std.proofs.lemmas.List.Folds.{list_all-append}
-use Rattle.asm_text.proofs.Toks.{Tok, word, spelled, AllEnd, head_kind, Heads, Reads, reads, token_lead, bytes_at, filled, sign, Ends}
+use Rattle.asm_text.proofs.Heads.{head_of}
+use Rattle.asm_text.proofs.Items.{Item, flat}
+use Rattle.asm_text.proofs.Toks.{Tok, word, spelled, AllEnd, head_kind, Reads, reads, token_lead, bytes_at, filled, toks_few, sign, Ends}
 use Rattle.asm_text.proofs.Fitted.{Vals, none_yet, Step, went, refused, unknown, fitted, Agrees, Follows, fits_follows}
 
 pub data Choice : Type 0 where
@@ -37,7 +38,7 @@ if_went makes refused more = more
 if_went makes unknown more = nothing
 
 -- the first of these forms that begins with a word and fits
-abbrev pub chosen : List Form → List ℕ → List Tok → Choice
+abbrev pub chosen : List Form → List ℕ → List Item → Choice
 chosen [] w ts = nothing
 chosen (f ∷ fs) w ts = if same f.word w then if_went f.makes (fitted f.pieces ts none_yet) (chosen fs w ts) else chosen fs w ts
 
@@ -59,7 +60,7 @@ tried_chooses line n m v best (Err s) (went ts w) more next h k e = absurd h
 tried_chooses line n m v best (Err s) refused more next h k e = k (Some (farther best s)) e
 tried_chooses line n m v best (Err s) unknown more next h k e = cc
 
-pub first_chooses : (fs : List Form) (w line : List ℕ) (from : ℕ) (best : Option Stop) (ts : List Tok) (m : Makes) (v : Vals) → Agrees line (fresh from) none_yet → Reads line from ts → chosen fs w ts ≡ picked m v → Chooses line (first_fit fs w line from best) m v
+pub first_chooses : (fs : List Form) (w line : List ℕ) (from : ℕ) (best : Option Stop) (ts : List Item) (m : Makes) (v : Vals) → Agrees line (fresh from) none_yet → Reads line from (flat ts) → chosen fs w ts ≡ picked m v → Chooses line (first_fit fs w line from best) m v
 unfolding first_fit try_form
 first_chooses [] w line from best ts m v a h e = cc
 first_chooses (f ∷ fs) w line from best ts m v a h e =
@@ -69,7 +70,7 @@ first_chooses (f ∷ fs) w line from best ts m v a h e =
     ]) e
 
 nothing_yet : (line : List ℕ) (from : ℕ) → Agrees line (fresh from) none_yet
-nothing_yet line from = record { first = refl; second = refl; third = refl; number = refl; name = refl }
+nothing_yet line from = record { first = refl; second = refl; third = refl; list = refl; number = refl; name = refl; value = tt }
 
 -- operands behind their word
 abbrev pub behind_word : List Tok → List ℕ
@@ -80,26 +81,22 @@ behind_word (t ∷ ts) = 32 ∷ spelled (t ∷ ts)
 line_reads : (w : List ℕ) (ts : List Tok) → is_name w ≡ true → AllEnd ts → Reads (w ++ behind_word ts) 0 (word w ∷ ts)
 line_reads w [] n h =
     let here = token_lead false (w ++ []) (w ++ []) 0 Word (length w) refl (blank_of_name w [] n) (front_of_name w [] n refl) in
-    (token 0 (0 + length w) Word, record { is = here; kind = refl; name = bytes_at (w ++ []) w [] 0 (filled w n) refl; register = refl }, reads (w ++ []) [] false (0 + length w) tt (drop_at w [] (0 + length w) (omega arith)))
+    (token 0 (0 + length w) Word, record { is = here; kind = refl; name = bytes_at (w ++ []) w [] 0 (filled w n) refl; register = refl; few = omega (arith, filled w n, length-append w []); text = tt }, reads (w ++ []) [] false (0 + length w) tt (drop_at w [] (0 + length w) (omega arith)))
 line_reads w (t ∷ ts) n h =
     let rest = 32 ∷ spelled (t ∷ ts) in
     let here = token_lead false (w ++ rest) (w ++ rest) 0 Word (length w) refl (blank_of_name w rest n) (front_of_name w rest n refl) in
-    (token 0 (0 + length w) Word, record { is = here; kind = refl; name = bytes_at (w ++ rest) w rest 0 (filled w n) refl; register = refl }, reads (w ++ rest) (t ∷ ts) true (0 + length w) h (drop_at w rest (0 + length w) (omega arith)))
-
-head_of : (line : List ℕ) (from : ℕ) (ts : List Tok) → Reads line from ts → (found : Token) × Heads line from ts found
-head_of line from [] h = h
-head_of line from (t ∷ ts) h = (h.0, h.1)
+    (token 0 (0 + length w) Word, record { is = here; kind = refl; name = bytes_at (w ++ rest) w rest 0 (filled w n) refl; register = refl; few = omega (arith, filled w n, length-append w rest, toks_few (t ∷ ts) h); text = tt }, reads (w ++ rest) (t ∷ ts) true (0 + length w) h (drop_at w rest (0 + length w) (omega arith)))
 
 and_no : (a : Bool) → (a && false) ≡ false
 and_no true = refl
 and_no false = refl
 
 -- what a line with these tokens holds
-plan_reads : (line w : List ℕ) (ts : List Tok) (m : Makes) (v : Vals) → Reads line 0 (word w ∷ ts) → is_passed w ≡ false → is_mark_of 58 (head_kind ts) ≡ false → chosen rows w ts ≡ picked m v → (o : Operands) × (plan_of line ≡ Ok (plan None (Some (record { makes = m; operands = o })))) × Agrees line o v
+plan_reads : (line w : List ℕ) (ts : List Item) (m : Makes) (v : Vals) → Reads line 0 (word w ∷ flat ts) → is_passed w ≡ false → is_mark_of 58 (head_kind (flat ts)) ≡ false → chosen rows w ts ≡ picked m v → (o : Operands) × (plan_of line ≡ Ok (plan None (Some (record { makes = m; operands = o })))) × Agrees line o v
 unfolding plan_of statement_at word_statement
 plan_reads line w ts m v h passed colon e =
     let found = h.0 in
-    let next = head_of line found.end ts h.2 in
+    let next = head_of line found.end (flat ts) h.2 in
     let choice = first_chooses rows w line found.end None ts m v (nothing_yet line found.end) h.2 e in
     let no_label : (is_word found.kind && is_mark_of 58 (token_at line found.end).kind) ≡ false =
     ap (λ c. is_word found.kind && is_mark_of 58 c.kind) next.1.is
@@ -155,12 +152,12 @@ read_one b bs p h small e =
     ∙ ap (λ x. Ok x) (append-nil (stmts_of 1 (b ∷ bs) p))
 
 -- a line of a word and these tokens is the statement of the form that they choose
-pub line_is : (w : List ℕ) (ts : List Tok) (m : Makes) (v : Vals) (k : StmtKind) → is_name w ≡ true → is_passed w ≡ false → AllEnd ts → is_mark_of 58 (head_kind ts) ≡ false → plain (w ++ behind_word ts) ≡ true → length (w ++ behind_word ts) ≤ 256 → chosen rows w ts ≡ picked m v → ((line : List ℕ) (o : Operands) → Agrees line o v → kind_made line (record { makes = m; operands = o }) ≡ k) → read_of (w ++ behind_word ts) ≡ Ok (stmt 1 k ∷ [])
+pub line_is : (w : List ℕ) (ts : List Item) (m : Makes) (v : Vals) (k : StmtKind) → is_name w ≡ true → is_passed w ≡ false → AllEnd (flat ts) → is_mark_of 58 (head_kind (flat ts)) ≡ false → plain (w ++ behind_word (flat ts)) ≡ true → length (w ++ behind_word (flat ts)) ≤ 256 → chosen rows w ts ≡ picked m v → ((line : List ℕ) (o : Operands) → Agrees line o v → kind_made line (record { makes = m; operands = o }) ≡ k) → read_of (w ++ behind_word (flat ts)) ≡ Ok (stmt 1 k ∷ [])
 line_is [] ts m v k n passed ends colon clean small e makes = cc
 line_is (b ∷ bs) ts m v k n passed ends colon clean small e makes =
-    let line = b ∷ (bs ++ behind_word ts) in
-    let planned = plan_reads line (b ∷ bs) ts m v (line_reads (b ∷ bs) ts n ends) passed colon e in
-    read_one b (bs ++ behind_word ts) (plan None (Some (record { makes = m; operands = planned.0 }))) clean small planned.1
+    let line = b ∷ (bs ++ behind_word (flat ts)) in
+    let planned = plan_reads line (b ∷ bs) ts m v (line_reads (b ∷ bs) (flat ts) n ends) passed colon e in
+    read_one b (bs ++ behind_word (flat ts)) (plan None (Some (record { makes = m; operands = planned.0 }))) clean small planned.1
     ∙ ap (λ x. Ok (stmt 1 x ∷ [])) (makes line planned.0 planned.2)
 
 colon_ends : Ends (sign 58) []
@@ -170,7 +167,7 @@ colon_ends = (refl, refl, refl)
 label_reads : (w : List ℕ) → is_name w ≡ true → Reads (w ++ (58 ∷ [])) 0 (word w ∷ sign 58 ∷ [])
 label_reads w n =
     let here = token_lead false (w ++ (58 ∷ [])) (w ++ (58 ∷ [])) 0 Word (length w) refl (blank_of_name w (58 ∷ []) n) (front_of_name w (58 ∷ []) n refl) in
-    (token 0 (0 + length w) Word, record { is = here; kind = refl; name = bytes_at (w ++ (58 ∷ [])) w (58 ∷ []) 0 (filled w n) refl; register = refl }, reads (w ++ (58 ∷ [])) (sign 58 ∷ []) false (0 + length w) (colon_ends, tt) (drop_at w (58 ∷ []) (0 + length w) (omega arith)))
+    (token 0 (0 + length w) Word, record { is = here; kind = refl; name = bytes_at (w ++ (58 ∷ [])) w (58 ∷ []) 0 (filled w n) refl; register = refl; few = omega (arith, filled w n, length-append w (58 ∷ [])); text = tt }, reads (w ++ (58 ∷ [])) (sign 58 ∷ []) false (0 + length w) (colon_ends, tt) (drop_at w (58 ∷ []) (0 + length w) (omega arith)))
 
 -- a name and a colon are a label
 label_plan : (line w : List ℕ) → Reads line 0 (word w ∷ sign 58 ∷ []) → (s : Span) × (plan_of line ≡ Ok (plan (Some s) None)) × (bytes_of line s ≡ w)

@@ -7,7 +7,7 @@ use Rattle.asm_read.specs.declared.makes.Computation.TheVariants as computation
 use Rattle.asm_read.specs.declared.makes.Control.TheVariants as control
 use Rattle.asm_read.specs.declared.makes.Directive.TheVariants as directive
 use Rattle.asm_read.specs.declared.statement.StmtKind.TheVariants.{MovsImm, CmpImm, AddSubTwo, AddSubThree, AddRdSp, AddSp, SubSp, ShiftImm, Rsbs, Svc, Udf, Space, Align, Pad, SetFp, PersonalityIndex}
-use Rattle.asm_read.specs.Forms.{sums, logic, accesses, halves, others, branches, sections, contents, unwinding, rows}
+use Rattle.asm_read.specs.Forms.{directives, a_to_b, c_to_l, m_to_z, rows}
 use Rattle.asm_read.specs.Statements.{kind_of as kind_made}
 use Rattle.asm_read.specs.Reading.{stmt, read_of}
 use Rattle.asm_text.specs.Written.{register, InRange, line, register_number, two_number, sp_count, sp_number, hash}
@@ -15,91 +15,91 @@ use Rattle.asm_text.proofs.Fitted.{fitted}
 use Rattle.asm_text.proofs.Shapes.{of_register_number, of_two_number, of_sp_count, of_sp_number, of_hash, of_number}
 
 pub movs_number_line : (a : ℕ) (z : ℤ) → a < 16 → InRange z → read_of (line (codes "movs") (register_number a z)) ≡ Ok (stmt 1 (MovsImm a z) ∷ [])
-unfolding rows sums logic accesses halves others branches sections contents unwinding fitted kind_made
+unfolding rows directives a_to_b c_to_l m_to_z fitted kind_made
 movs_number_line a z ha hz = of_register_number (codes "movs") (makes.Computes computation.MovsImm) (MovsImm a z) a z (record { named = refl; kept = refl; clean = refl; brief = omega arith }) ha hz refl (λ text o g. cc (g.first, g.number))
 
 pub cmp_number_line : (a : ℕ) (z : ℤ) → a < 16 → InRange z → read_of (line (codes "cmp") (register_number a z)) ≡ Ok (stmt 1 (CmpImm a z) ∷ [])
-unfolding rows sums logic accesses halves others branches sections contents unwinding fitted kind_made
+unfolding rows directives a_to_b c_to_l m_to_z fitted kind_made
 cmp_number_line a z ha hz = of_register_number (codes "cmp") (makes.Computes computation.CmpImm) (CmpImm a z) a z (record { named = refl; kept = refl; clean = refl; brief = omega arith }) ha hz refl (λ text o g. cc (g.first, g.number))
 
 pub adds_number_line : (a : ℕ) (z : ℤ) → a < 16 → InRange z → read_of (line (codes "adds") (register_number a z)) ≡ Ok (stmt 1 (AddSubTwo false a z) ∷ [])
-unfolding rows sums logic accesses halves others branches sections contents unwinding fitted kind_made
+unfolding rows directives a_to_b c_to_l m_to_z fitted kind_made
 adds_number_line a z ha hz = of_register_number (codes "adds") (makes.Computes (computation.AddSubTwo false)) (AddSubTwo false a z) a z (record { named = refl; kept = refl; clean = refl; brief = omega arith }) ha hz refl (λ text o g. cc (g.first, g.number))
 
 pub adds_three_line : (a : ℕ) (b : ℕ) (z : ℤ) → a < 16 → b < 16 → InRange z → read_of (line (codes "adds") (two_number a b z)) ≡ Ok (stmt 1 (AddSubThree false a b z) ∷ [])
-unfolding rows sums logic accesses halves others branches sections contents unwinding fitted kind_made
+unfolding rows directives a_to_b c_to_l m_to_z fitted kind_made
 adds_three_line a b z ha hb hz = of_two_number (codes "adds") (makes.Computes (computation.AddSubThree false)) (AddSubThree false a b z) a b z (record { named = refl; kept = refl; clean = refl; brief = omega arith }) ha hb hz refl (λ text o g. cc (g.first, g.second, g.number))
 
 pub subs_number_line : (a : ℕ) (z : ℤ) → a < 16 → InRange z → read_of (line (codes "subs") (register_number a z)) ≡ Ok (stmt 1 (AddSubTwo true a z) ∷ [])
-unfolding rows sums logic accesses halves others branches sections contents unwinding fitted kind_made
+unfolding rows directives a_to_b c_to_l m_to_z fitted kind_made
 subs_number_line a z ha hz = of_register_number (codes "subs") (makes.Computes (computation.AddSubTwo true)) (AddSubTwo true a z) a z (record { named = refl; kept = refl; clean = refl; brief = omega arith }) ha hz refl (λ text o g. cc (g.first, g.number))
 
 pub subs_three_line : (a : ℕ) (b : ℕ) (z : ℤ) → a < 16 → b < 16 → InRange z → read_of (line (codes "subs") (two_number a b z)) ≡ Ok (stmt 1 (AddSubThree true a b z) ∷ [])
-unfolding rows sums logic accesses halves others branches sections contents unwinding fitted kind_made
+unfolding rows directives a_to_b c_to_l m_to_z fitted kind_made
 subs_three_line a b z ha hb hz = of_two_number (codes "subs") (makes.Computes (computation.AddSubThree true)) (AddSubThree true a b z) a b z (record { named = refl; kept = refl; clean = refl; brief = omega arith }) ha hb hz refl (λ text o g. cc (g.first, g.second, g.number))
 
 pub lsls_number_line : (a : ℕ) (b : ℕ) (z : ℤ) → a < 16 → b < 16 → InRange z → read_of (line (codes "lsls") (two_number a b z)) ≡ Ok (stmt 1 (ShiftImm 0 a b z) ∷ [])
-unfolding rows sums logic accesses halves others branches sections contents unwinding fitted kind_made
+unfolding rows directives a_to_b c_to_l m_to_z fitted kind_made
 lsls_number_line a b z ha hb hz = of_two_number (codes "lsls") (makes.Computes (computation.ShiftImm 0)) (ShiftImm 0 a b z) a b z (record { named = refl; kept = refl; clean = refl; brief = omega arith }) ha hb hz refl (λ text o g. cc (g.first, g.second, g.number))
 
 pub lsrs_number_line : (a : ℕ) (b : ℕ) (z : ℤ) → a < 16 → b < 16 → InRange z → read_of (line (codes "lsrs") (two_number a b z)) ≡ Ok (stmt 1 (ShiftImm 1 a b z) ∷ [])
-unfolding rows sums logic accesses halves others branches sections contents unwinding fitted kind_made
+unfolding rows directives a_to_b c_to_l m_to_z fitted kind_made
 lsrs_number_line a b z ha hb hz = of_two_number (codes "lsrs") (makes.Computes (computation.ShiftImm 1)) (ShiftImm 1 a b z) a b z (record { named = refl; kept = refl; clean = refl; brief = omega arith }) ha hb hz refl (λ text o g. cc (g.first, g.second, g.number))
 
 pub asrs_number_line : (a : ℕ) (b : ℕ) (z : ℤ) → a < 16 → b < 16 → InRange z → read_of (line (codes "asrs") (two_number a b z)) ≡ Ok (stmt 1 (ShiftImm 2 a b z) ∷ [])
-unfolding rows sums logic accesses halves others branches sections contents unwinding fitted kind_made
+unfolding rows directives a_to_b c_to_l m_to_z fitted kind_made
 asrs_number_line a b z ha hb hz = of_two_number (codes "asrs") (makes.Computes (computation.ShiftImm 2)) (ShiftImm 2 a b z) a b z (record { named = refl; kept = refl; clean = refl; brief = omega arith }) ha hb hz refl (λ text o g. cc (g.first, g.second, g.number))
 
 pub add_register_sp_line : (a : ℕ) (z : ℤ) → a < 16 → InRange z → read_of (line (codes "add") (sp_count a z)) ≡ Ok (stmt 1 (AddRdSp a z) ∷ [])
-unfolding rows sums logic accesses halves others branches sections contents unwinding fitted kind_made
+unfolding rows directives a_to_b c_to_l m_to_z fitted kind_made
 add_register_sp_line a z ha hz = of_sp_count (codes "add") (makes.Computes computation.AddRdSp) (AddRdSp a z) a z (record { named = refl; kept = refl; clean = refl; brief = omega arith }) ha hz refl (λ text o g. cc (g.first, g.number))
 
 pub add_sp_line : (z : ℤ) → InRange z → read_of (line (codes "add") (sp_number z)) ≡ Ok (stmt 1 (AddSp z) ∷ [])
-unfolding rows sums logic accesses halves others branches sections contents unwinding fitted kind_made
+unfolding rows directives a_to_b c_to_l m_to_z fitted kind_made
 add_sp_line z hz = of_sp_number (codes "add") (makes.Computes computation.AddSp) (AddSp z) z (record { named = refl; kept = refl; clean = refl; brief = omega arith }) hz refl (λ text o g. cc (g.number))
 
 pub sub_sp_line : (z : ℤ) → InRange z → read_of (line (codes "sub") (sp_number z)) ≡ Ok (stmt 1 (SubSp z) ∷ [])
-unfolding rows sums logic accesses halves others branches sections contents unwinding fitted kind_made
+unfolding rows directives a_to_b c_to_l m_to_z fitted kind_made
 sub_sp_line z hz = of_sp_number (codes "sub") (makes.Computes computation.SubSp) (SubSp z) z (record { named = refl; kept = refl; clean = refl; brief = omega arith }) hz refl (λ text o g. cc (g.number))
 
 pub svc_line : (z : ℤ) → InRange z → read_of (line (codes "svc") (hash z)) ≡ Ok (stmt 1 (Svc z) ∷ [])
-unfolding rows sums logic accesses halves others branches sections contents unwinding fitted kind_made
+unfolding rows directives a_to_b c_to_l m_to_z fitted kind_made
 svc_line z hz = of_hash (codes "svc") (makes.Controls control.Svc) (Svc z) z (record { named = refl; kept = refl; clean = refl; brief = omega arith }) hz refl (λ text o g. cc (g.number))
 
 pub udf_line : (z : ℤ) → InRange z → read_of (line (codes "udf") (hash z)) ≡ Ok (stmt 1 (Udf z) ∷ [])
-unfolding rows sums logic accesses halves others branches sections contents unwinding fitted kind_made
+unfolding rows directives a_to_b c_to_l m_to_z fitted kind_made
 udf_line z hz = of_hash (codes "udf") (makes.Controls control.Udf) (Udf z) z (record { named = refl; kept = refl; clean = refl; brief = omega arith }) hz refl (λ text o g. cc (g.number))
 
 pub space_line : (z : ℤ) → InRange z → read_of (line (codes ".space") (signed_decimal z)) ≡ Ok (stmt 1 (Space z) ∷ [])
-unfolding rows sums logic accesses halves others branches sections contents unwinding fitted kind_made
+unfolding rows directives a_to_b c_to_l m_to_z fitted kind_made
 space_line z hz = of_number (codes ".space") (makes.Directs directive.Space) (Space z) z (record { named = refl; kept = refl; clean = refl; brief = omega arith }) hz refl (λ text o g. cc (g.number))
 
 pub pad_line : (z : ℤ) → InRange z → read_of (line (codes ".pad") (hash z)) ≡ Ok (stmt 1 (Pad z) ∷ [])
-unfolding rows sums logic accesses halves others branches sections contents unwinding fitted kind_made
+unfolding rows directives a_to_b c_to_l m_to_z fitted kind_made
 pad_line z hz = of_hash (codes ".pad") (makes.Directs directive.Pad) (Pad z) z (record { named = refl; kept = refl; clean = refl; brief = omega arith }) hz refl (λ text o g. cc (g.number))
 
 pub index_line : (z : ℤ) → InRange z → read_of (line (codes ".personalityindex") (signed_decimal z)) ≡ Ok (stmt 1 (PersonalityIndex z) ∷ [])
-unfolding rows sums logic accesses halves others branches sections contents unwinding fitted kind_made
+unfolding rows directives a_to_b c_to_l m_to_z fitted kind_made
 index_line z hz = of_number (codes ".personalityindex") (makes.Directs directive.PersonalityIndex) (PersonalityIndex z) z (record { named = refl; kept = refl; clean = refl; brief = omega arith }) hz refl (λ text o g. cc (g.number))
 
 pub setfp_line : (a : ℕ) (z : ℤ) → a < 16 → InRange z → read_of (line (codes ".setfp") (sp_count a z)) ≡ Ok (stmt 1 (SetFp a z) ∷ [])
-unfolding rows sums logic accesses halves others branches sections contents unwinding fitted kind_made
+unfolding rows directives a_to_b c_to_l m_to_z fitted kind_made
 setfp_line a z ha hz = of_sp_count (codes ".setfp") (makes.Directs directive.SetFp) (SetFp a z) a z (record { named = refl; kept = refl; clean = refl; brief = omega arith }) ha hz refl (λ text o g. cc (g.first, g.number))
 
 align_0_line : read_of (line (codes ".align") (signed_decimal (pos 0))) ≡ Ok (stmt 1 (Align (pos 0)) ∷ [])
-unfolding rows sums logic accesses halves others branches sections contents unwinding fitted kind_made
+unfolding rows directives a_to_b c_to_l m_to_z fitted kind_made
 align_0_line = of_number (codes ".align") (makes.Directs directive.Align) (Align (pos 0)) (pos 0) (record { named = refl; kept = refl; clean = refl; brief = omega arith }) (omega arith) refl (λ text o g. cc (g.number))
 
 align_1_line : read_of (line (codes ".align") (signed_decimal (pos 1))) ≡ Ok (stmt 1 (Align (pos 1)) ∷ [])
-unfolding rows sums logic accesses halves others branches sections contents unwinding fitted kind_made
+unfolding rows directives a_to_b c_to_l m_to_z fitted kind_made
 align_1_line = of_number (codes ".align") (makes.Directs directive.Align) (Align (pos 1)) (pos 1) (record { named = refl; kept = refl; clean = refl; brief = omega arith }) (omega arith) refl (λ text o g. cc (g.number))
 
 align_2_line : read_of (line (codes ".align") (signed_decimal (pos 2))) ≡ Ok (stmt 1 (Align (pos 2)) ∷ [])
-unfolding rows sums logic accesses halves others branches sections contents unwinding fitted kind_made
+unfolding rows directives a_to_b c_to_l m_to_z fitted kind_made
 align_2_line = of_number (codes ".align") (makes.Directs directive.Align) (Align (pos 2)) (pos 2) (record { named = refl; kept = refl; clean = refl; brief = omega arith }) (omega arith) refl (λ text o g. cc (g.number))
 
 align_3_line : read_of (line (codes ".align") (signed_decimal (pos 3))) ≡ Ok (stmt 1 (Align (pos 3)) ∷ [])
-unfolding rows sums logic accesses halves others branches sections contents unwinding fitted kind_made
+unfolding rows directives a_to_b c_to_l m_to_z fitted kind_made
 align_3_line = of_number (codes ".align") (makes.Directs directive.Align) (Align (pos 3)) (pos 3) (record { named = refl; kept = refl; clean = refl; brief = omega arith }) (omega arith) refl (λ text o g. cc (g.number))
 
 pub align_line : (n : ℕ) → n < 4 → read_of (line (codes ".align") (signed_decimal (pos n))) ≡ Ok (stmt 1 (Align (pos n)) ∷ [])
@@ -110,7 +110,7 @@ align_line (suc (suc (suc zero))) h = align_3_line
 align_line (suc (suc (suc (suc n)))) h = absurd (omega arith)
 
 rsbs_zero_line : (a b : ℕ) → a < 16 → b < 16 → read_of (line (codes "rsbs") (two_number a b (pos 0))) ≡ Ok (stmt 1 (Rsbs a b) ∷ [])
-unfolding rows sums logic accesses halves others branches sections contents unwinding fitted kind_made
+unfolding rows directives a_to_b c_to_l m_to_z fitted kind_made
 rsbs_zero_line a b ha hb = of_two_number (codes "rsbs") (makes.Computes computation.Rsbs) (Rsbs a b) a b (pos 0) (record { named = refl; kept = refl; clean = refl; brief = omega arith }) ha hb (omega arith) refl (λ text o g. cc (g.first, g.second))
 
 pub rsbs_line : (a b : ℕ) → a < 16 → b < 16 → read_of (line (codes "rsbs") (register a ++ (codes ", " ++ (register b ++ codes ", #0")))) ≡ Ok (stmt 1 (Rsbs a b) ∷ [])

@@ -142,6 +142,10 @@ pub blank_of_number : (z : ℤ) (rest : List ℕ) → InRange z → prefix_len i
 blank_of_number (pos n) rest h = let a = decimal_digits n (omega arith) in blank_of_digits (decimal n) rest a.digits a.some
 blank_of_number (negsuc n) rest h = refl
 
+pub number_some : (z : ℤ) → InRange z → 0 < length (signed_decimal z)
+number_some (pos n) h = (decimal_digits n (omega arith)).some
+number_some (negsuc n) h = omega arith
+
 pub number_plain : (z : ℤ) → InRange z → plain (signed_decimal z) ≡ true
 number_plain (pos n) h = digits_plain (decimal n) (decimal_digits n (omega arith)).digits
 number_plain (negsuc n) h = digits_plain (decimal (suc n)) (decimal_digits (suc n) (omega arith)).digits

@@ -1,5 +1,5 @@
 -- A word with operands stands for the statement of the form that its tokens choose.
-use Rattle.std.proofs.Common.{◌≡◌, ℕ, ◌+◌, ◌<◌, ◌≤◌, ◌==◌, if◌then◌else◌, not, ◌&&◌, true, false, List, [], ◌∷◌, length, Ok, ℤ, refl, ap, sym, subst, ◌∙◌, arith, codes, length-append}
+use Rattle.std.proofs.Common.{◌≡◌, ℕ, ◌+◌, ◌<◌, ◌≤◌, ◌==◌, if◌then◌else◌, not, ◌&&◌, true, false, List, [], ◌∷◌, ◌++◌, length, Ok, ℤ, refl, ap, sym, subst, ◌∙◌, arith, codes, length-append}
 use Rattle.std.proofs.lemmas.List.Folds.{list_all-append}
 use Rattle.std.proofs.lemmas.List.{append-nil}
 use Rattle.asm_read.specs.declared.form.Operands.{Operands}
@@ -14,9 +14,10 @@ use Rattle.asm_read.specs.Reading.{stmt, read_of}
 use Rattle.asm_text.specs.Written.{register, is_name, line}
 use Rattle.asm_text.proofs.Numbers.{number_plain, number_short}
 use Rattle.asm_text.proofs.Texts.{plain, both, name_plain, differ, and_left, and_right, not_true}
-use Rattle.asm_text.proofs.Toks.{Tok, reg, word, num, sign, spelling, spelled, behind, spelled_step, Ends, AllEnd, by_register, head_kind}
-use Rattle.asm_text.proofs.Fitted.{Vals, none_yet, Agrees}
-use Rattle.asm_text.proofs.Chosen.{picked, chosen, line_is}
+use Rattle.asm_text.proofs.Toks.{Tok, reg, word, num, sign, quote, spelling, spelled, behind, spelled_step, Ends, AllEnd, by_register, head_kind}
+use Rattle.asm_text.proofs.Items.{Item, tok, flat}
+use Rattle.asm_text.proofs.Fitted.{Vals, nothing, none_yet, Agrees}
+use Rattle.asm_text.proofs.Chosen.{picked, chosen, behind_word, line_is}
 use Rattle.asm_read.specs.declared.token.Kind.TheVariants.{Mark}
 use Rattle.std.specs.List.{list_all}
 
@@ -26,12 +27,13 @@ cost (reg r) = 3
 cost (word w) = length w
 cost (num z) = 11
 cost (sign b) = 2
+cost (quote raw) = length raw + 2
 
 unfoldable pub costs : List Tok → ℕ
 costs [] = 0
 costs (t ∷ ts) = cost t + costs ts
 
-register_short : (r : ℕ) → r < 16 → length (register r) ≤ 3
+pub register_short : (r : ℕ) → r < 16 → length (register r) ≤ 3
 unfolding register
 register_short = by_register (λ r. length (register r) ≤ 3) (omega arith) (omega arith) (omega arith) (omega arith) (omega arith) (omega arith) (omega arith) (omega arith) (omega arith) (omega arith) (omega arith) (omega arith) (omega arith) (omega arith) (omega arith) (omega arith)
 
@@ -47,6 +49,8 @@ tok_short (word w) [] h = omega arith
 tok_short (num z) [] h = omega (arith, number_short z h.0)
 tok_short (num z) (u ∷ ts) h = omega (arith, number_short z h.0)
 tok_short (word w) (u ∷ ts) h = omega arith
+tok_short (quote raw) [] h = omega (arith, length-append raw (34 ∷ []))
+tok_short (quote raw) (u ∷ ts) h = omega (arith, length-append raw (34 ∷ []))
 tok_short (sign b) [] h = omega arith
 tok_short (sign b) (u ∷ ts) h = elim (b == 44) as (λ c. 1 + length (if c then 32 ∷ spelled (u ∷ ts) else spelled (u ∷ ts)) ≤ 2 + length (spelled (u ∷ ts))) [ true ↦ omega arith | false ↦ omega arith ]
 
@@ -64,12 +68,14 @@ tok_plain (reg r) rest h = register_plain r h.0
 tok_plain (word w) rest h = name_plain w h.0
 tok_plain (num z) rest h = number_plain z h.0
 tok_plain (sign b) rest h = ap (λ t. not t && true) h.2
+tok_plain (quote raw) rest h = list_all-append (λ b. not (not_plain b)) raw (34 ∷ []) ∙ both (plain raw) true h.1 refl
 
 behind_plain : (t : Tok) (ts : List Tok) → plain (spelled ts) ≡ true → plain (behind t ts) ≡ true
 behind_plain t [] h = refl
 behind_plain (reg r) (u ∷ ts) h = h
 behind_plain (word w) (u ∷ ts) h = h
 behind_plain (num z) (u ∷ ts) h = h
+behind_plain (quote raw) (u ∷ ts) h = h
 behind_plain (sign b) (u ∷ ts) h = elim (b == 44) as (λ c. plain (if c then 32 ∷ spelled (u ∷ ts) else spelled (u ∷ ts)) ≡ true) [ true ↦ h | false ↦ h ]
 
 spelled_plain : (ts : List Tok) → AllEnd ts → plain (spelled ts) ≡ true
@@ -86,16 +92,26 @@ pub record IsMnemonic (w : List ℕ) : Type 0 where
   pub clean : plain w ≡ true
   pub brief : length w ≤ 20
 
--- a word with operands that no label's colon begins, as a statement
-pub stands : (w : List ℕ) (t : Tok) (ts : List Tok) (m : Makes) (v : Vals) (k : StmtKind) → IsMnemonic w → AllEnd (t ∷ ts) → is_mark_of 58 (head_kind (t ∷ ts)) ≡ false → costs (t ∷ ts) ≤ 235 → chosen rows w (t ∷ ts) ≡ picked m v → ((line : List ℕ) (o : Operands) → Agrees line o v → kind_made line (record { makes = m; operands = o }) ≡ k) → read_of (line w (spelled (t ∷ ts))) ≡ Ok (stmt 1 k ∷ [])
-stands w t ts m v k is ends colon few choice makes =
-    let rest = spelled_plain (t ∷ ts) ends in
-    let long = length-append w (32 ∷ spelled (t ∷ ts)) in
-    let short = spelled_short (t ∷ ts) ends in
+behind_is : (w : List ℕ) (ts : List Tok) → 0 < length ts → w ++ behind_word ts ≡ line w (spelled ts)
+behind_is w [] h = absurd (omega arith)
+behind_is w (t ∷ ts) h = refl
+
+-- a word with operands that no label's colon begins, as a statement; the line is short
+pub stands_in : (w : List ℕ) (ts : List Item) (m : Makes) (v : Vals) (k : StmtKind) → IsMnemonic w → 0 < length (flat ts) → AllEnd (flat ts) → is_mark_of 58 (head_kind (flat ts)) ≡ false → length w + length (spelled (flat ts)) ≤ 255 → chosen rows w ts ≡ picked m v → ((line : List ℕ) (o : Operands) → Agrees line o v → kind_made line (record { makes = m; operands = o }) ≡ k) → read_of (line w (spelled (flat ts))) ≡ Ok (stmt 1 k ∷ [])
+stands_in w ts m v k is some ends colon few choice makes =
+    let rest = spelled_plain (flat ts) ends in
+    let long = length-append w (32 ∷ spelled (flat ts)) in
+    let e = behind_is w (flat ts) some in
+    subst (λ x. read_of x ≡ Ok (stmt 1 k ∷ [])) e
+    (line_is w ts m v k is.named is.kept ends colon
+    (ap plain e ∙ list_all-append (λ b. not (not_plain b)) w (32 ∷ spelled (flat ts)) ∙ both (plain w) (plain (32 ∷ spelled (flat ts))) is.clean rest)
+    (let size = ap length e in omega arith) choice makes)
+
+pub stands : (w : List ℕ) (ts : List Item) (m : Makes) (v : Vals) (k : StmtKind) → IsMnemonic w → 0 < length (flat ts) → AllEnd (flat ts) → is_mark_of 58 (head_kind (flat ts)) ≡ false → costs (flat ts) ≤ 235 → chosen rows w ts ≡ picked m v → ((line : List ℕ) (o : Operands) → Agrees line o v → kind_made line (record { makes = m; operands = o }) ≡ k) → read_of (line w (spelled (flat ts))) ≡ Ok (stmt 1 k ∷ [])
+stands w ts m v k is some ends colon few choice makes =
+    let short = spelled_short (flat ts) ends in
     let brief = is.brief in
-    line_is w (t ∷ ts) m v k is.named is.kept ends colon
-    (list_all-append (λ b. not (not_plain b)) w (32 ∷ spelled (t ∷ ts)) ∙ both (plain w) (plain (32 ∷ spelled (t ∷ ts))) is.clean rest)
-    (omega arith) choice makes
+    stands_in w ts m v k is some ends colon (omega arith) choice makes
 
 -- a word alone
 pub alone : (w : List ℕ) (m : Makes) (k : StmtKind) → IsMnemonic w → chosen rows w [] ≡ picked m none_yet → ((line : List ℕ) (o : Operands) → kind_made line (record { makes = m; operands = o }) ≡ k) → read_of w ≡ Ok (stmt 1 k ∷ [])
@@ -130,16 +146,19 @@ unfolding front_of
 minus_front_of b bs d q = rw (q, d) refl
 
 -- a minus sign before a name is a mark
-pub minus_ends : (w : List ℕ) → is_name w ≡ true → Ends (sign 45) w
-minus_ends [] h = cc
-minus_ends (b ∷ bs) h =
+pub minus_before : (w rest : List ℕ) → is_name w ≡ true → Ends (sign 45) (w ++ rest)
+minus_before [] rest h = cc
+minus_before (b ∷ bs) rest h =
     let digit = not_true (is_digit b) (and_left (not (is_digit b)) (list_all is_name_byte (b ∷ bs)) h) in
     let named = and_left (is_name_byte b) (list_all is_name_byte bs) (and_right (not (is_digit b)) (list_all is_name_byte (b ∷ bs)) h) in
-    (minus_front_of b bs digit (differ is_name_byte b 39 named refl), refl, refl)
+    (minus_front_of b (bs ++ rest) digit (differ is_name_byte b 39 named refl), refl, refl)
+
+pub minus_ends : (w : List ℕ) → is_name w ≡ true → Ends (sign 45) w
+minus_ends w h = subst (λ x. Ends (sign 45) x) (append-nil w) (minus_before w [] h)
 
 -- the word sp
-abbrev pub sp : Tok
-sp = word (codes "sp")
+abbrev pub sp : Item
+sp = tok (word (codes "sp"))
 
 abbrev pub values : ℕ → ℕ → ℕ → ℤ → List ℕ → Vals
-values a b c z n = record { first = a; second = b; third = c; number = z; name = n }
+values a b c z n = record { first = a; second = b; third = c; list = 0; number = z; name = n; value = nothing }

@@ -4,27 +4,29 @@ use Rattle.std.proofs.lemmas.Bool.{lt-ltb, le-leb}
 use Rattle.std.proofs.lemmas.List.{append-nil, drop-drop, drop_at, take_at}
 use Rattle.std.specs.List.{prefix_len}
 use Rattle.asm_read.specs.declared.token.Kind.{Kind}
-use Rattle.asm_read.specs.declared.token.Kind.TheVariants.{Word, Number, Mark, End}
+use Rattle.asm_read.specs.declared.token.Kind.TheVariants.{Word, Number, Quoted, Mark, End}
 use Rattle.asm_read.specs.declared.token.Token.{Token}
 use Rattle.asm_read.specs.Tokens.{is_blank, front, front_of, token, placed, token_at}
 use Rattle.asm_read.specs.Plans.{not_plain}
 use Rattle.asm_read.specs.Operands.{span, bytes_of, name_of, register_of}
 use Rattle.std.specs.Fmt.{signed_decimal}
 use Rattle.asm_text.specs.Written.{register, is_name, InRange}
-use Rattle.asm_text.proofs.Numbers.{front_of_number, blank_of_number}
-use Rattle.asm_text.proofs.Texts.{Stops, front_of_name, blank_of_name}
+use Rattle.asm_text.proofs.Numbers.{front_of_number, blank_of_number, number_some}
+use Rattle.asm_text.proofs.Texts.{Stops, plain, front_of_name, blank_of_name}
 
 pub data Tok : Type 0 where
   reg : ℕ → Tok
   word : List ℕ → Tok
   num : ℤ → Tok
   sign : ℕ → Tok
+  quote : List ℕ → Tok
 
 abbrev pub spelling : Tok → List ℕ
 spelling (reg r) = register r
 spelling (word w) = w
 spelling (num z) = signed_decimal z
 spelling (sign b) = b ∷ []
+spelling (quote raw) = 34 ∷ (raw ++ (34 ∷ []))
 
 -- a blank stands behind a comma
 abbrev pub gap : Tok → List ℕ → List ℕ
@@ -50,6 +52,7 @@ kind_of (reg r) = Word
 kind_of (word w) = Word
 kind_of (num z) = Number z
 kind_of (sign b) = Mark b
+kind_of (quote raw) = Quoted
 
 -- a token that ends where the text behind it begins
 abbrev pub Ends : Tok → List ℕ → Type 0
@@ -57,6 +60,7 @@ Ends (reg r) rest = (r < 16) × Stops rest
 Ends (word w) rest = (is_name w ≡ true) × Stops rest
 Ends (num z) rest = InRange z × Stops rest
 Ends (sign b) rest = (front_of (b ∷ rest) ≡ front (Mark b) 1) × (is_blank b ≡ false) × (not_plain b ≡ false)
+Ends (quote raw) rest = (front_of ((34 ∷ (raw ++ (34 ∷ []))) ++ rest) ≡ front Quoted (length (34 ∷ (raw ++ (34 ∷ []))))) × (plain raw ≡ true)
 
 abbrev pub AllEnd : List Tok → Type 0
 AllEnd [] = Unit {0}
@@ -94,12 +98,14 @@ front_of_tok (reg r) rest h = front_of_name (register r) rest (register_is_name 
 front_of_tok (word w) rest h = front_of_name w rest h.0 h.1
 front_of_tok (num z) rest h = front_of_number z rest h.0 h.1
 front_of_tok (sign b) rest h = h.0
+front_of_tok (quote raw) rest h = h.0
 
 pub blank_of_tok : (t : Tok) (rest : List ℕ) → Ends t rest → prefix_len is_blank (spelling t ++ rest) ≡ 0
 blank_of_tok (reg r) rest h = blank_of_name (register r) rest (register_is_name r h.0)
 blank_of_tok (word w) rest h = blank_of_name w rest h.0
 blank_of_tok (num z) rest h = blank_of_number z rest h.0
 blank_of_tok (sign b) rest h = ap (λ t. cond t (1 + prefix_len is_blank rest) 0) h.1
+blank_of_tok (quote raw) rest h = refl
 
 -- a blank in front, or none
 abbrev pub lead : Bool → List ℕ → List ℕ
@@ -131,6 +137,7 @@ placed_tok (reg r) from start n = refl
 placed_tok (word w) from start n = refl
 placed_tok (num z) from start n = refl
 placed_tok (sign b) from start n = refl
+placed_tok (quote raw) from start n = refl
 
 -- the bytes that stand at a place
 pub bytes_at : (line w rest : List ℕ) (start : ℕ) → 0 < length w → drop start line ≡ w ++ rest → bytes_of line (span start (start + length w)) ≡ w
@@ -150,6 +157,7 @@ word_in (reg r) = register r
 word_in (word w) = w
 word_in (num z) = []
 word_in (sign b) = []
+word_in (quote raw) = []
 
 abbrev pub head_word : List Tok → List ℕ
 head_word [] = []
@@ -160,10 +168,16 @@ register_in (reg r) = Some r
 register_in (word w) = register_of w
 register_in (num z) = None
 register_in (sign b) = None
+register_in (quote raw) = None
 
 abbrev pub head_register : List Tok → Option ℕ
 head_register [] = None
 head_register (t ∷ ts) = register_in t
+
+-- the bytes of a text, with its quotes
+abbrev pub TextIs : List ℕ → Token → List Tok → Type 0
+TextIs line found (quote raw ∷ ts) = bytes_of line (span found.start found.end) ≡ 34 ∷ (raw ++ (34 ∷ []))
+TextIs line found ts = Unit {0}
 
 -- the token of a line that is the first of these, or the line's end
 pub record Heads (line : List ℕ) (from : ℕ) (ts : List Tok) (found : Token) : Type 0 where
@@ -171,6 +185,8 @@ pub record Heads (line : List ℕ) (from : ℕ) (ts : List Tok) (found : Token) 
   pub kind : found.kind ≡ head_kind ts
   pub name : name_of line found ≡ head_word ts
   pub register : register_of (head_word ts) ≡ head_register ts
+  pub few : length ts ≤ length line
+  pub text : TextIs line found ts
 
 -- from a place on the line has these tokens
 abbrev pub Reads : List ℕ → ℕ → List Tok → Type 0
@@ -186,12 +202,21 @@ name_found (reg r) line start rest h e = bytes_at line (register r) rest start (
 name_found (word w) line start rest h e = bytes_at line w rest start (filled w h.0) e
 name_found (num z) line start rest h e = refl
 name_found (sign b) line start rest h e = refl
+name_found (quote raw) line start rest h e = refl
 
 register_found : (t : Tok) (rest : List ℕ) → Ends t rest → register_of (word_in t) ≡ register_in t
 register_found (reg r) rest h = register_read r h.0
 register_found (word w) rest h = refl
 register_found (num z) rest h = refl
 register_found (sign b) rest h = refl
+register_found (quote raw) rest h = refl
+
+text_found : (t : Tok) (ts : List Tok) (line : List ℕ) (start : ℕ) → Ends t (behind t ts) → drop start line ≡ spelling t ++ behind t ts → TextIs line (token start (start + length (spelling t)) (kind_of t)) (t ∷ ts)
+text_found (reg r) ts line start h e = tt
+text_found (word w) ts line start h e = tt
+text_found (num z) ts line start h e = tt
+text_found (sign b) ts line start h e = tt
+text_found (quote raw) ts line start h e = bytes_at line (34 ∷ (raw ++ (34 ∷ []))) (behind (quote raw) ts) start (omega arith) e
 
 -- whether a blank stands between a token and the next
 gapped : Tok → List Tok → Bool
@@ -205,11 +230,39 @@ behind_lead t [] = refl
 behind_lead (reg r) (u ∷ ts) = refl
 behind_lead (word w) (u ∷ ts) = refl
 behind_lead (num z) (u ∷ ts) = refl
+behind_lead (quote raw) (u ∷ ts) = refl
 behind_lead (sign b) (u ∷ ts) = elim (b == 44) as (λ c. (if c then 32 ∷ spelled (u ∷ ts) else spelled (u ∷ ts)) ≡ lead c (spelled (u ∷ ts))) [ true ↦ refl | false ↦ refl ]
+
+tok_some : (t : Tok) (rest : List ℕ) → Ends t rest → 0 < length (spelling t)
+tok_some (reg r) rest h = filled (register r) (register_is_name r h.0)
+tok_some (word w) rest h = filled w h.0
+tok_some (num z) rest h = number_some z h.0
+tok_some (sign b) rest h = omega arith
+tok_some (quote raw) rest h = omega arith
+
+lead_longer : (b : Bool) (text : List ℕ) → length text ≤ length (lead b text)
+lead_longer true text = omega arith
+lead_longer false text = omega arith
+
+pub toks_few : (ts : List Tok) → AllEnd ts → length ts ≤ length (spelled ts)
+toks_few [] h = omega arith
+toks_few (t ∷ ts) h =
+    let e = ap length (spelled_step t ts) ∙ length-append (spelling t) (behind t ts) in
+    let here = tok_some t (behind t ts) h.0 in
+    let more = toks_few ts h.1 in
+    let far = ap length (behind_lead t ts) in
+    let longer = lead_longer (gapped t ts) (spelled ts) in
+    omega arith
+
+few_of : (line : List ℕ) (ts : List Tok) (b : Bool) (from : ℕ) → AllEnd ts → drop from line ≡ lead b (spelled ts) → length ts ≤ length line
+few_of line ts b from h e =
+    let few = toks_few ts h in
+    let longer = lead_longer b (spelled ts) in
+    omega (arith, ap length e, length-drop from line)
 
 pub reads : (line : List ℕ) (ts : List Tok) (b : Bool) (from : ℕ) → AllEnd ts → drop from line ≡ lead b (spelled ts) → Reads line from ts
 unfolding front_of
-reads line [] b from h e = (token from from End, record { is = token_lead b line [] from End 0 e refl refl; kind = refl; name = refl; register = refl })
+reads line [] b from h e = (token from from End, record { is = token_lead b line [] from End 0 e refl refl; kind = refl; name = refl; register = refl; few = omega arith; text = tt })
 reads line (t ∷ ts) b from h e =
     let start = skip b from in
     let text = e ∙ ap (lead b) (spelled_step t ts) in
@@ -219,4 +272,4 @@ reads line (t ∷ ts) b from h e =
     ∙ placed_tok t from start (length (spelling t)) in
     let next : drop (start + length (spelling t)) line ≡ lead (gapped t ts) (spelled ts) =
     sym (drop-drop (length (spelling t)) start line) ∙ ap (drop (length (spelling t))) here ∙ drop_at (spelling t) (behind t ts) (length (spelling t)) refl ∙ behind_lead t ts in
-    (token start (start + length (spelling t)) (kind_of t), record { is = found; kind = refl; name = name_found t line start (behind t ts) h.0 here; register = register_found t (behind t ts) h.0 }, reads line ts (gapped t ts) (start + length (spelling t)) h.1 next)
+    (token start (start + length (spelling t)) (kind_of t), record { is = found; kind = refl; name = name_found t line start (behind t ts) h.0 here; register = register_found t (behind t ts) h.0; few = few_of line (t ∷ ts) b from h e; text = text_found t ts line start h.0 here }, reads line ts (gapped t ts) (start + length (spelling t)) h.1 next)

@@ -1,11 +1,16 @@
 -- Every statement of the law.
 use Rattle.std.proofs.Common.{◌≡◌, ℕ, zero, suc, ◌<◌, true, false, List, [], ◌∷◌, Ok, ℤ, pos, negsuc, refl, arith}
-use Rattle.asm_read.specs.declared.statement.StmtKind.TheVariants.{Label, MovsImm, MovsReg, Mov, CmpImm, CmpReg, AddSubTwo, AddSubReg, AddSubThree, AddReg, AddRdSp, AddSp, SubSp, ShiftImm, Alu, Rsbs, Adr, LdrLabel, MemImm, MemReg, MemSp, Extend, Rev, B, BCond, Bl, Bx, Blx, Svc, Udf, Hint, Barrier, Text, Data, Bss, Rodata, Global, TypeFunction, TypeObject, Size, Space, Align, Pool, FnStart, FnEnd, Pad, SetFp, CantUnwind, PersonalityIndex, HandlerData}
+use Rattle.asm_read.specs.declared.statement.StmtKind.{StmtKind}
+use Rattle.asm_read.specs.declared.statement.StmtKind.TheVariants.{Label, MovsImm, MovsReg, Mov, CmpImm, CmpReg, AddSubTwo, AddSubReg, AddSubThree, AddReg, AddRdSp, AddSp, SubSp, ShiftImm, Alu, Rsbs, Adr, LdrLabel, LdrPool, MemImm, MemReg, MemSp, Push, Pop, Stm, LdmBack, Ldm, Extend, Rev, B, BCond, Bl, Bx, Blx, Svc, Udf, Hint, Barrier, Text, Data, Bss, Rodata, Global, TypeFunction, TypeObject, Size, Words, Halves, Bytes, Ascii, Asciz, Space, Align, Pool, FnStart, FnEnd, Save, Pad, SetFp, CantUnwind, PersonalityIndex, HandlerData}
 use Rattle.asm_read.specs.Reading.{stmt, read_of}
 use Rattle.asm_text.specs.Written.{written, IsWritable, ReadsBack}
 use Rattle.asm_text.proofs.Chosen.{label_is}
 use Rattle.asm_text.proofs.Plain.{movs_line, mov_line, cmp_line, ands_line, eors_line, lsls_line, lsrs_line, asrs_line, adcs_line, sbcs_line, rors_line, tst_line, cmn_line, orrs_line, muls_line, bics_line, mvns_line, sxth_line, sxtb_line, uxth_line, uxtb_line, rev_line, rev16_line, revsh_line, adds_line, subs_line, bx_line, blx_line, nop_line, yield_line, wfe_line, wfi_line, sev_line, dsb_line, dmb_line, isb_line, text_line, data_section_line, bss_line, pool_line, fnstart_line, fnend_line, cantunwind_line, handlerdata_line, rodata_line}
 use Rattle.asm_text.proofs.Accesses.{add_line, str_index_line, strh_index_line, strb_index_line, ldrsb_index_line, ldr_index_line, ldrh_index_line, ldrb_index_line, ldrsh_index_line, str_offset_line, ldr_offset_line, strb_offset_line, ldrb_offset_line, strh_offset_line, ldrh_offset_line, ldr_sp_line, str_sp_line}
+use Rattle.asm_text.proofs.Listing.{push_line, pop_line, stm_line, ldm_back_line, ldm_line, save_line}
+use Rattle.asm_text.proofs.Expressing.{words_line, halves_line, bytes_line, pool_word_line}
+use Rattle.asm_text.proofs.Quoting.{ascii_line, asciz_line}
+use Rattle.asm_text.proofs.Aliases.{others}
 use Rattle.asm_text.proofs.Numbered.{movs_number_line, cmp_number_line, adds_number_line, adds_three_line, subs_number_line, subs_three_line, lsls_number_line, lsrs_number_line, asrs_number_line, add_register_sp_line, add_sp_line, sub_sp_line, svc_line, udf_line, space_line, pad_line, index_line, setfp_line, align_line, rsbs_line}
 use Rattle.asm_text.proofs.Naming.{b_line, bl_line, beq_line, bne_line, bcs_line, bcc_line, bmi_line, bpl_line, bvs_line, bvc_line, bhi_line, bls_line, bge_line, blt_line, bgt_line, ble_line, global_line, function_line, object_line, adr_line, ldr_label_line, size_line}
 
@@ -108,61 +113,75 @@ barrier_lines (suc zero) h = dmb_line
 barrier_lines (suc (suc zero)) h = isb_line
 barrier_lines (suc (suc (suc op))) h = absurd (omega arith)
 
-pub reads_back : ReadsBack
+canonical : (kind : StmtKind) → IsWritable kind → read_of (written kind) ≡ Ok (stmt 1 kind ∷ [])
 unfolding written
-reads_back (Label n) h = label_is n h.0 (let few = h.1 in omega arith)
-reads_back (MovsImm d z) h = movs_number_line d z h.0 h.1
-reads_back (MovsReg d m) h = movs_line d m h.0 h.1
-reads_back (Mov d m) h = mov_line d m h.0 h.1
-reads_back (CmpImm n z) h = cmp_number_line n z h.0 h.1
-reads_back (CmpReg n m) h = cmp_line n m h.0 h.1
-reads_back (AddSubTwo false d z) h = adds_number_line d z h.0 h.1
-reads_back (AddSubTwo true d z) h = subs_number_line d z h.0 h.1
-reads_back (AddSubReg false d n m) h = adds_line d n m h.0 h.1 h.2
-reads_back (AddSubReg true d n m) h = subs_line d n m h.0 h.1 h.2
-reads_back (AddSubThree false d n z) h = adds_three_line d n z h.0 h.1 h.2
-reads_back (AddSubThree true d n z) h = subs_three_line d n z h.0 h.1 h.2
-reads_back (AddReg d m) h = add_line d m h.0 h.1
-reads_back (AddRdSp d z) h = add_register_sp_line d z h.0 h.1
-reads_back (AddSp z) h = add_sp_line z h
-reads_back (SubSp z) h = sub_sp_line z h
-reads_back (ShiftImm op d m z) h = shift_lines op d m z h
-reads_back (Alu op d m) h = alu_lines op d m h
-reads_back (Rsbs d m) h = rsbs_line d m h.0 h.1
-reads_back (Adr d n) h = adr_line d n h.0 h.1
-reads_back (LdrLabel t n) h = ldr_label_line t n h.0 h.1
-reads_back (MemImm op t n z) h = offset_lines op t n z h
-reads_back (MemReg op t n m) h = access_lines op t n m h
-reads_back (MemSp true t z) h = ldr_sp_line t z h.0 h.1
-reads_back (MemSp false t z) h = str_sp_line t z h.0 h.1
-reads_back (Extend op d m) h = extend_lines op d m h
-reads_back (Rev op d m) h = reverse_lines op d m h
-reads_back (B n) h = b_line n h
-reads_back (BCond op n) h = branch_lines op n h
-reads_back (Bl n) h = bl_line n h
-reads_back (Bx m) h = bx_line m h
-reads_back (Blx m) h = blx_line m h
-reads_back (Svc z) h = svc_line z h
-reads_back (Udf z) h = udf_line z h
-reads_back (Hint n) h = hint_lines n h
-reads_back (Barrier op) h = barrier_lines op h
-reads_back Text h = text_line
-reads_back Data h = data_section_line
-reads_back Bss h = bss_line
-reads_back Rodata h = rodata_line
-reads_back (Global n) h = global_line n h
-reads_back (TypeFunction n) h = function_line n h
-reads_back (TypeObject n) h = object_line n h
-reads_back (Size n) h = size_line n h
-reads_back (Space z) h = space_line z h
-reads_back (Align (pos n)) h = align_line n h
-reads_back (Align (negsuc n)) h = absurd h
-reads_back Pool h = pool_line
-reads_back FnStart h = fnstart_line
-reads_back FnEnd h = fnend_line
-reads_back (Pad z) h = pad_line z h
-reads_back (SetFp r z) h = setfp_line r z h.0 h.1
-reads_back CantUnwind h = cantunwind_line
-reads_back (PersonalityIndex z) h = index_line z h
-reads_back HandlerData h = handlerdata_line
-reads_back kind h = absurd h
+canonical (Label n) h = label_is n h.0 (let few = h.1 in omega arith)
+canonical (MovsImm d z) h = movs_number_line d z h.0 h.1
+canonical (MovsReg d m) h = movs_line d m h.0 h.1
+canonical (Mov d m) h = mov_line d m h.0 h.1
+canonical (CmpImm n z) h = cmp_number_line n z h.0 h.1
+canonical (CmpReg n m) h = cmp_line n m h.0 h.1
+canonical (AddSubTwo false d z) h = adds_number_line d z h.0 h.1
+canonical (AddSubTwo true d z) h = subs_number_line d z h.0 h.1
+canonical (AddSubReg false d n m) h = adds_line d n m h.0 h.1 h.2
+canonical (AddSubReg true d n m) h = subs_line d n m h.0 h.1 h.2
+canonical (AddSubThree false d n z) h = adds_three_line d n z h.0 h.1 h.2
+canonical (AddSubThree true d n z) h = subs_three_line d n z h.0 h.1 h.2
+canonical (AddReg d m) h = add_line d m h.0 h.1
+canonical (AddRdSp d z) h = add_register_sp_line d z h.0 h.1
+canonical (AddSp z) h = add_sp_line z h
+canonical (SubSp z) h = sub_sp_line z h
+canonical (ShiftImm op d m z) h = shift_lines op d m z h
+canonical (Alu op d m) h = alu_lines op d m h
+canonical (Rsbs d m) h = rsbs_line d m h.0 h.1
+canonical (Adr d n) h = adr_line d n h.0 h.1
+canonical (LdrLabel t n) h = ldr_label_line t n h.0 h.1
+canonical (LdrPool t e) h = pool_word_line t e h.0 h.1 h.2
+canonical (MemImm op t n z) h = offset_lines op t n z h
+canonical (MemReg op t n m) h = access_lines op t n m h
+canonical (MemSp true t z) h = ldr_sp_line t z h.0 h.1
+canonical (MemSp false t z) h = str_sp_line t z h.0 h.1
+canonical (Push list) h = push_line list h
+canonical (Pop list) h = pop_line list h
+canonical (Stm n list) h = stm_line n list h.0 h.1
+canonical (LdmBack n list) h = ldm_back_line n list h.0 h.1
+canonical (Ldm n list) h = ldm_line n list h.0 h.1 h.2
+canonical (Extend op d m) h = extend_lines op d m h
+canonical (Rev op d m) h = reverse_lines op d m h
+canonical (B n) h = b_line n h
+canonical (BCond op n) h = branch_lines op n h
+canonical (Bl n) h = bl_line n h
+canonical (Bx m) h = bx_line m h
+canonical (Blx m) h = blx_line m h
+canonical (Svc z) h = svc_line z h
+canonical (Udf z) h = udf_line z h
+canonical (Hint n) h = hint_lines n h
+canonical (Barrier op) h = barrier_lines op h
+canonical Text h = text_line
+canonical Data h = data_section_line
+canonical Bss h = bss_line
+canonical Rodata h = rodata_line
+canonical (Global n) h = global_line n h
+canonical (TypeFunction n) h = function_line n h
+canonical (TypeObject n) h = object_line n h
+canonical (Size n) h = size_line n h
+canonical (Words es) h = words_line es h
+canonical (Halves es) h = halves_line es h
+canonical (Bytes es) h = bytes_line es h
+canonical (Ascii bs) h = ascii_line bs h
+canonical (Asciz bs) h = asciz_line bs h
+canonical (Space z) h = space_line z h
+canonical (Align (pos n)) h = align_line n h
+canonical (Align (negsuc n)) h = absurd h
+canonical Pool h = pool_line
+canonical FnStart h = fnstart_line
+canonical FnEnd h = fnend_line
+canonical (Save list) h = save_line list h
+canonical (Pad z) h = pad_line z h
+canonical (SetFp r z) h = setfp_line r z h.0 h.1
+canonical CantUnwind h = cantunwind_line
+canonical (PersonalityIndex z) h = index_line z h
+canonical HandlerData h = handlerdata_line
+
+pub reads_back : ReadsBack
+reads_back kind h = (canonical kind h, others kind h)

@@ -1,11 +1,14 @@
 -- The canonical line of a statement: its mnemonic, a blank, and its operands as the manual writes them (Armv6-M
 -- Architecture Reference Manual, DDI 0419), or as the assembler does those of a directive.
-use Rattle.std.specs.Prelude.{◌≡◌, ◌≢◌, ℕ, ◌+◌, ◌<◌, ◌≤◌, ◌==◌, ◌&&◌, not, nat_lt, Bool, true, false, if◌then◌else◌, List, [], ◌∷◌, ◌++◌, length, slice_index_or, Ok, ℤ, pos, negsuc, codes}
+use Rattle.std.specs.Prelude.{◌≡◌, ◌≢◌, ℕ, zero, suc, ◌+◌, ◌-◌, ◌<◌, ◌≤◌, ◌==◌, ◌&&◌, ◌||◌, not, nat_lt, Bool, true, false, if◌then◌else◌, List, [], ◌∷◌, ◌++◌, length, slice_index_or, Ok, ℤ, pos, negsuc, codes}
 use Rattle.std.specs.List.{list_all}
 use Rattle.std.specs.Fmt.{signed_decimal}
 use Rattle.asm_read.specs.declared.statement.StmtKind.{StmtKind}
-use Rattle.asm_read.specs.declared.statement.StmtKind.TheVariants.{Label, MovsImm, MovsReg, Mov, CmpImm, CmpReg, AddSubTwo, AddSubReg, AddSubThree, AddReg, AddRdSp, AddSp, SubSp, ShiftImm, Alu, Rsbs, Adr, LdrLabel, MemImm, MemReg, MemSp, Extend, Rev, B, BCond, Bl, Bx, Blx, Svc, Udf, Hint, Barrier, Text, Data, Bss, Rodata, Global, TypeFunction, TypeObject, Size, Space, Align, Pool, FnStart, FnEnd, Pad, SetFp, CantUnwind, PersonalityIndex, HandlerData}
-use Rattle.asm_read.specs.Tokens.{is_digit, is_name_byte}
+use Rattle.asm_read.specs.declared.statement.StmtKind.TheVariants.{Label, MovsImm, MovsReg, Mov, CmpImm, CmpReg, AddSubTwo, AddSubReg, AddSubThree, AddReg, AddRdSp, AddSp, SubSp, ShiftImm, Alu, Rsbs, Adr, LdrLabel, LdrPool, MemImm, MemReg, MemSp, Push, Pop, Stm, LdmBack, Ldm, Extend, Rev, B, BCond, Bl, Bx, Blx, Svc, Udf, Hint, Barrier, Text, Data, Bss, Rodata, Global, TypeFunction, TypeObject, Size, Words, Halves, Bytes, Ascii, Asciz, Space, Align, Pool, FnStart, FnEnd, Save, Pad, SetFp, CantUnwind, PersonalityIndex, HandlerData}
+use Rattle.asm_read.specs.declared.statement.Expr.{Expr}
+use Rattle.asm_read.specs.declared.statement.Expr.TheVariants.{Num, Of, Diff, Prel31, Prel31Ref, Target2, Rel}
+use Rattle.asm_read.specs.Tokens.{within, is_digit, is_name_byte}
+use Rattle.asm_read.specs.Operands.{has_register}
 use Rattle.asm_read.specs.Reading.{stmt, read_of}
 
 -- r0 to r12, sp, lr and pc
@@ -101,7 +104,58 @@ sp_offset t z = register t ++ (codes ", [sp, #" ++ (signed_decimal z ++ codes "]
 abbrev pub register_name : ℕ → List ℕ → List ℕ
 register_name a name = register a ++ (codes ", " ++ name)
 
--- the line of a statement; none where the law below says nothing of it
+-- the last so many registers that a list has, rising
+unfoldable pub registers_from : ℕ → ℕ → List ℕ
+registers_from list zero = []
+registers_from list (suc n) =
+    if has_register list (15 - n) then (15 - n) ∷ registers_from list n else registers_from list n
+
+-- behind an opening brace: registers with commas between them, and the closing brace
+abbrev pub closed : List ℕ → List ℕ
+closed [] = codes "}"
+closed (r ∷ []) = register r ++ codes "}"
+closed (r ∷ s ∷ rs) = register r ++ (codes ", " ++ closed (s ∷ rs))
+
+-- {list}
+unfoldable pub braced : ℕ → List ℕ
+braced list = 123 ∷ closed (registers_from list 16)
+
+-- what is added to a name; nothing where that is 0
+abbrev pub plus : ℤ → List ℕ
+plus (pos zero) = []
+plus (pos (suc n)) = 43 ∷ signed_decimal (pos (suc n))
+plus (negsuc n) = 43 ∷ signed_decimal (negsuc n)
+
+abbrev pub expression : Expr → List ℕ
+expression (Num n) = signed_decimal n
+expression (Of a n) = a ++ plus n
+expression (Diff a b n) = a ++ (codes "-" ++ (b ++ plus n))
+expression (Prel31 a) = a ++ codes "(prel31)"
+expression (Prel31Ref a) = a ++ codes "(prel31ref)"
+expression (Target2 a) = a ++ codes "(target2)"
+expression (Rel a) = a ++ codes "(rel)"
+
+-- expressions with commas between them
+abbrev pub expressions : List Expr → List ℕ
+expressions [] = []
+expressions (e ∷ []) = expression e
+expressions (e ∷ f ∷ es) = expression e ++ (codes ", " ++ expressions (f ∷ es))
+
+-- a byte of a text: behind a backslash where it can't stand for itself
+abbrev pub escaped_byte : ℕ → List ℕ
+escaped_byte b =
+    if b == 10 then 92 ∷ 110 ∷ [] else if b == 9 then 92 ∷ 116 ∷ [] else if b == 13 then 92 ∷ 114 ∷ [] else if b == 0 then 92 ∷ 48 ∷ []
+    else if b == 92 then 92 ∷ 92 ∷ [] else if b == 34 then 92 ∷ 34 ∷ [] else b ∷ []
+
+abbrev pub escaped : List ℕ → List ℕ
+escaped [] = []
+escaped (b ∷ bs) = escaped_byte b ++ escaped bs
+
+-- "text"
+abbrev pub quoted : List ℕ → List ℕ
+quoted bytes = 34 ∷ (escaped bytes ++ (34 ∷ []))
+
+-- the line of a statement
 unfoldable pub written : StmtKind → List ℕ
 written (Label name) = name ++ codes ":"
 written (MovsImm d imm) = line (codes "movs") (register_number d imm)
@@ -121,9 +175,15 @@ written (Alu op d m) = line (word_of alu_words op) (two d m)
 written (Rsbs d m) = line (codes "rsbs") (register d ++ (codes ", " ++ (register m ++ codes ", #0")))
 written (Adr d name) = line (codes "adr") (register_name d name)
 written (LdrLabel t name) = line (codes "ldr") (register_name t name)
+written (LdrPool t value) = line (codes "ldr") (register t ++ (codes ", =" ++ expression value))
 written (MemImm op t n off) = line (word_of offset_words op) (offset t n off)
 written (MemReg op t n m) = line (word_of access_words op) (indexed t n m)
 written (MemSp load t off) = line (if load then codes "ldr" else codes "str") (sp_offset t off)
+written (Push list) = line (codes "push") (braced list)
+written (Pop list) = line (codes "pop") (braced list)
+written (Stm n list) = line (codes "stm") (register n ++ (codes "!, " ++ braced list))
+written (LdmBack n list) = line (codes "ldm") (register n ++ (codes "!, " ++ braced list))
+written (Ldm n list) = line (codes "ldm") (register n ++ (codes ", " ++ braced list))
 written (Extend op d m) = line (word_of extend_words op) (two d m)
 written (Rev op d m) = line (word_of reverse_words op) (two d m)
 written (B name) = line (codes "b") name
@@ -143,17 +203,51 @@ written (Global name) = line (codes ".global") name
 written (TypeFunction name) = line (codes ".type") (name ++ codes ", %function")
 written (TypeObject name) = line (codes ".type") (name ++ codes ", %object")
 written (Size name) = line (codes ".size") (name ++ (codes ", .-" ++ name))
+written (Words es) = line (codes ".word") (expressions es)
+written (Halves es) = line (codes ".half") (expressions es)
+written (Bytes es) = line (codes ".byte") (expressions es)
+written (Ascii bytes) = line (codes ".ascii") (quoted bytes)
+written (Asciz bytes) = line (codes ".asciz") (quoted bytes)
 written (Space n) = line (codes ".space") (signed_decimal n)
 written (Align n) = line (codes ".align") (signed_decimal n)
 written Pool = codes ".pool"
 written FnStart = codes ".fnstart"
 written FnEnd = codes ".fnend"
+written (Save list) = line (codes ".save") (braced list)
 written (Pad n) = line (codes ".pad") (hash n)
 written (SetFp r off) = line (codes ".setfp") (sp_count r off)
 written CantUnwind = codes ".cantunwind"
 written (PersonalityIndex n) = line (codes ".personalityindex") (signed_decimal n)
 written HandlerData = codes ".handlerdata"
-written kind = []
+
+-- rd, sp, n
+abbrev pub sp_count_plain : ℕ → ℤ → List ℕ
+sp_count_plain a z = register a ++ (codes ", sp, " ++ signed_decimal z)
+
+-- rt, [rn]
+abbrev pub address : ℕ → ℕ → List ℕ
+address t n = register t ++ (codes ", [" ++ (register n ++ codes "]"))
+
+-- rt, [sp]
+abbrev pub sp_address : ℕ → List ℕ
+sp_address t = register t ++ codes ", [sp]"
+
+-- other lines of a statement: other names of its word, a number without its # or with one, no offset where it is 0
+unfoldable pub also : StmtKind → List (List ℕ)
+also (MemImm op t n (pos zero)) = line (word_of offset_words op) (address t n) ∷ []
+also (MemSp load t (pos zero)) = line (if load then codes "ldr" else codes "str") (sp_address t) ∷ []
+also (BCond (suc (suc zero)) name) = line (codes "bhs") name ∷ []
+also (BCond (suc (suc (suc zero))) name) = line (codes "blo") name ∷ []
+also (Global name) = line (codes ".globl") name ∷ []
+also (Words es) = line (codes ".long") (expressions es) ∷ line (codes ".4byte") (expressions es) ∷ []
+also (Halves es) = line (codes ".short") (expressions es) ∷ line (codes ".2byte") (expressions es) ∷ []
+also (Space n) = line (codes ".space") (hash n) ∷ line (codes ".zero") (signed_decimal n) ∷ line (codes ".zero") (hash n) ∷ []
+also (Align n) = line (codes ".align") (hash n) ∷ line (codes ".p2align") (signed_decimal n) ∷ line (codes ".p2align") (hash n) ∷ []
+also Pool = codes ".ltorg" ∷ []
+also (Pad n) = line (codes ".pad") (signed_decimal n) ∷ []
+also (SetFp r off) = line (codes ".setfp") (sp_count_plain r off) ∷ []
+also (PersonalityIndex n) = line (codes ".personalityindex") (hash n) ∷ []
+also kind = []
 
 -- from -2,147,483,648 to 4,294,967,295
 abbrev pub InRange : ℤ → Type 0
@@ -171,6 +265,32 @@ IsNameText name = (is_name name ≡ true) × (length name ≤ 100)
 abbrev pub IsPower : ℤ → Type 0
 IsPower (pos n) = n < 4
 IsPower (negsuc n) = ⊥
+
+-- an expression of 32-bit numbers and names; names with a word in parentheses stand in words alone
+abbrev pub IsExpression : Bool → Expr → Type 0
+IsExpression word (Num n) = InRange n
+IsExpression word (Of a n) = IsNameText a × InRange n
+IsExpression word (Diff a b n) = IsNameText a × IsNameText b × InRange n
+IsExpression word (Prel31 a) = (word ≡ true) × IsNameText a
+IsExpression word (Prel31Ref a) = (word ≡ true) × IsNameText a
+IsExpression word (Target2 a) = (word ≡ true) × IsNameText a
+IsExpression word (Rel a) = (word ≡ true) × IsNameText a
+
+abbrev pub AreExpressions : Bool → List Expr → Type 0
+AreExpressions word [] = Unit {0}
+AreExpressions word (e ∷ es) = IsExpression word e × AreExpressions word es
+
+-- one expression at least, and no more than a line holds
+abbrev pub IsList : Bool → List Expr → Type 0
+IsList word [] = ⊥
+IsList word (e ∷ es) = AreExpressions word (e ∷ es) × (length (expressions (e ∷ es)) ≤ 240)
+
+-- what a text has characters and escapes for, and no more than a line holds
+abbrev pub can_stand : ℕ → Bool
+can_stand b = b == 10 || b == 9 || b == 13 || b == 0 || within 32 126 b
+
+abbrev pub IsText : List ℕ → Type 0
+IsText bytes = (list_all can_stand bytes ≡ true) × (length (escaped bytes) ≤ 230)
 
 -- a statement whose fields the text has words for: registers, numbers of 32 bits, names, and fields of encodings with a
 -- mnemonic. A load or store of a word at sp is a statement of its own
@@ -193,9 +313,15 @@ IsWritable (Alu op d m) = (op < 16) × (op ≢ 9) × (op ≢ 10) × (d < 16) × 
 IsWritable (Rsbs d m) = (d < 16) × (m < 16)
 IsWritable (Adr d name) = (d < 16) × IsNameText name
 IsWritable (LdrLabel t name) = (t < 16) × IsNameText name
+IsWritable (LdrPool t value) = (t < 16) × IsExpression false value × (length (expression value) ≤ 240)
 IsWritable (MemImm op t n off) = (op < 6) × (t < 16) × (n < 16) × (op < 2 → n ≢ 13) × InRange off
 IsWritable (MemReg op t n m) = (op < 8) × (t < 16) × (n < 16) × (m < 16)
 IsWritable (MemSp load t off) = (t < 16) × InRange off
+IsWritable (Push list) = list < 65536
+IsWritable (Pop list) = list < 65536
+IsWritable (Stm n list) = (n < 16) × (list < 65536)
+IsWritable (LdmBack n list) = (n < 16) × (list < 65536)
+IsWritable (Ldm n list) = (n < 16) × (list < 65536) × (has_register list n ≡ true)
 IsWritable (Extend op d m) = (op < 4) × (d < 16) × (m < 16)
 IsWritable (Rev op d m) = (op < 4) × (op ≢ 2) × (d < 16) × (m < 16)
 IsWritable (B name) = IsNameText name
@@ -215,18 +341,27 @@ IsWritable (Global name) = IsNameText name
 IsWritable (TypeFunction name) = IsNameText name
 IsWritable (TypeObject name) = IsNameText name
 IsWritable (Size name) = IsNameText name
+IsWritable (Words es) = IsList true es
+IsWritable (Halves es) = IsList false es
+IsWritable (Bytes es) = IsList false es
+IsWritable (Ascii bytes) = IsText bytes
+IsWritable (Asciz bytes) = IsText bytes
 IsWritable (Space n) = InRange n
 IsWritable (Align n) = IsPower n
 IsWritable Pool = Unit {0}
 IsWritable FnStart = Unit {0}
 IsWritable FnEnd = Unit {0}
+IsWritable (Save list) = list < 65536
 IsWritable (Pad n) = InRange n
 IsWritable (SetFp r off) = (r < 16) × InRange off
 IsWritable CantUnwind = Unit {0}
 IsWritable (PersonalityIndex n) = InRange n
 IsWritable HandlerData = Unit {0}
-IsWritable kind = ⊥
 
--- a text of this one line is the statement at line 1
+-- each of these texts, of one line, is the statement at line 1
+abbrev pub AllRead : List (List ℕ) → StmtKind → Type 0
+AllRead [] kind = Unit {0}
+AllRead (text ∷ texts) kind = (read_of text ≡ Ok (stmt 1 kind ∷ [])) × AllRead texts kind
+
 abbrev pub ReadsBack : Type 0
-ReadsBack = (kind : StmtKind) → IsWritable kind → read_of (written kind) ≡ Ok (stmt 1 kind ∷ [])
+ReadsBack = (kind : StmtKind) → IsWritable kind → AllRead (written kind ∷ also kind) kind

@@ -1,12 +1,15 @@
 use Rattle.std.proofs.Common.{sym, ◌∙◌}
-use Rattle.asm_read.proofs.Fitting.{rows_miss}
+use Rattle.asm_read.proofs.Rising.{not_other, row_miss, row_rises}
 use Rattle.asm_read.proofs.choice.first_fit.Goals as goal
 
--- the row of this turn doesn't fit
+-- a form of the word that doesn't fit
 pub loop-row-preserved : goal.loop-row-preserved
-loop-row-preserved c = (
-  c.in-Err.ensures.stop,
-  sym
-      (rows_miss c.args.rows.now c.loop-row.row-index _ c.args.word.now c.args.line.now c.args.from c.loop-row.so_far c.in-Err.stop c.loop-row-test.true (sym c.try_form.ensures.fit ∙ c.in-Err.is))
-      ∙ c.loop-row.invariant.1,
-)
+loop-row-preserved c =
+    let rs = c.args.rows.now in
+    let i = c.loop-row.row-index in
+    let is_word = not_other _ c.if-ne.ensures in
+    record {
+      stop = c.in-Err.ensures.stop;
+      rise = row_rises rs i _ c.args.word.now c.loop-row-test.true is_word c.loop-row.invariant.rise;
+      fit = sym (row_miss rs i _ c.args.word.now c.args.line.now c.args.from c.loop-row.so_far c.in-Err.stop c.loop-row-test.true is_word (sym c.try_form.ensures.fit ∙ c.in-Err.is)) ∙ c.loop-row.invariant.fit;
+    }

@@ -1,6 +1,11 @@
-use Rattle.std.proofs.Common.{◌≡◌, ◌≤◌, length, drop, map, IfSome}
-use Rattle.asm_read.specs.Search.{form_of, first_fit}
+use Rattle.std.proofs.Common.{◌≡◌, ◌≤◌, true, length, drop, map, None, IfSome}
+use Rattle.asm_read.specs.Forms.{form_of}
+use Rattle.asm_read.specs.Search.{rises, first_fit}
 use Rattle.asm_read.proofs.choice.first_fit.Given as goal
 
 abbrev pub invariant-loop-row : goal.invariant-loop-row
-invariant-loop-row l = IfSome l.so_far (λ s. s.at ≤ length l.line) × (first_fit (map form_of (drop l.row-index l.rows)) l.word l.line l.from l.so_far ≡ first_fit (map form_of l.rows) l.word l.line l.from l.fn.best)
+invariant-loop-row l = record {
+  stop : IfSome l.so_far (λ s. s.at ≤ length l.line);
+  rise : rises l.word (map form_of (drop l.row-index l.rows)) ≡ true;
+  fit : first_fit (map form_of (drop l.row-index l.rows)) l.word l.line l.from l.so_far ≡ first_fit (map form_of l.rows) l.word l.line l.from None;
+}

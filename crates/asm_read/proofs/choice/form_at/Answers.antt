@@ -1,23 +1,28 @@
-use Rattle.std.proofs.Common.{sym, ap, ◌∙◌}
-use Rattle.asm_read.specs.Search.{first_fit}
-use Rattle.asm_read.specs.declared.table.TheConstants.{GROUPS}
-use Rattle.asm_read.proofs.Fitting.{groups_hit, groups_miss}
+use Rattle.std.proofs.Common.{◌∙◌, ap, [], map, None}
+use Rattle.asm_read.specs.Forms.{form_of, forms_in}
+use Rattle.asm_read.specs.Search.{rises, first_fit}
+use Rattle.asm_read.proofs.Rising.{group_rises, begun, begun_rises, rest_of, word_grouped}
 use Rattle.asm_read.proofs.choice.form_at.Goals as goal
 
--- a form of this turn's group fits
-pub returns-in-Ok-clause-fit : goal.returns-in-Ok-clause-fit
-returns-in-Ok-clause-fit c =
-    sym
-    (groups_hit GROUPS c.loop-group.group-index _ c.args.word.now c.args.line.now c.args.from c.loop-group.so_far c.in-Ok.statement c.loop-group-test.true
-    (ap (λ forms. first_fit forms c.args.word.now c.args.line.now c.args.from c.loop-group.so_far) (sym c.forms_in.ensures) ∙ sym c.first_fit.ensures.fit ∙ c.in-Ok.is))
-    ∙ c.loop-group.invariant.1
+pub begin_of-requires : goal.begin_of-requires
+begin_of-requires c = ap (rises []) c.forms_in-rows.ensures ∙ group_rises c.of.result
 
--- none does
-pub loop-group-preserved : goal.loop-group-preserved
-loop-group-preserved c = (
-  c.in-Err.ensures.stop,
-  sym
-      (groups_miss GROUPS c.loop-group.group-index _ c.args.word.now c.args.line.now c.args.from c.loop-group.so_far c.in-Err.stop c.loop-group-test.true
-      (ap (λ forms. first_fit forms c.args.word.now c.args.line.now c.args.from c.loop-group.so_far) (sym c.forms_in.ensures) ∙ sym c.first_fit.ensures.fit ∙ c.in-Err.is))
-      ∙ c.loop-group.invariant.1,
-)
+-- what stands from the word's first form on
+pub first_fit-requires-clause-rise : goal.first_fit-requires-clause-rise
+first_fit-requires-clause-rise c =
+    let rs = c.forms_in-rows.result.now in
+    ap (λ x. rises c.args.word.now (map form_of x)) (rest_of rs c.begin_of.result)
+    ∙ begun_rises rs c.begin_of.result c.args.word.now c.begin_of.ensures.count (ap (rises []) c.forms_in-rows.ensures ∙ group_rises c.of.result)
+
+pub returns-clause-fit : goal.returns-clause-fit
+returns-clause-fit c =
+    let rs = c.forms_in-rows.result.now in
+    let word = c.args.word.now in
+    let line = c.args.line.now in
+    let from = c.args.from in
+    c.first_fit.ensures.fit
+    ∙ ap (λ x. first_fit (map form_of x) word line from None) (rest_of rs c.begin_of.result)
+    ∙ begun rs c.begin_of.result word line from None c.begin_of.ensures.count
+    ∙ ap (λ fs. first_fit fs word line from None) c.forms_in-rows.ensures
+    ∙ ap (λ g. first_fit (forms_in g) word line from None) c.of.ensures
+    ∙ word_grouped word line from None
