@@ -1,1 +1,3 @@
 pub mod Stubs
+pub mod Program
+pub mod ProgramText
