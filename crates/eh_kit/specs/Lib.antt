@@ -1,3 +1,4 @@
 pub mod Stubs
 pub mod Program
 pub mod ProgramText
+pub mod Laws

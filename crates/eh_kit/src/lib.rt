@@ -5,6 +5,7 @@
 ghost use Rattle.std.specs.Prelude.{◌≡◌};
 ghost use Rattle.eh_kit.specs.Stubs.{stubs_text};
 
+pub mod laws;
 mod program;
 mod program_text;
 
