@@ -1,5 +1,5 @@
 -- Pieces of text that are added one behind the other are the lines of a function. Each lemma stands first over any pieces.
-use Rattle.std.proofs.Common.{◌≡◌, ℕ, zero, suc, ◌+◌, add-one, zero-add, ap, map, cond, List, [], ◌∷◌, ◌++◌, Result, Ok, Err, append_assoc, append-nil, ◌∙◌, sym, refl}
+use Rattle.std.proofs.Common.{◌≡◌, ℕ, ◌+◌, add-one, zero-add, ap, map, cond, List, [], ◌∷◌, ◌++◌, Result, Ok, Err, append_assoc, append-nil, ◌∙◌, sym, refl}
 use Rattle.std.specs.Prelude.{OnOk, codes, flat_map, is_ok}
 use Rattle.std.specs.List.{range_with_len}
 use Rattle.std.proofs.lemmas.List.Concat.{flat_map-append}

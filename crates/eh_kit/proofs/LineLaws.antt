@@ -1,8 +1,8 @@
 -- The laws above the lines of a generated program.
-use Rattle.std.proofs.Common.{◌≡◌, ℕ, zero, suc, ◌+◌, ◌-◌, ◌*◌, ◌/◌, ◌%◌, ◌^◌, ◌<◌, ◌≤◌, ◌==◌, ◌&&◌, leb, nat_lt, Bool, true, false, cond, List, [], ◌∷◌, ◌++◌, length, map, take, get_or, refl, sym, ap, ◌∙◌, arith, append_assoc}
+use Rattle.std.proofs.Common.{◌≡◌, ℕ, zero, suc, ◌+◌, ◌-◌, ◌%◌, ◌^◌, ◌<◌, ◌≤◌, ◌==◌, ◌&&◌, nat_lt, Bool, true, false, cond, List, [], ◌∷◌, ◌++◌, length, map, get_or, refl, ap, ◌∙◌, arith, append_assoc}
 use Rattle.std.specs.Prelude.{All, codes, decimal, flat_map, nat_le}
 use Rattle.std.specs.List.{list_all, range_with_len, slice_split}
-use Rattle.std.specs.Str.Lines.{lines, lines_of_parts, strip_carriage_return}
+use Rattle.std.specs.Str.Lines.{lines_of_parts, strip_carriage_return}
 use Rattle.std.proofs.lemmas.Bool.Decides.{nat_tests}
 use Rattle.std.proofs.lemmas.Fmt.{decimal_by_steps}
 use Rattle.std.proofs.lemmas.List.Elements.{All-cons}
@@ -14,7 +14,7 @@ use Rattle.eh_kit.specs.declared.program.Kind.{Kind}
 use Rattle.eh_kit.specs.declared.program.Kind.TheVariants.{Plain, Cleanup, CatchAll, CatchInt}
 use Rattle.eh_kit.specs.declared.program.Caller.{Caller}
 use Rattle.eh_kit.specs.declared.program_text.TheConstants.{MAX_FUNCTIONS}
-use Rattle.eh_kit.specs.Program.{drawn, kind_of, numbered, callee_of, callers, main_function}
+use Rattle.eh_kit.specs.Program.{numbered, callee_of, callers, main_function}
 use Rattle.eh_kit.specs.ProgramText.{name_text, lines_text, call_lines, behind_catch, caught_lines, cleanup_lines, scope_lines, pad_lines, caller_lines, boom_lines, generated_lines, generated_text}
 use Rattle.eh_kit.specs.Laws.{is_printable, is_plain, LinesArePlain, LinesAreRead}
 

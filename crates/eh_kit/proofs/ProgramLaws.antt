@@ -1,5 +1,5 @@
 -- The laws above the numbers and the functions of a generated program.
-use Rattle.std.proofs.Common.{◌≡◌, ◌≢◌, ℕ, zero, suc, ◌+◌, ◌/◌, ◌%◌, ◌^◌, ◌<◌, ◌≤◌, nat_lt, Bool, true, false, cond, List, [], ◌∷◌, ◌++◌, length, map, take, drop, get_or, refl, sym, ap, ◌∙◌, arith, add-one, zero-add}
+use Rattle.std.proofs.Common.{◌≡◌, ◌≢◌, ℕ, zero, suc, ◌+◌, ◌/◌, ◌%◌, ◌<◌, ◌≤◌, nat_lt, true, false, List, [], ◌∷◌, ◌++◌, length, map, take, refl, sym, ap, ◌∙◌, arith, add-one, zero-add}
 use Rattle.std.specs.Prelude.{All, AllPairs, codes, decimal}
 use Rattle.std.specs.List.{range_with_len}
 use Rattle.std.proofs.lemmas.Bool.Decides.{nat_tests}
@@ -14,9 +14,9 @@ use Rattle.eh_kit.specs.declared.program.Kind.{Kind}
 use Rattle.eh_kit.specs.declared.program.Kind.TheVariants.{CatchAll}
 use Rattle.eh_kit.specs.declared.program.Caller.{Caller}
 use Rattle.eh_kit.specs.declared.program_text.TheConstants.{MAX_FUNCTIONS}
-use Rattle.eh_kit.specs.Program.{drawn, kind_numbered, kind_of, numbered, callee_of, callers}
+use Rattle.eh_kit.specs.Program.{drawn, kind_numbered, kind_of, numbered, callers}
 use Rattle.eh_kit.specs.ProgramText.{name_text}
-use Rattle.eh_kit.specs.Laws.{DrawnAsRand, FirstOfNumberOne, EachCallsTheNext, NamesDiffer, LongerBeginsAlike, rand_of, names}
+use Rattle.eh_kit.specs.Laws.{DrawnAsRand, FirstOfNumberOne, EachCallsTheNext, NamesDiffer, LongerBeginsAlike, names}
 
 -- ---- numbers
 

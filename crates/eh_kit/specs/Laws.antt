@@ -1,11 +1,11 @@
 -- What a generated program is, in plain words: laws above its numbers, its functions and its lines.
-use Rattle.std.specs.Prelude.{◌≡◌, ◌≢◌, ℕ, zero, suc, ◌+◌, ◌/◌, ◌%◌, ◌^◌, ◌<◌, ◌≤◌, ◌&&◌, nat_le, Bool, true, List, [], ◌∷◌, ◌++◌, map, take, drop, AllPairs}
+use Rattle.std.specs.Prelude.{◌≡◌, ◌≢◌, ℕ, ◌+◌, ◌/◌, ◌%◌, ◌<◌, ◌≤◌, ◌&&◌, nat_le, Bool, true, List, [], ◌∷◌, ◌++◌, map, take, drop, AllPairs}
 use Rattle.std.specs.List.{list_all}
 use Rattle.std.specs.Str.Lines.{lines}
 use Rattle.eh_kit.specs.declared.program.Name.{Name}
 use Rattle.eh_kit.specs.declared.program.Name.TheVariants.{Main, Numbered, Boom}
 use Rattle.eh_kit.specs.declared.program.Kind.{Kind}
-use Rattle.eh_kit.specs.declared.program.Kind.TheVariants.{Plain, Cleanup, CatchAll, CatchInt}
+use Rattle.eh_kit.specs.declared.program.Kind.TheVariants.{Cleanup, CatchAll, CatchInt}
 use Rattle.eh_kit.specs.declared.program.Caller.{Caller}
 use Rattle.eh_kit.specs.declared.program_text.TheConstants.{MAX_FUNCTIONS}
 use Rattle.eh_kit.specs.Program.{drawn, kind_numbered, kind_of, callers}
