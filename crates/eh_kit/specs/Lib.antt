@@ -1,1 +1,4 @@
 pub mod Stubs
+pub mod Program
+pub mod ProgramText
+pub mod Laws

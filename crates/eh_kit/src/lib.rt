@@ -1,8 +1,15 @@
-//! The runtime's stubs: the assembly source that each program is linked with (docs/linking.md).
+//! Sources that no user writes: the stubs that each program is linked with (docs/stubs.md), and generated programs of any
+//! size (docs/generated-programs.md).
 #![tactic(auto)]
 
 ghost use Rattle.std.specs.Prelude.{◌≡◌};
 ghost use Rattle.eh_kit.specs.Stubs.{stubs_text};
+
+pub mod laws;
+mod program;
+mod program_text;
+
+pub use program_text::{KitMemory, MAX_FUNCTIONS, generate};
 
 /// The functions run the gates (SVC); `_start` is the entry of a program. Read-only data holds the vtables by whose
 /// addresses a type's kind is told, and the types `int` and `void` (Itanium C++ ABI, "Run-Time Type Information").

@@ -1,6 +1,7 @@
 -- The text of a trace. Each line ends in a line feed.
 use Rattle.std.specs.Prelude.{ℕ, ◌+◌, ◌-◌, ◌/◌, ◌%◌, ◌^◌, ◌==◌, ◌&&◌, nat_le, nat_lt, min, List, [], ◌∷◌, ◌++◌, map, take, find, flat_map, codes, decimal, Option, Some, None, if◌then◌else◌}
 use Rattle.hex.specs.Hex.{encode_lower}
+use Rattle.eh_digits.specs.Address.{address_text}
 use Rattle.elf_image.specs.Image.{Image}
 use Rattle.elf_image.specs.Functions.{Function, is_inside}
 use Rattle.eh_trace.specs.declared.event.EventKind.{EventKind}
@@ -12,14 +13,6 @@ use Rattle.eh_trace.specs.declared.text.TheConstants.{MAX_TYPE_NAME}
 use Rattle.eh_trace.specs.Trace.{Trace}
 
 -- ---- numbers
-
--- an upper-case hexadecimal digit
-abbrev pub hex_digit : ℕ → ℕ
-hex_digit n = if nat_lt n 10 then 48 + n else 55 + n
-
--- an address: eight digits
-abbrev pub address_text : ℕ → List ℕ
-address_text n = map (λ k. hex_digit (n / 16 ^ k % 16)) (7 ∷ 6 ∷ 5 ∷ 4 ∷ 3 ∷ 2 ∷ 1 ∷ 0 ∷ [])
 
 -- digits without the zeros before them, but for the last digit
 unfoldable pub without_zeros : List ℕ → List ℕ

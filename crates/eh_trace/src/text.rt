@@ -1,40 +1,14 @@
 //! The parts of a trace's lines: addresses, offsets, names, bytes and places: docs/exceptions.md.
 ghost use Rattle.std.specs.Prelude.{◌≡◌, ◌<◌, ◌≤◌, ◌++◌, [], map, OnOk, option_copied};
-ghost use Rattle.eh_trace.specs.Text.{hex_digit, address_text, without_zeros, offset_text, printed, type_text, bytes_text, holder, place_text};
+ghost use Rattle.eh_digits.specs.Address.{address_text};
+ghost use Rattle.eh_trace.specs.Text.{without_zeros, offset_text, printed, type_text, bytes_text, holder, place_text};
 
+use eh_digits::address_text;
 use elf_image::{Function, Image};
 use std::alloc::{AllocError, Global};
 
 /// The most bytes of a type's name that a line has.
 pub const MAX_TYPE_NAME: usize = 64;
-
-fn hex_digit(n: u32) -> u8
-    requires { n < 16 }
-    ensures { result ≡ hex_digit n }
-{
-    let digit = n as u8;
-    if digit < 10 {
-        b'0' + digit
-    } else {
-        b'A' - 10 + digit
-    }
-}
-
-/// An address as eight upper-case hexadecimal digits.
-pub fn address_text(n: u32) -> [u8; 8]
-    ensures { result ≡ address_text n }
-{
-    [
-        hex_digit(n / 0x1000_0000 % 16),
-        hex_digit(n / 0x100_0000 % 16),
-        hex_digit(n / 0x10_0000 % 16),
-        hex_digit(n / 0x1_0000 % 16),
-        hex_digit(n / 0x1000 % 16),
-        hex_digit(n / 0x100 % 16),
-        hex_digit(n / 0x10 % 16),
-        hex_digit(n % 16),
-    ]
-}
 
 /// Digits without the zeros before them, but for the last digit.
 #[tactic(auto, using(crate::proofs::Places::last_digit, crate::proofs::Places::zero_digit, crate::proofs::Places::other_digit))]

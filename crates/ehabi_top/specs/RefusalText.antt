@@ -6,7 +6,7 @@ use Rattle.asm_read.specs.Fault.{what_name}
 use Rattle.asm_read.specs.declared.fault.SourceFault.{SourceFault}
 use Rattle.eh_link.specs.declared.fault.LinkFault.{LinkFault}
 use Rattle.eh_link.specs.declared.fault.LinkFault.TheVariants as link
-use Rattle.ehabi_top.specs.Text.{hex8}
+use Rattle.eh_digits.specs.Address.{address_text}
 
 -- ---- a text that is no source
 
@@ -30,7 +30,7 @@ asm_line name fault = name ++ asm_place fault
 
 -- the place of a relocation has eight digits
 abbrev pub range_line : ℕ → List ℕ
-range_line place = codes "link: RelocationRange " ++ hex8 place ++ codes "\n"
+range_line place = codes "link: RelocationRange " ++ address_text place ++ codes "\n"
 
 -- want of memory has none
 abbrev pub link_line : LinkFault → List ℕ

@@ -1,5 +1,6 @@
 -- The texts that the program writes. Each line ends in a line feed.
 use Rattle.std.specs.Prelude.{ℕ, ◌+◌, ◌/◌, ◌%◌, ◌^◌, List, [], ◌∷◌, ◌++◌, map, codes, decimal, nat_lt, if◌then◌else◌}
+use Rattle.eh_digits.specs.Address.{address_text}
 use Rattle.elf_image.specs.declared.fault.ImageFault.{ImageFault}
 use Rattle.elf_image.specs.declared.fault.ImageFault.TheVariants.{Truncated, NotElf, Class, Machine, Version, «Type», EntrySize, NoSymbols, SegmentRange, SegmentOverlap, IndexRange, TooLarge, Entry, OutOfMemory}
 use Rattle.thumb_core.specs.declared.ends.Cause.{Cause}
@@ -11,16 +12,6 @@ use Rattle.thumb_core.specs.declared.ends.TrapKind.TheVariants.{Undefined, Unpre
 
 abbrev pub usage : List ℕ
 usage = codes "usage: ehabi_run flat FILE N | build FILE.. | check FILE.. | run FILE.. N | gen K M\n"
-
--- ---- numbers
-
--- an upper-case hexadecimal digit
-abbrev pub hex_digit : ℕ → ℕ
-hex_digit n = if nat_lt n 10 then 48 + n else 55 + n
-
--- an address, a value or a pc: eight digits
-abbrev pub hex8 : ℕ → List ℕ
-hex8 n = map (λ k. hex_digit (n / 16 ^ k % 16)) (7 ∷ 6 ∷ 5 ∷ 4 ∷ 3 ∷ 2 ∷ 1 ∷ 0 ∷ [])
 
 -- ---- the last line of a run
 
@@ -64,7 +55,7 @@ cause_name Called = codes "Called"
 abbrev pub end_line : End → List ℕ
 end_line (Exit number) = codes "-- exit " ++ decimal number ++ codes "\n"
 end_line (Terminate cause) = codes "-- terminate " ++ cause_name cause ++ codes "\n"
-end_line (Trap kind value pc) = codes "-- trap " ++ kind_name kind ++ codes " " ++ hex8 value ++ codes " at " ++ hex8 pc ++ codes "\n"
+end_line (Trap kind value pc) = codes "-- trap " ++ kind_name kind ++ codes " " ++ address_text value ++ codes " at " ++ address_text pc ++ codes "\n"
 end_line Budget = codes "-- budget\n"
 end_line ReadFault = []
 end_line WriteFault = []

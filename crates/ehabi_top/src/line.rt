@@ -1,45 +1,17 @@
 //! The lines that are written, each built before it is written.
 ghost use Rattle.std.specs.Prelude.{◌≡◌, ◌<◌, ◌≤◌, ◌+◌, ◌++◌, length, codes, decimal};
 ghost use Rattle.arrayvec.specs.ArrayVec.{array_vec_len};
-ghost use Rattle.ehabi_top.specs.Text.{hex_digit, hex8, kind_name, cause_name, end_line, image_fault_line};
+ghost use Rattle.eh_digits.specs.Address.{address_text};
+ghost use Rattle.ehabi_top.specs.Text.{kind_name, cause_name, end_line, image_fault_line};
 
 use arrayvec::ArrayVec;
+use eh_digits::address_text;
 use elf_image::ImageFault;
 use itoa::Buffer;
 use thumb_core::ends::{Cause, End, TrapKind};
 
 /// A line, with room for the longest.
 pub type Line = ArrayVec<u8, 80>;
-
-fn hex_digit(n: u8) -> u8
-    requires { n < 16 }
-    ensures { result ≡ hex_digit n }
-{
-    if n < 10 { b'0' + n } else { b'A' - 10 + n }
-}
-
-fn nibble(n: u32) -> u8
-    requires { n < 16 }
-    ensures { result ≡ hex_digit n }
-{
-    hex_digit(n as u8)
-}
-
-/// Eight upper-case hexadecimal digits.
-pub(crate) fn hex8(n: u32) -> [u8; 8]
-    ensures { result ≡ hex8 n }
-{
-    [
-        nibble(n / 0x1000_0000 % 16),
-        nibble(n / 0x100_0000 % 16),
-        nibble(n / 0x10_0000 % 16),
-        nibble(n / 0x1_0000 % 16),
-        nibble(n / 0x1000 % 16),
-        nibble(n / 0x100 % 16),
-        nibble(n / 0x10 % 16),
-        nibble(n % 16),
-    ]
-}
 
 fn kind_name(kind: TrapKind) -> &'static [u8]
     ensures name { result.now ≡ kind_name kind }
@@ -118,9 +90,9 @@ pub fn end_line(end: End) -> Line
             append(&mut line, b"-- trap ");
             append(&mut line, kind_name(kind));
             append(&mut line, b" ");
-            append(&mut line, &hex8(value));
+            append(&mut line, &address_text(value));
             append(&mut line, b" at ");
-            append(&mut line, &hex8(pc));
+            append(&mut line, &address_text(pc));
             append(&mut line, b"\n");
         }
         End::Budget => append(&mut line, b"-- budget\n"),

@@ -6,11 +6,12 @@ ghost use Rattle.ehabi_top.specs.Loading.{IsOfCommand};
 ghost use Rattle.ehabi_top.specs.Writes.{Answers};
 
 use crate::answer::{answer_both, answer_missing, answer_text, answer_three, answer_too_long};
-use crate::line::{Line, append, hex8, image_fault_line};
+use crate::line::{Line, append, image_fault_line};
 use crate::status::REFUSED;
 use crate::stop::Stop;
 use asm_layout::{AsmFault, AsmWhat};
 use asm_read::{SourceFault, SourceWhat};
+use eh_digits::address_text;
 use eh_link::LinkFault;
 use eh_port::Sink;
 use elf_image::ImageFault;
@@ -100,7 +101,7 @@ fn range_line(place: u32) -> Line
 {
     let mut line = Line::new();
     append(&mut line, b"link: RelocationRange ");
-    append(&mut line, &hex8(place));
+    append(&mut line, &address_text(place));
     append(&mut line, b"\n");
     line
 }

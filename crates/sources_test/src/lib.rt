@@ -4,6 +4,8 @@
 #[cfg(test)]
 mod assembler;
 #[cfg(test)]
+mod generated;
+#[cfg(test)]
 mod linker;
 #[cfg(test)]
 mod reader;
