@@ -1,0 +1,5 @@
+pub mod Frames
+pub mod Rows
+pub mod Standing
+pub mod Handlers
+pub mod SourceRows
