@@ -1,9 +1,6 @@
 -- The segments and the index of the image that objects link to.
-use Rattle.std.proofs.Common.{◌≡◌, ℕ, ◌+◌, ◌-◌, ◌*◌, ◌%◌, ◌≤◌, ◌<◌, ◌==◌, ◌&&◌, not, nat_le, nat_lt, nat_eq, Bool, true, false, cond, List, [], ◌∷◌, ◌++◌, length, take, drop, filter, fold, find, Option, Some, None, Ok, refl, sym, ap, ◌∙◌, arith, append_assoc, length-append, subst}
-use Rattle.std.specs.Ordering.{nat_cmp}
-use Rattle.std.specs.BTreeMap.{insert_entry}
+use Rattle.std.proofs.Common.{◌≡◌, ℕ, ◌+◌, ◌-◌, ◌%◌, ◌≤◌, ◌<◌, ◌==◌, not, nat_le, Bool, true, false, cond, List, [], ◌∷◌, ◌++◌, length, take, drop, fold, find, Some, Ok, refl, ap, ◌∙◌, arith, append_assoc}
 use Rattle.std.specs.Map.{values_of}
-use Rattle.std.proofs.lemmas.Bool.{true≢false}
 use Rattle.std.proofs.lemmas.Bool.Decides.{nat_tests}
 use Rattle.std.proofs.lemmas.List.{take-append-le}
 use Rattle.std.proofs.Math.Seq.{drop-append_seam}
@@ -11,15 +8,13 @@ use Rattle.asm_object.specs.declared.object.Object.{Object}
 use Rattle.elf_image.specs.Segments.{Segment}
 use Rattle.elf_image.specs.Image.{Image}
 use Rattle.elf_image.proofs.Entries.{cmp_greater}
-use Rattle.elf_write.specs.Layout.{has_index}
 use Rattle.elf_write.specs.Parts.{own_segment, has_memory, with_segment, segments_of_parts, holds_range, range_in, index_of_parts, image_of_parts}
 use Rattle.elf_write.specs.declared.parts.ImageParts.{ImageParts}
 use Rattle.elf_write.specs.declared.parts.OwnSegment.{OwnSegment}
-use Rattle.eh_link.specs.declared.places.Layout.{Layout}
-use Rattle.eh_link.specs.Layout.{layout_of, code_size, data_size, index_size}
+use Rattle.eh_link.specs.Layout.{layout_of, code_size, data_size}
 use Rattle.eh_link.specs.Linked.{code_segment, data_segment, linked}
 use Rattle.eh_link.specs.LayoutLaw.{StandsAt, linked_index, linked_code, linked_data}
-use Rattle.eh_link.proofs.Layouts.{Rising, rising, ends_of}
+use Rattle.eh_link.proofs.Layouts.{rising, ends_of}
 use Rattle.eh_link.proofs.Standing.{law_of_images, law_of_index, code_ends}
 
 -- ---- the segments
@@ -63,11 +58,8 @@ code_memory objects =
 pub code_first : (objects : List Object) (name : List ℕ) (parts : ImageParts) → linked objects name ≡ Ok parts → CodeFirst objects parts
 code_first objects name parts e = by (data_size (layout_of objects) == 0) refl (law_of_images objects name parts e).0
   where
-    data : OwnSegment
-    data = data_segment (layout_of objects) (linked_data objects)
-
-    apart : (layout_of objects).data_start ≡ (layout_of objects).data_start → 0x8000 < (layout_of objects).data_start
-    apart same =
+    apart : 0x8000 < (layout_of objects).data_start
+    apart =
         let r = rising objects in
         let e = ends_of objects in
         omega (arith, r.text, r.rodata, r.extab, r.index, r.start, e.code)
@@ -82,7 +74,7 @@ code_first objects name parts e = by (data_size (layout_of objects) == 0) refl (
       more = own_segment (data_segment (layout_of objects) (linked_data objects)) ∷ [];
       segments =
           ap segments_of_parts (is ∙ ap (λ b. code_of objects ∷ cond b no_segments (data_segment (layout_of objects) (linked_data objects) ∷ [])) n)
-          ∙ second_kept (code_of objects) (data_segment (layout_of objects) (linked_data objects)) (code_memory objects) (ap not n) (apart refl);
+          ∙ second_kept (code_of objects) (data_segment (layout_of objects) (linked_data objects)) (code_memory objects) (ap not n) apart;
     }
 
 -- ---- the index

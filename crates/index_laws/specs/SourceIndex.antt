@@ -51,13 +51,13 @@ AssembledRowsLie = (objects : List Object) → All IsAssembled objects → All (
 abbrev pub even : ℕ → ℕ
 even address = address - address % 2
 
-abbrev pub body_for : RowWord → EntryBody
-body_for (Given word) = if word == CANT_UNWIND then body.CantUnwind else body.Inline word
-body_for (Table address) = body.Table address
+abbrev pub row_body : RowWord → EntryBody
+row_body (Given word) = if word == CANT_UNWIND then body.CantUnwind else body.Inline word
+row_body (Table address) = body.Table address
 
 -- the entry that a row says
-abbrev pub entry_for : Row → Entry
-entry_for row = record { start = even row.start; body = body_for row.second }
+abbrev pub row_entry : Row → Entry
+row_entry row = record { start = even row.start; body = row_body row.second }
 
 -- the row that closes the index: from there on nothing can be unwound
 abbrev pub closing : ℕ → Row
@@ -72,7 +72,7 @@ abbrev pub SourcesAreRead : Type 0
 SourcesAreRead =
     (objects : List Object) (name : List ℕ) (parts : ImageParts)
     → All IsAssembled objects → linked objects name ≡ Ok parts
-    → (index_refusal (image_of_parts parts) ≡ None) × (entries_of (image_of_parts parts) ≡ map entry_for (rows_to_read objects))
+    → (index_refusal (image_of_parts parts) ≡ None) × (entries_of (image_of_parts parts) ≡ map row_entry (rows_to_read objects))
 
 -- ---- a function of a source
 

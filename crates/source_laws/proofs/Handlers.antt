@@ -166,7 +166,7 @@ code_unbounded f handler plain =
     ∙ ap (λ l. list_any (λ (s : Stmt). bounds_function s.kind) l) (sym handler.split) ∙ plain)).0
 
 -- the end of the table
-table_end : (stmts : List Stmt) (f : Function) (words : List ℕ) (object : Object) → stmts ≡ source_of f → length stmts < 2 ^ 64 → IsTaken stmts object
+pub table_end : (stmts : List Stmt) (f : Function) (words : List ℕ) (object : Object) → stmts ≡ source_of f → length stmts < 2 ^ 64 → IsTaken stmts object
     → (walk_behind (entries_of stmts) start f.before).at.inside ≡ false → (walk_behind (entries_of stmts) start f.before).at.functions < 2 ^ 64 - 1
     → entry_at (entries_of stmts) (walk_behind (entries_of stmts) start f.before).at.functions ≡ Some (entry.Table words)
     → (next (entries_of stmts) (walk_behind (entries_of stmts) start f.before) statement.FnStart).at.sizes.extab

@@ -3,3 +3,4 @@ pub mod Rows
 pub mod Standing
 pub mod Handlers
 pub mod SourceRows
+pub mod Fields

@@ -186,7 +186,7 @@ some_row : (a b : IndexRow) (o : Option IndexRow) → o ≡ Some a → o ≡ Som
 some_row a b o e f = cc
 
 -- the place of a function in the text
-text_offset : (w : Walk) (offset : ℕ) → here w.at ≡ place_at Text offset → w.at.sizes.text ≡ offset
+pub text_offset : (w : Walk) (offset : ℕ) → here w.at ≡ place_at Text offset → w.at.sizes.text ≡ offset
 text_offset w offset e =
     ap (λ s. size_in w.at.sizes s) (sym (ap (λ (p : Place). p.section) e)) ∙ ap (λ (p : Place). p.offset) e
 
