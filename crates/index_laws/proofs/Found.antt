@@ -1,10 +1,13 @@
 -- An address of a function has the function's own entry.
-use Rattle.std.proofs.Common.{◌≡◌, ℕ, ◌+◌, ◌%◌, ◌^◌, ◌≤◌, ◌<◌, ◌==◌, nat_le, Bool, true, false, cond, List, [], ◌∷◌, ◌++◌, length, take, drop, map, flat_map, fold, All, Option, Some, None, Result, Ok, refl, sym, ap, ◌∙◌, arith, append_assoc, subst}
+use Rattle.eh_link.proofs.Layouts.{rising, ends_of, end_ge}
+use Rattle.asm_layout.specs.declared.place.Section.TheVariants.{Text}
+use Rattle.asm_object.proofs.ObjectLaws.{taken}
+use Rattle.std.proofs.Common.{◌≡◌, ℕ, ◌+◌, ◌%◌, ◌^◌, ◌≤◌, ◌<◌, ◌==◌, nat_le, Bool, true, false, cond, List, [], ◌∷◌, ◌++◌, length, take, drop, map, flat_map, fold, All, Option, Some, None, Result, Ok, refl, sym, ap, ◌∙◌, arith, append_assoc, subst, zero, suc}
 use Rattle.std.specs.Prelude.{slice_get}
 use Rattle.std.proofs.lemmas.Bool.Decides.{nat_tests}
 use Rattle.std.proofs.lemmas.Grind.{flat_map-append}
 use Rattle.std.proofs.lemmas.List.{map-append, take-append-drop}
-use Rattle.std.proofs.lemmas.List.Elements.{All-head, All-tail, All-get_or}
+use Rattle.std.proofs.lemmas.List.Elements.{All-head, All-tail, All-get_or, All-drop, All-weaker}
 use Rattle.std.proofs.lemmas.List.Sums.{fold-append}
 use Rattle.std.proofs.lemmas.Option.{get_or_from_slice_get, slice_get_within}
 use Rattle.asm_unwind.specs.declared.entry.EntryWords.{EntryWords}
@@ -20,18 +23,18 @@ use Rattle.asm_object.proofs.ListLemmas.{drop_here}
 use Rattle.elf_write.specs.Parts.{image_of_parts}
 use Rattle.eh_link.specs.declared.index.Row.{Row}
 use Rattle.eh_link.specs.Placed.{Placed}
-use Rattle.eh_link.specs.Layout.{layout_of, firsts}
+use Rattle.eh_link.specs.Layout.{layout_of, firsts, ends}
 use Rattle.eh_link.specs.Index.{row_of, rows_in, second_word}
 use Rattle.eh_link.proofs.Images.{image_made, placed_too, code_below}
 use Rattle.eh_link.proofs.Sorting.{Ascending}
 use Rattle.eh_index.specs.Covering.{covering}
-use Rattle.source_laws.specs.Functions.{Function, functions_in, source_of, directives_of}
+use Rattle.source_laws.specs.Functions.{Function, functions_in, source_of, directives_of, start_at, end_at}
 use Rattle.source_laws.specs.RowLaw.{behind, entry_for, HasItsRow}
 use Rattle.source_laws.specs.SourceRowLaw.{LiesIn, RowLies}
-use Rattle.source_laws.proofs.SourceRows.{text_offset}
+use Rattle.source_laws.proofs.SourceRows.{text_offset, law_of_later_rows, law_of_rising, starts_inside}
 use Rattle.source_laws.proofs.Standing.{law_of_rows}
-use Rattle.index_laws.specs.SourceIndex.{IsAssembled, even, row_body, row_entry, closing, rows_to_read, IsIn, body_of, own_entry, later_rows, FunctionsAreFound}
-use Rattle.index_laws.proofs.Rising.{Orderly, all_orderly, asc_back, Stands, all_stand}
+use Rattle.index_laws.specs.SourceIndex.{IsAssembled, even, row_body, row_entry, closing, rows_to_read, IsIn, body_of, own_entry, later_rows, FunctionsAreFound, end_of, AddressesHaveTheirFunction}
+use Rattle.index_laws.proofs.Rising.{Orderly, all_orderly, asc_back, Stands, all_stand, asc_rows, asc_objects, offsets_from, behind_placed}
 use Rattle.index_laws.proofs.Reading.{even_rises, entries_are, image_read}
 
 -- ---- the last entry that begins at an address or below it
@@ -180,4 +183,65 @@ law_of_finding objects name parts f there given next after site all linked_to wo
     ap (λ l. covering l site)
     (entries_are (image_of_parts parts) (rows_to_read objects) image.read ∙ ap (map row_entry) cut ∙ map-append row_entry before (here ∷ (next ∷ after)))
     ∙ covering_here site (map row_entry before) (row_entry here) (map row_entry (next ∷ after)) (subst F (sym entry) from) (to, above_rows site next.start after asc.1 to)
+    ∙ ap Some entry
+
+-- ---- the function's own addresses
+
+got_dropped : {X : Type 0} (n j : ℕ) (xs : List X) (x : X) → slice_get (drop n xs) j ≡ Some x → slice_get xs (n + j) ≡ Some x
+got_dropped zero j xs x e = let same : 0 + j ≡ j = omega arith in ap (slice_get xs) same ∙ e
+got_dropped (suc n) j [] x e = absurd (cc)
+got_dropped (suc n) j (y ∷ xs) x e = let same : suc n + j ≡ suc (n + j) = omega arith in ap (slice_get (y ∷ xs)) same ∙ got_dropped n j xs x e
+
+behind_k : (k j : ℕ) → k < k + 1 + j
+behind_k k j = omega arith
+
+later_le : (k i j : ℕ) → i ≤ j → k + 1 + i ≤ k + 1 + j
+later_le k i j h = omega (arith, h)
+
+low_text : (a b end : ℕ) → a ≤ b → b ≡ end → end < 2 ^ 30 → a < 2 ^ 32
+low_text a b end h e k = omega (arith, h, e, k)
+
+-- the rows behind a function's own begin at its `.fnend` or behind it
+later_ascend : (objects : List Object) (f : Function) (there : IsIn objects f) → All IsAssembled objects → (layout_of objects).code_end < 2 ^ 30 → Ascending (end_of f there.placed) (later_rows objects f there)
+later_ascend objects f there all low =
+    let placed = there.placed in
+    let object = placed.object in
+    let k = functions_in f.before in
+    let l = layout_of objects in
+    let r = rising objects in
+    let own_end = (behind (source_of f) (f.before ++ start_at f.start_line ∷ f.between)).at.sizes.text in
+    let O : Placed → Type 0 = λ p. Orderly p.object in
+    let own : Orderly object = all_mid O there.front placed there.back (subst (All O) there.split (placed_too Orderly (firsts l) objects (all_orderly objects all))) in
+    let rest = behind_placed (firsts l) objects l.text_end there.front placed there.back (all_orderly objects all) (sym (ends_of objects).text) there.split in
+    let next = ends placed.at object in
+    let text_low : l.text_end < 2 ^ 30 = omega (arith, r.rodata, r.extab, r.index, r.code, low) in
+    let end = closing l.text_end ∷ [] in
+    let B : List Placed → Type 0 = λ back. Ascending next.text (flat_map rows_in back ++ end) in
+    let others = subst B (sym rest.back_is) (asc_objects next rest.rest l.text_end rest.orderly_rest rest.ends_there (low_text l.text_end l.text_end l.text_end (omega arith) refl text_low)) in
+    let offsets =
+    offsets_from (drop (k + 1) object.rows) own_end
+    (λ j row e. law_of_later_rows f object (k + 1 + j) row there.unbounded there.few there.accepted (behind_k k j) (got_dropped (k + 1) j object.rows row e))
+    (λ i j a b le e g. law_of_rising (source_of f) object (k + 1 + i) (k + 1 + j) a b there.few there.accepted (later_le k i j le) (got_dropped (k + 1) i object.rows a e) (got_dropped (k + 1) j object.rows b g)) in
+    let inside = All-drop (λ (x : IndexRow). x.offset ≤ length object.text) (k + 1) object.rows (All-weaker (RowLies object) (λ (x : IndexRow). x.offset ≤ length object.text) (λ x h. h.start) object.rows own.lie) in
+    let within =
+    starts_inside (source_of f) (f.before ++ start_at f.start_line ∷ f.between) (end_at f.end_line ∷ f.after) object (sym (append_assoc f.before (start_at f.start_line ∷ f.between) (end_at f.end_line ∷ f.after))) there.few (taken (source_of f) object there.accepted) in
+    let fits = low_text next.text _ l.text_end (end_ge Text next.text rest.rest) rest.ends_there text_low in
+    subst (Ascending (end_of f placed)) (sym (append_assoc (map (row_of placed.at) (drop (k + 1) object.rows)) (flat_map rows_in there.back) end))
+    (asc_rows placed.at (drop (k + 1) object.rows) own_end (length object.text) next.text (flat_map rows_in there.back ++ end) offsets inside within refl fits others)
+
+pub law_of_addresses : AddressesHaveTheirFunction
+law_of_addresses objects name parts f there given site all linked_to words_given from to =
+    let image = image_read objects name parts all linked_to in
+    let own = in_image objects f there given all words_given in
+    let low = below_30 (layout_of objects).code_end (code_below objects (image_made objects name parts linked_to).fits) in
+    let row : IndexRow = record { offset = own.has.offset; entry = entry_for own.has.words own.has.table } in
+    let before = rows_before objects f there in
+    let here = row_of there.placed.at row in
+    let later = later_rows objects f there in
+    let cut : rows_to_read objects ≡ before ++ here ∷ later = cut_there objects f there row own.has.row in
+    let entry = entry_is objects f there.placed given low own in
+    let F : Entry → Type 0 = λ e. e.start ≤ site in
+    ap (λ l. covering l site)
+    (entries_are (image_of_parts parts) (rows_to_read objects) image.read ∙ ap (map row_entry) cut ∙ map-append row_entry before (here ∷ later))
+    ∙ covering_here site (map row_entry before) (row_entry here) (map row_entry later) (subst F (sym entry) from) (above_rows site (end_of f there.placed) later (later_ascend objects f there all low) to)
     ∙ ap Some entry

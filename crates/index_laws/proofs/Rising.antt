@@ -1,5 +1,5 @@
 -- The rows of the sources rise as they stand: in the order of the objects, and there in the order of the text.
-use Rattle.std.proofs.Common.{◌≡◌, ℕ, false, suc, ◌+◌, ◌%◌, ◌^◌, ◌≤◌, ◌<◌, ◌⊎◌, inl, inr, List, [], ◌∷◌, ◌++◌, length, map, flat_map, All, Some, refl, sym, arith, append_assoc, subst}
+use Rattle.std.proofs.Common.{ap, ◌∙◌, ◌≡◌, ℕ, false, suc, ◌+◌, ◌%◌, ◌^◌, ◌≤◌, ◌<◌, ◌⊎◌, inl, inr, List, [], ◌∷◌, ◌++◌, length, map, flat_map, All, Some, refl, sym, arith, append_assoc, subst}
 use Rattle.std.specs.Prelude.{slice_get}
 use Rattle.std.proofs.lemmas.List.Elements.{All-nil, All-cons, All-head, All-tail, All-map, All-weaker}
 use Rattle.asm_layout.specs.declared.place.Section.TheVariants.{Text, Extab}
@@ -32,7 +32,7 @@ abbrev pub Offsets : ℕ → List IndexRow → Type 0
 Offsets low [] = Unit {0}
 Offsets low (r ∷ rows) = (low ≤ r.offset) × Offsets r.offset rows
 
-offsets_from : (rows : List IndexRow) (low : ℕ) → ((k : ℕ) (r : IndexRow) → slice_get rows k ≡ Some r → low ≤ r.offset)
+pub offsets_from : (rows : List IndexRow) (low : ℕ) → ((k : ℕ) (r : IndexRow) → slice_get rows k ≡ Some r → low ≤ r.offset)
     → ((j k : ℕ) (a b : IndexRow) → j ≤ k → slice_get rows j ≡ Some a → slice_get rows k ≡ Some b → a.offset ≤ b.offset) → Offsets low rows
 offsets_from [] low h rise = tt
 offsets_from (r ∷ rows) low h rise =
@@ -79,7 +79,7 @@ asc_back low (x ∷ xs) y ys asc = asc_back x.start xs y ys asc.1
 low_address : (start offset len : ℕ) → offset ≤ len → start + len < 2 ^ 32 → (start + offset) % 2 ^ 32 ≡ start + offset
 low_address start offset len h k = omega (arith, h, k)
 
-asc_rows : (at : Addresses) (rows : List IndexRow) (low len m : ℕ) (ys : List Row) → Offsets low rows → All (λ (r : IndexRow). r.offset ≤ len) rows → low ≤ len
+pub asc_rows : (at : Addresses) (rows : List IndexRow) (low len m : ℕ) (ys : List Row) → Offsets low rows → All (λ (r : IndexRow). r.offset ≤ len) rows → low ≤ len
     → at.text + len ≡ m → m < 2 ^ 32 → Ascending m ys → Ascending (at.text + low) (map (row_of at) rows ++ ys)
 asc_rows at [] low len m ys o inside le e fits asc = asc_lower (at.text + low) m ys (omega (arith, le, e)) asc
 asc_rows at (r ∷ rows) low len m ys o inside le e fits asc =
@@ -88,7 +88,7 @@ asc_rows at (r ∷ rows) low len m ys o inside le e fits asc =
     let A : ℕ → Type 0 = λ n. Ascending n (map (row_of at) rows ++ ys) in
     (omega (arith, here, o.0), subst A (sym here) (asc_rows at rows r.offset len m ys o.1 (All-tail (λ (x : IndexRow). x.offset ≤ len) r rows inside) within e fits asc))
 
-asc_objects : (at : Addresses) (objects : List Object) (end : ℕ) → All Orderly objects → end_of Text at.text objects ≡ end → end < 2 ^ 32
+pub asc_objects : (at : Addresses) (objects : List Object) (end : ℕ) → All Orderly objects → end_of Text at.text objects ≡ end → end < 2 ^ 32
     → Ascending at.text (flat_map rows_in (placed_from at objects) ++ closing end ∷ [])
 asc_objects at [] end all e fits = (omega (arith, e), tt)
 asc_objects at (x ∷ xs) end all e fits =
@@ -109,6 +109,33 @@ asc_objects at (x ∷ xs) end all e fits =
 
     fits_too : (a b c : ℕ) → a ≤ b → b ≡ c → c < 2 ^ 32 → a < 2 ^ 32
     fits_too a b c h k l = omega (arith, h, k, l)
+
+-- the objects behind one of those that are placed
+pub record Behind (end : ℕ) (placed : Placed) (back : List Placed) : Type 0 where
+  pub rest : List Object
+  pub back_is : back ≡ placed_from (ends placed.at placed.object) rest
+  pub ends_there : end_of Text (ends placed.at placed.object).text rest ≡ end
+  pub orderly_rest : All Orderly rest
+
+heads : (x y : Placed) (xs ys : List Placed) → x ∷ xs ≡ y ∷ ys → (x ≡ y) × (xs ≡ ys)
+heads x y xs ys e = (cc, cc)
+
+pub behind_placed : (at : Addresses) (objects : List Object) (end : ℕ) (front : List Placed) (placed : Placed) (back : List Placed) → All Orderly objects → end_of Text at.text objects ≡ end
+    → placed_from at objects ≡ front ++ placed ∷ back → Behind end placed back
+behind_placed at [] end [] placed back all e is = absurd (cc)
+behind_placed at [] end (y ∷ front) placed back all e is = absurd (cc)
+behind_placed at (x ∷ xs) end [] placed back all e is =
+    let p : Placed = record { object = x; at = all_aligned at } in
+    let both = heads p placed (placed_from (ends (all_aligned at) x) xs) back is in
+    record {
+      rest = xs;
+      back_is = sym both.1 ∙ ap (λ (q : Placed). placed_from (ends q.at q.object) xs) both.0;
+      ends_there = ap (λ (q : Placed). end_of Text (ends q.at q.object).text xs) (sym both.0) ∙ e;
+      orderly_rest = All-tail Orderly x xs all;
+    }
+behind_placed at (x ∷ xs) end (y ∷ front) placed back all e is =
+    let p : Placed = record { object = x; at = all_aligned at } in
+    behind_placed (ends (all_aligned at) x) xs end front placed back (All-tail Orderly x xs all) e (heads p y (placed_from (ends (all_aligned at) x) xs) (front ++ placed ∷ back) is).1
 
 pub rows_ascend : (objects : List Object) → All Orderly objects → is_too_large (layout_of objects) ≡ false → Ascending 0x8000 (rows_to_read objects)
 rows_ascend objects all fits =

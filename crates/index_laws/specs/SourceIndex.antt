@@ -28,7 +28,7 @@ use Rattle.eh_index.specs.Rows.{entries_of}
 use Rattle.eh_index.specs.Places.{table_of}
 use Rattle.eh_index.specs.Refusal.{index_refusal}
 use Rattle.eh_index.specs.Covering.{covering}
-use Rattle.source_laws.specs.Functions.{HasNoBound, Function, functions_in, source_of, directives_of}
+use Rattle.source_laws.specs.Functions.{HasNoBound, Function, functions_in, source_of, directives_of, start_at}
 use Rattle.source_laws.specs.RowLaw.{behind}
 use Rattle.source_laws.specs.SourceRowLaw.{HaveShortLists}
 
@@ -114,6 +114,18 @@ FunctionsAreFound =
     (objects : List Object) (name : List ℕ) (parts : ImageParts) (f : Function) (there : IsIn objects f) (given : EntryWords) (next : Row) (after : List Row) (site : ℕ)
     → All IsAssembled objects → linked objects name ≡ Ok parts → entry_words_of (directives_of f) ≡ Ok given
     → later_rows objects f there ≡ next ∷ after → even (start_of f there.placed) ≤ site → site < even next.start
+    → covering (entries_of (image_of_parts parts)) site ≡ Some (own_entry f there.placed given)
+
+-- where its `.fnend` stands in memory, in the text
+abbrev pub end_of : Function → Placed → ℕ
+end_of f placed = placed.at.text + (behind (source_of f) (f.before ++ start_at f.start_line ∷ f.between)).at.sizes.text
+
+-- so each of its own addresses, from its `.fnstart` to below its `.fnend`, has its entry
+abbrev pub AddressesHaveTheirFunction : Type 0
+AddressesHaveTheirFunction =
+    (objects : List Object) (name : List ℕ) (parts : ImageParts) (f : Function) (there : IsIn objects f) (given : EntryWords) (site : ℕ)
+    → All IsAssembled objects → linked objects name ≡ Ok parts → entry_words_of (directives_of f) ≡ Ok given
+    → even (start_of f there.placed) ≤ site → site < even (end_of f there.placed)
     → covering (entries_of (image_of_parts parts)) site ≡ Some (own_entry f there.placed given)
 
 -- ---- its table

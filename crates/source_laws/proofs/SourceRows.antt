@@ -43,7 +43,7 @@ use Rattle.asm_object.proofs.PlaceLaws.{law_of_places, earlier, split, walks_on}
 use Rattle.asm_object.proofs.ObjectLaws.{IsTaken, taken, ends_small, entries_count}
 use Rattle.source_laws.specs.Functions.{starts_function, bounds_function, HasNoBound, functions_in, directives_in, Function, source_of, directives_of, start_at, end_at}
 use Rattle.source_laws.specs.RowLaw.{behind, entry_for, TableStands, HasItsRow}
-use Rattle.source_laws.specs.SourceRowLaw.{EachRowIsAFunctions, RowsRise, HasShortList, HaveShortLists, LiesIn, RowLies, RowsLieInTheirObjects}
+use Rattle.source_laws.specs.SourceRowLaw.{EachRowIsAFunctions, RowsRise, LaterRowsBeginBehind, HasShortList, HaveShortLists, LiesIn, RowLies, RowsLieInTheirObjects}
 use Rattle.source_laws.proofs.Frames.{Shape, or_parts, regroup, begins, goes_on, taken_directive}
 use Rattle.source_laws.proofs.Rows.{one_if, functions_more}
 use Rattle.source_laws.proofs.Standing.{at_start, law_of_rows, law_of_count, law_of_closing}
@@ -207,6 +207,62 @@ law_of_rising stmts object j k first second few e le one two =
     let text_b = ap (λ l. (behind stmts l).at.sizes.text) (sym mid.1) ∙ ap (λ s. (behind s b.function.before).at.sizes.text) (sym b.source) ∙ text_offset (behind (source_of b.function) b.function.before) b.has_row.offset b.has_row.place in
     omega (arith, offset_a, offset_b, text_a, text_b, up)
 
+-- ---- a later row begins behind the function
+
+cancelled : (xs ys zs : List Stmt) → xs ++ ys ≡ xs ++ zs → ys ≡ zs
+cancelled [] ys zs e = e
+cancelled (x ∷ xs) ys zs e = cancelled xs ys zs (same_head x x (xs ++ ys) (xs ++ zs) e).1
+
+-- a `.fnstart` behind statements without one stands behind all of them
+past : (between mid : List Stmt) (j : ℕ) (rest n : List Stmt) → HasNoBound between → between ++ rest ≡ mid ++ start_at j ∷ n → (later : List Stmt) × (mid ≡ between ++ later)
+past [] mid j rest n plain e = (mid, refl)
+past (x ∷ between) [] j rest n plain e =
+    let head = (same_head x (start_at j) (between ++ rest) n e).0 in
+    absurd (true≢false (sym (ap (λ (s : Stmt). bounds_function s.kind) head) ∙ (or_parts (bounds_function x.kind) (list_any (λ s. bounds_function s.kind) between) plain).0))
+past (x ∷ between) (y ∷ mid) j rest n plain e =
+    let heads = same_head x y (between ++ rest) (mid ++ start_at j ∷ n) e in
+    let later = past between mid j rest n (or_parts (bounds_function x.kind) (list_any (λ s. bounds_function s.kind) between) plain).1 heads.1 in
+    (later.0, ap (λ l. y ∷ l) later.1 ∙ ap (λ s. s ∷ (between ++ later.0)) (sym heads.0))
+
+abbrev own_stmts : Function → List Stmt
+own_stmts f = f.before ++ start_at f.start_line ∷ f.between
+
+none_between : (n m : ℕ) → n < m → m ≡ n → ⊥
+none_between n m h e = omega (arith, h, e)
+
+-- the statements before a later function are those up to the end of this one, and others
+up_to_later : (f g : Function) (mid : List Stmt) → HasNoBound f.between → source_of g ≡ source_of f → functions_in f.before < functions_in g.before → g.before ≡ f.before ++ mid
+    → (later : List Stmt) × (g.before ≡ own_stmts f ++ later)
+up_to_later f g [] plain e order is = absurd (none_between (functions_in f.before) (functions_in g.before) order (ap functions_in (is ∙ append-nil f.before)))
+up_to_later f g (x ∷ mid) plain e order is =
+    let rest = start_at g.start_line ∷ (g.between ++ end_at g.end_line ∷ g.after) in
+    let whole : f.before ++ start_at f.start_line ∷ (f.between ++ end_at f.end_line ∷ f.after) ≡ f.before ++ (x ∷ mid ++ rest) =
+    sym e ∙ ap (λ l. l ++ rest) is ∙ append_assoc f.before (x ∷ mid) rest in
+    let heads = same_head (start_at f.start_line) x (f.between ++ end_at f.end_line ∷ f.after) (mid ++ rest) (cancelled f.before _ _ whole) in
+    let later = past f.between mid g.start_line (end_at f.end_line ∷ f.after) (g.between ++ end_at g.end_line ∷ g.after) plain heads.1 in (
+      later.0,
+      is ∙ ap (λ s. f.before ++ s ∷ mid) (sym heads.0) ∙ ap (λ l. f.before ++ start_at f.start_line ∷ l) later.1 ∙ sym (append_assoc f.before (start_at f.start_line ∷ f.between) later.0),
+    )
+
+at_most : (n m : ℕ) → n < m → n ≤ m
+at_most n m h = omega (arith, h)
+
+pub law_of_later_rows : LaterRowsBeginBehind
+law_of_later_rows f object k row plain few e order got =
+    let stmts = source_of f in
+    let b = law_of_functions stmts object k few e (slice_get_within object.rows k row got) in
+    let g = b.function in
+    let L : ℕ → Type 0 = λ n. functions_in f.before < n in
+    let less = subst L (sym b.number) order in
+    let mid = prefix f.before g.before f.start_line g.start_line _ _ (sym b.source) (at_most _ _ less) in
+    let later = up_to_later f g mid.0 plain b.source less mid.1 in
+    let rest = start_at g.start_line ∷ (g.between ++ end_at g.end_line ∷ g.after) in
+    let same : stmts ≡ own_stmts f ++ (later.0 ++ rest) = sym b.source ∙ ap (λ l. l ++ rest) later.1 ∙ append_assoc (own_stmts f) later.0 rest in
+    let up = sizes_rise stmts (own_stmts f) later.0 rest object Text same few (taken stmts object e) in
+    let offset : row.offset ≡ b.has_row.offset = ap (λ (r : IndexRow). r.offset) (some_row row _ _ got (ap (λ n. slice_get object.rows n) (sym b.number) ∙ b.has_row.row)) in
+    let text = ap (λ l. (behind stmts l).at.sizes.text) (sym later.1) ∙ ap (λ s. (behind s g.before).at.sizes.text) (sym b.source) ∙ text_offset (behind (source_of g) g.before) b.has_row.offset b.has_row.place in
+    omega (arith, offset, text, up)
+
 -- ---- what an entry's words are
 
 all_front : {A : Type 0} (P : A → Type 0) (xs ys : List A) → All P (xs ++ ys) → All P xs
@@ -316,7 +372,7 @@ joined_text stmts = refl
 le_sum : (all a b : ℕ) → all ≡ a + b → a ≤ all
 le_sum all a b e = omega (arith, e)
 
-starts_inside : (stmts before more : List Stmt) (object : Object) → stmts ≡ before ++ more → length stmts < 2 ^ 64 → IsTaken stmts object
+pub starts_inside : (stmts before more : List Stmt) (object : Object) → stmts ≡ before ++ more → length stmts < 2 ^ 64 → IsTaken stmts object
     → (behind stmts before).at.sizes.text ≤ length object.text
 starts_inside stmts before more object same few t =
     let entries = entries_of stmts in

@@ -1,5 +1,5 @@
 -- Each row of an object is that of a function of its source, and where the rows lie (docs/unwind-index.md, "From the source").
-use Rattle.std.specs.Prelude.{◌≡◌, ℕ, ◌+◌, ◌%◌, ◌^◌, ◌<◌, ◌≤◌, List, length, All, slice_get, Some, Ok}
+use Rattle.std.specs.Prelude.{◌≡◌, ℕ, ◌+◌, ◌%◌, ◌^◌, ◌<◌, ◌≤◌, List, ◌∷◌, ◌++◌, length, All, slice_get, Some, Ok}
 use Rattle.asm_read.specs.declared.statement.Stmt.{Stmt}
 use Rattle.asm_read.specs.declared.statement.StmtKind.{StmtKind}
 use Rattle.asm_read.specs.declared.statement.StmtKind.TheVariants as statement
@@ -8,8 +8,8 @@ use Rattle.asm_object.specs.declared.object.Object.{Object}
 use Rattle.asm_object.specs.declared.object.RowEntry.{RowEntry}
 use Rattle.asm_object.specs.declared.object.RowEntry.TheVariants as row
 use Rattle.asm_object.specs.Objects.{object_of}
-use Rattle.source_laws.specs.Functions.{HasNoBound, Function, functions_in, source_of}
-use Rattle.source_laws.specs.RowLaw.{HasItsRow}
+use Rattle.source_laws.specs.Functions.{HasNoBound, Function, functions_in, source_of, start_at}
+use Rattle.source_laws.specs.RowLaw.{behind, HasItsRow}
 
 -- the function of a source whose number is that of a row
 pub record IsRowOfFunction (stmts : List Stmt) (object : Object) (k : ℕ) : Type 0 where
@@ -30,6 +30,14 @@ RowsRise =
     (stmts : List Stmt) (object : Object) (j k : ℕ) (first second : IndexRow)
     → length stmts < 2 ^ 64 → object_of stmts ≡ Ok object → j ≤ k → slice_get object.rows j ≡ Some first → slice_get object.rows k ≡ Some second
     → first.offset ≤ second.offset
+
+-- and a row behind a function's own begins at its `.fnend` or behind it
+abbrev pub LaterRowsBeginBehind : Type 0
+LaterRowsBeginBehind =
+    (f : Function) (object : Object) (k : ℕ) (row : IndexRow)
+    → HasNoBound f.between → length (source_of f) < 2 ^ 64 → object_of (source_of f) ≡ Ok object
+    → functions_in f.before < k → slice_get object.rows k ≡ Some row
+    → (behind (source_of f) (f.before ++ start_at f.start_line ∷ f.between)).at.sizes.text ≤ row.offset
 
 -- a register list of 16 bits, as every one that is read is
 abbrev pub HasShortList : StmtKind → Type 0

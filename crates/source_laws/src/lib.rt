@@ -3,7 +3,7 @@
 
 ghost use Rattle.source_laws.specs.RowLaw.{RowsStandAtTheirFunctions, RowsAreOfFunctions, FunctionsAreClosed};
 ghost use Rattle.source_laws.specs.HandlerLaw.{HandlersStandBehindTheirTables};
-ghost use Rattle.source_laws.specs.SourceRowLaw.{EachRowIsAFunctions, RowsRise, RowsLieInTheirObjects};
+ghost use Rattle.source_laws.specs.SourceRowLaw.{EachRowIsAFunctions, RowsRise, LaterRowsBeginBehind, RowsLieInTheirObjects};
 
 /// Each `.fnstart` of an accepted source has its `.fnend`, before another function begins.
 pub fn functions_are_closed()
@@ -23,10 +23,12 @@ pub fn handlers_stand_behind_their_tables()
     ensures { HandlersStandBehindTheirTables }
 {}
 
-/// Each row of the object is that of a function of the source, the rows rise, and each lies in its object: it begins in the text, an
-/// inline entry is a word with bit 31 set, and a table stands in the exception tables at a multiple of 4.
+/// Each row of the object is that of a function of the source. The rows rise, and one behind a function's own begins at its `.fnend` or
+/// behind it. Each lies in its object: it begins in the text, an inline entry is a word with bit 31 set, and a table stands in the
+/// exception tables at a multiple of 4.
 pub fn rows_are_of_the_source()
     ensures functions { EachRowIsAFunctions }
     ensures rising { RowsRise }
+    ensures later { LaterRowsBeginBehind }
     ensures inside { RowsLieInTheirObjects }
 {}
