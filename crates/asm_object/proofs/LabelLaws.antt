@@ -154,7 +154,7 @@ within : (a x end : ℕ) → a + x ≡ end → end ≤ 1048576 → a ≤ 1048576
 within a x end e h = omega (arith, e, h)
 
 -- the place behind statements, more of which follow, is small
-small_behind : (entries : List (Option EntryWords)) (labels : List Named) (before more : List Stmt) (section : Section) → length entries < 2 ^ 64
+pub small_behind : (entries : List (Option EntryWords)) (labels : List Named) (before more : List Stmt) (section : Section) → length entries < 2 ^ 64
     → refusals_from entries labels start (before ++ more) ≡ [] → is_too_large (sizes_with_pool (walk_behind entries start (before ++ more))) ≡ false
     → size_in (walk_behind entries start before).at.sizes section ≤ 1048576
 small_behind entries labels before more section few r h =

@@ -40,7 +40,7 @@ use Rattle.asm_object.specs.Objects.{refusals_from, faults_of, joined, object_un
 use Rattle.asm_object.specs.ObjectLaw.{kinds, StandInOrder, FieldsStandInOrder, RelocsGoBySection, RelocsHaveKinds, relocs_at, bytes_at}
 use Rattle.asm_object.specs.Relocations.{field_size}
 use Rattle.asm_layout.proofs.FirstLaws.{law_of_none}
-use Rattle.asm_object.proofs.PlaceLaws.{Fewer, SameEnd, is_ordinary, ordinary_sizes, ordinary_sets, own_stands, special_counts, not_large, none_parts, law_of_ends}
+use Rattle.asm_object.proofs.PlaceLaws.{Fewer, SameEnd, is_ordinary, ordinary_sizes, ordinary_sets, own_stands, special_counts, not_large, none_parts, law_of_ends, earlier}
 
 -- ---- an object is that of statements that nothing is refused of
 
@@ -50,6 +50,7 @@ both_none (x ∷ xs) ys e = absurd (cc)
 
 pub record IsTaken (stmts : List Stmt) (object : Object) : Type 0 where
   pub object_is : object ≡ joined stmts
+  pub unwound : unwind_faults_of stmts ≡ []
   pub unique : duplicates_from [] stmts ≡ []
   pub small : too_large_from (entries_of stmts) start 0 stmts ≡ []
   pub unrefused : refusals_from (entries_of stmts) (labels_of (entries_of stmts) stmts) start stmts ≡ []
@@ -63,7 +64,7 @@ taken_by stmts object o e =
     let last = both_none (unwind_faults_of stmts ++ duplicates_from [] stmts ++ large) own e in
     let front = both_none (unwind_faults_of stmts ++ duplicates_from [] stmts) large last.0 in
     let names = both_none (unwind_faults_of stmts) (duplicates_from [] stmts) front.0 in
-    record { object_is = o; unique = names.1; small = front.1; unrefused = last.1 }
+    record { object_is = o; unwound = names.0; unique = names.1; small = front.1; unrefused = last.1 }
 
 pub taken : (stmts : List Stmt) (object : Object) → object_of stmts ≡ Ok object → IsTaken stmts object
 unfolding object_of
@@ -107,11 +108,11 @@ entries_count frame (stmt ∷ more) =
 
 -- ---- fields in order
 
-from_lower : (a b : ℕ) (relocs : List Reloc) (c : ℕ) → a ≤ b → StandInOrder b relocs c → StandInOrder a relocs c
+pub from_lower : (a b : ℕ) (relocs : List Reloc) (c : ℕ) → a ≤ b → StandInOrder b relocs c → StandInOrder a relocs c
 from_lower a b [] c h k = omega (arith, h, k)
 from_lower a b (reloc ∷ more) c h k = (omega (arith, h, k.0), k.1)
 
-one_behind : (a : ℕ) (xs : List Reloc) (b : ℕ) (ys : List Reloc) (c : ℕ) → StandInOrder a xs b → StandInOrder b ys c → StandInOrder a (xs ++ ys) c
+pub one_behind : (a : ℕ) (xs : List Reloc) (b : ℕ) (ys : List Reloc) (c : ℕ) → StandInOrder a xs b → StandInOrder b ys c → StandInOrder a (xs ++ ys) c
 one_behind a [] b ys c h k = from_lower a b ys c h k
 one_behind a (x ∷ xs) b ys c h k = (h.0, one_behind (x.offset + field_size x) xs b ys c h.1 k)
 
@@ -237,7 +238,7 @@ unlinked s piece more e = ap (λ relocs. cond (same_section piece.place.section 
     by true = refl
     by false = refl
 
-last_unlinked : (s : Section) (pieces : List Piece) (piece : Piece) → piece.relocs ≡ [] → relocs_in s (pieces ++ piece ∷ []) ≡ relocs_in s pieces
+pub last_unlinked : (s : Section) (pieces : List Piece) (piece : Piece) → piece.relocs ≡ [] → relocs_in s (pieces ++ piece ∷ []) ≡ relocs_in s pieces
 last_unlinked s pieces piece e =
     flat_map-append (λ p. cond (same_section p.place.section s) p.relocs the_none) pieces (piece ∷ [])
     ∙ ap (λ relocs. relocs_in s pieces ++ relocs) (unlinked s piece [] e)
@@ -256,7 +257,7 @@ table_unlinked place (Some entry.CantUnwind) s = refl
 table_unlinked place (Some (entry.Inline word)) s = refl
 table_unlinked place None s = refl
 
-start_unlinked : (b : Bool) (place : ℕ) (entry : Option EntryWords) (s : Section) → relocs_in s (cond b [] (table_pieces place entry)) ≡ []
+pub start_unlinked : (b : Bool) (place : ℕ) (entry : Option EntryWords) (s : Section) → relocs_in s (cond b [] (table_pieces place entry)) ≡ []
 start_unlinked true place entry s = refl
 start_unlinked false place entry s = table_unlinked place entry s
 
@@ -309,7 +310,7 @@ statement_stands entries labels walk word kind s few h = by (is_ordinary kind) r
 within : (a x end : ℕ) → a + x ≡ end → end ≤ 1048576 → a ≤ 1048576
 within a x end e h = omega (arith, e, h)
 
-all_stand : (entries : List (Option EntryWords)) (labels : List Named) (walk : Walk) (stmts : List Stmt) (s : Section) → Fewer entries
+pub all_stand : (entries : List (Option EntryWords)) (labels : List Named) (walk : Walk) (stmts : List Stmt) (s : Section) → Fewer entries
     → refusals_from entries labels walk stmts ≡ [] → is_too_large (sizes_with_pool (walk_behind entries walk stmts)) ≡ false
     → StandInOrder (size_in walk.at.sizes s) (relocs_in s (pieces_from entries labels walk stmts)) (size_in (sizes_with_pool (walk_behind entries walk stmts)) s)
 unfolding pieces_from refusals_from walk_behind
@@ -325,6 +326,24 @@ all_stand entries labels walk (stmt ∷ more) s few r h =
     let P : List Reloc → Type 0 = λ relocs. StandInOrder (size_in walk.at.sizes s) relocs end in
     subst P (sym (flat_map-append (λ p. cond (same_section p.place.section s) p.relocs the_none) (pieces_at entries labels walk word stmt.kind) (pieces_from entries labels after more)))
     (one_behind _ (relocs_in s (pieces_at entries labels walk word stmt.kind)) (size_in after.at.sizes s) (relocs_in s (pieces_from entries labels after more)) end own rest)
+
+-- the fields of the statements before some others stand before the place of those
+pub earlier_stand : (entries : List (Option EntryWords)) (labels : List Named) (walk : Walk) (before more : List Stmt) (s : Section) → Fewer entries
+    → refusals_from entries labels walk (before ++ more) ≡ [] → is_too_large (sizes_with_pool (walk_behind entries walk (before ++ more))) ≡ false
+    → StandInOrder (size_in walk.at.sizes s) (relocs_in s (earlier entries labels walk before more)) (size_in (walk_behind entries walk before).at.sizes s)
+unfolding earlier refusals_from walk_behind
+earlier_stand entries labels walk [] more s few r h = omega arith
+earlier_stand entries labels walk (stmt ∷ before) more s few r h =
+    let after = next entries walk stmt.kind in
+    let word = word_place walk stmt.kind (coming_pool entries walk (stmt ∷ before ++ more)) in
+    let parts = none_parts stmt.line (refusal labels stmt.kind walk.at.section (here walk.at).offset word) (refusals_from entries labels after (before ++ more)) r in
+    let rest = earlier_stand entries labels after before more s few parts.1 h in
+    let end = size_in (walk_behind entries after before).at.sizes s in
+    let small = within (size_in after.at.sizes s) _ (size_in (sizes_with_pool (walk_behind entries after (before ++ more))) s) (law_of_ends entries labels after (before ++ more) s few parts.1 h) (not_large (sizes_with_pool (walk_behind entries after (before ++ more))) s h) in
+    let own = statement_stands entries labels walk word stmt.kind s few small in
+    let P : List Reloc → Type 0 = λ relocs. StandInOrder (size_in walk.at.sizes s) relocs end in
+    subst P (sym (flat_map-append (λ p. cond (same_section p.place.section s) p.relocs the_none) (pieces_at entries labels walk word stmt.kind) (earlier entries labels after before more)))
+    (one_behind _ (relocs_in s (pieces_at entries labels walk word stmt.kind)) (size_in after.at.sizes s) (relocs_in s (earlier entries labels after before more)) end own rest)
 
 -- ---- relocations are of their pieces' sections, and of the standard's kinds
 
@@ -428,7 +447,7 @@ all_own entries labels walk (stmt ∷ more) =
     (all_both (set_pieces entries labels walk stmt.kind) (own_piece labels stmt.kind (here walk.at) word ∷ []) (set_own entries labels walk stmt.kind) (own_own labels stmt.kind (here walk.at) word, tt))
     (all_own entries labels (next entries walk stmt.kind) more)
 
-same_is : (a b : Section) → same_section a b ≡ true → a ≡ b
+pub same_is : (a b : Section) → same_section a b ≡ true → a ≡ b
 same_is Text Text e = refl
 same_is Rodata Rodata e = refl
 same_is Extab Extab e = refl
@@ -493,7 +512,7 @@ kept pieces s own =
 
 -- ---- the laws
 
-abbrev all_of : List Stmt → List Piece
+abbrev pub all_of : List Stmt → List Piece
 all_of stmts = pieces_from (entries_of stmts) (labels_of (entries_of stmts) stmts) start stmts
 
 joined_stands : (stmts : List Stmt) (s : Section) → length stmts < 2 ^ 64 → too_large_from (entries_of stmts) start 0 stmts ≡ []
@@ -531,6 +550,11 @@ joined_stands stmts s few small unrefused =
     by Extab = in_section Extab refl
     by Init = in_section Init refl
     by Bss = omega arith
+
+-- the relocations of the exception tables are those of their pieces
+pub table_relocs : (stmts : List Stmt) → relocs_at Extab (joined stmts) ≡ relocs_in Extab (all_of stmts)
+unfolding joined fields_in
+table_relocs stmts = kept (all_of stmts) Extab (all_own (entries_of stmts) (labels_of (entries_of stmts) stmts) start stmts)
 
 pub law_of_fields : FieldsStandInOrder
 law_of_fields stmts object s few e =

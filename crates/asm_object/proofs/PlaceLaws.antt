@@ -677,13 +677,13 @@ law_of_places entries labels before more s few r h =
     (ap (λ walk. is_too_large (sizes_with_pool walk)) (sym (walks_on entries start before more)) ∙ h))
 
 -- the pieces of the statements before some others
-earlier : List (Option EntryWords) → List Named → Walk → List Stmt → List Stmt → List Piece
+unfoldable pub earlier : List (Option EntryWords) → List Named → Walk → List Stmt → List Stmt → List Piece
 earlier entries labels walk [] more = []
 earlier entries labels walk (stmt ∷ before) more =
     pieces_at entries labels walk (word_place walk stmt.kind (coming_pool entries walk (stmt ∷ before ++ more))) stmt.kind
     ++ earlier entries labels (next entries walk stmt.kind) before more
 
-split : (entries : List (Option EntryWords)) (labels : List Named) (walk : Walk) (before more : List Stmt)
+pub split : (entries : List (Option EntryWords)) (labels : List Named) (walk : Walk) (before more : List Stmt)
     → pieces_from entries labels walk (before ++ more) ≡ earlier entries labels walk before more ++ pieces_from entries labels (walk_behind entries walk before) more
 unfolding walk_behind pieces_from earlier
 split entries labels walk [] more = refl

@@ -23,11 +23,11 @@ itself Bss = refl
 
 -- ---- fields in order
 
-abbrev kept : Section → List Reloc → List Reloc
+abbrev pub kept : Section → List Reloc → List Reloc
 kept section relocs = filter (λ reloc. same_section reloc.section section) relocs
 
 -- all fields stand behind a place in front of the first
-none_before : (section : Section) (offset from : ℕ) (relocs : List Reloc) (end : ℕ) → offset < from → StandInOrder from (kept section relocs) end → IsInNoField section offset relocs
+pub none_before : (section : Section) (offset from : ℕ) (relocs : List Reloc) (end : ℕ) → offset < from → StandInOrder from (kept section relocs) end → IsInNoField section offset relocs
 none_before section offset from [] end h s = tt
 none_before section offset from (reloc ∷ more) end h s =
     by (same_section reloc.section section) refl s (λ k t. none_before section offset (reloc.offset + field_size reloc) more end k t) (λ t. none_before section offset from more end h t)

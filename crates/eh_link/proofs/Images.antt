@@ -46,11 +46,11 @@ not_so : (holds : Bool) (fault : LinkFault) (later : Result ImageParts LinkFault
 not_so true fault later image e = absurd cc
 not_so false fault later image e = (refl, e)
 
-record Linked (objects : List Object) : Type 0 where
-  fits : is_too_large (layout_of objects) ≡ false
-  reaches : lowest_unreachable (placed_of objects) (placed_of objects) ≡ None
+pub record Linked (objects : List Object) : Type 0 where
+  pub fits : is_too_large (layout_of objects) ≡ false
+  pub reaches : lowest_unreachable (placed_of objects) (placed_of objects) ≡ None
 
-image_made : (objects : List Object) (name : List ℕ) (image : ImageParts) → linked objects name ≡ Ok image → Linked objects
+pub image_made : (objects : List Object) (name : List ℕ) (image : ImageParts) → linked objects name ≡ Ok image → Linked objects
 unfolding linked
 image_made objects name image e =
     let single = none_there (duplicate_of objects) Duplicate _ image e in
@@ -121,26 +121,26 @@ law_of_reach objects name image section e = each_reaches (placed_of objects) (pl
 -- ---- rows
 
 -- what is so of each object is so of it at its place
-placed_too : (P : Object → Type 0) (at : Addresses) (xs : List Object) → All P xs → All (λ (p : Placed). P p.object) (placed_from at xs)
+pub placed_too : (P : Object → Type 0) (at : Addresses) (xs : List Object) → All P xs → All (λ (p : Placed). P p.object) (placed_from at xs)
 placed_too P at [] h = All-nil _
 placed_too P at (x ∷ xs) h =
     All-cons (λ (p : Placed). P p.object) (record { object = x; at = all_aligned at }) (placed_from (ends (all_aligned at) x) xs) (All-head P x xs h)
     (placed_too P (ends (all_aligned at) x) xs (All-tail P x xs h))
 
-both_of : (P Q : Placed → Type 0) (xs : List Placed) → All P xs → All Q xs → All (λ (p : Placed). P p × Q p) xs
+pub both_of : (P Q : Placed → Type 0) (xs : List Placed) → All P xs → All Q xs → All (λ (p : Placed). P p × Q p) xs
 both_of P Q [] f g = All-nil _
 both_of P Q (x ∷ xs) f g =
     let here : P x × Q x = (All-head P x xs f, All-head Q x xs g) in
     All-cons (λ (p : Placed). P p × Q p) x xs here (both_of P Q xs (All-tail P x xs f) (All-tail Q x xs g))
 
-all_rows : (P : Row → Type 0) (xs : List Placed) → All (λ (p : Placed). All P (rows_in p)) xs → All P (flat_map rows_in xs)
+pub all_rows : (P : Row → Type 0) (xs : List Placed) → All (λ (p : Placed). All P (rows_in p)) xs → All P (flat_map rows_in xs)
 all_rows P [] h = All-nil P
 all_rows P (x ∷ xs) h =
     let each : Placed → Type 0 = λ p. All P (rows_in p) in
     All-append P (rows_in x) (flat_map rows_in xs) (All-head each x xs h) (all_rows P xs (All-tail each x xs h))
 
 -- the end of a part that stands in bytes
-part_end : (address size start : ℕ) (part bytes : List ℕ) → StandsAt address part start bytes → length part ≡ size → address + size ≤ start + length bytes
+pub part_end : (address size start : ℕ) (part bytes : List ℕ) → StandsAt address part start bytes → length part ≡ size → address + size ≤ start + length bytes
 part_end address size start part bytes s e =
     let whole : length bytes ≡ length (s.before ++ part ++ s.after) = ap length s.split in
     omega (arith, whole, e, s.place, length-append (s.before ++ part) s.after, length-append s.before part)
@@ -149,7 +149,7 @@ is_within : (b : Bool) (n : ℕ) → b ≡ nat_lt 1048576 n → b ≡ false → 
 is_within true n e f = absurd cc
 is_within false n e f = grind (arith, nat_tests)
 
-code_below : (objects : List Object) → is_too_large (layout_of objects) ≡ false → (layout_of objects).code_end ≤ 0x8000 + 1048576
+pub code_below : (objects : List Object) → is_too_large (layout_of objects) ≡ false → (layout_of objects).code_end ≤ 0x8000 + 1048576
 code_below objects h =
     let l = layout_of objects in
     let all = is_within (is_too_large l) ((l.code_end - 0x8000) + (l.bss_end - l.data_start)) refl h in

@@ -197,7 +197,7 @@ from_low low [] j d a h = absurd (omega arith)
 from_low low (r ∷ rows) zero d a h = a.0
 from_low low (r ∷ rows) (suc j) d a h = omega (arith, a.0, from_low r.start rows j d a.1 (omega arith))
 
-never_falls : (low : ℕ) (rows : List Row) → Ascending low rows → IsNonDecreasingBy (λ (r : Row). r.start) rows
+pub never_falls : (low : ℕ) (rows : List Row) → Ascending low rows → IsNonDecreasingBy (λ (r : Row). r.start) rows
 never_falls low [] a i j d le lt = absurd (omega arith)
 never_falls low (r ∷ rows) a zero zero d le lt = omega arith
 never_falls low (r ∷ rows) a zero (suc j) d le lt = from_low r.start rows j d a.1 (omega arith)

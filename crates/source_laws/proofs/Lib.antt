@@ -1,0 +1,6 @@
+pub mod Frames
+pub mod Rows
+pub mod Standing
+pub mod Handlers
+pub mod SourceRows
+pub mod Fields

@@ -1,0 +1,64 @@
+-- The data of a function's handler, as its source meant it: what stands behind `.handlerdata` (docs/unwind-index.md, "From the source").
+use Rattle.std.specs.Prelude.{◌≡◌, ℕ, ◌*◌, ◌+◌, ◌^◌, ◌<◌, Bool, true, false, List, [], ◌∷◌, ◌++◌, length, drop, flat_map, Ok}
+use Rattle.std.specs.List.{list_any, list_all}
+use Rattle.eh_list.specs.Bytes.{next_multiple}
+use Rattle.asm_read.specs.declared.statement.Stmt.{Stmt}
+use Rattle.asm_read.specs.declared.statement.StmtKind.{StmtKind}
+use Rattle.asm_read.specs.declared.statement.StmtKind.TheVariants as statement
+use Rattle.asm_unwind.specs.declared.entry.EntryWords.TheVariants as entry
+use Rattle.asm_unwind.specs.Entries.{entry_words_of}
+use Rattle.asm_layout.specs.declared.place.Section.TheVariants.{Extab}
+use Rattle.asm_layout.specs.Functions.{entries_of}
+use Rattle.asm_layout.specs.Labels.{labels_of}
+use Rattle.asm_layout.specs.Walks.{here}
+use Rattle.asm_object.specs.declared.object.Object.{Object}
+use Rattle.asm_object.specs.Objects.{object_of}
+use Rattle.asm_object.specs.Pieces.{place_at, data_bytes}
+use Rattle.source_laws.specs.Functions.{HasNoBound, Function, source_of, directives_of, start_at}
+use Rattle.source_laws.specs.RowLaw.{behind}
+
+abbrev pub is_handler : StmtKind → Bool
+is_handler statement.HandlerData = true
+is_handler _ = false
+
+abbrev pub handler_at : ℕ → Stmt
+handler_at line = record { line = line; kind = statement.HandlerData }
+
+-- a statement that gives bytes by itself alone, or names a place
+abbrev pub is_data : StmtKind → Bool
+is_data (statement.Label _) = true
+is_data (statement.Words _) = true
+is_data (statement.Halves _) = true
+is_data (statement.Bytes _) = true
+is_data (statement.Ascii _) = true
+is_data (statement.Asciz _) = true
+is_data (statement.Space _) = true
+is_data _ = false
+
+-- where the first `.handlerdata` of a function stands, and the data that follows it at once
+pub record Handler (f : Function) : Type 0 where
+  pub code : List Stmt
+  pub line : ℕ
+  pub own : List Stmt
+  pub rest : List Stmt
+  pub split : f.between ≡ code ++ handler_at line ∷ (own ++ rest)
+  pub first : list_any (λ s. is_handler s.kind) code ≡ false
+  pub given : list_all (λ s. is_data s.kind) own ≡ true
+
+-- the bytes of statements that are data
+abbrev pub data_of : Function → List Stmt → List ℕ
+data_of f own = flat_map (λ s. data_bytes (labels_of (entries_of (source_of f)) (source_of f)) s.kind) own
+
+-- the data stands in the exception tables at a place, and the statements behind `.handlerdata` stand from there on
+pub record HandlerStands (f : Function) (handler : Handler f) (object : Object) (place : ℕ) : Type 0 where
+  pub here_now : here (behind (source_of f) (f.before ++ start_at f.start_line ∷ (handler.code ++ handler_at handler.line ∷ []))).at ≡ place_at Extab place
+  pub after : List ℕ
+  pub bytes : drop place object.extab ≡ data_of f handler.own ++ after
+
+-- where the function has a table, that place is right behind the table's words
+abbrev pub HandlersStandBehindTheirTables : Type 0
+HandlersStandBehindTheirTables =
+    (f : Function) (handler : Handler f) (words : List ℕ) (object : Object)
+    → HasNoBound f.between → length (source_of f) < 2 ^ 64 → object_of (source_of f) ≡ Ok object
+    → entry_words_of (directives_of f) ≡ Ok (entry.Table words)
+    → HandlerStands f handler object (next_multiple (behind (source_of f) f.before).at.sizes.extab 4 + 4 * length words)

@@ -1,0 +1,4 @@
+pub mod Functions
+pub mod RowLaw
+pub mod HandlerLaw
+pub mod SourceRowLaw

@@ -1,0 +1,34 @@
+//! What an object has of its source, in the source's own words (docs/unwind-index.md, "From the source").
+#![tactic(auto)]
+
+ghost use Rattle.source_laws.specs.RowLaw.{RowsStandAtTheirFunctions, RowsAreOfFunctions, FunctionsAreClosed};
+ghost use Rattle.source_laws.specs.HandlerLaw.{HandlersStandBehindTheirTables};
+ghost use Rattle.source_laws.specs.SourceRowLaw.{EachRowIsAFunctions, RowsRise, LaterRowsBeginBehind, RowsLieInTheirObjects};
+
+/// Each `.fnstart` of an accepted source has its `.fnend`, before another function begins.
+pub fn functions_are_closed()
+    ensures { FunctionsAreClosed }
+{}
+
+/// In the object of an accepted source, the k-th row is that of the k-th `.fnstart`: it stands at the place of that statement in the
+/// text, its entry is that of the unwind directives from there to the next `.fnend`, and where that is a table, the table's words
+/// stand in the exception tables at the place that the row names. There are as many rows as functions.
+pub fn rows_stand_at_their_functions()
+    ensures rows { RowsStandAtTheirFunctions }
+    ensures count { RowsAreOfFunctions }
+{}
+
+/// What a source puts behind `.handlerdata` stands right behind the words of the function's table, byte by byte.
+pub fn handlers_stand_behind_their_tables()
+    ensures { HandlersStandBehindTheirTables }
+{}
+
+/// Each row of the object is that of a function of the source. The rows rise, and one behind a function's own begins at its `.fnend` or
+/// behind it. Each lies in its object: it begins in the text, an inline entry is a word with bit 31 set, and a table stands in the
+/// exception tables at a multiple of 4.
+pub fn rows_are_of_the_source()
+    ensures functions { EachRowIsAFunctions }
+    ensures rising { RowsRise }
+    ensures later { LaterRowsBeginBehind }
+    ensures inside { RowsLieInTheirObjects }
+{}
