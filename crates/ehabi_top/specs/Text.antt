@@ -1,5 +1,5 @@
 -- The texts that the program writes. Each line ends in a line feed.
-use Rattle.std.specs.Prelude.{ℕ, ◌+◌, ◌/◌, ◌%◌, ◌^◌, List, [], ◌∷◌, ◌++◌, map, codes, decimal, nat_lt, if◌then◌else◌}
+use Rattle.std.specs.Prelude.{ℕ, List, [], ◌++◌, codes, decimal}
 use Rattle.eh_digits.specs.Address.{address_text}
 use Rattle.elf_image.specs.declared.fault.ImageFault.{ImageFault}
 use Rattle.elf_image.specs.declared.fault.ImageFault.TheVariants.{Truncated, NotElf, Class, Machine, Version, «Type», EntrySize, NoSymbols, SegmentRange, SegmentOverlap, IndexRange, TooLarge, Entry, OutOfMemory}
