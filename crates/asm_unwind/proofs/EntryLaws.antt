@@ -7,6 +7,7 @@ use Rattle.std.proofs.lemmas.Grind.{flat_map-append}
 use Rattle.std.proofs.lemmas.List.{length-replicate, get_or_past, take_at, drop_at}
 use Rattle.std.proofs.lemmas.List.FromFn.{map-range_with_len_more, fill_by_all, length-map-range_with_len}
 use Rattle.asm_unwind.specs.declared.entry.EntryWords.TheVariants.{Table}
+use Rattle.asm_unwind.specs.declared.entry.TheConstants.{SHORT_ROOM, LONG_ROOM}
 use Rattle.asm_unwind.specs.Entries.{code_byte, word, word_at, further, short_entry, long_entry, entry_of}
 use Rattle.asm_unwind.specs.EntryLaw.{HoldsCode, EntriesHoldTheirCode}
 use Rattle.unwind_codes.specs.declared.code.TheConstants.{FINISH}
@@ -77,7 +78,7 @@ further_bytes bytes (suc n) small =
     ∙ sym (four_more (code_byte bytes) (2 + 4 * n) (2 + 4 * suc n) (omega arith))
 
 -- personality 0: one word, in the index row or alone in its table
-short_word : (bytes : List ℕ) → length bytes ≤ 3 → All (λ b. b < 2 ^ 8) bytes → bytes_of_word (short_entry bytes) ≡ 0x80 ∷ map (code_byte bytes) (range_with_len 0 3)
+short_word : (bytes : List ℕ) → length bytes ≤ SHORT_ROOM → All (λ b. b < 2 ^ 8) bytes → bytes_of_word (short_entry bytes) ≡ 0x80 ∷ map (code_byte bytes) (range_with_len 0 3)
 unfolding short_entry
 short_word bytes short small =
     bytes_of_word-word 0x80 (code_byte bytes 0) (code_byte bytes 1) (code_byte bytes 2) (code_byte_small bytes 0 small) (code_byte_small bytes 1 small) (code_byte_small bytes 2 small)
@@ -90,10 +91,10 @@ short_top bytes small =
     let third : code_byte bytes 2 < 2 ^ 8 = code_byte_small bytes 2 small in
     omega arith
 
-short_code : (bytes : List ℕ) → length bytes ≤ 3 → All (λ b. b < 2 ^ 8) bytes → code_in_first (short_entry bytes) ≡ bytes ++ replicate (3 - length bytes) FINISH
+short_code : (bytes : List ℕ) → length bytes ≤ SHORT_ROOM → All (λ b. b < 2 ^ 8) bytes → code_in_first (short_entry bytes) ≡ bytes ++ replicate (SHORT_ROOM - length bytes) FINISH
 short_code bytes short small =
     let personality : personality_of_word (short_entry bytes) ≡ 0 = ap (λ (top : ℕ). top % 16) (short_top bytes small) in
-    ap (λ (n : ℕ). drop (cond (n == 0) 1 2) (bytes_of_word (short_entry bytes))) personality ∙ ap (drop 1) (short_word bytes short small) ∙ filled bytes 3 short
+    ap (λ (n : ℕ). drop (cond (n == 0) 1 2) (bytes_of_word (short_entry bytes))) personality ∙ ap (drop 1) (short_word bytes short small) ∙ filled bytes SHORT_ROOM short
 
 short_behind : (bytes : List ℕ) → All (λ b. b < 2 ^ 8) bytes → code_words_behind (short_entry bytes) ≡ 0
 short_behind bytes small =
@@ -103,18 +104,18 @@ short_behind bytes small =
 short_whole : (bytes : List ℕ) → All (λ b. b < 2 ^ 8) bytes → code_words_behind (short_entry bytes) ≤ 0
 short_whole bytes small = omega (arith, short_behind bytes small)
 
-short_all : (bytes : List ℕ) → length bytes ≤ 3 → All (λ b. b < 2 ^ 8) bytes → code_of_words (short_entry bytes ∷ []) ≡ bytes ++ replicate (3 - length bytes) FINISH
+short_all : (bytes : List ℕ) → length bytes ≤ SHORT_ROOM → All (λ b. b < 2 ^ 8) bytes → code_of_words (short_entry bytes ∷ []) ≡ bytes ++ replicate (SHORT_ROOM - length bytes) FINISH
 short_all bytes short small = rw (short_behind bytes small) (append-nil (code_in_first (short_entry bytes)) ∙ short_code bytes short small)
 
 short_none : (bytes : List ℕ) → All (λ b. b < 2 ^ 8) bytes → words_behind_code (short_entry bytes ∷ []) ≡ []
 short_none bytes small = rw (short_behind bytes small) refl
 
-short_holds : (handler_data : Bool) (bytes : List ℕ) → length bytes ≤ 3 → All (λ b. b < 2 ^ 8) bytes → HoldsCode (entry_of 0 handler_data bytes) 0 handler_data bytes
+short_holds : (handler_data : Bool) (bytes : List ℕ) → length bytes ≤ SHORT_ROOM → All (λ b. b < 2 ^ 8) bytes → HoldsCode (entry_of 0 handler_data bytes) 0 handler_data bytes
 unfolding entry_of
 short_holds false bytes short small = record {
   top = short_top bytes small;
   whole = short_whole bytes small;
-  fill = 3 - length bytes;
+  fill = SHORT_ROOM - length bytes;
   fill_is_short = omega arith;
   code = short_all bytes short small;
   behind = short_none bytes small;
@@ -123,7 +124,7 @@ short_holds false bytes short small = record {
 short_holds true bytes short small = record {
   top = short_top bytes small;
   whole = short_whole bytes small;
-  fill = 3 - length bytes;
+  fill = SHORT_ROOM - length bytes;
   fill_is_short = omega arith;
   code = short_all bytes short small;
   behind = short_none bytes small;
@@ -161,7 +162,7 @@ words_of bytes = map (λ k. word_at bytes (2 + 4 * k)) (range_with_len 0 (furthe
 long_first : ℕ → List ℕ → ℕ
 long_first index bytes = word (0x80 + index) (further bytes) (code_byte bytes 0) (code_byte bytes 1)
 
-long_bytes : (index : ℕ) (bytes : List ℕ) → length bytes ≤ 1022 → All (λ b. b < 2 ^ 8) bytes →
+long_bytes : (index : ℕ) (bytes : List ℕ) → length bytes ≤ LONG_ROOM → All (λ b. b < 2 ^ 8) bytes →
     bytes_of_word (long_first index bytes) ≡ (0x80 + index) ∷ length (words_of bytes) ∷ code_byte bytes 0 ∷ code_byte bytes 1 ∷ []
 unfolding words_of long_first
 long_bytes index bytes short small =
@@ -179,7 +180,7 @@ no_place true none other = refl
 no_place false none other = sym other
 
 -- an entry of personality 1 or 2 whose table ends with these words
-long_holds : (index : ℕ) (handler_data : Bool) (bytes closing : List ℕ) → (index == 0) ≡ false → index ≤ 2 → length bytes ≤ 1022 → All (λ b. b < 2 ^ 8) bytes →
+long_holds : (index : ℕ) (handler_data : Bool) (bytes closing : List ℕ) → (index == 0) ≡ false → index ≤ 2 → length bytes ≤ LONG_ROOM → All (λ b. b < 2 ^ 8) bytes →
     closing ≡ (cond handler_data [] (0 ∷ [])) →
     HoldsCode (Table (long_entry index bytes ++ closing)) index handler_data bytes
 unfolding long_entry words_of long_first
