@@ -1,9 +1,12 @@
 //! What an object has of its source, in the source's own words (docs/unwind-index.md, "From the source").
 #![tactic(auto)]
 
+ghost use Rattle.std.specs.Prelude.{◌<◌, ◌^◌, length};
 ghost use Rattle.source_laws.specs.RowLaw.{RowsStandAtTheirFunctions, RowsAreOfFunctions, FunctionsAreClosed};
 ghost use Rattle.source_laws.specs.HandlerLaw.{HandlersStandBehindTheirTables};
-ghost use Rattle.source_laws.specs.SourceRowLaw.{EachRowIsAFunctions, RowsRise, LaterRowsBeginBehind, RowsLieInTheirObjects};
+ghost use Rattle.source_laws.specs.SourceRowLaw.{EachRowIsAFunctions, RowsRise, LaterRowsBeginBehind, RowsLieInTheirObjects, HasShortList, HaveShortLists};
+
+use asm_read::{Stmt, StmtKind};
 
 /// Each `.fnstart` of an accepted source has its `.fnend`, before another function begins.
 pub fn functions_are_closed()
@@ -32,3 +35,27 @@ pub fn rows_are_of_the_source()
     ensures later { LaterRowsBeginBehind }
     ensures inside { RowsLieInTheirObjects }
 {}
+
+/// A register list has 16 bits.
+fn is_short(kind: &StmtKind)
+    ensures { HasShortList kind.now }
+{
+    match kind {
+        StmtKind::Save { list } => {
+            let _list = *list;
+        }
+        _ => {}
+    }
+}
+
+/// What the types say of every source: it has fewer than 2^64 statements, and register lists of 16 bits. So what the laws ask besides
+/// acceptance holds of each.
+pub fn types_bound_sources(stmts: &[Stmt])
+    ensures few { length stmts.now < 2 ^ 64 }
+    ensures short { HaveShortLists stmts.now }
+{
+    let _count = stmts.len();
+    for stmt in stmts {
+        is_short(&stmt.kind);
+    }
+}
