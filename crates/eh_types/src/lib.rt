@@ -1,0 +1,10 @@
+//! The types that an exception may have, with their bases (Itanium C++ ABI, "Run-Time Type Information"; IHI 0041): read once
+//! from an image, and looked up by address. docs/types.md states the rules.
+#![tactic(auto)]
+
+pub mod graph;
+pub mod info;
+pub mod kind;
+
+pub use graph::TypeGraph;
+pub use kind::{Base, TypeKind};
