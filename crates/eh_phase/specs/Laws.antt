@@ -1,0 +1,106 @@
+-- What the two phases promise of each other, in the words of the standard (docs/phases.md, "Laws").
+use Rattle.std.specs.Prelude.{◌≡◌, ◌⊎◌, ℕ, zero, suc, ◌+◌, ◌<◌, ◌≤◌, Bool, true, false, if◌then◌else◌, List, [], ◌∷◌, ◌++◌, All, slice_index, take, Option, Some, None, is_some, Result, Ok, Err}
+use Rattle.eh_bus.specs.declared.map.TheConstants.{STACK_END}
+use Rattle.elf_image.specs.Image.{Image, IsSound}
+use Rattle.thumb_core.specs.declared.ends.Cause.{Cause}
+use Rattle.eh_bytecode.specs.declared.frame.Vrs.{Vrs}
+use Rattle.eh_desc.specs.declared.descriptor.Desc.{Desc}
+use Rattle.eh_desc.specs.declared.descriptor.DescFault.{DescFault}
+use Rattle.eh_desc.specs.Laws.{Follow, Rise}
+use Rattle.eh_phase.specs.declared.walk.Covered.{Covered}
+use Rattle.eh_phase.specs.declared.verdict.Verdict.{Verdict}
+use Rattle.eh_phase.specs.declared.phase1.Barrier.{Barrier}
+use Rattle.eh_phase.specs.declared.phase1.Found.TheVariants as found
+use Rattle.eh_phase.specs.declared.phase2.Goal.{Goal}
+use Rattle.eh_phase.specs.declared.phase2.Entered.{Entered}
+use Rattle.eh_phase.specs.declared.phase2.Entered.TheVariants as enters
+use Rattle.eh_phase.specs.Verdict.{Meeting, heard, verdict_of}
+use Rattle.eh_phase.specs.Phases.{Frame, Frames, found_by, phase1, phase2, vrs_of}
+use Rattle.eh_phase.specs.Frames.{Stack, MOST_FRAMES, frames_in, frames_of, covered_at, walked, site_of}
+use Rattle.eh_phase.specs.Cleanups.{due, is_reached}
+
+-- ---- the frames
+
+-- a bound on the frames never cuts their list: with it each frame is followed by those that its registers give under the same bound
+abbrev pub FramesAreWhole : Type 0
+FramesAreWhole =
+    (image : Image) (stack : Stack) (limit : Option ℕ) (innermost : Bool) (site : ℕ) (r : List ℕ) → stack.end ≤ STACK_END
+    → frames_in MOST_FRAMES image stack limit innermost site r
+    ≡ walked (λ new. frames_in MOST_FRAMES image stack limit false (site_of new) new) stack limit innermost site r (covered_at image site)
+
+-- ---- phase 2 from the barrier that a phase 1 gave
+
+abbrev pub goal_of : Barrier → Goal
+goal_of b = record { sp = b.sp; desc = b.desc }
+
+-- a cleanup, or the barrier
+abbrev pub Lands : Entered → Type 0
+Lands (enters.Cleanup vrs pad next site) = Unit {0}
+Lands (enters.Catch vrs pad) = Unit {0}
+Lands (enters.Spec vrs pad) = Unit {0}
+Lands enters.Unexpected = Unit {0}
+Lands (enters.Terminate cause) = ⊥
+
+-- the frames up to the first that says something, that one among them
+unfoldable pub up_to : Meeting → List Frame → List Frame
+up_to m [] = []
+up_to m (f ∷ more) = f ∷ (if is_some (verdict_of m f.site f.items) then [] else up_to m more)
+
+-- phase 2 enters the first of the cleanups and the barrier, and looks at no frame outside the barrier's, whatever stands there
+pub record Reaches (m : Meeting) (b : Barrier) (fs : Frames) : Type 0 where
+  pub entered : Entered
+  pub later : List Entered
+  pub lands : Lands entered
+  pub first : due (goal_of b) 0 fs.frames ≡ entered ∷ later
+  pub enters : phase2 (goal_of b) 0 fs ≡ entered
+  pub no_further : (more : List Frame) (last : Cause) → phase2 (goal_of b) 0 (record { frames = up_to m fs.frames ++ more; last = last }) ≡ entered
+
+-- phase 2 looks at frames that a limit hides from phase 1, and still reaches the barrier at the latest
+abbrev pub BarriersAreReached : Type 0
+BarriersAreReached =
+    (m : Meeting) (image : Image) (stack : Stack) (limit : Option ℕ) (site : ℕ) (r : List ℕ) (b : Barrier)
+    → phase1 m (frames_of image stack limit site r) ≡ found.Barrier b → Reaches m b (frames_of image stack None site r)
+
+-- ---- after a cleanup
+
+-- a frame's descriptors stand one behind the other, at rising addresses
+pub record IsInOrder (f : Frame) : Type 0 where
+  pub address : ℕ
+  pub follow : Follow address f.items
+  pub rise : Rise f.items
+
+-- where a cleanup was entered, what is due goes on at its frame, from the descriptor behind the cleanup's own
+pub record GoesOn (g : Goal) (from : ℕ) (fs : List Frame) (vrs : Vrs) (pad next site : ℕ) : Type 0 where
+  pub inner : List Frame
+  pub frame : Frame
+  pub outer : List Frame
+  pub place : fs ≡ inner ++ frame ∷ outer
+  pub registers : vrs_of frame ≡ vrs
+  pub stands : frame.site ≡ site
+  pub due : due g from fs ≡ enters.Cleanup vrs pad next site ∷ due g next (frame ∷ outer)
+  pub reach : is_reached g from fs ≡ true → is_reached g next (frame ∷ outer) ≡ true
+
+abbrev pub CleanupsGoOn : Type 0
+CleanupsGoOn =
+    (g : Goal) (from : ℕ) (fs : Frames) (vrs : Vrs) (pad next site : ℕ) → All IsInOrder fs.frames
+    → phase2 g from fs ≡ enters.Cleanup vrs pad next site → GoesOn g from fs.frames vrs pad next site
+
+-- what the first n phases 2 enter, each from where the one before it entered a cleanup, with nothing changed between them
+abbrev pub enters_on : (Vrs → ℕ → ℕ → List Entered) → Entered → List Entered
+enters_on further (enters.Cleanup vrs pad next site) = enters.Cleanup vrs pad next site ∷ further vrs next site
+enters_on further (enters.Catch vrs pad) = enters.Catch vrs pad ∷ []
+enters_on further (enters.Spec vrs pad) = enters.Spec vrs pad ∷ []
+enters_on further enters.Unexpected = enters.Unexpected ∷ []
+enters_on further (enters.Terminate cause) = enters.Terminate cause ∷ []
+
+unfoldable pub entered_in_turn : ℕ → Image → Stack → Goal → ℕ → ℕ → List ℕ → List Entered
+entered_in_turn zero image stack g from site r = []
+entered_in_turn (suc n) image stack g from site r =
+    enters_on (λ vrs next at. entered_in_turn n image stack g next at vrs.r) (phase2 g from (frames_of image stack None site r))
+
+-- they are the first n of the throw's cleanups in order and then its barrier
+abbrev pub PadsAreInOrder : Type 0
+PadsAreInOrder =
+    (m : Meeting) (image : Image) (stack : Stack) (limit : Option ℕ) (site : ℕ) (r : List ℕ) (b : Barrier) (n : ℕ)
+    → IsSound image → stack.end ≤ STACK_END → phase1 m (frames_of image stack limit site r) ≡ found.Barrier b
+    → entered_in_turn n image stack (goal_of b) 0 site r ≡ take n (due (goal_of b) 0 (frames_of image stack None site r).frames)
