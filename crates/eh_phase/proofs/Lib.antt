@@ -5,3 +5,4 @@ pub mod Behind
 pub mod Hits
 pub mod Unwound
 pub mod Due
+pub mod Reached
