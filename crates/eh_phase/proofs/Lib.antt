@@ -6,3 +6,4 @@ pub mod Hits
 pub mod Unwound
 pub mod Due
 pub mod Reached
+pub mod Goes

@@ -1,8 +1,14 @@
 //! What the two phases promise of each other (docs/phases.md, "Laws"): laws above the lists of frames.
-ghost use Rattle.eh_phase.specs.Laws.{BarriersAreReached};
+ghost use Rattle.eh_phase.specs.Laws.{BarriersAreReached, CleanupsGoOn};
 
 /// From the barrier that a search gave, phase 2 enters the first of the throw's cleanups and its barrier. It never terminates, and it
 /// looks at no frame outside the barrier's.
 pub fn barriers_are_reached()
     ensures { BarriersAreReached }
+{}
+
+/// Where phase 2 enters a cleanup, what is still to be entered goes on at its frame from the descriptor behind its own; a barrier
+/// within reach before is so from there.
+pub fn cleanups_go_on()
+    ensures { CleanupsGoOn }
 {}
