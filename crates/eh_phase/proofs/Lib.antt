@@ -7,3 +7,4 @@ pub mod Unwound
 pub mod Due
 pub mod Reached
 pub mod Goes
+pub mod Whole

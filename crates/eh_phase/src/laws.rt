@@ -1,5 +1,10 @@
 //! What the two phases promise of each other (docs/phases.md, "Laws"): laws above the lists of frames.
-ghost use Rattle.eh_phase.specs.Laws.{BarriersAreReached, CleanupsGoOn};
+ghost use Rattle.eh_phase.specs.Laws.{FramesAreWhole, BarriersAreReached, CleanupsGoOn};
+
+/// The bound on the number of frames never cuts their list: each frame is followed by those that its registers give under the same bound.
+pub fn frames_are_whole()
+    ensures { FramesAreWhole }
+{}
 
 /// From the barrier that a search gave, phase 2 enters the first of the throw's cleanups and its barrier. It never terminates, and it
 /// looks at no frame outside the barrier's.
