@@ -8,3 +8,4 @@ pub mod Due
 pub mod Reached
 pub mod Goes
 pub mod Whole
+pub mod Turns

@@ -307,6 +307,11 @@ entered_first g from fs last e k = ap (λ o. unwrap_or o (enters.Terminate last)
 further_first : (g : Goal) (ps qs : List Place) (e : Entered) → first_some (entered_at g) ps ≡ Some e → first_some (entered_at g) (ps ++ qs) ≡ Some e
 further_first g ps qs e k = first-append (entered_at g) ps qs ∙ ap (λ o. or_next o (first_some (entered_at g) qs)) k
 
+pub whole_reached : (m : Meeting) (b : Barrier) (fs : Frames) → UpTo m b fs.frames → is_reached (goal_of b) 0 fs.frames ≡ true
+whole_reached m b fs u =
+    let g = goal_of b in
+    ap (λ l. is_reached_in g (places 0 l)) u.parts ∙ ap (is_reached_in g) (places-append (up_to m fs.frames) u.beyond) ∙ reached_append g (places 0 (up_to m fs.frames)) (places 0 u.beyond) u.reach
+
 reaches : (m : Meeting) (b : Barrier) (fs : Frames) → UpTo m b fs.frames → Reaches m b fs
 reaches m b fs u =
     let g = goal_of b in
@@ -314,9 +319,7 @@ reaches m b fs u =
     let first : (more : List Frame) → first_some (entered_at g) (places 0 (up_to m fs.frames ++ more)) ≡ Some h.entered =
     λ more. ap (first_some (entered_at g)) (places-append (up_to m fs.frames) more) ∙ further_first g (places 0 (up_to m fs.frames)) (places 0 more) h.entered h.first in
     let here : first_some (entered_at g) (places 0 fs.frames) ≡ Some h.entered = ap (λ l. first_some (entered_at g) (places 0 l)) u.parts ∙ first u.beyond in
-    let whole : is_reached_in g (places 0 fs.frames) ≡ true =
-    ap (λ l. is_reached_in g (places 0 l)) u.parts ∙ ap (is_reached_in g) (places-append (up_to m fs.frames) u.beyond) ∙ reached_append g (places 0 (up_to m fs.frames)) (places 0 u.beyond) u.reach in
-    let k = heads g (places 0 fs.frames) whole in
+    let k = heads g (places 0 fs.frames) (whole_reached m b fs u) in
     let both : Some k.entered ≡ Some h.entered = sym k.first ∙ here in
     let same : k.entered ≡ h.entered = cc in
     record {

@@ -1,5 +1,5 @@
 //! What the two phases promise of each other (docs/phases.md, "Laws"): laws above the lists of frames.
-ghost use Rattle.eh_phase.specs.Laws.{FramesAreWhole, BarriersAreReached, CleanupsGoOn};
+ghost use Rattle.eh_phase.specs.Laws.{FramesAreWhole, BarriersAreReached, CleanupsGoOn, PadsAreInOrder};
 
 /// The bound on the number of frames never cuts their list: each frame is followed by those that its registers give under the same bound.
 pub fn frames_are_whole()
@@ -16,4 +16,11 @@ pub fn barriers_are_reached()
 /// within reach before is so from there.
 pub fn cleanups_go_on()
     ensures { CleanupsGoOn }
+{}
+
+/// After a search that gave a barrier, the landing pads that phase 2 enters, each time from where it entered a cleanup and with nothing
+/// changed between, are the cleanups in scope of the frames inside the barrier's in order, those of the barrier's in front of it, and
+/// then the barrier.
+pub fn pads_are_in_order()
+    ensures { PadsAreInOrder }
 {}
