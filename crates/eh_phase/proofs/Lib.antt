@@ -9,3 +9,5 @@ pub mod Reached
 pub mod Goes
 pub mod Whole
 pub mod Turns
+pub mod Speaks
+pub mod Rises

@@ -1,5 +1,5 @@
 -- What the two phases promise of each other, in the words of the standard (docs/phases.md, "Laws").
-use Rattle.std.specs.Prelude.{◌≡◌, ◌⊎◌, ℕ, zero, suc, ◌+◌, ◌<◌, ◌≤◌, Bool, true, false, if◌then◌else◌, List, [], ◌∷◌, ◌++◌, All, slice_index, take, Option, Some, None, is_some, Result, Ok, Err}
+use Rattle.std.specs.Prelude.{◌≡◌, ◌⊎◌, ℕ, zero, suc, ◌+◌, ◌<◌, ◌≤◌, Bool, true, false, if◌then◌else◌, List, [], ◌∷◌, ◌++◌, map, All, take, Option, Some, None, is_some, Result, Ok, Err}
 use Rattle.eh_bus.specs.declared.map.TheConstants.{STACK_END}
 use Rattle.elf_image.specs.Image.{Image, IsSound}
 use Rattle.thumb_core.specs.declared.ends.Cause.{Cause}
@@ -10,13 +10,14 @@ use Rattle.eh_desc.specs.Laws.{Follow, Rise}
 use Rattle.eh_phase.specs.declared.walk.Covered.{Covered}
 use Rattle.eh_phase.specs.declared.verdict.Verdict.{Verdict}
 use Rattle.eh_phase.specs.declared.phase1.Barrier.{Barrier}
+use Rattle.eh_phase.specs.declared.phase1.Found.{Found}
 use Rattle.eh_phase.specs.declared.phase1.Found.TheVariants as found
 use Rattle.eh_phase.specs.declared.phase2.Goal.{Goal}
 use Rattle.eh_phase.specs.declared.phase2.Entered.{Entered}
 use Rattle.eh_phase.specs.declared.phase2.Entered.TheVariants as enters
 use Rattle.eh_phase.specs.Verdict.{Meeting, heard, verdict_of}
 use Rattle.eh_phase.specs.Phases.{Frame, Frames, found_by, phase1, phase2, vrs_of}
-use Rattle.eh_phase.specs.Frames.{Stack, MOST_FRAMES, frames_in, frames_of, covered_at, walked, site_of}
+use Rattle.eh_phase.specs.Frames.{Stack, MOST_FRAMES, frames_in, frames_of, covered_at, is_above, walked, site_of}
 use Rattle.eh_phase.specs.Cleanups.{due, is_reached}
 
 -- ---- the frames
@@ -27,6 +28,85 @@ FramesAreWhole =
     (image : Image) (stack : Stack) (limit : Option ℕ) (innermost : Bool) (site : ℕ) (r : List ℕ) → stack.end ≤ STACK_END
     → frames_in MOST_FRAMES image stack limit innermost site r
     ≡ walked (λ new. frames_in MOST_FRAMES image stack limit false (site_of new) new) stack limit innermost site r (covered_at image site)
+
+-- above the frame inside it; the second frame may stand at the same place as the innermost
+abbrev pub IsAbove : Bool → ℕ → ℕ → Type 0
+IsAbove true sp next = sp ≤ next
+IsAbove false sp next = sp < next
+
+-- the frames outside one: each above the one inside it, and not above the stack's end or the limit
+abbrev pub RiseFrom : ℕ → Option ℕ → Bool → ℕ → List Frame → Type 0
+RiseFrom end limit innermost sp [] = Unit {0}
+RiseFrom end limit innermost sp (f ∷ more) = IsAbove innermost sp f.sp × (f.sp ≤ end) × (is_above limit f.sp ≡ false) × RiseFrom end limit false f.sp more
+
+abbrev pub RiseOutwards : ℕ → Option ℕ → Bool → List Frame → Type 0
+RiseOutwards end limit innermost [] = Unit {0}
+RiseOutwards end limit innermost (f ∷ more) = RiseFrom end limit innermost f.sp more
+
+abbrev pub FramesRise : Type 0
+FramesRise =
+    (image : Image) (stack : Stack) (limit : Option ℕ) (site : ℕ) (r : List ℕ) → RiseOutwards stack.end limit true (frames_of image stack limit site r).frames
+
+-- ---- who decides
+
+-- no descriptor says anything, or the verdict is what the first says that says something
+pub record SpeaksFirst (m : Meeting) (site : ℕ) (items : List (Result Desc DescFault)) (v : Verdict) : Type 0 where
+  pub before : List (Result Desc DescFault)
+  pub item : Result Desc DescFault
+  pub later : List (Result Desc DescFault)
+  pub parts : items ≡ before ++ item ∷ later
+  pub silent : All (λ i. heard m site i ≡ None) before
+  pub says : heard m site item ≡ Some v
+
+abbrev pub IsVerdict : Meeting → ℕ → List (Result Desc DescFault) → Option Verdict → Type 0
+IsVerdict m site items None = All (λ i. heard m site i ≡ None) items
+IsVerdict m site items (Some v) = SpeaksFirst m site items v
+
+abbrev pub VerdictsAreFirst : Type 0
+VerdictsAreFirst = (m : Meeting) (site : ℕ) (items : List (Result Desc DescFault)) → IsVerdict m site items (verdict_of m site items)
+
+-- the innermost frame that says something decides what phase 1 finds; where none does, it is the cause by which the frames end
+pub record IsDecided (m : Meeting) (frames : List Frame) (answer : Found) : Type 0 where
+  pub inner : List Frame
+  pub frame : Frame
+  pub outer : List Frame
+  pub parts : frames ≡ inner ++ frame ∷ outer
+  pub silent : All (λ (f : Frame). verdict_of m f.site f.items ≡ None) inner
+  pub verdict : Verdict
+  pub says : verdict_of m frame.site frame.items ≡ Some verdict
+  pub found : answer ≡ found_by frame verdict
+
+abbrev pub InnermostDecides : Type 0
+InnermostDecides =
+    (m : Meeting) (fs : Frames)
+    → (All (λ (f : Frame). verdict_of m f.site f.items ≡ None) fs.frames × (phase1 m fs ≡ found.Terminate fs.last)) ⊎ IsDecided m fs.frames (phase1 m fs)
+
+-- ---- registers
+
+-- a frame with its registers seen through a function
+abbrev pub seen : (List ℕ → List ℕ) → Frame → Frame
+seen view f = record f { r = view f.r }
+
+abbrev pub seen_frames : (List ℕ → List ℕ) → Frames → Frames
+seen_frames view fs = record { frames = map (seen view) fs.frames; last = fs.last }
+
+abbrev pub seen_vrs : (List ℕ → List ℕ) → Vrs → Vrs
+seen_vrs view vrs = record { r = view vrs.r }
+
+abbrev pub seen_entered : (List ℕ → List ℕ) → Entered → Entered
+seen_entered view (enters.Cleanup vrs pad next site) = enters.Cleanup (seen_vrs view vrs) pad next site
+seen_entered view (enters.Catch vrs pad) = enters.Catch (seen_vrs view vrs) pad
+seen_entered view (enters.Spec vrs pad) = enters.Spec (seen_vrs view vrs) pad
+seen_entered view enters.Unexpected = enters.Unexpected
+seen_entered view (enters.Terminate cause) = enters.Terminate cause
+
+-- the phases choose by sites, stack pointers and descriptors alone, and hand the registers on
+pub record HandsOn (view : List ℕ → List ℕ) (fs : Frames) : Type 0 where
+  pub search : (m : Meeting) → phase1 m (seen_frames view fs) ≡ phase1 m fs
+  pub advance : (g : Goal) (from : ℕ) → phase2 g from (seen_frames view fs) ≡ seen_entered view (phase2 g from fs)
+
+abbrev pub RegistersAreHandedOn : Type 0
+RegistersAreHandedOn = (view : List ℕ → List ℕ) (fs : Frames) → HandsOn view fs
 
 -- ---- phase 2 from the barrier that a phase 1 gave
 

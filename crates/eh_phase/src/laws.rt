@@ -1,9 +1,29 @@
 //! What the two phases promise of each other (docs/phases.md, "Laws"): laws above the lists of frames.
-ghost use Rattle.eh_phase.specs.Laws.{FramesAreWhole, BarriersAreReached, CleanupsGoOn, PadsAreInOrder};
+ghost use Rattle.eh_phase.specs.Laws.{FramesAreWhole, FramesRise, VerdictsAreFirst, InnermostDecides, RegistersAreHandedOn, BarriersAreReached, CleanupsGoOn, PadsAreInOrder};
 
 /// The bound on the number of frames never cuts their list: each frame is followed by those that its registers give under the same bound.
 pub fn frames_are_whole()
     ensures { FramesAreWhole }
+{}
+
+/// Each frame stands above the one inside it, and none above the stack's end or the limit; the second may stand where the innermost does.
+pub fn frames_rise()
+    ensures { FramesRise }
+{}
+
+/// The verdict of a frame is what the first of its descriptors says that says something, and there is none where all are silent.
+pub fn verdicts_are_first()
+    ensures { VerdictsAreFirst }
+{}
+
+/// The innermost frame that says something decides what a search finds. Where all are silent it is the cause by which the frames end.
+pub fn innermost_decides()
+    ensures { InnermostDecides }
+{}
+
+/// The phases choose by sites, stack pointers and descriptors alone, and hand on the registers of the frame that they choose.
+pub fn registers_are_handed_on()
+    ensures { RegistersAreHandedOn }
 {}
 
 /// From the barrier that a search gave, phase 2 enters the first of the throw's cleanups and its barrier. It never terminates, and it
