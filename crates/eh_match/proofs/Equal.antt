@@ -76,10 +76,10 @@ same_root-trans g (Some a) (Some b) None e f = f
 same_root-trans g (Some a) (Some b) (Some c) e f = same_type-trans g a b c e f
 
 module _ (g : List Row) where
-  offsets_eq : (p q : List Base) → same_subobject g p q ≡ true → offset_of p ≡ offset_of q
+  pub offsets_eq : (p q : List Base) → same_subobject g p q ≡ true → offset_of p ≡ offset_of q
   offsets_eq p q e = eqb-true (offset_of p) (offset_of q) (and_first (offset_of p == offset_of q) (same_root g (root_of p) (root_of q)) e)
 
-  roots_eq : (p q : List Base) → same_subobject g p q ≡ true → same_root g (root_of p) (root_of q) ≡ true
+  pub roots_eq : (p q : List Base) → same_subobject g p q ≡ true → same_root g (root_of p) (root_of q) ≡ true
   roots_eq p q e = and_second (offset_of p == offset_of q) (same_root g (root_of p) (root_of q)) e
 
   pub same_from : (p q : List Base) → offset_of p ≡ offset_of q → same_root g (root_of p) (root_of q) ≡ true → same_subobject g p q ≡ true

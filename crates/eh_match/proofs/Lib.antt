@@ -5,6 +5,7 @@ pub mod Members
 pub mod Chains
 pub mod Equal
 pub mod Names
+pub mod Told
 pub mod Addresses
 pub mod Sole
 pub mod Classes

@@ -1,6 +1,6 @@
 -- What the rules come to, in the words of the standard: laws above the list of paths (docs/matching.md).
 use Rattle.std.specs.Prelude.{◌≡◌, ◌≢◌, ◌↔◌, ℕ, pos, negsuc, zero, suc, ◌+◌, ◌-◌, ◌<◌, ◌/◌, ◌%◌, ◌^◌, ◌&&◌, Bool, true, false, not, List, [], ◌∷◌, ◌++◌, length, map, find, Contains, Some, None, Result, Ok, Err}
-use Rattle.std.specs.List.{flat_map, list_all, sum_by}
+use Rattle.std.specs.List.{flat_map, list_all, sum_by, AllPass}
 use Rattle.std.specs.Int.{cast_unsigned, w32}
 use Rattle.eh_bus.specs.Segment.{Segment}
 use Rattle.eh_bus.specs.Memory.{loads}
@@ -70,6 +70,25 @@ abbrev pub VirtualPathsAreNamed : Type 0
 VirtualPathsAreNamed =
     (before after : List Base) (step : Base) → step.is_virtual ≡ true → are_plain after ≡ true
     → (root_of (before ++ step ∷ after) ≡ Some step.ty) × (offset_of (before ++ step ∷ after) ≡ span after)
+
+-- what two paths say of their subobjects, by whether they have a virtual step
+pub record AreTold (g : List Row) : Type 0 where
+  -- two within the whole object are one where they stand at one place
+  pub plain : (one other : List Base) → are_plain one ≡ true → are_plain other ≡ true → (same_subobject g one other ≡ true) ↔ (span one ≡ span other)
+  -- one within the whole object is none within a virtual base
+  pub mixed : (one before after : List Base) (step : Base) → are_plain one ≡ true → step.is_virtual ≡ true → are_plain after ≡ true
+      → (same_subobject g one (before ++ step ∷ after) ≡ false) × (same_subobject g (before ++ step ∷ after) one ≡ false)
+  -- two within virtual bases are one where these are of one type, and they stand at one place in it
+  pub by_virtual : (before after before' after' : List Base) (step step' : Base)
+      → step.is_virtual ≡ true → are_plain after ≡ true → step'.is_virtual ≡ true → are_plain after' ≡ true
+      → (same_subobject g (before ++ step ∷ after) (before' ++ step' ∷ after') ≡ true) ↔ ((same_type g step.ty step'.ty ≡ true) × (span after ≡ span after'))
+
+abbrev pub SubobjectsAreTold : Type 0
+SubobjectsAreTold = (g : List Row) → AreTold g
+
+-- a path is public where each of its steps is
+abbrev pub PathsArePublicByStep : Type 0
+PathsArePublicByStep = (steps : List Base) → (is_public steps ≡ true) ↔ AllPass (λ b. b.is_public) steps
 
 -- ---- addresses
 

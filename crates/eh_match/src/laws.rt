@@ -1,5 +1,5 @@
 //! What the rules come to, in the words of the standard: laws above the list of paths. docs/matching.md states them.
-ghost use Rattle.eh_match.specs.Laws.{TypesMatchThemselves, ZeroMatchesNothing, UnheldTypesStandAlone, PathsAreAllChains, PathsGoDepthFirst, PlainPathsAreNamed, VirtualPathsAreNamed, PlainStepsAdd, OffsetsAreSigned, VirtualStepsGoByTheVtable, AddressesFollow, NoPublicWayFails, PartedBasesFail, OneBaseIsCaught, OneWayIsCaught, OnePlainWayIsCaught, TwoPlainBasesFail, PlainAndVirtualBaseFail, VirtualBaseIsOne, QualifiersAreKept, PointersFollowTheirPointees, UnreadPointersAreNamed};
+ghost use Rattle.eh_match.specs.Laws.{TypesMatchThemselves, ZeroMatchesNothing, UnheldTypesStandAlone, PathsAreAllChains, PathsGoDepthFirst, PlainPathsAreNamed, VirtualPathsAreNamed, SubobjectsAreTold, PathsArePublicByStep, PlainStepsAdd, OffsetsAreSigned, VirtualStepsGoByTheVtable, AddressesFollow, NoPublicWayFails, PartedBasesFail, OneBaseIsCaught, OneWayIsCaught, OnePlainWayIsCaught, TwoPlainBasesFail, PlainAndVirtualBaseFail, VirtualBaseIsOne, QualifiersAreKept, PointersFollowTheirPointees, UnreadPointersAreNamed};
 
 /// A type is caught as itself; type 0 matches nothing; a type that the graph doesn't hold matches no other.
 pub fn equal_types_match()
@@ -14,10 +14,13 @@ pub fn paths_are_all_chains()
     ensures order { PathsGoDepthFirst }
 {}
 
-/// A subobject is named by the type that the last virtual step to it reaches, and the sum of the offsets after that.
+/// A subobject is named by the type that the last virtual step to it reaches, and the sum of the offsets after that; and so two are
+/// told apart. A path is public where each of its steps is.
 pub fn subobjects_are_named()
     ensures plain { PlainPathsAreNamed }
     ensures by_virtual { VirtualPathsAreNamed }
+    ensures told { SubobjectsAreTold }
+    ensures public { PathsArePublicByStep }
 {}
 
 /// A step adds its signed offset, or, a virtual one, the word that the vtable has at that offset.
