@@ -1,1 +1,4 @@
 pub mod Lookups
+pub mod Reading
+pub mod Paths
+pub mod Meaning
