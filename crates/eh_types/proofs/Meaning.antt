@@ -1,16 +1,14 @@
 -- A graph that roots mean is the only one, has what they reach, and is none where a fault is shown.
-use Rattle.std.proofs.Common.{◌≡◌, ℕ, zero, suc, ◌+◌, ◌<◌, ◌≤◌, Bool, true, false, cond, nat_eq, List, [], ◌∷◌, ◌++◌, Option, Some, None, IsSome, Result, Ok, Err, refl, sym, ◌∙◌, ap, inl, inr, arith}
+use Rattle.std.proofs.Common.{◌≡◌, ℕ, ◌+◌, ◌<◌, ◌≤◌, true, false, nat_eq, List, [], ◌∷◌, ◌++◌, Option, Some, None, IsSome, Ok, Err, refl, sym, ◌∙◌, ap, inl, inr, arith}
 use Rattle.std.specs.Prelude.{◌⊎◌, ◌↔◌}
-use Rattle.std.specs.List.{sum_by}
 use Rattle.std.proofs.lemmas.Bool.Decides.{nat_tests}
 use Rattle.std.proofs.lemmas.Bool.{cases_lt, false≢true}
 use Rattle.elf_image.specs.Image.{Image}
-use Rattle.eh_types.specs.declared.kind.Base.{Base}
 use Rattle.eh_types.specs.declared.fault.TypeFault.{TypeFault}
 use Rattle.eh_types.specs.declared.fault.TypeFault.TheVariants.{Unreadable, Writable, NameTooLong, Cyclic, TooManyPaths, OutOfMemory}
-use Rattle.eh_types.specs.Graph.{Row, Rise, row_of, bases_of, bases_in, paths_within, path_count, IsCounted, IsSound}
+use Rattle.eh_types.specs.Graph.{Row, Rise, row_of, bases_of, paths_within, path_count, IsCounted}
 use Rattle.eh_types.specs.Types.{type_at}
-use Rattle.eh_types.specs.Meant.{Among, types_of, leads_to, Reached, root, step, IsGraph, bases_read, bases_by, IsBaseOf, one, more, Shows}
+use Rattle.eh_types.specs.Meant.{Among, types_of, Reached, root, step, IsGraph, bases_by, IsBaseOf, one, more, Shows}
 use Rattle.eh_types.proofs.Lookups.{none_below}
 use Rattle.eh_types.proofs.Paths.{sum_same, term_below, paths_more, paths_settle, paths_same}
 
@@ -93,11 +91,11 @@ rows_same low other (r ∷ g) (s ∷ h) rise_g rise_h same =
 
 -- ---- graphs
 
-there_is : (o : Option Row) → IsSome o → (r : Row) × (o ≡ Some r)
+pub there_is : {X : Type 0} (o : Option X) → IsSome o → (x : X) × (o ≡ Some x)
 there_is None h = absurd (false≢true h)
 there_is (Some r) h = (r, refl)
 
-is_there : (o : Option Row) (r : Row) → o ≡ Some r → IsSome o
+pub is_there : {X : Type 0} (o : Option X) (x : X) → o ≡ Some x → IsSome o
 is_there None r e = absurd cc
 is_there (Some x) r e = refl
 
@@ -174,3 +172,9 @@ counted g few = record {
       ∙ ap (λ n. 1 + n) (sum_same (paths_within (bases_of g) 255) (paths_within (bases_of g) 256) (bases_of g a) (λ b among. paths_settle (bases_of g) 255 b (few b)));
   few = few;
 }
+
+pub fault_no_graph : (image : Image) (roots : List ℕ) (fault : TypeFault) → Shows image roots fault → (g : List Row) → IsGraph image roots g → ⊥
+fault_no_graph image roots fault s g h = none_shown image roots g h fault s
+
+pub own_base_none : (image : Image) (roots : List ℕ) (g : List Row) → IsGraph image roots g → (a : ℕ) → IsSome (row_of g a) → IsBaseOf image a a → ⊥
+own_base_none image roots g h a held own = none_shown image roots g h (Cyclic a) (h.reached a held, own)

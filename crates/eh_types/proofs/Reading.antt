@@ -1,13 +1,13 @@
 -- Words and names in the segment that holds their address.
 use Rattle.std.proofs.Common.{◌≡◌, ℕ, zero, suc, ◌+◌, ◌-◌, ◌*◌, ◌<◌, ◌≤◌, min, Bool, true, false, ◌&&◌, ◌||◌, cond, nat_le, nat_lt, List, [], ◌∷◌, length, drop, Option, Some, None, is_some, refl, sym, ◌∙◌, ap, inl, inr, lit<, lit≤, arith}
 use Rattle.std.proofs.lemmas.Bool.Decides.{nat_tests}
-use Rattle.std.proofs.lemmas.Bool.{cases_lt, false≢true}
+use Rattle.std.proofs.lemmas.Bool.{cases_lt}
 use Rattle.std.specs.List.{find, list_any}
 use Rattle.byteorder.specs.Endian.{little_number}
 use Rattle.elf_image.specs.Segments.{Segment, holds, segment_end, RiseFrom}
 use Rattle.elf_image.specs.Functions.{segment_at}
 use Rattle.elf_image.specs.Image.{Image, IsSound}
-use Rattle.elf_image.proofs.Lookups.{any_is_some, find_holder, filtered, both_true, holds_found, Narrows}
+use Rattle.elf_image.proofs.Lookups.{any_is_some, find_holder, filtered, both_true, Narrows}
 use Rattle.eh_types.specs.Words.{has, room, number_in, word, is_word, is_written, joined, words_from, name_in, named, name_at}
 
 le_from : (x y : ℕ) → nat_le x y ≡ true → x ≤ y

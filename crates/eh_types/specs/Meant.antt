@@ -1,5 +1,5 @@
 -- Which graph of types an image's roots mean (docs/types.md).
-use Rattle.std.specs.Prelude.{ℕ, ◌≡◌, ◌<◌, ◌⊎◌, List, [], ◌∷◌, ◌++◌, map, Option, Some, Result, Ok, Err, IsSome}
+use Rattle.std.specs.Prelude.{ℕ, ◌≡◌, ◌<◌, ◌⊎◌, List, [], ◌∷◌, ◌++◌, map, Some, Result, Ok, Err, IsSome}
 use Rattle.elf_image.specs.Image.{Image}
 use Rattle.eh_types.specs.declared.kind.Base.{Base}
 use Rattle.eh_types.specs.declared.kind.TypeKind.{TypeKind}

@@ -142,6 +142,7 @@ pub(crate) fn read_head<'a>(
     ensures row { IfOk result (λ h. type_at image.now at ≡ Ok (row_named image.now at h.name.now)) }
     ensures kind { IfOk result (λ h. h.kind ≡ kind_at image.now at) }
     ensures count { IfOk result (λ h. h.count ≡ base_count image.now.segments at (kind_at image.now at)) }
+    ensures fits { IfOk result (λ h. h.count < 2 ^ 32) }
     ensures refused { IfErr result (λ fault. type_at image.now at ≡ Err fault) }
 {
     let kind = kind_by(image, vtables, at);

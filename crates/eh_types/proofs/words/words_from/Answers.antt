@@ -1,4 +1,4 @@
-use Rattle.std.proofs.Common.{sym, ◌∙◌, ap, arith, ◌≤◌, ◌-◌, ◌+◌, ◌*◌, ◌≡◌, ◌<◌, true, false, ◌||◌, Bool, Option, refl}
+use Rattle.std.proofs.Common.{sym, ◌∙◌, ap, arith, ◌-◌, ◌+◌, ◌*◌, ◌≡◌, true, false, ◌||◌, Bool}
 use Rattle.eh_types.specs.Words.{words_from, joined}
 use Rattle.eh_types.proofs.Reading.{words_some, words_end, last_word}
 use Rattle.eh_types.proofs.words.words_from.Goals as goal
