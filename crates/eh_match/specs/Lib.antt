@@ -3,3 +3,4 @@ pub mod Address
 pub mod Subobjects
 pub mod Rules
 pub mod Walk
+pub mod Laws
