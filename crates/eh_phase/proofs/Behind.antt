@@ -1,10 +1,10 @@
 -- The items from an address on, one by one.
-use Rattle.std.proofs.Common.{◌≡◌, ℕ, List, [], ◌∷◌, refl, sym, ◌∙◌, ap, Option, Some, None, true, false, Bool, cond, Result, Ok, Err}
-use Rattle.std.specs.Prelude.{◌&&◌, not, if◌then◌else◌, ◌==◌}
+use Rattle.std.proofs.Common.{◌≡◌, ℕ, List, [], ◌∷◌, refl, ◌∙◌, Option, None, true, false, Bool, cond, Result}
+use Rattle.std.specs.Prelude.{◌&&◌, not, ◌==◌}
 use Rattle.std.specs.Option.{is_some}
 use Rattle.eh_desc.specs.declared.descriptor.Desc.{Desc}
 use Rattle.eh_desc.specs.declared.descriptor.DescFault.{DescFault}
-use Rattle.eh_phase.specs.Firsts.{first_some, or_next}
+use Rattle.eh_phase.specs.Firsts.{first_some}
 use Rattle.eh_phase.specs.Phases.{stands_at, behind, from_address}
 use Rattle.eh_phase.proofs.First.{first_past, first_here}
 

@@ -1,10 +1,9 @@
 -- What is due, place by place.
-use Rattle.std.proofs.Common.{◌≡◌, ◌⊎◌, inl, inr, ℕ, Bool, true, false, cond, List, [], ◌∷◌, ◌++◌, map, refl, sym, ◌∙◌, ap, Option, Some, None, Result, Ok, Err, arith}
-use Rattle.std.specs.Prelude.{◌&&◌, ◌||◌, not, if◌then◌else◌, find, option_and_then}
+use Rattle.std.proofs.Common.{◌≡◌, ℕ, Bool, true, false, List, [], ◌∷◌, ◌++◌, refl, Option, Some, None, Result, Ok, Err}
+use Rattle.std.specs.Prelude.{not}
 use Rattle.std.specs.Option.{option_to_list}
-use Rattle.std.specs.List.{filter_map, cons_option, take_while, before_first, list_any}
+use Rattle.std.specs.List.{cons_option}
 use Rattle.std.proofs.lemmas.List.Sums.{take_while-cons}
-use Rattle.thumb_core.specs.declared.ends.Cause.{Cause}
 use Rattle.thumb_core.specs.declared.ends.Cause.TheVariants.{CannotUnwind}
 use Rattle.eh_desc.specs.declared.descriptor.Desc.{Desc}
 use Rattle.eh_desc.specs.declared.descriptor.DescFault.{DescFault}
@@ -13,11 +12,9 @@ use Rattle.eh_desc.specs.declared.descriptor.DescKind.TheVariants as kind
 use Rattle.eh_phase.specs.declared.phase2.Goal.{Goal}
 use Rattle.eh_phase.specs.declared.phase2.Entered.{Entered}
 use Rattle.eh_phase.specs.declared.phase2.Entered.TheVariants as enters
-use Rattle.eh_phase.specs.Firsts.{first_some, or_next}
 use Rattle.eh_phase.specs.Verdict.{in_scope}
-use Rattle.eh_phase.specs.Phases.{Frame, Place, placed, is_goal, vrs_of, spec_entered, entered_by, entered_item, entered_at}
-use Rattle.eh_phase.specs.Cleanups.{can_stop, is_barrier_item, is_barrier, cleanup_by, cleanup_item, cleanup_at, cleanups_in, due_in, can_be_read, is_reached_in}
-use Rattle.eh_phase.specs.Laws.{Lands}
+use Rattle.eh_phase.specs.Phases.{Frame, Place, is_goal, vrs_of, entered_item, entered_at}
+use Rattle.eh_phase.specs.Cleanups.{is_barrier_item, is_barrier, cleanup_item, cleanup_at, cleanups_in, due_in, can_be_read, is_reached_in}
 
 -- an entered barrier: neither a cleanup nor an end
 abbrev pub Stops : Entered → Type 0

@@ -1,5 +1,5 @@
 -- The first of a list that gives something.
-use Rattle.std.proofs.Common.{◌≡◌, ℕ, List, [], ◌∷◌, ◌++◌, map, refl, sym, ◌∙◌, ap, Option, Some, None, true, false, Bool, cond}
+use Rattle.std.proofs.Common.{◌≡◌, List, [], ◌∷◌, ◌++◌, map, refl, sym, ◌∙◌, ap, Option, Some, None, true}
 use Rattle.std.specs.Option.{is_some}
 use Rattle.eh_phase.specs.Firsts.{first_some, or_next}
 

@@ -1,11 +1,9 @@
 -- After a cleanup, what is due goes on behind it.
-use Rattle.std.proofs.Common.{◌≡◌, ℕ, ◌<◌, ◌≤◌, ◌+◌, Bool, true, false, cond, nat_eq, List, [], ◌∷◌, ◌++◌, map, refl, sym, ◌∙◌, ap, subst, Option, Some, None, Result, Ok, Err, arith, append_assoc}
-use Rattle.std.specs.Prelude.{All, ◌==◌, if◌then◌else◌, unwrap_or}
-use Rattle.std.specs.List.{cons_option, flat_map}
+use Rattle.std.proofs.Common.{◌≡◌, ℕ, ◌<◌, ◌≤◌, Bool, true, false, cond, nat_eq, List, [], ◌∷◌, ◌++◌, refl, sym, ◌∙◌, ap, subst, Option, Some, None, Result, Ok, Err, arith, append_assoc}
+use Rattle.std.specs.Prelude.{All, ◌==◌, unwrap_or}
+use Rattle.std.specs.List.{cons_option}
 use Rattle.std.proofs.lemmas.List.Elements.{All-head, All-tail}
 use Rattle.std.proofs.lemmas.Bool.Decides.{nat_tests}
-use Rattle.thumb_core.specs.declared.ends.Cause.{Cause}
-use Rattle.thumb_core.specs.declared.ends.Cause.TheVariants.{CannotUnwind}
 use Rattle.eh_bytecode.specs.declared.frame.Vrs.{Vrs}
 use Rattle.eh_desc.specs.declared.descriptor.Desc.{Desc}
 use Rattle.eh_desc.specs.declared.descriptor.DescFault.{DescFault}
@@ -14,12 +12,12 @@ use Rattle.eh_phase.specs.declared.phase2.Goal.{Goal}
 use Rattle.eh_phase.specs.declared.phase2.Entered.{Entered}
 use Rattle.eh_phase.specs.declared.phase2.Entered.TheVariants as enters
 use Rattle.eh_phase.specs.Firsts.{first_some, or_next}
-use Rattle.eh_phase.specs.Phases.{Frame, Frames, Place, placed, places_in, places, stands_at, behind, from_address, vrs_of, entered_item, entered_at, phase2}
-use Rattle.eh_phase.specs.Cleanups.{cleanup_at, is_barrier, due_in, due, can_be_read, is_reached_in, is_reached}
+use Rattle.eh_phase.specs.Phases.{Frame, Frames, Place, placed, places, stands_at, behind, from_address, vrs_of, entered_item, entered_at, phase2}
+use Rattle.eh_phase.specs.Cleanups.{due_in, can_be_read, is_reached_in}
 use Rattle.eh_phase.specs.Laws.{IsInOrder, GoesOn, CleanupsGoOn}
 use Rattle.eh_phase.proofs.First.{first_past, first_gives, first_none}
 use Rattle.eh_phase.proofs.Steps.{parted, all_places}
-use Rattle.eh_phase.proofs.Due.{Stops, Sort, Unread, Quiet, Clean, Stop, sort, due_past, due_stop, reached_unread, reached_past, reached_stop}
+use Rattle.eh_phase.proofs.Due.{Stops, Sort, Unread, Quiet, Clean, Stop, sort, due_past, reached_past}
 
 -- ---- items of one frame
 

@@ -1,6 +1,5 @@
 -- The first match that isn't Failed, from a place on.
-use Rattle.std.proofs.Common.{◌≡◌, ℕ, ◌+◌, ◌-◌, ◌<◌, ◌≤◌, zero, suc, List, [], ◌∷◌, map, refl, sym, ◌∙◌, ap, arith, Option, Some, None, true, false, Bool, cond}
-use Rattle.std.specs.Prelude.{find, unwrap_or}
+use Rattle.std.proofs.Common.{◌≡◌, ℕ, ◌+◌, ◌-◌, ◌<◌, ◌≤◌, zero, suc, List, ◌∷◌, map, refl, sym, ◌∙◌, ap, arith, true, false}
 use Rattle.std.specs.List.{range_with_len}
 use Rattle.eh_match.specs.declared.rules.Match.{Match}
 use Rattle.eh_match.specs.declared.rules.Match.TheVariants.{Failed}

@@ -1,9 +1,8 @@
 -- Each frame stands above the one inside it.
-use Rattle.std.proofs.Common.{◌≡◌, ℕ, ◌+◌, ◌-◌, ◌<◌, ◌≤◌, Bool, true, false, cond, nat_eq, List, refl, ◌∙◌, sym, ap, subst, arith, Option, Some, None, Result, Ok, Err}
-use Rattle.std.specs.Prelude.{slice_index, nat_lt}
+use Rattle.std.proofs.Common.{◌≡◌, ℕ, ◌+◌, ◌-◌, ◌<◌, ◌≤◌, Bool, true, false, cond, nat_eq, List, refl, subst, arith, Option, Some, None, Ok}
+use Rattle.std.specs.Prelude.{slice_index}
 use Rattle.std.proofs.lemmas.Bool.Decides.{nat_tests}
 use Rattle.eh_bus.specs.declared.map.TheConstants.{STACK_END}
-use Rattle.thumb_core.specs.declared.ends.Cause.{Cause}
 use Rattle.guest_gates.specs.declared.gates.TheConstants.{NO_CALLER}
 use Rattle.unwind_codes.specs.Cut.{cut}
 use Rattle.eh_bytecode.specs.Meaning.{unwound}

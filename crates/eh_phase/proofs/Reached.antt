@@ -1,14 +1,12 @@
 -- A barrier that phase 1 gives is within reach of phase 2.
-use Rattle.std.proofs.Common.{◌≡◌, ℕ, ◌-◌, zero, suc, Bool, true, false, cond, List, [], ◌∷◌, ◌++◌, map, refl, sym, ◌∙◌, ap, subst, Option, Some, None, Result, Ok, Err, arith, nat_eq, eq-eqb, append_assoc, append-nil}
-use Rattle.std.specs.Prelude.{◌&&◌, ◌||◌, if◌then◌else◌, unwrap_or, option_map, slice_index}
-use Rattle.std.specs.Option.{is_some, option_to_list}
+use Rattle.std.proofs.Common.{◌≡◌, ℕ, ◌-◌, zero, suc, Bool, true, false, cond, List, [], ◌∷◌, ◌++◌, refl, sym, ◌∙◌, ap, Option, Some, None, Result, Ok, Err, arith, eq-eqb, append_assoc}
+use Rattle.std.specs.Prelude.{unwrap_or, slice_index}
+use Rattle.std.specs.Option.{option_to_list}
 use Rattle.std.specs.List.{cons_option, flat_map}
 use Rattle.thumb_core.specs.declared.ends.Cause.{Cause}
-use Rattle.thumb_core.specs.declared.ends.Cause.TheVariants.{CannotUnwind}
 use Rattle.elf_image.specs.Image.{Image}
 use Rattle.eh_bytecode.specs.Meaning.{unwound}
 use Rattle.unwind_codes.specs.Cut.{cut}
-use Rattle.eh_bytecode.specs.declared.frame.UnwindEnd.{UnwindEnd}
 use Rattle.eh_bytecode.specs.declared.frame.Vrs.{Vrs}
 use Rattle.eh_match.specs.declared.rules.Match.{Match}
 use Rattle.eh_match.specs.declared.rules.Match.TheVariants.{Failed, Object, PointerToBase, Unreadable}
@@ -28,10 +26,10 @@ use Rattle.eh_phase.specs.declared.phase2.Entered.{Entered}
 use Rattle.eh_phase.specs.declared.phase2.Entered.TheVariants as enters
 use Rattle.eh_phase.specs.declared.walk.Covered.{Covered}
 use Rattle.eh_phase.specs.Firsts.{first_some, or_next}
-use Rattle.eh_phase.specs.Verdict.{Meeting, in_scope, by_match, catch_says, first_hit, unless_named, says_by, says as says_of, heard, verdict_of}
+use Rattle.eh_phase.specs.Verdict.{Meeting, in_scope, by_match, catch_says, unless_named, says_by, heard, verdict_of}
 use Rattle.eh_phase.specs.Phases.{Frame, Frames, Place, placed, places_in, places, is_goal, found_by, phase1, phase2, entered_at}
-use Rattle.eh_phase.specs.Frames.{Stack, MOST_FRAMES, frames_in, frames_of, covered_at, outer, caller_of, checked, is_no_frame, is_above, site_of, frame_of, then_outer, walked, framed, ended}
-use Rattle.eh_phase.specs.Cleanups.{is_barrier_item, is_barrier, cleanup_at, due_in, due, can_be_read, is_reached_in, is_reached}
+use Rattle.eh_phase.specs.Frames.{Stack, MOST_FRAMES, frames_in, frames_of, covered_at, outer, caller_of, checked, is_no_frame, is_above, site_of}
+use Rattle.eh_phase.specs.Cleanups.{is_barrier_item, is_barrier, due_in, can_be_read, is_reached_in, is_reached}
 use Rattle.eh_phase.specs.Laws.{goal_of, Lands, up_to, Reaches, BarriersAreReached}
 use Rattle.eh_phase.proofs.First.{first_past, first_gives, first-append}
 use Rattle.eh_phase.proofs.Steps.{said_here, silent_here, all_places, phase1_uncovered, phase1_said, phase1_ended, phase1_on}

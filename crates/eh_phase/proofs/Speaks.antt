@@ -1,9 +1,10 @@
 -- Who decides, and what plays no part.
-use Rattle.std.proofs.Common.{◌≡◌, ◌⊎◌, inl, inr, ℕ, Bool, true, false, cond, List, [], ◌∷◌, ◌++◌, map, refl, sym, ◌∙◌, ap, subst, Option, Some, None, Result, Ok, Err, arith}
-use Rattle.std.specs.Prelude.{All, option_map, unwrap_or, if◌then◌else◌}
-use Rattle.std.proofs.lemmas.List.Elements.{All-nil, All-cons}
+use Rattle.std.proofs.Common.{◌≡◌, ◌⊎◌, inl, inr, ℕ, Bool, true, false, cond, List, [], ◌∷◌, ◌++◌, map, refl, sym, ◌∙◌, ap, Option, Some, None, Result, Ok, Err}
+use Rattle.std.specs.Prelude.{All, find, option_map, unwrap_or}
+use Rattle.std.proofs.lemmas.List.Elements.{All-nil, All-cons, All-head, All-tail}
 use Rattle.thumb_core.specs.declared.ends.Cause.{Cause}
-use Rattle.eh_bytecode.specs.declared.frame.Vrs.{Vrs}
+use Rattle.eh_match.specs.declared.rules.Match.{Match}
+use Rattle.eh_match.specs.declared.rules.Match.TheVariants.{Failed, Object}
 use Rattle.eh_desc.specs.declared.descriptor.Desc.{Desc}
 use Rattle.eh_desc.specs.declared.descriptor.DescFault.{DescFault}
 use Rattle.eh_desc.specs.declared.descriptor.DescKind.{DescKind}
@@ -16,9 +17,9 @@ use Rattle.eh_phase.specs.declared.phase2.Goal.{Goal}
 use Rattle.eh_phase.specs.declared.phase2.Entered.{Entered}
 use Rattle.eh_phase.specs.declared.phase2.Entered.TheVariants as enters
 use Rattle.eh_phase.specs.Firsts.{first_some, or_next}
-use Rattle.eh_phase.specs.Verdict.{Meeting, in_scope, heard, verdict_of}
-use Rattle.eh_phase.specs.Phases.{Frame, Frames, places, from_address, is_goal, spec_entered, entered_by, entered_item, entered_at, found_by, found_in, phase1, phase2}
-use Rattle.eh_phase.specs.Laws.{SpeaksFirst, IsVerdict, VerdictsAreFirst, IsDecided, InnermostDecides, seen, seen_frames, seen_vrs, seen_entered, HandsOn, RegistersAreHandedOn}
+use Rattle.eh_phase.specs.Verdict.{Meeting, in_scope, is_hit, unless_named, heard, verdict_of}
+use Rattle.eh_phase.specs.Phases.{Frame, Frames, places, from_address, is_goal, spec_entered, entered_by, entered_item, entered_at, found_by, phase1, phase2}
+use Rattle.eh_phase.specs.Laws.{SpecificationsNameTypes, IsVerdict, VerdictsAreFirst, IsDecided, InnermostDecides, seen, seen_frames, seen_entered, RegistersAreHandedOn}
 use Rattle.eh_phase.proofs.Steps.{said_here, silent_here, parted}
 
 -- ---- the verdict
@@ -167,3 +168,19 @@ advance_seen view g from fs = ap (λ o. unwrap_or o (enters.Terminate fs.last)) 
 
 pub registers_are_handed_on : RegistersAreHandedOn
 registers_are_handed_on view fs = record { search = λ m. search_seen m view fs.last fs.frames; advance = λ g from. advance_seen view g from fs }
+
+-- ---- specifications
+
+none_hit : (f : ℕ → Match) (ts : List ℕ) → All (λ t. f t ≡ Failed) ts → find is_hit (map f ts) ≡ None
+none_hit f [] a = refl
+none_hit f (t ∷ ts) a = rw (All-head (λ u. f u ≡ Failed) t ts a) (none_hit f ts (All-tail (λ u. f u ≡ Failed) t ts a))
+
+some_hit : (f : ℕ → Match) (before : List ℕ) (t : ℕ) (later : List ℕ) (x : ℕ) → All (λ u. f u ≡ Failed) before → f t ≡ Object x → find is_hit (map f (before ++ t ∷ later)) ≡ Some (Object x)
+some_hit f [] t later x a e = rw e refl
+some_hit f (u ∷ before) t later x a e = rw (All-head (λ v. f v ≡ Failed) u before a) (some_hit f before t later x (All-tail (λ v. f v ≡ Failed) u before a) e)
+
+pub specifications_name_types : SpecificationsNameTypes
+specifications_name_types m at types count pad = record {
+  violated = λ a. ap (λ o. unless_named m.object at (unwrap_or o Failed)) (none_hit m.matched (m.types (kind.Spec types count pad)) a);
+  named = λ before t later x parts a e. ap (λ o. unless_named m.object at (unwrap_or o Failed)) (ap (λ l. find is_hit (map m.matched l)) parts ∙ some_hit m.matched before t later x a e);
+}

@@ -1,6 +1,6 @@
 -- The phases by one frame.
-use Rattle.std.proofs.Common.{◌≡◌, ℕ, ◌+◌, ◌-◌, ◌<◌, zero, suc, Bool, true, false, List, [], ◌∷◌, ◌++◌, map, refl, sym, ◌∙◌, ap, arith, Option, Some, None, Result, Ok, Err}
-use Rattle.std.specs.Prelude.{unwrap_or, option_map, slice_index, if◌then◌else◌}
+use Rattle.std.proofs.Common.{◌≡◌, ℕ, ◌-◌, ◌<◌, zero, suc, Bool, false, List, [], ◌∷◌, refl, sym, ◌∙◌, ap, arith, Option, Some, None, Result, Ok, Err}
+use Rattle.std.specs.Prelude.{unwrap_or, slice_index, if◌then◌else◌}
 use Rattle.std.specs.List.{flat_map}
 use Rattle.thumb_core.specs.declared.ends.Cause.{Cause}
 use Rattle.thumb_core.specs.declared.ends.Cause.TheVariants.{CannotUnwind}
@@ -20,8 +20,8 @@ use Rattle.eh_phase.specs.declared.phase2.Entered.{Entered}
 use Rattle.eh_phase.specs.declared.phase2.Entered.TheVariants as enters
 use Rattle.eh_phase.specs.Firsts.{first_some, or_next}
 use Rattle.eh_phase.specs.Verdict.{Meeting, verdict_of, in_scope}
-use Rattle.eh_phase.specs.Phases.{Frame, Frames, found_by, found_in, phase1, Place, placed, places_in, from_address, places, spec_entered, entered_by, entered_item, entered_at, phase2}
-use Rattle.eh_phase.specs.Frames.{Stack, frames_in, covered_at, outer, site_of, frame_of, then_outer, walked, framed, ended}
+use Rattle.eh_phase.specs.Phases.{Frame, Frames, found_by, phase1, placed, places_in, from_address, places, entered_by, entered_item, entered_at, phase2}
+use Rattle.eh_phase.specs.Frames.{Stack, frames_in, covered_at, outer, site_of, frame_of, then_outer, framed, ended}
 use Rattle.eh_phase.specs.declared.walk.Cursor.{Cursor}
 use Rattle.eh_phase.specs.Calls.{cursor_of}
 use Rattle.eh_phase.proofs.Outer.{height, outer_lower}

@@ -1,8 +1,7 @@
 -- A throw and its resumes enter what is due, one after the other.
-use Rattle.std.proofs.Common.{◌≡◌, ℕ, zero, suc, ◌<◌, ◌≤◌, ◌+◌, ◌-◌, Bool, true, false, cond, nat_eq, List, [], ◌∷◌, ◌++◌, take, refl, sym, ◌∙◌, ap, subst, Option, Some, None, Result, Ok, Err, arith, slice_index, append_assoc, append-nil}
-use Rattle.std.specs.Prelude.{All, not, ◌&&◌, ◌||◌, nat_lt, if◌then◌else◌, ◌==◌, unwrap_or}
+use Rattle.std.proofs.Common.{◌≡◌, ℕ, zero, suc, ◌<◌, ◌≤◌, Bool, true, false, nat_eq, List, [], ◌∷◌, ◌++◌, take, refl, sym, ◌∙◌, ap, subst, Option, Some, None, Result, Ok, Err, arith, slice_index, append-nil}
+use Rattle.std.specs.Prelude.{nat_lt, unwrap_or}
 use Rattle.std.specs.List.{cons_option}
-use Rattle.std.proofs.lemmas.Bool.Decides.{nat_tests}
 use Rattle.eh_bus.specs.declared.map.TheConstants.{STACK_END}
 use Rattle.elf_image.specs.Image.{Image, IsSound}
 use Rattle.thumb_core.specs.declared.ends.Cause.{Cause}
@@ -11,20 +10,17 @@ use Rattle.unwind_codes.specs.Cut.{cut}
 use Rattle.eh_bytecode.specs.Meaning.{unwound}
 use Rattle.eh_bytecode.specs.declared.frame.Vrs.{Vrs}
 use Rattle.eh_phase.specs.declared.walk.Covered.{Covered}
-use Rattle.eh_phase.specs.declared.phase1.Barrier.{Barrier}
-use Rattle.eh_phase.specs.declared.phase1.Found.TheVariants as found
 use Rattle.eh_phase.specs.declared.phase2.Goal.{Goal}
 use Rattle.eh_phase.specs.declared.phase2.Entered.{Entered}
 use Rattle.eh_phase.specs.declared.phase2.Entered.TheVariants as enters
 use Rattle.eh_phase.specs.Firsts.{first_some}
-use Rattle.eh_phase.specs.Verdict.{Meeting}
-use Rattle.eh_phase.specs.Phases.{Frame, Frames, Place, placed, places, from_address, vrs_of, entered_at, phase1, phase2}
-use Rattle.eh_phase.specs.Frames.{Stack, MOST_FRAMES, frames_in, frames_of, covered_at, is_no_frame, is_above, caller_of, checked, outer, site_of, frame_of, then_outer, walked, framed, ended}
+use Rattle.eh_phase.specs.Phases.{Frame, Frames, Place, placed, places, from_address, vrs_of, entered_at, phase2}
+use Rattle.eh_phase.specs.Frames.{Stack, MOST_FRAMES, frames_in, frames_of, covered_at, is_no_frame, caller_of, checked, outer, site_of, frame_of, then_outer, framed}
 use Rattle.eh_phase.specs.Cleanups.{cleanup_at, is_barrier, due_in, due, can_be_read, is_reached_in, is_reached}
-use Rattle.eh_phase.specs.Laws.{goal_of, Lands, Reaches, IsInOrder, GoesOn, enters_on, entered_in_turn, PadsAreInOrder}
+use Rattle.eh_phase.specs.Laws.{goal_of, Lands, enters_on, entered_in_turn, PadsAreInOrder}
 use Rattle.eh_phase.proofs.Outer.{height, few, outer_lower}
-use Rattle.eh_phase.proofs.Due.{Stops, due_past, due_stop, reached_unread, reached_past, reached_stop, reached_none}
-use Rattle.eh_phase.proofs.Reached.{Heads, heads, reached_append, UpTo, up_to_barrier, unlimited, whole_reached}
+use Rattle.eh_phase.proofs.Due.{Stops, due_past, due_stop, reached_unread, reached_past, reached_none}
+use Rattle.eh_phase.proofs.Reached.{heads, reached_append, up_to_barrier, unlimited, whole_reached}
 use Rattle.eh_phase.proofs.Goes.{places-from, cleanups_go_on}
 use Rattle.eh_phase.proofs.Whole.{enough, all_in_order}
 

@@ -1,15 +1,14 @@
 -- An unwinding that gives no registers ends otherwise than finished.
-use Rattle.std.proofs.Common.{◌≡◌, ℕ, List, [], ◌∷◌, refl, sym, ◌∙◌, ap, Option, Some, None, Result, Ok, Err, slice_index, subst}
+use Rattle.std.proofs.Common.{◌≡◌, ℕ, List, [], ◌∷◌, ap, Some, Result, Ok, Err}
 use Rattle.eh_bus.specs.Segment.{Segment}
 use Rattle.eh_bus.specs.declared.fault.BusFault.{BusFault}
-use Rattle.thumb_core.specs.Words.{load_words, loads_from}
 use Rattle.unwind_codes.specs.Cut.{Item, Is, Bad}
 use Rattle.unwind_codes.specs.Meaning.{Effect, Rises, Falls, Pops, Takes, Refuses, Finishes, effect}
 use Rattle.eh_bytecode.specs.declared.frame.Vrs.{Vrs}
 use Rattle.eh_bytecode.specs.declared.frame.Unwinding.{Unwinding}
 use Rattle.eh_bytecode.specs.declared.frame.UnwindEnd.{UnwindEnd}
 use Rattle.eh_bytecode.specs.declared.frame.UnwindEnd.TheVariants.{Finished, Refused, BadCode, Unreadable}
-use Rattle.eh_bytecode.specs.Meaning.{Step, Goes, Ends, begins, address_of, pops, after, goes_on, runs, unwound, answer}
+use Rattle.eh_bytecode.specs.Meaning.{Step, Goes, Ends, begins, pops, after, goes_on, runs, unwound, answer}
 use Rattle.eh_phase.specs.Frames.{caller_of}
 
 abbrev IsEnd : Result (List ℕ) UnwindEnd → Type 0

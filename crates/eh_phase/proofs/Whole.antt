@@ -1,9 +1,8 @@
 -- The list of frames isn't cut, and each frame's descriptors stand in order.
-use Rattle.std.proofs.Common.{◌≡◌, ℕ, zero, suc, ◌<◌, ◌≤◌, ◌+◌, ◌-◌, ◌^◌, Bool, true, false, cond, nat_eq, List, [], ◌∷◌, ◌++◌, length, drop, length-drop, map, refl, sym, ◌∙◌, ap, subst, Option, Some, None, Result, Ok, Err, arith, slice_index}
-use Rattle.std.specs.Prelude.{All, find, option_map, not, ◌&&◌, nat_le, nat_lt}
+use Rattle.std.proofs.Common.{◌≡◌, ℕ, zero, suc, ◌<◌, ◌≤◌, ◌+◌, ◌-◌, ◌^◌, Bool, true, false, cond, List, [], ◌∷◌, length, drop, length-drop, refl, sym, ◌∙◌, ap, subst, Option, Some, None, Result, Ok, Err, arith, slice_index}
+use Rattle.std.specs.Prelude.{All, find, option_map}
 use Rattle.std.proofs.lemmas.List.Elements.{All-nil, All-cons}
 use Rattle.std.proofs.lemmas.Bool.Decides.{nat_tests}
-use Rattle.eh_bus.specs.declared.map.TheConstants.{STACK_END}
 use Rattle.eh_word.specs.Words.{number_at}
 use Rattle.elf_image.specs.Image.{Image, IsSound}
 use Rattle.elf_image.specs.Segments.{Segment, RiseFrom}
@@ -20,13 +19,13 @@ use Rattle.eh_bytecode.specs.declared.codes.CodesFault.{CodesFault}
 use Rattle.eh_bytecode.specs.declared.frame.Vrs.{Vrs}
 use Rattle.eh_desc.specs.declared.descriptor.Desc.{Desc}
 use Rattle.eh_desc.specs.declared.descriptor.DescFault.{DescFault}
-use Rattle.eh_desc.specs.Grammar.{items_of, body_items, table_items, where_codes, items_behind}
+use Rattle.eh_desc.specs.Grammar.{items_of, body_items, table_items, where_codes}
 use Rattle.eh_desc.specs.Laws.{Follow, Rise}
 use Rattle.eh_desc.proofs.Items.{law_of_descriptors}
 use Rattle.eh_desc.proofs.Rising.{law_of_rising}
 use Rattle.eh_phase.specs.declared.walk.Covered.{Covered}
-use Rattle.eh_phase.specs.Phases.{Frame, Frames}
-use Rattle.eh_phase.specs.Frames.{Stack, MOST_FRAMES, frames_in, frames_of, codes_of, with_items, covered_by, covered_at, outer, site_of, frame_of, then_outer, walked, framed, ended}
+use Rattle.eh_phase.specs.Phases.{Frames}
+use Rattle.eh_phase.specs.Frames.{Stack, MOST_FRAMES, frames_in, codes_of, with_items, covered_by, covered_at, outer, site_of, frame_of, then_outer, walked, framed}
 use Rattle.eh_phase.specs.Laws.{FramesAreWhole, IsInOrder}
 use Rattle.eh_phase.proofs.Outer.{height, few, outer_lower}
 

@@ -1,5 +1,5 @@
 -- The landing pads that a throw and its resumes enter: its cleanups in order, and then its barrier.
-use Rattle.std.specs.Prelude.{ℕ, ◌&&◌, Bool, true, false, if◌then◌else◌, List, [], ◌++◌, find, Option, Some, None, option_and_then, Result, Ok, Err}
+use Rattle.std.specs.Prelude.{ℕ, ◌&&◌, Bool, true, false, if◌then◌else◌, List, ◌++◌, find, Option, Some, None, option_and_then, Result, Ok, Err}
 use Rattle.std.specs.Option.{option_to_list}
 use Rattle.std.specs.List.{filter_map, take_while, before_first, list_any}
 use Rattle.eh_desc.specs.declared.descriptor.DescKind.{DescKind}

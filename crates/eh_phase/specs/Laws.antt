@@ -1,23 +1,25 @@
 -- What the two phases promise of each other, in the words of the standard (docs/phases.md, "Laws").
-use Rattle.std.specs.Prelude.{◌≡◌, ◌⊎◌, ℕ, zero, suc, ◌+◌, ◌<◌, ◌≤◌, Bool, true, false, if◌then◌else◌, List, [], ◌∷◌, ◌++◌, map, All, take, Option, Some, None, is_some, Result, Ok, Err}
+use Rattle.std.specs.Prelude.{◌≡◌, ◌⊎◌, ℕ, zero, suc, ◌+◌, ◌%◌, ◌^◌, ◌<◌, ◌≤◌, Bool, true, false, if◌then◌else◌, List, [], ◌∷◌, ◌++◌, map, All, slice_index, take, Option, Some, None, is_some, Result}
 use Rattle.eh_bus.specs.declared.map.TheConstants.{STACK_END}
 use Rattle.elf_image.specs.Image.{Image, IsSound}
 use Rattle.thumb_core.specs.declared.ends.Cause.{Cause}
 use Rattle.eh_bytecode.specs.declared.frame.Vrs.{Vrs}
+use Rattle.eh_match.specs.declared.rules.Match.TheVariants.{Failed, Object}
+use Rattle.eh_desc.specs.declared.descriptor.DescKind.TheVariants.{Spec}
 use Rattle.eh_desc.specs.declared.descriptor.Desc.{Desc}
 use Rattle.eh_desc.specs.declared.descriptor.DescFault.{DescFault}
 use Rattle.eh_desc.specs.Laws.{Follow, Rise}
-use Rattle.eh_phase.specs.declared.walk.Covered.{Covered}
 use Rattle.eh_phase.specs.declared.verdict.Verdict.{Verdict}
+use Rattle.eh_phase.specs.declared.verdict.Verdict.TheVariants as says
 use Rattle.eh_phase.specs.declared.phase1.Barrier.{Barrier}
 use Rattle.eh_phase.specs.declared.phase1.Found.{Found}
 use Rattle.eh_phase.specs.declared.phase1.Found.TheVariants as found
 use Rattle.eh_phase.specs.declared.phase2.Goal.{Goal}
 use Rattle.eh_phase.specs.declared.phase2.Entered.{Entered}
 use Rattle.eh_phase.specs.declared.phase2.Entered.TheVariants as enters
-use Rattle.eh_phase.specs.Verdict.{Meeting, heard, verdict_of}
+use Rattle.eh_phase.specs.Verdict.{Meeting, says_by, heard, verdict_of}
 use Rattle.eh_phase.specs.Phases.{Frame, Frames, found_by, phase1, phase2, vrs_of}
-use Rattle.eh_phase.specs.Frames.{Stack, MOST_FRAMES, frames_in, frames_of, covered_at, is_above, walked, site_of}
+use Rattle.eh_phase.specs.Frames.{Stack, MOST_FRAMES, frames_in, frames_of, covered_at, walked, site_of}
 use Rattle.eh_phase.specs.Cleanups.{due, is_reached}
 
 -- ---- the frames
@@ -29,15 +31,27 @@ FramesAreWhole =
     → frames_in MOST_FRAMES image stack limit innermost site r
     ≡ walked (λ new. frames_in MOST_FRAMES image stack limit false (site_of new) new) stack limit innermost site r (covered_at image site)
 
+-- a frame that has called stands in the call, a halfword or two long: the return address is that of the instruction behind it, with
+-- bit 0 set
+abbrev pub SitesStandInCalls : Type 0
+SitesStandInCalls =
+    (call size : ℕ) (r : List ℕ) → call % 2 ≡ 0 → (size ≡ 2) ⊎ (size ≡ 4) → call + size < 2 ^ 32 → slice_index r 15 ≡ call + size + 1
+    → (call ≤ site_of r) × (site_of r < call + size)
+
 -- above the frame inside it; the second frame may stand at the same place as the innermost
 abbrev pub IsAbove : Bool → ℕ → ℕ → Type 0
 IsAbove true sp next = sp ≤ next
 IsAbove false sp next = sp < next
 
+-- not above the limit
+abbrev pub IsWithin : Option ℕ → ℕ → Type 0
+IsWithin None sp = Unit {0}
+IsWithin (Some limit) sp = sp ≤ limit
+
 -- the frames outside one: each above the one inside it, and not above the stack's end or the limit
 abbrev pub RiseFrom : ℕ → Option ℕ → Bool → ℕ → List Frame → Type 0
 RiseFrom end limit innermost sp [] = Unit {0}
-RiseFrom end limit innermost sp (f ∷ more) = IsAbove innermost sp f.sp × (f.sp ≤ end) × (is_above limit f.sp ≡ false) × RiseFrom end limit false f.sp more
+RiseFrom end limit innermost sp (f ∷ more) = IsAbove innermost sp f.sp × (f.sp ≤ end) × IsWithin limit f.sp × RiseFrom end limit false f.sp more
 
 abbrev pub RiseOutwards : ℕ → Option ℕ → Bool → List Frame → Type 0
 RiseOutwards end limit innermost [] = Unit {0}
@@ -64,6 +78,17 @@ IsVerdict m site items (Some v) = SpeaksFirst m site items v
 
 abbrev pub VerdictsAreFirst : Type 0
 VerdictsAreFirst = (m : Meeting) (site : ℕ) (items : List (Result Desc DescFault)) → IsVerdict m site items (verdict_of m site items)
+
+-- a specification is the barrier, by the object itself, where no type of its matches; one that it names passes it, if the types in
+-- front of that don't match
+pub record IsViolatedByOthers (m : Meeting) (at types count : ℕ) (pad : Option ℕ) : Type 0 where
+  pub violated : All (λ t. m.matched t ≡ Failed) (m.types (Spec types count pad)) → says_by m at (Spec types count pad) ≡ Some (says.Barrier at (Object m.object))
+  pub named :
+      (before : List ℕ) (t : ℕ) (later : List ℕ) (x : ℕ) → m.types (Spec types count pad) ≡ before ++ t ∷ later → All (λ u. m.matched u ≡ Failed) before
+      → m.matched t ≡ Object x → says_by m at (Spec types count pad) ≡ None
+
+abbrev pub SpecificationsNameTypes : Type 0
+SpecificationsNameTypes = (m : Meeting) (at types count : ℕ) (pad : Option ℕ) → IsViolatedByOthers m at types count pad
 
 -- the innermost frame that says something decides what phase 1 finds; where none does, it is the cause by which the frames end
 pub record IsDecided (m : Meeting) (frames : List Frame) (answer : Found) : Type 0 where
@@ -140,6 +165,12 @@ abbrev pub BarriersAreReached : Type 0
 BarriersAreReached =
     (m : Meeting) (image : Image) (stack : Stack) (limit : Option ℕ) (site : ℕ) (r : List ℕ) (b : Barrier)
     → phase1 m (frames_of image stack limit site r) ≡ found.Barrier b → Reaches m b (frames_of image stack None site r)
+
+-- a barrier within reach doesn't stand inside the first frame
+abbrev pub BarriersStandOutside : Type 0
+BarriersStandOutside =
+    (g : Goal) (from end : ℕ) (limit : Option ℕ) (innermost : Bool) (f : Frame) (more : List Frame)
+    → RiseFrom end limit innermost f.sp more → is_reached g from (f ∷ more) ≡ true → f.sp ≤ g.sp
 
 -- ---- after a cleanup
 

@@ -1,5 +1,5 @@
 -- What the descriptors of a frame say to a thrown object (IHI 0038, "Phase 1 unwinding"; docs/phases.md).
-use Rattle.std.specs.Prelude.{ℕ, ◌+◌, ◌%◌, ◌^◌, ◌&&◌, not, Bool, true, false, nat_le, nat_lt, if◌then◌else◌, List, map, find, Option, Some, None, unwrap_or, Result, Ok, Err}
+use Rattle.std.specs.Prelude.{ℕ, ◌+◌, ◌%◌, ◌^◌, ◌&&◌, Bool, true, false, nat_le, nat_lt, if◌then◌else◌, List, map, find, Option, Some, None, unwrap_or, Result, Ok, Err}
 use Rattle.thumb_core.specs.declared.ends.Cause.TheVariants.{CannotUnwind, NoThrow}
 use Rattle.eh_match.specs.declared.rules.Match.{Match}
 use Rattle.eh_match.specs.declared.rules.Match.TheVariants.{Failed, Object, PointerToBase, Unreadable}

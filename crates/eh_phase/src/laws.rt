@@ -1,14 +1,24 @@
 //! What the two phases promise of each other (docs/phases.md, "Laws"): laws above the lists of frames.
-ghost use Rattle.eh_phase.specs.Laws.{FramesAreWhole, FramesRise, VerdictsAreFirst, InnermostDecides, RegistersAreHandedOn, BarriersAreReached, CleanupsGoOn, PadsAreInOrder};
+ghost use Rattle.eh_phase.specs.Laws.{FramesAreWhole, SitesStandInCalls, FramesRise, SpecificationsNameTypes, VerdictsAreFirst, InnermostDecides, RegistersAreHandedOn, BarriersAreReached, BarriersStandOutside, CleanupsGoOn, PadsAreInOrder};
 
 /// The bound on the number of frames never cuts their list: each frame is followed by those that its registers give under the same bound.
 pub fn frames_are_whole()
     ensures { FramesAreWhole }
 {}
 
+/// A frame that has called stands in its call, and not behind it.
+pub fn sites_stand_in_calls()
+    ensures { SitesStandInCalls }
+{}
+
 /// Each frame stands above the one inside it, and none above the stack's end or the limit; the second may stand where the innermost does.
 pub fn frames_rise()
     ensures { FramesRise }
+{}
+
+/// A specification stops an object exactly where none of its types matches, and lets one pass that it names.
+pub fn specifications_name_types()
+    ensures { SpecificationsNameTypes }
 {}
 
 /// The verdict of a frame is what the first of its descriptors says that says something, and there is none where all are silent.
@@ -30,6 +40,11 @@ pub fn registers_are_handed_on()
 /// looks at no frame outside the barrier's.
 pub fn barriers_are_reached()
     ensures { BarriersAreReached }
+{}
+
+/// A barrier within reach stands in the first frame or outside it: what phase 2 enters on the way is at or below the barrier's frame.
+pub fn barriers_stand_outside()
+    ensures { BarriersStandOutside }
 {}
 
 /// Where phase 2 enters a cleanup, what is still to be entered goes on at its frame from the descriptor behind its own; a barrier

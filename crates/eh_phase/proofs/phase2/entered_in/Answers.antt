@@ -1,4 +1,4 @@
-use Rattle.std.proofs.Common.{rules, ◌≡◌, ◌∙◌, sym, ap, Some, None, false, ◌∷◌}
+use Rattle.std.proofs.Common.{rules, ◌≡◌, ◌∙◌, sym, ap, None, false, ◌∷◌}
 use Rattle.std.specs.Prelude.{◌&&◌, not}
 use Rattle.eh_phase.specs.Firsts.{first_some}
 use Rattle.eh_phase.specs.Phases.{entered_item, stands_at}
