@@ -18,7 +18,7 @@ use Rattle.eh_desc.specs.Laws.{Follow, DescriptorsFollow}
 use Rattle.eh_desc.proofs.Room.{room}
 
 -- a descriptor that stands at a place names its address and that of the place behind it, which is further on
-abbrev IsNext : Form → ℕ → Found → Type 0
+abbrev pub IsNext : Form → ℕ → Found → Type 0
 IsNext t place End = Unit {0}
 IsNext t place (Fault fault) = Unit {0}
 IsNext t place (One desc next) = (place + 4 ≤ next) × (desc.at ≡ address_at t place) × (desc.next ≡ address_at t next)
@@ -59,7 +59,7 @@ found_next t place = with_next t place (word_at t place) _ (λ first.
     (either t place t.wide (with_word (word_at t (place + 4)) (λ off. kind_at t place first off (place + 8))) (kind_at t place (first % 2 ^ 16) (first / 2 ^ 16) (place + 4))
     (with_next t place (word_at t (place + 4)) _ (λ off. kind_next t place first off (place + 8) (omega arith))) (kind_next t place (first % 2 ^ 16) (first / 2 ^ 16) (place + 4) (omega arith))))
 
-one_next : (t : Form) (place : ℕ) (f : Found) → found_at t place ≡ f → IsNext t place f
+pub one_next : (t : Form) (place : ℕ) (f : Found) → found_at t place ≡ f → IsNext t place f
 one_next t place f e = subst (IsNext t place) e (found_next t place)
 
 -- what stands at a place past the bytes can't be read

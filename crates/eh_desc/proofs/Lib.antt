@@ -1,2 +1,3 @@
 pub mod Room
 pub mod Items
+pub mod Rising

@@ -1,5 +1,5 @@
 -- Descriptors stand one behind the other.
-use Rattle.std.specs.Prelude.{◌≡◌, ℕ, ◌+◌, ◌*◌, ◌%◌, ◌^◌, List, [], ◌∷◌, Some, Result, Ok, Err}
+use Rattle.std.specs.Prelude.{◌≡◌, ℕ, ◌+◌, ◌*◌, ◌%◌, ◌^◌, ◌<◌, List, [], ◌∷◌, length, Some, Result, Ok, Err}
 use Rattle.eh_word.specs.Words.{number_at}
 use Rattle.unwind_codes.specs.Words.{code_words_behind}
 use Rattle.eh_desc.specs.declared.descriptor.Desc.{Desc}
@@ -17,3 +17,13 @@ abbrev pub DescriptorsFollow : Type 0
 DescriptorsFollow =
     (start address : ℕ) (bytes : List ℕ) (first : ℕ) → number_at 4 bytes 0 ≡ Some first
     → Follow ((address + (4 + 4 * code_words_behind first)) % 2 ^ 32) (table_items start address bytes)
+
+-- each descriptor stands below the address behind it
+abbrev pub Rise : List (Result Desc DescFault) → Type 0
+Rise [] = Unit {0}
+Rise (Ok desc ∷ more) = (desc.at < desc.next) × Rise more
+Rise (Err fault ∷ more) = Unit {0}
+
+-- a table's descriptors rise where its bytes end below 2 ^ 32
+abbrev pub DescriptorsRise : Type 0
+DescriptorsRise = (start address : ℕ) (bytes : List ℕ) → address + length bytes < 2 ^ 32 → Rise (table_items start address bytes)

@@ -2,7 +2,7 @@
 //! specification descriptors"), read where they stand. docs/descriptors.md states the rules.
 #![tactic(auto)]
 
-ghost use Rattle.eh_desc.specs.Laws.{DescriptorsFollow};
+ghost use Rattle.eh_desc.specs.Laws.{DescriptorsFollow, DescriptorsRise};
 
 pub mod descriptor;
 
@@ -12,4 +12,9 @@ pub use descriptor::{CatchType, Desc, DescFault, DescKind, Descs, spec_type};
 /// the next, and what can't be read is the last item.
 pub fn descriptors_follow()
     ensures { DescriptorsFollow }
+{}
+
+/// Where the bytes of a table end below the last address, its descriptors' addresses rise.
+pub fn descriptors_rise()
+    ensures { DescriptorsRise }
 {}

@@ -17,7 +17,7 @@ use unwind_codes::{Entry, EntryBody};
 const TABLE: u32 = 0x9000;
 
 /// The bytes of words, each with its lowest byte first.
-fn bytes_of(alloc: Global, words: &[u32]) -> Result<Vec<u8>, AllocError> {
+pub fn bytes_of(alloc: Global, words: &[u32]) -> Result<Vec<u8>, AllocError> {
     let mut bytes = Vec::new(alloc);
     for word in words {
         bytes.extend_from_slice(&word.to_le_bytes())?;

@@ -6,6 +6,8 @@ mod descriptors;
 #[cfg(test)]
 mod first_bytes;
 #[cfg(test)]
+mod phases;
+#[cfg(test)]
 mod rows;
 #[cfg(test)]
 mod unwinding;

@@ -1,0 +1,12 @@
+pub mod PathLemmas
+pub mod Walks
+pub mod Carried
+pub mod Members
+pub mod Chains
+pub mod Equal
+pub mod Names
+pub mod Told
+pub mod Addresses
+pub mod Sole
+pub mod Classes
+pub mod Others

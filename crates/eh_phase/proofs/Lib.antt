@@ -1,0 +1,13 @@
+pub mod First
+pub mod Outer
+pub mod Steps
+pub mod Behind
+pub mod Hits
+pub mod Unwound
+pub mod Due
+pub mod Reached
+pub mod Goes
+pub mod Whole
+pub mod Turns
+pub mod Speaks
+pub mod Rises

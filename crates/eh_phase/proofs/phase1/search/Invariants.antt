@@ -1,0 +1,15 @@
+use Rattle.eh_phase.specs.Phases.{phase1}
+use Rattle.eh_phase.specs.Frames.{frames_of}
+use Rattle.eh_phase.specs.Calls.{meeting, stack_of}
+use Rattle.eh_phase.proofs.Steps.{Searches, height_of}
+use Rattle.eh_phase.proofs.phase1.search.Given as goal
+
+abbrev pub invariant-loop-codes : goal.invariant-loop-codes
+invariant-loop-codes g l =
+    let segments = (g.B.Bus.memory l.bus).segments in
+    let stack = stack_of (g.B.Bus.memory l.bus) in
+    let m = meeting l.t.index l.t.types.now segments l.what in
+    Searches m l.t.index stack l.limit (phase1 m (frames_of l.t.index stack l.limit l.fn.site l.from.r)) l.cursor
+
+abbrev pub decreases-loop-codes : goal.decreases-loop-codes
+decreases-loop-codes g l = height_of (stack_of (g.B.Bus.memory l.bus)) l.cursor

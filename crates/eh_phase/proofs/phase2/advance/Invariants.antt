@@ -1,0 +1,14 @@
+use Rattle.std.proofs.Common.{None}
+use Rattle.eh_phase.specs.Phases.{phase2}
+use Rattle.eh_phase.specs.Frames.{frames_of}
+use Rattle.eh_phase.specs.Calls.{stack_of}
+use Rattle.eh_phase.proofs.Steps.{Advances, height_of}
+use Rattle.eh_phase.proofs.phase2.advance.Given as goal
+
+abbrev pub invariant-loop-codes : goal.invariant-loop-codes
+invariant-loop-codes g l =
+    let stack = stack_of (g.B.Bus.memory l.bus) in
+    Advances l.goal l.next l.t.index stack (phase2 l.goal l.fn.next (frames_of l.t.index stack None l.fn.site l.from.r)) l.cursor
+
+abbrev pub decreases-loop-codes : goal.decreases-loop-codes
+decreases-loop-codes g l = height_of (stack_of (g.B.Bus.memory l.bus)) l.cursor

@@ -1,0 +1,7 @@
+pub mod Firsts
+pub mod Verdict
+pub mod Phases
+pub mod Frames
+pub mod Calls
+pub mod Cleanups
+pub mod Laws

@@ -1,0 +1,14 @@
+//! The two phases of a throw (IHI 0038, "Phase 1 unwinding" and "Phase 2 unwinding"), over the frames that registers and a memory
+//! give: which frame's descriptor stops an exception, and which landing pad is entered next. docs/phases.md states the rules.
+#![tactic(auto)]
+
+pub mod laws;
+pub mod phase1;
+pub mod phase2;
+pub mod verdict;
+pub mod walk;
+
+pub use phase1::{Barrier, Found, search};
+pub use phase2::{Entered, Goal, advance};
+pub use verdict::Thrown;
+pub use walk::Tables;

@@ -1,0 +1,83 @@
+//! Phase 1: the search for a frame that stops a thrown object (docs/phases.md, "Phase 1").
+ghost use Rattle.std.specs.Prelude.{◌≡◌};
+ghost use Rattle.eh_phase.specs.Phases.{found_by, phase1};
+ghost use Rattle.eh_phase.specs.Frames.{frames_of};
+ghost use Rattle.eh_phase.specs.Calls.{frame_at, meeting, stack_of};
+
+use crate::verdict::{Thrown, Verdict, verdict_of};
+use crate::walk::{Covered, Cursor, Tables, covered_at, outer};
+use eh_bus::bus::Bus;
+use eh_bytecode::Vrs;
+use eh_match::Match;
+use thumb_core::ends::Cause;
+
+/// Where a throw stops.
+#[derive(Clone, Copy, PartialEq, Eq, Debug)]
+pub struct Barrier {
+    /// The stack pointer of the frame.
+    pub sp: u32,
+    /// The address of the descriptor.
+    pub desc: u32,
+    /// The address at which the frame stands in its function.
+    pub site: u32,
+    /// The match; of a catch of everything, and of a specification, the object itself.
+    pub hit: Match,
+}
+
+/// What a search finds.
+#[derive(Clone, Copy, PartialEq, Eq, Debug)]
+pub enum Found {
+    Barrier(Barrier),
+    /// Nothing stops the throw, or a frame on the way can't be left.
+    Terminate(Cause),
+    /// The first address of the object that a match needs and that can't be read.
+    ObjectRead(u32),
+}
+
+/// What a frame's verdict finds.
+fn found_by(cursor: &Cursor, verdict: Verdict) -> Found
+    ensures { result ≡ found_by (frame_at cursor.now) verdict }
+{
+    match verdict {
+        Verdict::Barrier { desc, hit } => Found::Barrier(Barrier {
+            sp: cursor.vrs.r[13],
+            desc,
+            site: cursor.site,
+            hit,
+        }),
+        Verdict::ObjectRead(a) => Found::ObjectRead(a),
+        Verdict::Terminate(cause) => Found::Terminate(cause),
+    }
+}
+
+/// Phase 1, from registers and the address at which their frame stands: the first frame outwards whose descriptors say something
+/// decides. Frames above `limit` aren't looked at: the throw would leave a cleanup. Takes no memory, and keeps one frame.
+pub fn search<B: Bus>(
+    t: &Tables,
+    bus: &B,
+    from: &Vrs,
+    site: u32,
+    what: &Thrown,
+    limit: Option<u32>,
+) -> Found
+    ensures { result ≡ phase1 (meeting t.now.index t.now.types.now (B.memory bus.now).segments what.now)
+        (frames_of t.now.index (stack_of (B.memory bus.now)) limit site from.now.r) }
+{
+    let mut cursor = Cursor {
+        vrs: *from,
+        site,
+        innermost: true,
+    };
+    loop {
+        let Some(Covered { codes, descs }) = covered_at(&t.index, cursor.site) else {
+            return Found::Terminate(Cause::CannotUnwind);
+        };
+        if let Some(said) = verdict_of(t, bus, what, cursor.site, descs) {
+            return found_by(&cursor, said);
+        }
+        match outer(&codes, bus, limit, &cursor) {
+            Err(cause) => return Found::Terminate(cause),
+            Ok(next) => cursor = next,
+        }
+    }
+}

@@ -1,0 +1,185 @@
+//! Phase 2: the landing pad that is entered next (docs/phases.md, "Phase 2").
+ghost use Rattle.std.specs.Prelude.{◌≡◌, ◌&&◌, not, None};
+ghost use Rattle.eh_phase.specs.Firsts.{first_some};
+ghost use Rattle.eh_phase.specs.Phases.{stands_at, is_goal, spec_entered, entered_by, entered_item, from_address, phase2};
+ghost use Rattle.eh_phase.specs.Frames.{frames_of};
+ghost use Rattle.eh_phase.specs.Calls.{frame_at, stack_of};
+
+use crate::verdict::is_in_scope;
+use crate::walk::{Covered, Cursor, Tables, covered_at, outer};
+use eh_bus::bus::Bus;
+use eh_bytecode::Vrs;
+use eh_desc::{Desc, DescFault, DescKind, Descs};
+use thumb_core::ends::Cause;
+
+/// A barrier as phase 2 knows it.
+#[derive(Clone, Copy, PartialEq, Eq, Debug)]
+pub struct Goal {
+    /// The stack pointer of its frame.
+    pub sp: u32,
+    /// The address of its descriptor.
+    pub desc: u32,
+}
+
+/// What a phase 2 enters. Registers are those of the frame that is entered; a pad's bit 0 is clear.
+#[derive(Clone, Copy, PartialEq, Eq, Debug)]
+pub enum Entered {
+    /// A cleanup, with the address of the descriptor behind its own, where phase 2 goes on at its frame's site.
+    Cleanup {
+        vrs: Vrs,
+        pad: u32,
+        next: u32,
+        site: u32,
+    },
+    /// The barrier, a catch.
+    Catch {
+        vrs: Vrs,
+        pad: u32,
+    },
+    /// The barrier, a specification with a landing pad.
+    Spec {
+        vrs: Vrs,
+        pad: u32,
+    },
+    /// The barrier, a specification without one.
+    Unexpected,
+    /// There is no way to the barrier.
+    Terminate(Cause),
+}
+
+/// Whether a descriptor is the barrier.
+fn is_goal(goal: &Goal, cursor: &Cursor, at: u32) -> bool
+    ensures { result ≡ is_goal goal.now (frame_at cursor.now) at }
+{
+    cursor.vrs.r[13] == goal.sp && at == goal.desc
+}
+
+/// What a barrier that is a specification enters.
+fn spec_entered(cursor: &Cursor, pad: Option<u32>) -> Entered
+    ensures { result ≡ spec_entered (frame_at cursor.now) pad }
+{
+    match pad {
+        None => Entered::Unexpected,
+        Some(pad) => Entered::Spec {
+            vrs: cursor.vrs,
+            pad,
+        },
+    }
+}
+
+/// What a descriptor in scope enters.
+fn entered_by(goal: &Goal, cursor: &Cursor, desc: &Desc) -> Option<Entered>
+    ensures { result ≡ entered_by goal.now (frame_at cursor.now) desc.now desc.now.kind }
+{
+    match desc.kind {
+        DescKind::Cleanup { pad } => Some(Entered::Cleanup {
+            vrs: cursor.vrs,
+            pad,
+            next: desc.next,
+            site: cursor.site,
+        }),
+        DescKind::Catch { pad, .. } => {
+            if is_goal(goal, cursor, desc.at) {
+                Some(Entered::Catch {
+                    vrs: cursor.vrs,
+                    pad,
+                })
+            } else {
+                None
+            }
+        }
+        DescKind::Spec { pad, .. } => {
+            if is_goal(goal, cursor, desc.at) {
+                Some(spec_entered(cursor, pad))
+            } else {
+                None
+            }
+        }
+    }
+}
+
+/// What an item of a list of descriptors enters.
+fn entered_item(goal: &Goal, cursor: &Cursor, item: Result<Desc, DescFault>) -> Option<Entered>
+    ensures { result ≡ entered_item goal.now (frame_at cursor.now) item }
+{
+    match item {
+        Ok(desc) => {
+            if is_in_scope(&desc, cursor.site) {
+                entered_by(goal, cursor, &desc)
+            } else {
+                None
+            }
+        }
+        Err(_) => Some(Entered::Terminate(Cause::CannotUnwind)),
+    }
+}
+
+/// Whether an item stands at an address; what can't be read stands at each.
+fn stands_at(item: &Result<Desc, DescFault>, at: u32) -> bool
+    ensures { result ≡ stands_at at item.now }
+{
+    match item {
+        Ok(desc) => desc.at == at,
+        Err(_) => true,
+    }
+}
+
+/// Whether the items that are looked at begin behind an item, where they haven't begun in front of it.
+fn is_before(before: bool, item: &Result<Desc, DescFault>, at: u32) -> bool
+    ensures { result ≡ (before && not (stands_at at item.now)) }
+{
+    before && !stands_at(item, at)
+}
+
+/// What the descriptors of a frame enter, from the one at an address on; all of them for 0.
+#[tactic(auto, using(crate::proofs::Behind::left_past, crate::proofs::Behind::left_here, crate::proofs::Behind::left_none))]
+fn entered_in(goal: &Goal, from: u32, cursor: &Cursor, descs: Descs) -> Option<Entered>
+    ensures { result ≡ first_some (entered_item goal.now (frame_at cursor.now)) (from_address from descs.entry) }
+{
+    let mut before = from != 0;
+    for item in descs {
+        before = is_before(before, &item, from);
+        if before {
+            continue;
+        }
+        let entered = entered_item(goal, cursor, item);
+        if entered.is_some() {
+            return entered;
+        }
+    }
+    None
+}
+
+/// Phase 2, from registers and the address at which their frame stands, to a barrier: the first cleanup in scope on the way, or the
+/// barrier. In the first frame only the descriptors from the one at `next` on count; all of them for 0, none for an address that no
+/// descriptor of its has. Takes no memory, and keeps one frame.
+pub fn advance<B: Bus>(
+    t: &Tables,
+    bus: &B,
+    from: &Vrs,
+    site: u32,
+    next: u32,
+    goal: &Goal,
+) -> Entered
+    ensures { result ≡ phase2 goal.now next (frames_of t.now.index (stack_of (B.memory bus.now)) None site from.now.r) }
+{
+    let mut cursor = Cursor {
+        vrs: *from,
+        site,
+        innermost: true,
+    };
+    let mut next = next;
+    loop {
+        let Some(Covered { codes, descs }) = covered_at(&t.index, cursor.site) else {
+            return Entered::Terminate(Cause::CannotUnwind);
+        };
+        if let Some(entered) = entered_in(goal, next, &cursor, descs) {
+            return entered;
+        }
+        match outer(&codes, bus, None, &cursor) {
+            Err(cause) => return Entered::Terminate(cause),
+            Ok(further) => cursor = further,
+        }
+        next = 0;
+    }
+}

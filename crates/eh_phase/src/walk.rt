@@ -1,0 +1,133 @@
+//! The walk over frames, of which it keeps one (docs/phases.md, "Frames").
+ghost use Rattle.std.specs.Prelude.{◌≡◌, Some};
+ghost use Rattle.unwind_codes.specs.Cut.{cut};
+ghost use Rattle.eh_index.specs.Places.{table_of};
+ghost use Rattle.eh_bytecode.specs.Meaning.{unwound};
+ghost use Rattle.eh_phase.specs.Frames.{codes_of, covered_at, is_no_frame, is_above, caller_of, checked, outer, site_of};
+ghost use Rattle.eh_phase.specs.Calls.{stack_of, cursor_of};
+
+use eh_bus::bus::Bus;
+use eh_bytecode::{Codes, UnwindEnd, Vrs, unwind};
+use eh_desc::Descs;
+use eh_index::{Entry, EntryBody, Index};
+use eh_types::TypeGraph;
+use guest_gates::NO_CALLER;
+use thumb_core::ends::Cause;
+
+/// What the phases read of an image: its index with the descriptors behind it, and its graph of types.
+#[derive(Drop)]
+pub struct Tables<'i, 'a> {
+    pub index: Index<'i, 'a>,
+    pub types: &'i TypeGraph,
+}
+
+/// The codes and the descriptors of the entry that covers a site.
+#[derive(Drop)]
+pub struct Covered<'a> {
+    pub codes: Codes<'a>,
+    pub descs: Descs<'a>,
+}
+
+/// A frame of the walk.
+#[derive(Clone, Copy)]
+pub struct Cursor {
+    pub vrs: Vrs,
+    /// The address at which the frame stands in its function.
+    pub site: u32,
+    /// Whether the walk begins here.
+    pub innermost: bool,
+}
+
+/// The codes of an entry; None where it can't be unwound, or its codes can't be read.
+fn codes_of<'a>(index: &Index<'_, 'a>, entry: &Entry) -> Option<Codes<'a>>
+    ensures { result ≡ codes_of entry.now.body (table_of index.now entry.now) }
+{
+    match entry.body {
+        EntryBody::CantUnwind => None,
+        EntryBody::Inline(word) => Codes::inline(word).ok(),
+        EntryBody::Table(_) => Codes::table(index.table(entry)?).ok(),
+    }
+}
+
+/// The codes and the descriptors of a site. None where no entry covers it, where the entry can't be unwound, and where its codes
+/// can't be read.
+#[tactic(auto, unfolding(crate::specs::Frames::covered_at))]
+pub(crate) fn covered_at<'a>(index: &Index<'_, 'a>, site: u32) -> Option<Covered<'a>>
+    ensures { result ≡ covered_at index.now site }
+{
+    let entry = index.find(site)?;
+    let codes = codes_of(index, &entry)?;
+    let descs = Descs::of(index, &entry);
+    Some(Covered { codes, descs })
+}
+
+fn is_no_frame(end: u32, innermost: bool, sp: u32, next: u32) -> bool
+    ensures { result ≡ is_no_frame end innermost sp next }
+{
+    next < sp || (!innermost && next == sp) || end < next
+}
+
+fn is_above(limit: Option<u32>, sp: u32) -> bool
+    ensures { result ≡ is_above limit sp }
+{
+    match limit {
+        None => false,
+        Some(limit) => limit < sp,
+    }
+}
+
+/// The address of the call by its return address.
+fn site_of(vrs: &Vrs) -> u32
+    ensures { result ≡ site_of vrs.now.r }
+{
+    let back = vrs.r[15];
+    (back - back % 2).wrapping_sub(2)
+}
+
+/// The registers that codes give of those of a frame, where they finish.
+fn caller<B: Bus>(codes: &Codes, bus: &B, vrs: &Vrs) -> Option<Vrs>
+    ensures { result ≡ caller_of (unwound (B.memory bus.now).segments vrs.now.r (cut codes.now)) }
+{
+    let mut next = *vrs;
+    match unwind(codes, &mut next, bus) {
+        UnwindEnd::Finished => Some(next),
+        UnwindEnd::Refused | UnwindEnd::BadCode(_) | UnwindEnd::Unreadable(_) => None,
+    }
+}
+
+/// Registers as those of the frame outside one whose stack pointer is `sp`, or the cause by which they are none.
+fn checked(end: u32, limit: Option<u32>, innermost: bool, sp: u32, next: Vrs) -> Result<Vrs, Cause>
+    ensures { result ≡ checked end limit innermost sp (Some next) }
+{
+    if is_no_frame(end, innermost, sp, next.r[13]) {
+        Err(Cause::CannotUnwind)
+    } else if is_above(limit, next.r[13]) {
+        Err(Cause::LeavesCleanup)
+    } else if next.r[15] == NO_CALLER {
+        Err(Cause::NoHandler)
+    } else {
+        Ok(next)
+    }
+}
+
+/// The frame outside one with these codes, or the cause by which there is none.
+#[tactic(auto, unfolding(crate::specs::Frames::outer))]
+pub(crate) fn outer<B: Bus>(
+    codes: &Codes,
+    bus: &B,
+    limit: Option<u32>,
+    cursor: &Cursor,
+) -> Result<Cursor, Cause>
+    ensures { result ≡ cursor_of (outer (stack_of (B.memory bus.now)) limit cursor.now.innermost codes.now cursor.now.vrs.r) }
+{
+    let Some(next) = caller(codes, bus, &cursor.vrs) else {
+        return Err(Cause::CannotUnwind);
+    };
+    let (_, end) = bus.home();
+    let vrs = checked(end, limit, cursor.innermost, cursor.vrs.r[13], next)?;
+    Ok(Cursor {
+        site: site_of(&vrs),
+        vrs,
+        innermost: false,
+    })
+}
