@@ -1,4 +1,6 @@
 //! Types in images made by hand: each kind, and each refusal with its type (Itanium C++ ABI, "Run-Time Type Information").
+ghost use Rattle.std.specs.Prelude.{◌<◌};
+
 use eh_types::{Base, TypeFault, TypeGraph, TypeKind};
 use eh_word::Name;
 use elf_image::read::read_image;
