@@ -5,3 +5,4 @@ pub mod Meaning
 pub mod Steps
 pub mod Work
 pub mod Final
+pub mod Written
