@@ -1,0 +1,5 @@
+pub mod Agreeing
+pub mod Meeting
+pub mod Same
+pub mod Vaguer
+pub mod Walks

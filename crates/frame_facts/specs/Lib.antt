@@ -1,0 +1,9 @@
+pub mod Access
+pub mod After
+pub mod Agrees
+pub mod Branches
+pub mod Data
+pub mod Facts
+pub mod Lists
+pub mod Saves
+pub mod Shifts
