@@ -1,4 +1,5 @@
 pub mod Agreeing
+pub mod Following
 pub mod Meeting
 pub mod Same
 pub mod Vaguer
