@@ -1,11 +1,11 @@
 -- The effect of an instruction on a fact is at most as vague as that on a vaguer fact.
-use Rattle.std.proofs.Common.{ℕ, ◌≡◌, ◌≢◌, ◌<◌, ◌≤◌, ◌+◌, ◌-◌, ◌*◌, ◌%◌, ◌==◌, ◌⊎◌, inl, inr, min, List, [], ◌∷◌, length, Bool, true, false, not, cond, eqb, ltb, leb, ◌&&◌, ◌||◌, IsTrue, Option, Some, None, Ok, Err, sym, ◌∙◌, ap, subst, refl, ⊎_elim, arith, take, zero, suc, ℤ, pos}
+use Rattle.std.proofs.Common.{ℕ, ◌≡◌, ◌≤◌, ◌+◌, ◌*◌, ◌%◌, inl, inr, List, [], ◌∷◌, length, Bool, true, false, not, cond, eqb, ltb, leb, ◌&&◌, ◌||◌, IsTrue, Option, Some, None, Ok, Err, sym, ◌∙◌, ap, subst, refl, arith, take, zero, suc, ℤ, pos}
 use Rattle.std.specs.Prelude.{◌+ℤ◌, ◌-ℤ◌, option_map, Result}
 use Rattle.std.specs.Option.{option_map_or}
 use Rattle.std.specs.List.{find, list_all}
 use Rattle.std.specs.Int.{bit_at}
-use Rattle.std.proofs.lemmas.Bool.{cases_Bool, and_parts, and_from, false≢true, true≢false}
-use Rattle.std.proofs.lemmas.Option.{same_Some, none-some, cond_some}
+use Rattle.std.proofs.lemmas.Bool.{and_parts, and_from, false≢true, true≢false}
+use Rattle.std.proofs.lemmas.Option.{same_Some, none-some}
 use Rattle.thumb_core.specs.Words.{listed}
 use Rattle.thumb_isa.specs.declared.instr.Instr.{Instr}
 use Rattle.thumb_isa.specs.declared.instr.Instr.TheVariants.{ShiftImm, AddSubReg, AddSubImm3, Imm8, Alu, AddHigh, CmpHigh, MovHigh, Bx, Blx, LdrLit, MemReg, MemImm, MemSp, Adr, AddRdSp, AddSp, SubSp, Extend, Rev, Push, Pop, Hint, Stm, Ldm, BCond, Svc, B, Bl, Barrier}
@@ -21,7 +21,7 @@ use Rattle.frame_facts.specs.Saves.{saves_of, saves_within, lies_at, word, stack
 use Rattle.frame_facts.specs.Shifts.{shift_imm}
 use Rattle.frame_facts.specs.Data.{add_sub_imm3, imm8, alu, copied, sp_set, mov_high, add_high}
 use Rattle.frame_facts.specs.Access.{mem_reg, mem_imm, mem_sp}
-use Rattle.frame_facts.specs.Lists.{pushed_to, push, loaded, pop, popped_pc, ldm}
+use Rattle.frame_facts.specs.Lists.{pushed_to, push, loaded, pop, ldm}
 use Rattle.frame_facts.specs.Branches.{call_changes, gate_changes, kept_by_calls, is_indirect, return_to, holds_own, returns_well}
 use Rattle.frame_facts.specs.After.{effect, returned, gone_on, after_of}
 use Rattle.frame_facts.proofs.Vaguer.{source_vaguer, with_vaguer, lost_vaguer, forgotten_vaguer}
@@ -38,7 +38,7 @@ find_take q (x ∷ xs) (suc m) (suc n) s l h = either_way (q x) (λ e. find_take
     either_way true rest e = e
     either_way false rest e = rest e
 
-word_vaguer : (p : Prologue) (k k' at : ℕ) (offset : ℤ) → k' ≤ k → IsVaguer (word p k at offset) (word p k' at offset)
+pub word_vaguer : (p : Prologue) (k k' at : ℕ) (offset : ℤ) → k' ≤ k → IsVaguer (word p k at offset) (word p k' at offset)
 word_vaguer p k k' at offset l = split (find (lies_at at offset) (take k' (saves_of p))) refl
   where
     split : (o : Option Save) → find (lies_at at offset) (take k' (saves_of p)) ≡ o → IsVaguer (word p k at offset) (option_map_or (λ (s : Save). Entry s.reg) o Other)
@@ -129,6 +129,7 @@ sp_set_vaguer p s (SpAt k) f g (inl e) x = subst (λ u. NoVaguer (sp_set p u f) 
   where
     set_down : IsAtMost (record (moved_to p k f) { below = false }) (record (moved_to p k g) { below = false })
     set_down = let m = moved_to_vaguer p k f g x in record { depth = refl; below = λ h. h; kept = m.kept; long = x.long; regs = x.regs }
+
     at_place : (d : ℕ) → f.depth ≡ d
         → NoVaguer (sp_set p (SpAt k) f) (cond (eqb (k % 4) 0 && leb k d) (Some (let r : Fact = record (moved_to p k g) { below = false } in r)) None)
     at_place d e = subst (λ d. NoVaguer (sp_set p (SpAt k) f) (cond (eqb (k % 4) 0 && leb k d) (Some (let r : Fact = record (moved_to p k g) { below = false } in r)) None)) e

@@ -1,11 +1,11 @@
 -- Effects and meetings on facts that are vaguer.
-use Rattle.std.proofs.Common.{ℕ, ◌≡◌, ◌<◌, ◌≤◌, ◌+◌, ◌-◌, ◌⊎◌, inl, inr, min, List, [], ◌∷◌, length, Bool, true, false, cond, eqb, ltb, leb, ◌&&◌, ◌||◌, IsTrue, Option, Some, None, sym, ◌∙◌, ap, subst, refl, ⊎_elim, arith, set, get_or}
-use Rattle.std.proofs.lemmas.Bool.{cases_Bool, cases_eq, cases_lt, eqb-true, eq-eqb, leb-true, le-leb, and_parts, and_from, false≢true}
-use Rattle.std.proofs.lemmas.Option.{same_Some, none-some, cond_some}
+use Rattle.std.proofs.Common.{ℕ, ◌≡◌, ◌<◌, ◌≤◌, ◌⊎◌, inl, inr, min, List, [], ◌∷◌, length, Bool, true, false, cond, eqb, ◌||◌, IsTrue, Some, None, sym, ◌∙◌, ap, subst, refl, ⊎_elim, arith, set, get_or}
+use Rattle.std.proofs.lemmas.Bool.{cases_eq, cases_lt, eqb-true, eq-eqb, false≢true}
+use Rattle.std.proofs.lemmas.Option.{none-some, cond_some}
 use Rattle.std.proofs.lemmas.List.{get_or-set_same, get_or-set_other, get_or_past, length-set}
 use Rattle.std.specs.List.{sum_by}
 use Rattle.frame_facts.specs.declared.facts.Source.{Source}
-use Rattle.frame_facts.specs.declared.facts.Source.TheVariants.{Entry, SpAt, Other}
+use Rattle.frame_facts.specs.declared.facts.Source.TheVariants.{Other}
 use Rattle.frame_facts.specs.declared.facts.Fact.{Fact}
 use Rattle.frame_facts.specs.Facts.{source, slot, with_source, met_sources, join_of, lost, forgotten, known, height, IsVaguer, IsAtMost}
 use Rattle.frame_facts.proofs.Meeting.{met_left, met_right, met_least, met_at, met_length, met_falls}

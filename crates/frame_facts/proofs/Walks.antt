@@ -1,5 +1,5 @@
 -- Loops over registers and saves, one step more.
-use Rattle.std.proofs.Common.{ℕ, ◌≡◌, ◌≢◌, ◌<◌, ◌≤◌, ◌+◌, ◌-◌, ◌*◌, ◌/◌, ◌^◌, ◌==◌, ◌&&◌, zero, suc, Bool, true, false, cond, List, [], ◌∷◌, length, Option, Some, None, sym, ◌∙◌, ap, subst, refl, arith, get_or, drop, drop-cons, add-one, pos}
+use Rattle.std.proofs.Common.{ℕ, ◌≡◌, ◌≢◌, ◌<◌, ◌≤◌, ◌+◌, ◌-◌, ◌/◌, ◌^◌, ◌==◌, ◌&&◌, zero, suc, Bool, true, false, cond, List, [], ◌∷◌, length, Some, None, sym, ◌∙◌, ap, refl, arith, get_or, drop, drop-cons, add-one, pos}
 use Rattle.std.specs.Int.{bit_at}
 use Rattle.std.specs.Int.Bits.{bit_and}
 use Rattle.std.specs.List.{find, list_all}
@@ -10,10 +10,10 @@ use Rattle.frame_facts.specs.declared.facts.Source.{Source}
 use Rattle.frame_facts.specs.declared.facts.Source.TheVariants.{Other}
 use Rattle.frame_facts.specs.declared.facts.Fact.{Fact}
 use Rattle.frame_facts.specs.declared.saves.Prologue.{Prologue}
-use Rattle.frame_facts.specs.Facts.{with_source, lost, forgotten}
+use Rattle.frame_facts.specs.Facts.{with_source, forgotten}
 use Rattle.frame_facts.specs.Saves.{stack_word}
 use Rattle.frame_facts.specs.Lists.{loaded}
-use Rattle.frame_facts.specs.Branches.{holds_own, kept_by_calls}
+use Rattle.frame_facts.specs.Branches.{holds_own}
 
 -- ---- the registers of a mask
 

@@ -1,7 +1,6 @@
 -- The effect of an instruction on a fact, and the causes that it can show: the lowest that holds is answered.
-use Rattle.std.specs.Prelude.{ℕ, Bool, true, false, if◌then◌else◌, Option, Some, None, Result, Ok, Err, ℤ, pos, ◌+ℤ◌, ◌-ℤ◌, is_none, not}
+use Rattle.std.specs.Prelude.{ℕ, Bool, false, if◌then◌else◌, Option, Some, None, Result, Ok, Err, pos, ◌+ℤ◌, ◌-ℤ◌, is_none, not}
 use Rattle.std.specs.Option.{option_map_or}
-use Rattle.thumb_core.specs.Words.{listed}
 use Rattle.thumb_isa.specs.declared.instr.Instr.{Instr}
 use Rattle.thumb_isa.specs.declared.instr.Instr.TheVariants.{ShiftImm, AddSubReg, AddSubImm3, Imm8, Alu, AddHigh, CmpHigh, MovHigh, Bx, Blx, LdrLit, MemReg, MemImm, MemSp, Adr, AddRdSp, AddSp, SubSp, Extend, Rev, Push, Pop, Hint, Stm, Ldm, BCond, Svc, B, Bl, Barrier}
 use Rattle.frame_facts.specs.declared.cause.FrameCause.{FrameCause}

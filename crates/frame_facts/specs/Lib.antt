@@ -4,6 +4,7 @@ pub mod Agrees
 pub mod Branches
 pub mod Data
 pub mod Facts
+pub mod Laws
 pub mod Lists
 pub mod Saves
 pub mod Shifts

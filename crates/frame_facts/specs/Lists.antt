@@ -1,5 +1,5 @@
 -- The effect of PUSH, POP, STM and LDM on a fact.
-use Rattle.std.specs.Prelude.{ℕ, ◌+◌, ◌-◌, ◌*◌, ◌==◌, nat_lt, if◌then◌else◌, List, [], ◌∷◌, length, Option, Some, None, option_map, ℤ, pos, ◌+ℤ◌, ◌-ℤ◌}
+use Rattle.std.specs.Prelude.{ℕ, ◌+◌, ◌*◌, ◌==◌, nat_lt, if◌then◌else◌, List, [], ◌∷◌, length, Option, Some, None, option_map, pos, ◌+ℤ◌, ◌-ℤ◌}
 use Rattle.std.specs.Int.{bit_at}
 use Rattle.thumb_core.specs.Words.{listed}
 use Rattle.frame_facts.specs.declared.facts.Source.{Source}

@@ -1,5 +1,5 @@
 -- The saves of a prologue, and what a word of the stack holds by a fact.
-use Rattle.std.specs.Prelude.{ℕ, ◌+◌, min, Bool, List, take, Option, find, count_by, nat_le, if◌then◌else◌, ℤ, pos, ◌+ℤ◌, option_map}
+use Rattle.std.specs.Prelude.{ℕ, min, Bool, List, take, Option, find, count_by, nat_le, if◌then◌else◌, ℤ, pos, ◌+ℤ◌, option_map}
 use Rattle.std.specs.Ordering.{int_eq}
 use Rattle.std.specs.Option.{option_map_or}
 use Rattle.frame_facts.specs.declared.facts.Source.{Source}

@@ -8,6 +8,7 @@ pub mod cause;
 pub mod data;
 pub mod effects;
 pub mod facts;
+pub mod laws;
 pub mod lists;
 pub mod saves;
 pub mod shifts;

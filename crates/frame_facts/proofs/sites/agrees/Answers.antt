@@ -1,6 +1,6 @@
-use Rattle.std.proofs.Common.{arith, refl, sym, ◌∙◌}
+use Rattle.std.proofs.Common.{arith, sym, ◌∙◌}
 use Rattle.frame_facts.specs.Agrees.{fails}
-use Rattle.frame_facts.proofs.Walks.{reg_start, reg_next, reg_stop, reg_end}
+use Rattle.frame_facts.proofs.Walks.{reg_next, reg_stop, reg_end}
 use Rattle.frame_facts.proofs.Agreeing.{agreed_fails, agreed_lost, agreed_ok}
 use Rattle.frame_facts.proofs.sites.agrees.Goals as goal
 
