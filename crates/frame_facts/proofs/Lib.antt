@@ -2,6 +2,8 @@ pub mod Agreeing
 pub mod Fitting
 pub mod Following
 pub mod Meeting
+pub mod Pushing
 pub mod Same
+pub mod Standard
 pub mod Vaguer
 pub mod Walks

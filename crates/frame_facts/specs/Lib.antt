@@ -4,7 +4,9 @@ pub mod Agrees
 pub mod Branches
 pub mod Data
 pub mod Facts
+pub mod Frames
 pub mod Laws
 pub mod Lists
+pub mod Prologues
 pub mod Saves
 pub mod Shifts

@@ -1,4 +1,5 @@
 //! What holds of effects, meetings and sites, whatever the facts. docs/acceptance.md, "Facts".
+ghost use Rattle.frame_facts.specs.Frames.{StandardFrames};
 ghost use Rattle.frame_facts.specs.Laws.{KeepVagueness, MeetingsAreLeast, HeightsFall, FactsFit};
 
 /// An instruction or a site that is fine by a vague fact is fine by a fact that is at most as vague, and leaves one that is.
@@ -19,4 +20,10 @@ pub fn heights_fall()
 /// The depth stays within 65,536, and no more saves are kept than there are.
 pub fn facts_fit()
     ensures { FactsFit }
+{}
+
+/// The standard frame: behind a PUSH of some of r4 to r7 and of lr at a function's entry all its words are saves that are kept, the codes
+/// that pop the same registers agree there, at a call and at a gate, and a POP of them gives the entry's fact back and returns well.
+pub fn standard_frames_agree()
+    ensures { StandardFrames }
 {}

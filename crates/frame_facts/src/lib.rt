@@ -13,9 +13,11 @@ pub mod lists;
 pub mod saves;
 pub mod shifts;
 pub mod sites;
+pub mod straight;
 
 pub use cause::FrameCause;
 pub use effects::after;
 pub use facts::{Fact, Source, entry_fact, forget, is_same, join};
 pub use saves::{Prologue, Save};
 pub use sites::agrees;
+pub use straight::Straight;
