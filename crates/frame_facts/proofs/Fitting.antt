@@ -1,5 +1,5 @@
 -- Effects and meetings keep what each state keeps, and heights are low.
-use Rattle.std.proofs.Common.{ℕ, ◌≡◌, ◌<◌, ◌≤◌, ◌+◌, ◌*◌, ◌%◌, List, [], ◌∷◌, length, Bool, true, false, cond, eqb, ltb, leb, ◌&&◌, ◌||◌, Option, Some, None, Ok, Err, ◌∙◌, subst, refl, arith, take, zero, suc, ℤ, pos, negsuc}
+use Rattle.std.proofs.Common.{ℕ, ◌≡◌, ◌<◌, ◌≤◌, ◌+◌, ◌*◌, ◌%◌, List, [], ◌∷◌, length, Bool, true, false, not, cond, eqb, ltb, leb, ◌&&◌, ◌||◌, Option, Some, None, Ok, Err, ◌∙◌, subst, refl, arith, take, zero, suc, ℤ, pos, negsuc}
 use Rattle.std.specs.Prelude.{◌+ℤ◌, ◌-ℤ◌, option_map, count_by, Result}
 use Rattle.std.specs.List.{sum_by}
 use Rattle.std.proofs.lemmas.Bool.{leb-true, and_parts}
@@ -127,7 +127,7 @@ effect_fits p lowers at (ShiftImm op d m n) f x =
 effect_fits p lowers at (AddSubReg sub d n m) f x = always p.count (lost d f) (lost_fits p.count f d x)
 effect_fits p lowers at (AddSubImm3 sub d n imm) f x = always p.count (add_sub_imm3 sub d n imm f) (with_fits p.count f d (cond (eqb imm 0) (source f n) (moved sub imm (source f n))) x)
 effect_fits p lowers at (Imm8 op d imm) f x =
-    let t = moved (eqb op 3) imm (source f d) in
+    let t = moved (not (eqb op 2)) imm (source f d) in
     always p.count (imm8 op d imm f) (pick_fact p.count (eqb op 0) (lost d f) (cond (eqb op 1) f (with_source f d t)) (lost_fits p.count f d x) (pick_fact p.count (eqb op 1) f (with_source f d t) x (with_fits p.count f d t x)))
 effect_fits p lowers at (Alu op d m) f x = always p.count (alu op d f) (pick_fact p.count (eqb op 8 || eqb op 10 || eqb op 11) f (lost d f) x (lost_fits p.count f d x))
 effect_fits p lowers at (AddHigh d m) f x = pick p.count (eqb d 13) None (Some (lost d f)) (never p.count) (always p.count (lost d f) (lost_fits p.count f d x))

@@ -167,10 +167,10 @@ imm3_vaguer sub d n imm f g x =
 
 imm8_vaguer : (op d imm : ℕ) (f g : Fact) → IsAtMost f g → IsAtMost (imm8 op d imm f) (imm8 op d imm g)
 imm8_vaguer op d imm f g x =
-    let s = moved (eqb op 3) imm (source f d) in
-    let t = moved (eqb op 3) imm (source g d) in
+    let s = moved (not (eqb op 2)) imm (source f d) in
+    let t = moved (not (eqb op 2)) imm (source g d) in
     pick_fact (eqb op 0) (lost d f) (lost d g) (cond (eqb op 1) f (with_source f d s)) (cond (eqb op 1) g (with_source g d t)) (lost_vaguer f g d x)
-    (pick_fact (eqb op 1) f g (with_source f d s) (with_source g d t) x (with_vaguer f g d s t x (moved_vaguer (eqb op 3) imm (source f d) (source g d) (source_vaguer f g d x))))
+    (pick_fact (eqb op 1) f g (with_source f d s) (with_source g d t) x (with_vaguer f g d s t x (moved_vaguer (not (eqb op 2)) imm (source f d) (source g d) (source_vaguer f g d x))))
 
 or_lost : (b : Bool) (d : ℕ) (f g : Fact) → IsAtMost f g → IsAtMost (cond b f (lost d f)) (cond b g (lost d g))
 or_lost b d f g x = pick_fact b f g (lost d f) (lost d g) x (lost_vaguer f g d x)

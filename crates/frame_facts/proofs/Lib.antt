@@ -1,4 +1,5 @@
 pub mod Agreeing
+pub mod Described
 pub mod Fitting
 pub mod Following
 pub mod Meeting

@@ -1,5 +1,5 @@
 -- The effect of moves, additions and other work on registers on a fact.
-use Rattle.std.specs.Prelude.{ℕ, ◌%◌, ◌==◌, ◌&&◌, ◌||◌, Bool, true, false, nat_le, if◌then◌else◌, Option, Some, None, pos}
+use Rattle.std.specs.Prelude.{ℕ, ◌%◌, ◌==◌, ◌&&◌, ◌||◌, not, Bool, true, false, nat_le, if◌then◌else◌, Option, Some, None, pos}
 use Rattle.frame_facts.specs.declared.facts.Source.{Source}
 use Rattle.frame_facts.specs.declared.facts.Source.TheVariants.{Entry, SpAt, Other}
 use Rattle.frame_facts.specs.declared.facts.Fact.{Fact}
@@ -16,7 +16,7 @@ abbrev pub imm8 : ℕ → ℕ → ℕ → Fact → Fact
 imm8 op d imm f =
     if op == 0 then lost d f
     else (if op == 1 then f
-    else with_source f d (moved (op == 3) imm (source f d)))
+    else with_source f d (moved (not (op == 2)) imm (source f d)))
 
 -- TST, CMP and CMN write no register
 abbrev pub alu : ℕ → ℕ → Fact → Fact

@@ -7,6 +7,7 @@ pub mod Facts
 pub mod Frames
 pub mod Laws
 pub mod Lists
+pub mod Machine
 pub mod Prologues
 pub mod Saves
 pub mod Shifts

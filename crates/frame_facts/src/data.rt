@@ -26,7 +26,7 @@ pub(crate) fn imm8(fact: &Fact, op: u8, d: u8, imm: u32) -> Fact
     } else if op == 1 {
         *fact
     } else {
-        fact.with(d, fact.source(d).moved(op == 3, imm))
+        fact.with(d, fact.source(d).moved(op != 2, imm))
     }
 }
 

@@ -1,5 +1,6 @@
 //! What holds of effects, meetings and sites, whatever the facts. docs/acceptance.md, "Facts".
 ghost use Rattle.frame_facts.specs.Frames.{StandardFrames};
+ghost use Rattle.frame_facts.specs.Machine.{DataIsDescribed};
 ghost use Rattle.frame_facts.specs.Laws.{KeepVagueness, MeetingsAreLeast, HeightsFall, FactsFit};
 
 /// An instruction or a site that is fine by a vague fact is fine by a fact that is at most as vague, and leaves one that is.
@@ -26,4 +27,10 @@ pub fn facts_fit()
 /// that pop the same registers agree there, at a call and at a gate, and a POP of them gives the entry's fact back and returns well.
 pub fn standard_frames_agree()
     ensures { StandardFrames }
+{}
+
+/// Facts say what is so of the machine: where a fact describes the registers before an instruction that works on a low register, the fact
+/// behind it describes the registers that the core leaves.
+pub fn data_is_described()
+    ensures { DataIsDescribed }
 {}
