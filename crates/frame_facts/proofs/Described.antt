@@ -1,0 +1,200 @@
+-- The instructions that work on registers keep what a fact says of them.
+use Rattle.std.proofs.Common.{ℕ, ◌≡◌, ◌<◌, ◌≤◌, ◌+◌, ◌-◌, ◌%◌, ◌^◌, length, Bool, true, false, not, cond, eqb, ltb, leb, ◌&&◌, ◌||◌, Option, Some, None, sym, ◌∙◌, ap, subst, refl, ⊎_elim, arith, set, get_or, ℤ, pos, negsuc}
+use Rattle.std.specs.Prelude.{◌+ℤ◌, ◌-ℤ◌}
+use Rattle.std.specs.Option.{option_map_or}
+use Rattle.std.proofs.lemmas.Bool.{cases_eq, eqb-true, lt-ltb, leb-true, and_parts, false≢true}
+use Rattle.std.proofs.lemmas.Option.{same_Some, none-some}
+use Rattle.std.proofs.lemmas.Int.{ints}
+use Rattle.std.proofs.lemmas.List.{get_or-set_same, get_or-set_other, length-set}
+use Rattle.thumb_isa.specs.declared.instr.Instr.TheVariants.{ShiftImm, AddSubReg, AddSubImm3, Imm8, Alu, Adr, AddRdSp, Extend, Rev}
+use Rattle.thumb_core.specs.declared.regs.Regs.{Regs}
+use Rattle.thumb_core.specs.Registers.{reg, word_in, with_flags}
+use Rattle.thumb_core.specs.Arith.{sum_or_difference, sum_of, difference_of}
+use Rattle.thumb_core.specs.Shift.{shift_of}
+use Rattle.thumb_core.specs.Alu.{alu_of}
+use Rattle.thumb_core.specs.Data.{data_effect, forward, with_value, with_sum}
+use Rattle.frame_facts.specs.declared.facts.Source.{Source}
+use Rattle.frame_facts.specs.declared.facts.Source.TheVariants.{Entry, SpAt, Other}
+use Rattle.frame_facts.specs.declared.facts.Fact.{Fact}
+use Rattle.frame_facts.specs.declared.facts.TheConstants.{DEEPEST}
+use Rattle.frame_facts.specs.Facts.{source, slot, with_source, lost, sp_at, sp_plus, moved}
+use Rattle.frame_facts.specs.Shifts.{shift_imm}
+use Rattle.frame_facts.specs.Data.{add_sub_imm3, imm8, alu}
+use Rattle.frame_facts.specs.Machine.{Means, Describes, IsRoomy, DataIsDescribed}
+
+-- ---- places of registers
+
+low_slot : (d : ℕ) → d < 8 → slot d ≡ d
+low_slot d l = ap (λ b. cond b d (cond (eqb d 14) 13 14)) (lt-ltb d 13 (omega (arith, l)))
+
+far_slot : (d k : ℕ) → d < 8 → (k ≡ d → ⊥) → slot k ≡ d → ⊥
+far_slot d k l n = by_low (ltb k 13) (eqb k 14)
+  where
+    by_low : (b c : Bool) → cond b k (cond c 13 14) ≡ d → ⊥
+    by_low true c e = n e
+    by_low false true e = absurd (omega (arith, l, e))
+    by_low false false e = absurd (omega (arith, l, e))
+
+module _ (entry : ℕ → ℕ) (cfa : ℕ) where
+  -- a register is written, and its source
+  written : (f : Fact) (regs new : Regs) (d : ℕ) (s : Source) (w : ℕ) → d < 8 → IsRoomy cfa regs → Describes entry cfa f regs → new.r ≡ set regs.r d w → Means entry cfa s w
+      → Describes entry cfa (with_source f d s) new
+  written f regs new d s w low roomy x is means = record {
+    long = length-set f.regs (slot d) s ∙ x.long;
+    sources = λ k. ⊎_elim
+        (λ (e : k ≡ d). subst (λ j. Means entry cfa (source (with_source f d s) j) (reg new j)) (sym e)
+        (subst (λ t. Means entry cfa t (reg new d)) (sym at_d) (subst (λ v. Means entry cfa s v) (sym new_d) means)))
+        (λ (n : k ≡ d → ⊥). subst (λ t. Means entry cfa t (reg new k)) (sym (get_or-set_other f.regs (slot d) (slot k) s Other (λ e. far_slot d k low n (e ∙ low_slot d low))))
+        (subst (λ v. Means entry cfa (source f k) v) (sym (new_other k n)) (x.sources k)))
+        (cases_eq k d);
+    sp = λ b. ap (λ v. v + f.depth) (new_other 13 (λ e. absurd (omega (arith, low, e)))) ∙ x.sp b;
+  }
+    where
+      at_d : source (with_source f d s) d ≡ s
+      at_d = get_or-set_same f.regs (slot d) s Other (let l : slot d < length f.regs = omega (arith, low_slot d low, low, x.long) in l)
+
+      new_d : reg new d ≡ w
+      new_d = ap (λ r. get_or r d 0) is ∙ get_or-set_same regs.r d w 0 (let l : d < length regs.r = omega (arith, low, roomy.count) in l)
+
+      new_other : (k : ℕ) → (k ≡ d → ⊥) → reg new k ≡ reg regs k
+      new_other k n = ap (λ r. get_or r k 0) is ∙ get_or-set_other regs.r d k w 0 n
+
+  -- of a register that an instruction may write nothing is said
+  untold : (f : Fact) (regs new : Regs) (d w : ℕ) → d < 8 → IsRoomy cfa regs → Describes entry cfa f regs → new.r ≡ set regs.r d w → Describes entry cfa (lost d f) new
+  untold f regs new d w low roomy x is = written f regs new d Other w low roomy x is tt
+
+  unchanged : (f : Fact) (regs new : Regs) → Describes entry cfa f regs → new.r ≡ regs.r → Describes entry cfa f new
+  unchanged f regs new x is = record {
+    long = x.long;
+    sources = λ k. subst (λ r. Means entry cfa (source f k) (get_or r k 0)) (sym is) (x.sources k);
+    sp = λ b. ap (λ r. get_or r 13 0 + f.depth) is ∙ x.sp b;
+  }
+
+  forgets : (f : Fact) (regs : Regs) (d : ℕ) → d < 8 → Describes entry cfa f regs → Describes entry cfa (lost d f) regs
+  forgets f regs d low x = record {
+    long = length-set f.regs (slot d) Other ∙ x.long;
+    sources = λ k. ⊎_elim
+        (λ (e : k ≡ d). subst (λ j. Means entry cfa (source (lost d f) j) (reg regs j)) (sym e)
+        (subst (λ t. Means entry cfa t (reg regs d)) (sym (get_or-set_same f.regs (slot d) Other Other (let l : slot d < length f.regs = omega (arith, low_slot d low, low, x.long) in l))) tt))
+        (λ (n : k ≡ d → ⊥). subst (λ t. Means entry cfa t (reg regs k)) (sym (get_or-set_other f.regs (slot d) (slot k) Other Other (λ e. far_slot d k low n (e ∙ low_slot d low)))) (x.sources k))
+        (cases_eq k d);
+    sp = x.sp;
+  }
+
+  -- ---- values
+
+  low_word : (d v : ℕ) → d < 8 → word_in d v ≡ v % 2 ^ 32
+  low_word d v low = split (eqb d 13) refl
+    where
+      split : (b : Bool) → eqb d 13 ≡ b → cond b (v % 2 ^ 32 - v % 2 ^ 32 % 4) (v % 2 ^ 32) ≡ v % 2 ^ 32
+      split true e = absurd (omega (arith, low, eqb-true d 13 e))
+      split false e = refl
+
+  kept : (s : Source) (v w : ℕ) → v < 2 ^ 32 → w ≡ v % 2 ^ 32 → Means entry cfa s v → Means entry cfa s w
+  kept s v w l e m = subst (λ x. Means entry cfa s x) (let is : v ≡ w = omega (arith, l, e) in is) m
+
+  -- the CFA minus what is a depth
+  at_place : (z : ℤ) (w : ℕ) → ((n : ℕ) → z ≡ pos n → n ≤ DEEPEST → w + n ≡ cfa) → Means entry cfa (sp_at z) w
+  at_place (negsuc n) w h = tt
+  at_place (pos n) w h = split (leb n DEEPEST) refl
+    where
+      split : (b : Bool) → leb n DEEPEST ≡ b → Means entry cfa (option_map_or SpAt (cond b (Some n) None) Other) w
+      split true e = h n refl (leb-true n DEEPEST e)
+      split false e = tt
+
+  moved_means : (sub : Bool) (imm : ℕ) (s : Source) (v w : ℕ) → DEEPEST ≤ cfa → cfa < 2 ^ 32 → v < 2 ^ 32 → w ≡ (sum_or_difference sub v imm).value % 2 ^ 32 → Means entry cfa s v → Means entry cfa (moved sub imm s) w
+  moved_means sub imm (Entry k) v w room top l e m = tt
+  moved_means sub imm Other v w room top l e m = tt
+  moved_means true imm (SpAt o) v w room top l e m = at_place (pos o +ℤ pos imm) w (λ n z deep. let sum : o + imm ≡ n = omega (arith, ints, z) in omega (arith, room, top, l, e, m, sum, deep))
+  moved_means false imm (SpAt o) v w room top l e m = at_place (pos o -ℤ pos imm) w (λ n z deep. let sum : n + imm ≡ o = omega (arith, ints, z) in omega (arith, room, top, l, e, m, sum, deep))
+
+  same_value : (sub : Bool) (imm v : ℕ) → imm ≡ 0 → (sum_or_difference sub v imm).value % 2 ^ 32 ≡ v % 2 ^ 32
+  same_value true imm v e = omega (arith, e)
+  same_value false imm v e = omega (arith, e)
+
+  imm3_described : (sub : Bool) (d n imm : ℕ) (f : Fact) (regs new : Regs) → d < 8 → IsRoomy cfa regs → Describes entry cfa f regs → new.r ≡ set regs.r d (word_in d (sum_or_difference sub (reg regs n) imm).value)
+      → Describes entry cfa (with_source f d (cond (eqb imm 0) (source f n) (moved sub imm (source f n)))) new
+  imm3_described sub d n imm f regs new low roomy x is = written f regs new d (cond (eqb imm 0) (source f n) (moved sub imm (source f n))) (word_in d (sum_or_difference sub (reg regs n) imm).value) low roomy x is (split (eqb imm 0) refl)
+    where
+      split : (b : Bool) → eqb imm 0 ≡ b → Means entry cfa (cond b (source f n) (moved sub imm (source f n))) (word_in d (sum_or_difference sub (reg regs n) imm).value)
+      split true e = kept (source f n) (reg regs n) (word_in d (sum_or_difference sub (reg regs n) imm).value) (roomy.words n) (low_word d (sum_or_difference sub (reg regs n) imm).value low ∙ same_value sub imm (reg regs n) (eqb-true imm 0 e)) (x.sources n)
+      split false e = moved_means sub imm (source f n) (reg regs n) (word_in d (sum_or_difference sub (reg regs n) imm).value) roomy.room roomy.top (roomy.words n) (low_word d (sum_or_difference sub (reg regs n) imm).value low) (x.sources n)
+
+  shift_described : (op d m n : ℕ) (f : Fact) (regs new : Regs) → d < 8 → IsRoomy cfa regs → Describes entry cfa f regs → new.r ≡ set regs.r d (word_in d (shift_of op (reg regs m) n regs.c).0)
+      → Describes entry cfa (cond (eqb op 0 && eqb n 0) (with_source f d (source f m)) (lost d f)) new
+  shift_described op d m n f regs new low roomy x is = split (eqb op 0 && eqb n 0) refl
+    where
+      split : (b : Bool) → (eqb op 0 && eqb n 0) ≡ b → Describes entry cfa (cond b (with_source f d (source f m)) (lost d f)) new
+      split true e =
+          let none : n ≡ 0 = eqb-true n 0 (and_parts (eqb op 0) (eqb n 0) e).1 in
+          written f regs new d (source f m) (word_in d (shift_of op (reg regs m) n regs.c).0) low roomy x is
+          (kept (source f m) (reg regs m) (word_in d (shift_of op (reg regs m) n regs.c).0) (roomy.words m)
+          (low_word d (shift_of op (reg regs m) n regs.c).0 low ∙ ap (λ k. (shift_of op (reg regs m) k regs.c).0 % 2 ^ 32) none) (x.sources m))
+      split false e = untold f regs new d (word_in d (shift_of op (reg regs m) n regs.c).0) low roomy x is
+
+  maybe_described : (b : Bool) (d w : ℕ) (f : Fact) (regs new : Regs) → d < 8 → IsRoomy cfa regs → Describes entry cfa f regs → new.r ≡ cond b (set regs.r d w) regs.r → Describes entry cfa (lost d f) new
+  maybe_described true d w f regs new low roomy x is = untold f regs new d w low roomy x is
+  maybe_described false d w f regs new low roomy x is = unchanged (lost d f) regs new (forgets f regs d low x) is
+
+  unwritten : (op x y : ℕ) (regs : Regs) → (eqb op 8 || eqb op 10 || eqb op 11) ≡ true → (alu_of op x y regs).written ≡ false
+  unwritten op x y regs e = split (eqb op 8) (eqb op 10) (eqb op 11) refl refl refl e
+    where
+      split : (a b c : Bool) → eqb op 8 ≡ a → eqb op 10 ≡ b → eqb op 11 ≡ c → (a || b || c) ≡ true → (alu_of op x y regs).written ≡ false
+      split true b c p q r e = ap (λ o. (alu_of o x y regs).written) (eqb-true op 8 p)
+      split false true c p q r e = ap (λ o. (alu_of o x y regs).written) (eqb-true op 10 q)
+      split false false true p q r e = ap (λ o. (alu_of o x y regs).written) (eqb-true op 11 r)
+      split false false false p q r e = absurd (false≢true e)
+
+  alu_described : (op d m : ℕ) (f : Fact) (regs new : Regs) → d < 8 → IsRoomy cfa regs → Describes entry cfa f regs
+      → new.r ≡ cond (alu_of op (reg regs d) (reg regs m) regs).written (set regs.r d (word_in d (alu_of op (reg regs d) (reg regs m) regs).value)) regs.r
+      → Describes entry cfa (cond (eqb op 8 || eqb op 10 || eqb op 11) f (lost d f)) new
+  alu_described op d m f regs new low roomy x is = split (eqb op 8 || eqb op 10 || eqb op 11) refl
+    where
+      split : (b : Bool) → (eqb op 8 || eqb op 10 || eqb op 11) ≡ b → Describes entry cfa (cond b f (lost d f)) new
+      split true e = unchanged f regs new x (is ∙ ap (λ t. cond t (set regs.r d (word_in d (alu_of op (reg regs d) (reg regs m) regs).value)) regs.r) (unwritten op (reg regs d) (reg regs m) regs e))
+      split false e = maybe_described (alu_of op (reg regs d) (reg regs m) regs).written d (word_in d (alu_of op (reg regs d) (reg regs m) regs).value) f regs new low roomy x is
+
+  sp_described : (d off : ℕ) (f : Fact) (regs new : Regs) → d < 8 → IsRoomy cfa regs → Describes entry cfa f regs → new.r ≡ set regs.r d (word_in d (forward (reg regs 13) (pos off)))
+      → Describes entry cfa (with_source f d (sp_plus f (pos off))) new
+  sp_described d off f regs new low roomy x is = written f regs new d (sp_plus f (pos off)) (word_in d (forward (reg regs 13) (pos off))) low roomy x is (split f.below refl)
+    where
+      split : (b : Bool) → f.below ≡ b → Means entry cfa (cond b Other (sp_at (pos f.depth -ℤ pos off))) (word_in d (forward (reg regs 13) (pos off)))
+      split true e = tt
+      split false e = at_place (pos f.depth -ℤ pos off) (word_in d (forward (reg regs 13) (pos off)))
+          (λ n z deep. let sum : n + off ≡ f.depth = omega (arith, ints, z) in omega (arith, roomy.top, low_word d (forward (reg regs 13) (pos off)) low, x.sp e, sum))
+
+  imm8_described : (op d imm : ℕ) (f : Fact) (regs : Regs) → d < 8 → IsRoomy cfa regs → Describes entry cfa f regs → Describes entry cfa (imm8 op d imm f) (data_effect (Imm8 op d imm) regs)
+  imm8_described op d imm f regs low roomy x = split (eqb op 0) (eqb op 1) (eqb op 2)
+    where
+      raised : (sub : Bool) (new : Regs) → new.r ≡ set regs.r d (word_in d (sum_or_difference sub (reg regs d) imm).value) → Describes entry cfa (with_source f d (moved sub imm (source f d))) new
+      raised sub new is =
+          written f regs new d (moved sub imm (source f d)) (word_in d (sum_or_difference sub (reg regs d) imm).value) low roomy x is
+          (moved_means sub imm (source f d) (reg regs d) (word_in d (sum_or_difference sub (reg regs d) imm).value) roomy.room roomy.top (roomy.words d) (low_word d (sum_or_difference sub (reg regs d) imm).value low) (x.sources d))
+
+      split : (a b c : Bool)
+          → Describes entry cfa (cond a (lost d f) (cond b f (with_source f d (moved (not c) imm (source f d)))))
+          (cond a (with_value d imm regs) (cond b (with_flags regs (difference_of (reg regs d) imm)) (cond c (with_sum d (sum_of (reg regs d) imm 0) regs) (with_sum d (difference_of (reg regs d) imm) regs))))
+      split true b c = untold f regs (with_value d imm regs) d (word_in d imm) low roomy x refl
+      split false true c = unchanged f regs (with_flags regs (difference_of (reg regs d) imm)) x refl
+      split false false true = raised false (with_sum d (sum_of (reg regs d) imm 0) regs) refl
+      split false false false = raised true (with_sum d (difference_of (reg regs d) imm) regs) refl
+
+-- the instructions, one by one: which register, and the fact behind
+for_d : (P : ℕ → Type 0) (d d' : ℕ) → (let o : Option ℕ = Some d in o) ≡ Some d' → P d' → P d
+for_d P d d' e h = subst P (sym (same_Some d d' e)) h
+
+to_g : (entry : ℕ → ℕ) (cfa : ℕ) (regs : Regs) (f g : Fact) → Some f ≡ Some g → Describes entry cfa f regs → Describes entry cfa g regs
+to_g entry cfa regs f g e x = subst (λ h. Describes entry cfa h regs) (same_Some f g e) x
+
+pub data_described : DataIsDescribed
+data_described entry cfa p lowers at (ShiftImm op d m n) d' f g regs on low roomy x e = to_g entry cfa (data_effect (ShiftImm op d m n) regs) (shift_imm op d m n f) g e (shift_described entry cfa op d m n f regs (data_effect (ShiftImm op d m n) regs) (for_d (λ k. k < 8) d d' on low) roomy x refl)
+data_described entry cfa p lowers at (AddSubReg sub d n m) d' f g regs on low roomy x e = to_g entry cfa (data_effect (AddSubReg sub d n m) regs) (lost d f) g e (untold entry cfa f regs (data_effect (AddSubReg sub d n m) regs) d _ (for_d (λ k. k < 8) d d' on low) roomy x refl)
+data_described entry cfa p lowers at (AddSubImm3 sub d n imm) d' f g regs on low roomy x e = to_g entry cfa (data_effect (AddSubImm3 sub d n imm) regs) (add_sub_imm3 sub d n imm f) g e (imm3_described entry cfa sub d n imm f regs (data_effect (AddSubImm3 sub d n imm) regs) (for_d (λ k. k < 8) d d' on low) roomy x refl)
+data_described entry cfa p lowers at (Imm8 op d imm) d' f g regs on low roomy x e = to_g entry cfa (data_effect (Imm8 op d imm) regs) (imm8 op d imm f) g e (imm8_described entry cfa op d imm f regs (for_d (λ k. k < 8) d d' on low) roomy x)
+data_described entry cfa p lowers at (Alu op d m) d' f g regs on low roomy x e = to_g entry cfa (data_effect (Alu op d m) regs) (alu op d f) g e (alu_described entry cfa op d m f regs (data_effect (Alu op d m) regs) (for_d (λ k. k < 8) d d' on low) roomy x refl)
+data_described entry cfa p lowers at (Adr d off) d' f g regs on low roomy x e = to_g entry cfa (data_effect (Adr d off) regs) (lost d f) g e (untold entry cfa f regs (data_effect (Adr d off) regs) d _ (for_d (λ k. k < 8) d d' on low) roomy x refl)
+data_described entry cfa p lowers at (AddRdSp d (pos off)) d' f g regs on low roomy x e = to_g entry cfa (data_effect (AddRdSp d (pos off)) regs) (with_source f d (sp_plus f (pos off))) g e (sp_described entry cfa d off f regs (data_effect (AddRdSp d (pos off)) regs) (for_d (λ k. k < 8) d d' on low) roomy x refl)
+data_described entry cfa p lowers at (AddRdSp d (negsuc off)) d' f g regs on low roomy x e = absurd (none-some d' on)
+data_described entry cfa p lowers at (Extend op d m) d' f g regs on low roomy x e = to_g entry cfa (data_effect (Extend op d m) regs) (lost d f) g e (untold entry cfa f regs (data_effect (Extend op d m) regs) d _ (for_d (λ k. k < 8) d d' on low) roomy x refl)
+data_described entry cfa p lowers at (Rev op d m) d' f g regs on low roomy x e = to_g entry cfa (data_effect (Rev op d m) regs) (lost d f) g e (untold entry cfa f regs (data_effect (Rev op d m) regs) d _ (for_d (λ k. k < 8) d d' on low) roomy x refl)
+data_described entry cfa p lowers at i d' f g regs on low roomy x e = absurd (none-some d' on)

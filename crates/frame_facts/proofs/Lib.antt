@@ -1,0 +1,10 @@
+pub mod Agreeing
+pub mod Described
+pub mod Fitting
+pub mod Following
+pub mod Meeting
+pub mod Pushing
+pub mod Same
+pub mod Standard
+pub mod Vaguer
+pub mod Walks

@@ -1,0 +1,13 @@
+pub mod Access
+pub mod After
+pub mod Agrees
+pub mod Branches
+pub mod Data
+pub mod Facts
+pub mod Frames
+pub mod Laws
+pub mod Lists
+pub mod Machine
+pub mod Prologues
+pub mod Saves
+pub mod Shifts

@@ -1,0 +1,52 @@
+-- What a fact says of the machine's registers, and that the effects of the instructions that work on registers keep it so.
+use Rattle.std.specs.Prelude.{ℕ, ◌≡◌, ◌<◌, ◌≤◌, ◌+◌, ◌^◌, Bool, false, length, Option, Some, None, pos}
+use Rattle.thumb_isa.specs.declared.instr.Instr.{Instr}
+use Rattle.thumb_isa.specs.declared.instr.Instr.TheVariants.{ShiftImm, AddSubReg, AddSubImm3, Imm8, Alu, Adr, AddRdSp, Extend, Rev}
+use Rattle.thumb_core.specs.declared.regs.Regs.{Regs}
+use Rattle.thumb_core.specs.Registers.{reg}
+use Rattle.thumb_core.specs.Data.{data_effect}
+use Rattle.frame_facts.specs.declared.facts.Source.{Source}
+use Rattle.frame_facts.specs.declared.facts.Source.TheVariants.{Entry, SpAt, Other}
+use Rattle.frame_facts.specs.declared.facts.Fact.{Fact}
+use Rattle.frame_facts.specs.declared.facts.TheConstants.{DEEPEST}
+use Rattle.frame_facts.specs.declared.saves.Prologue.{Prologue}
+use Rattle.frame_facts.specs.Facts.{source}
+use Rattle.frame_facts.specs.After.{effect}
+
+-- what a source says of a register's value, by the registers at the entry and the CFA
+abbrev pub Means : (ℕ → ℕ) → ℕ → Source → ℕ → Type 0
+Means entry cfa (Entry k) value = value ≡ entry k
+Means entry cfa (SpAt offset) value = value + offset ≡ cfa
+Means entry cfa Other value = Unit {0}
+
+-- a fact says what is so: each register holds what its source says, and sp lies where the depth says
+pub record Describes (entry : ℕ → ℕ) (cfa : ℕ) (f : Fact) (regs : Regs) : Type 0 where
+  pub long : length f.regs ≡ 14
+  pub sources : (k : ℕ) → Means entry cfa (source f k) (reg regs k)
+  pub sp : f.below ≡ false → reg regs 13 + f.depth ≡ cfa
+
+-- registers of 32 bits, and a CFA with room for the deepest frame below it
+pub record IsRoomy (cfa : ℕ) (regs : Regs) : Type 0 where
+  pub count : length regs.r ≡ 15
+  pub words : (k : ℕ) → reg regs k < 2 ^ 32
+  pub room : DEEPEST ≤ cfa
+  pub top : cfa < 2 ^ 32
+
+-- the low register that an instruction of the data group works on
+abbrev pub works_on : Instr → Option ℕ
+works_on (ShiftImm op d m n) = Some d
+works_on (AddSubReg sub d n m) = Some d
+works_on (AddSubImm3 sub d n imm) = Some d
+works_on (Imm8 op d imm) = Some d
+works_on (Alu op d m) = Some d
+works_on (Adr d off) = Some d
+works_on (AddRdSp d (pos off)) = Some d
+works_on (Extend op d m) = Some d
+works_on (Rev op d m) = Some d
+works_on i = None
+
+-- Where a fact describes the registers before such an instruction, the fact behind it describes those that it leaves.
+abbrev pub DataIsDescribed : Type 0
+DataIsDescribed = (entry : ℕ → ℕ) (cfa : ℕ) (p : Prologue) (lowers : Bool) (at : ℕ) (i : Instr) (d : ℕ) (f g : Fact) (regs : Regs)
+    → works_on i ≡ Some d → d < 8 → IsRoomy cfa regs → Describes entry cfa f regs → effect p lowers at i f ≡ Some g
+    → Describes entry cfa g (data_effect i regs)

@@ -1,0 +1,102 @@
+-- A function's prologue: the straight run from its entry, and the words that its PUSHes save registers in.
+use Rattle.std.specs.Prelude.{ℕ, ◌+◌, ◌*◌, ◌%◌, ◌^◌, ◌==◌, ◌&&◌, ◌||◌, not, Bool, true, false, nat_lt, nat_le, if◌then◌else◌, List, [], ◌∷◌, length, slice_set, replicate, Option, Some, None, option_map, option_and_then}
+use Rattle.std.specs.List.{list_any}
+use Rattle.std.specs.Option.{option_map_or}
+use Rattle.thumb_core.specs.Words.{listed}
+use Rattle.thumb_isa.specs.declared.instr.Instr.{Instr}
+use Rattle.thumb_isa.specs.declared.instr.Instr.TheVariants.{ShiftImm, AddSubReg, AddSubImm3, Imm8, Alu, AddHigh, CmpHigh, MovHigh, Bx, Blx, LdrLit, MemReg, MemImm, MemSp, Adr, AddRdSp, AddSp, SubSp, Extend, Rev, Push, Pop, Hint, Stm, Ldm, BCond, Svc, B, Bl, Barrier}
+use Rattle.frame_facts.specs.declared.facts.Source.{Source}
+use Rattle.frame_facts.specs.declared.facts.Source.TheVariants.{Entry, SpAt, Other}
+use Rattle.frame_facts.specs.declared.facts.Fact.{Fact}
+use Rattle.frame_facts.specs.declared.facts.TheConstants.{DEEPEST}
+use Rattle.frame_facts.specs.declared.saves.Save.{Save}
+use Rattle.frame_facts.specs.declared.saves.Prologue.{Prologue}
+use Rattle.frame_facts.specs.declared.saves.TheConstants.{MOST_SAVES}
+use Rattle.frame_facts.specs.declared.straight.Straight.{Straight}
+use Rattle.frame_facts.specs.Facts.{source, entered}
+use Rattle.frame_facts.specs.After.{effect}
+
+-- r4 to r11 and lr are the caller's
+abbrev pub is_callers : ℕ → Bool
+is_callers reg = (nat_le 4 reg && nat_lt reg 12) || (reg == 14)
+
+-- a register that the run may write: none of the caller's, and neither sp nor pc
+abbrev pub is_free : ℕ → Bool
+is_free reg = not (is_callers reg) && not (reg == 13) && not (reg == 15)
+
+-- An instruction that may stand in the run: no branch, call, gate or return; PUSH and SUB alone write sp, MOV and ADD from sp alone
+-- write a register that is the caller's.
+abbrev pub may_stand : Instr → Bool
+may_stand (ShiftImm op d m n) = is_free d
+may_stand (AddSubReg sub d n m) = is_free d
+may_stand (AddSubImm3 sub d n imm) = is_free d
+may_stand (Imm8 op d imm) = (op == 1) || is_free d
+may_stand (Alu op d m) = (op == 8) || (op == 10) || (op == 11) || is_free d
+may_stand (AddHigh d m) = is_free d
+may_stand (CmpHigh n m) = true
+may_stand (MovHigh d m) = not (d == 13) && not (d == 15)
+may_stand (Bx m) = false
+may_stand (Blx m) = false
+may_stand (LdrLit t off) = is_free t
+may_stand (MemReg op t n m) = nat_lt op 3 || is_free t
+may_stand (MemImm op t n off) = not ((op == 1) || (op == 3) || (op == 5)) || is_free t
+may_stand (MemSp load t off) = not load || is_free t
+may_stand (Adr d off) = is_free d
+may_stand (AddRdSp d off) = true
+may_stand (AddSp off) = false
+may_stand (SubSp off) = true
+may_stand (Extend op d m) = is_free d
+may_stand (Rev op d m) = is_free d
+may_stand (Push list) = true
+may_stand (Pop list) = false
+may_stand (Hint n) = true
+may_stand (Stm n list) = is_free n
+may_stand (Ldm n list) = is_free n && not (list_any (λ reg. not (is_free reg)) (listed list))
+may_stand (BCond cc off) = false
+may_stand (Svc imm) = false
+may_stand (B off) = false
+may_stand (Bl off) = false
+may_stand (Barrier op option) = true
+
+-- a word at an offset saves a register where the value that it holds is the entry's of one that is the caller's
+abbrev pub saved : ℕ → Source → Option Save
+saved offset (Entry k) = if is_callers k then Some (record { reg = k; offset = offset }) else None
+saved offset (SpAt at) = None
+saved offset Other = None
+
+-- a save more, where it isn't one too many
+abbrev pub with_save : Option Save → Prologue → Option Prologue
+with_save None p = Some p
+with_save (Some s) p = if nat_lt p.count MOST_SAVES then Some (record p { count = p.count + 1; saves = slice_set p.saves p.count s }) else None
+
+-- the saves of a PUSH, in rising order of offset: the word of its lowest register lies deepest
+abbrev pub with_pushed : Prologue → Fact → List ℕ → Option Prologue
+with_pushed p f [] = Some p
+with_pushed p f (reg ∷ more) = option_and_then (with_save (saved (f.depth + 4 * length (reg ∷ more)) (source f reg))) (with_pushed p f more)
+
+abbrev pub pushed_by : Straight → Instr → Option Prologue
+pushed_by s (Push list) = with_pushed s.prologue s.fact (listed list)
+pushed_by s i = Some s.prologue
+
+-- the run with its end behind an instruction of so many bytes
+abbrev pub ended : Straight → Instr → ℕ → Prologue → Option Straight
+ended s i size p =
+    let q : Prologue = record p { end = (s.prologue.end + size) % 2 ^ 32 } in
+    option_map (λ f. record { fact = f; prologue = q }) (effect q false s.prologue.end i s.fact)
+
+-- the run with an instruction more, where it may stand there; of every run from an entry the depth is one
+abbrev pub taken : Straight → Instr → ℕ → Option Straight
+taken s i size = if nat_le s.fact.depth DEEPEST && may_stand i then option_and_then (ended s i size) (pushed_by s i) else None
+
+-- at the entry it has none
+abbrev pub begun : ℕ → Straight
+begun start = record { fact = entered; prologue = record { end = start; count = 0; saves = replicate 16 (record { reg = 0; offset = 0 }) } }
+
+-- The prologue of a function whose entry stands at an address, by the instructions from there on with their sizes, up to the first that
+-- isn't one or that a branch or a pad leads to: as many as may stand in it.
+abbrev pub run_on : Straight → List (Instr × ℕ) → Straight
+run_on s [] = s
+run_on s (line ∷ more) = option_map_or (λ t. run_on t more) (taken s line.0 line.1) s
+
+abbrev pub prologue_of : ℕ → List (Instr × ℕ) → Prologue
+prologue_of start lines = (run_on (begun start) lines).prologue

@@ -1,0 +1,203 @@
+//! The straight run from a function's entry, whose PUSHes save registers. docs/acceptance.md, "The prologue".
+ghost use Rattle.std.specs.Prelude.{◌≡◌, ◌+◌, ◌*◌, ◌<◌, ◌≤◌, ◌^◌, length, not, option_and_then};
+ghost use Rattle.std.specs.List.{list_any};
+ghost use Rattle.thumb_core.specs.Words.{listed};
+ghost use Rattle.frame_facts.specs.Prologues.{is_callers, is_free, may_stand, saved, with_save, with_pushed, pushed_by, taken, begun};
+
+use crate::effects::effect;
+use crate::facts::{DEEPEST, Fact, Source, entry_fact};
+use crate::saves::{MOST_SAVES, Prologue, Save};
+use thumb_isa::instr::Instr;
+
+/// The run so far: the fact behind it, and the prologue that it is.
+#[derive(Clone, Copy, PartialEq, Eq, Debug)]
+pub struct Straight {
+    /// What holds behind the run.
+    pub fact: Fact,
+    /// The prologue; it ends behind the run.
+    pub prologue: Prologue,
+}
+
+/// Whether a register is the caller's: r4 to r11 and lr.
+fn is_callers(reg: u8) -> bool
+    ensures { result ≡ is_callers reg }
+{
+    (4 <= reg && reg < 12) || reg == 14
+}
+
+/// Whether the run may write a register.
+fn is_free(reg: u8) -> bool
+    ensures { result ≡ is_free reg }
+{
+    !is_callers(reg) && reg != 13 && reg != 15
+}
+
+/// Whether the run may write the registers of a list.
+fn all_free(list: u16) -> bool
+    ensures { result ≡ not (list_any (λ reg. not (is_free reg)) (listed list)) }
+{
+    for k in 0..16u8 {
+        if (list >> k) & 1 == 1 {
+            if !is_free(k) {
+                return false;
+            }
+        }
+    }
+    true
+}
+
+/// Whether an instruction may stand in the run.
+fn may_stand(i: &Instr) -> bool
+    ensures { result ≡ may_stand i.now }
+{
+    match *i {
+        Instr::ShiftImm { d, .. } => is_free(d),
+        Instr::AddSubReg { d, .. } => is_free(d),
+        Instr::AddSubImm3 { d, .. } => is_free(d),
+        Instr::Imm8 { op, d, .. } => op == 1 || is_free(d),
+        Instr::Alu { op, d, .. } => op == 8 || op == 10 || op == 11 || is_free(d),
+        Instr::AddHigh { d, .. } => is_free(d),
+        Instr::CmpHigh { .. } => true,
+        Instr::MovHigh { d, .. } => d != 13 && d != 15,
+        Instr::Bx { .. } => false,
+        Instr::Blx { .. } => false,
+        Instr::LdrLit { t, .. } => is_free(t),
+        Instr::MemReg { op, t, .. } => op < 3 || is_free(t),
+        Instr::MemImm { op, t, .. } => !(op == 1 || op == 3 || op == 5) || is_free(t),
+        Instr::MemSp { load, t, .. } => !load || is_free(t),
+        Instr::Adr { d, .. } => is_free(d),
+        Instr::AddRdSp { .. } => true,
+        Instr::AddSp { .. } => false,
+        Instr::SubSp { .. } => true,
+        Instr::Extend { d, .. } => is_free(d),
+        Instr::Rev { d, .. } => is_free(d),
+        Instr::Push { .. } => true,
+        Instr::Pop { .. } => false,
+        Instr::Hint { .. } => true,
+        Instr::Stm { n, .. } => is_free(n),
+        Instr::Ldm { n, list } => is_free(n) && all_free(list),
+        Instr::BCond { .. } => false,
+        Instr::Svc { .. } => false,
+        Instr::B { .. } => false,
+        Instr::Bl { .. } => false,
+        Instr::Barrier { .. } => true,
+    }
+}
+
+/// The save that a word at an offset is, where it is one.
+fn saved(offset: u32, held: Source) -> Option<Save>
+    ensures { result ≡ saved offset held }
+{
+    match held {
+        Source::Entry(reg) => {
+            if is_callers(reg) {
+                Some(Save { reg, offset })
+            } else {
+                None
+            }
+        }
+        Source::SpAt(_) | Source::Other => None,
+    }
+}
+
+/// The prologue with a save more, where it isn't one too many.
+fn with_save(p: Option<Prologue>, save: Option<Save>) -> Option<Prologue>
+    ensures { result ≡ option_and_then (with_save save) p }
+{
+    let mut grown = p?;
+    if let Some(save) = save {
+        if grown.count >= MOST_SAVES {
+            return None;
+        }
+        grown.saves[grown.count as usize] = save;
+        grown.count += 1;
+    }
+    Some(grown)
+}
+
+/// The prologue with the saves of a PUSH, where they aren't too many.
+fn with_pushed(p: &Prologue, fact: &Fact, list: u16) -> Option<Prologue>
+    requires { fact.now.depth ≤ DEEPEST }
+    ensures { result ≡ with_pushed p.now fact.now (listed list) }
+{
+    let mut grown = Some(*p);
+    let mut offset = fact.depth;
+    for n in 0..16u8 {
+        let k = 15 - n;
+        if (list >> k) & 1 == 1 {
+            offset += 4;
+            grown = with_save(grown, saved(offset, fact.source(k)));
+        }
+    }
+    grown
+}
+
+impl Straight {
+    /// The run at a function's entry, which stands at the address `start`: it has no instruction.
+    pub fn begin(start: u32) -> Straight
+        ensures { result ≡ begun start }
+    {
+        Straight {
+            fact: entry_fact(),
+            prologue: Prologue {
+                end: start,
+                count: 0,
+                saves: [Save { reg: 0, offset: 0 }; 16],
+            },
+        }
+    }
+
+    /// The prologue with what an instruction saves, where that isn't too much.
+    fn pushed_by(&self, i: &Instr) -> Option<Prologue>
+        requires { self.now.fact.depth ≤ DEEPEST }
+        ensures { result ≡ pushed_by self.now i.now }
+    {
+        match *i {
+            Instr::Push { list } => with_pushed(&self.prologue, &self.fact, list),
+            Instr::ShiftImm { .. }
+            | Instr::AddSubReg { .. }
+            | Instr::AddSubImm3 { .. }
+            | Instr::Imm8 { .. }
+            | Instr::Alu { .. }
+            | Instr::AddHigh { .. }
+            | Instr::CmpHigh { .. }
+            | Instr::MovHigh { .. }
+            | Instr::Bx { .. }
+            | Instr::Blx { .. }
+            | Instr::LdrLit { .. }
+            | Instr::MemReg { .. }
+            | Instr::MemImm { .. }
+            | Instr::MemSp { .. }
+            | Instr::Adr { .. }
+            | Instr::AddRdSp { .. }
+            | Instr::AddSp { .. }
+            | Instr::SubSp { .. }
+            | Instr::Extend { .. }
+            | Instr::Rev { .. }
+            | Instr::Pop { .. }
+            | Instr::Hint { .. }
+            | Instr::Stm { .. }
+            | Instr::Ldm { .. }
+            | Instr::BCond { .. }
+            | Instr::Svc { .. }
+            | Instr::B { .. }
+            | Instr::Bl { .. }
+            | Instr::Barrier { .. } => Some(self.prologue),
+        }
+    }
+
+    /// The run with an instruction more, of `size` bytes, that stands behind it; `None` where the prologue ends before it. That nothing
+    /// branches to one of its halfwords and that no pad stands there is for the caller to see.
+    pub fn taken(&self, i: &Instr, size: u32) -> Option<Straight>
+        ensures { result ≡ taken self.now i.now size }
+    {
+        if self.fact.depth > DEEPEST || !may_stand(i) {
+            return None;
+        }
+        let mut prologue = self.pushed_by(i)?;
+        let at = self.prologue.end;
+        prologue.end = at.wrapping_add(size);
+        let fact = effect(&self.fact, i, at, &prologue, false)?;
+        Some(Straight { fact, prologue })
+    }
+}
