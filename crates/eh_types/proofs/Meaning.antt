@@ -1,14 +1,17 @@
 -- A graph that roots mean is the only one, has what they reach, and is none where a fault is shown.
-use Rattle.std.proofs.Common.{◌≡◌, ℕ, ◌+◌, ◌<◌, ◌≤◌, true, false, nat_eq, List, [], ◌∷◌, ◌++◌, Option, Some, None, IsSome, Ok, Err, refl, sym, ◌∙◌, ap, inl, inr, arith}
+use Rattle.std.proofs.Common.{All, ◌≡◌, ℕ, ◌+◌, ◌<◌, ◌≤◌, true, false, nat_eq, List, [], ◌∷◌, ◌++◌, Option, Some, None, IsSome, Ok, Err, refl, sym, ◌∙◌, ap, inl, inr, arith}
 use Rattle.std.specs.Prelude.{◌⊎◌, ◌↔◌}
 use Rattle.std.proofs.lemmas.Bool.Decides.{nat_tests}
 use Rattle.std.proofs.lemmas.Bool.{cases_lt, false≢true}
+use Rattle.std.proofs.lemmas.List.Elements.{All-nil, All-cons}
 use Rattle.elf_image.specs.Image.{Image}
+use Rattle.eh_types.specs.declared.kind.Base.{Base}
+use Rattle.eh_types.specs.declared.kind.TypeKind.TheVariants.{Pointer}
 use Rattle.eh_types.specs.declared.fault.TypeFault.{TypeFault}
 use Rattle.eh_types.specs.declared.fault.TypeFault.TheVariants.{Unreadable, Writable, NameTooLong, Cyclic, TooManyPaths, OutOfMemory}
 use Rattle.eh_types.specs.Graph.{Row, Rise, row_of, bases_of, paths_within, path_count, IsCounted}
 use Rattle.eh_types.specs.Types.{type_at}
-use Rattle.eh_types.specs.Meant.{Among, types_of, Reached, root, step, IsGraph, bases_by, IsBaseOf, one, more, Shows}
+use Rattle.eh_types.specs.Meant.{Among, types_of, pointees, Reached, root, step, IsGraph, bases_by, IsBaseOf, one, more, Shows}
 use Rattle.eh_types.proofs.Lookups.{none_below}
 use Rattle.eh_types.proofs.Paths.{sum_same, term_below, paths_more, paths_settle, paths_same}
 
@@ -178,3 +181,14 @@ fault_no_graph image roots fault s g h = none_shown image roots g h fault s
 
 pub own_base_none : (image : Image) (roots : List ℕ) (g : List Row) → IsGraph image roots g → (a : ℕ) → IsSome (row_of g a) → IsBaseOf image a a → ⊥
 own_base_none image roots g h a held own = none_shown image roots g h (Cyclic a) (h.reached a held, own)
+
+all_held : (P : ℕ → Type 0) (bs : List Base) → ((a : ℕ) → Among (types_of bs) a → P a) → All (λ (b : Base). P b.ty) bs
+all_held P [] h = All-nil (λ (b : Base). P b.ty)
+all_held P (b ∷ bs) h = All-cons (λ (b : Base). P b.ty) b bs (h b.ty (inl refl)) (all_held P bs (λ a in_bs. h a (inr in_bs)))
+
+pub leads_held : (image : Image) (roots : List ℕ) (g : List Row) → IsGraph image roots g → (a : ℕ) (r : Row) → row_of g a ≡ Some r
+    → All (λ (b : Base). IsSome (row_of g b.ty)) r.bases × ((flags pointee : ℕ) → r.kind ≡ Pointer flags pointee → IsSome (row_of g pointee))
+leads_held image roots g h a r e = (
+  all_held (λ b. IsSome (row_of g b)) r.bases (λ b among. h.steps a b r e (among_left (types_of r.bases) (pointees r.kind) b among)),
+  λ flags pointee k. h.steps a pointee r e (among_right (types_of r.bases) (pointees r.kind) pointee (rw k (inl refl))),
+)

@@ -4,6 +4,7 @@ use Rattle.elf_image.specs.Segments.{Segment}
 use Rattle.elf_image.specs.Image.{Image}
 use Rattle.eh_types.specs.declared.fault.TypeFault.{TypeFault}
 use Rattle.eh_types.specs.declared.kind.Base.{Base}
+use Rattle.eh_types.specs.declared.kind.TypeKind.TheVariants.{Pointer}
 use Rattle.eh_types.specs.declared.types.TheConstants.{NAME_LIMIT, NAME}
 use Rattle.eh_types.specs.declared.words.TheConstants.{WORD_SIZE}
 use Rattle.eh_types.specs.Graph.{Row, row_of}
@@ -18,6 +19,12 @@ GraphsAreOne = (image : Image) (roots : List ℕ) (g h : List Row) → IsGraph i
 -- it has exactly the types that they reach
 abbrev pub GraphsHoldWhatIsReached : Type 0
 GraphsHoldWhatIsReached = (image : Image) (roots : List ℕ) (g : List Row) → IsGraph image roots g → (a : ℕ) → IsSome (row_of g a) ↔ Reached image roots a
+
+-- with a class it has its bases, and with a pointer its pointee
+abbrev pub BasesAndPointeesAreHeld : Type 0
+BasesAndPointeesAreHeld =
+    (image : Image) (roots : List ℕ) (g : List Row) → IsGraph image roots g → (a : ℕ) (r : Row) → row_of g a ≡ Some r
+    → All (λ b. IsSome (row_of g b.ty)) r.bases × ((flags pointee : ℕ) → r.kind ≡ Pointer flags pointee → IsSome (row_of g pointee))
 
 -- no type of it is its own base, through any steps
 abbrev pub NoneIsItsOwnBase : Type 0

@@ -1,5 +1,5 @@
 //! What holds of every graph that is read: laws above what the words say of each type (docs/types.md).
-ghost use Rattle.eh_types.specs.Laws.{BasesAreRead, WordsAreFixed, NamesAreEnded, GraphsAreOne, GraphsHoldWhatIsReached, NoneIsItsOwnBase, FaultsHaveNoGraph};
+ghost use Rattle.eh_types.specs.Laws.{BasesAndPointeesAreHeld, BasesAreRead, WordsAreFixed, NamesAreEnded, GraphsAreOne, GraphsHoldWhatIsReached, NoneIsItsOwnBase, FaultsHaveNoGraph};
 
 /// Roots mean at most one graph.
 pub fn roots_mean_one_graph()
@@ -9,6 +9,11 @@ pub fn roots_mean_one_graph()
 /// It has exactly the types that the roots reach.
 pub fn graphs_hold_what_is_reached()
     ensures { GraphsHoldWhatIsReached }
+{}
+
+/// With a class it has its bases, and with a pointer its pointee.
+pub fn bases_and_pointees_are_held()
+    ensures { BasesAndPointeesAreHeld }
 {}
 
 /// No type of it is its own base, through any steps.
