@@ -1,14 +1,15 @@
 -- The instructions that work on registers keep what a fact says of them.
-use Rattle.std.proofs.Common.{ℕ, ◌≡◌, ◌<◌, ◌≤◌, ◌+◌, ◌-◌, ◌%◌, ◌^◌, length, Bool, true, false, not, cond, eqb, ltb, leb, ◌&&◌, ◌||◌, Option, Some, None, sym, ◌∙◌, ap, subst, refl, ⊎_elim, arith, set, get_or, ℤ, pos, negsuc}
+use Rattle.std.proofs.Common.{ℕ, ◌≡◌, ◌<◌, ◌≤◌, ◌+◌, ◌-◌, ◌%◌, ◌^◌, length, Bool, true, false, not, cond, eqb, ltb, leb, ◌&&◌, ◌||◌, Option, Some, None, sym, ◌∙◌, ap, subst, refl, ⊎_elim, arith, set, get_or, ℤ, pos, negsuc, ◌⊎◌, List, [], ◌∷◌, inl, inr}
 use Rattle.std.specs.Prelude.{◌+ℤ◌, ◌-ℤ◌}
+use Rattle.std.specs.List.{list_any}
 use Rattle.std.specs.Option.{option_map_or}
-use Rattle.std.proofs.lemmas.Bool.{cases_eq, eqb-true, lt-ltb, leb-true, and_parts, false≢true}
+use Rattle.std.proofs.lemmas.Bool.{cases_eq, eqb-true, lt-ltb, leb-true, and_parts, false≢true, cases_Bool, cases_lt}
 use Rattle.std.proofs.lemmas.Option.{same_Some, none-some}
 use Rattle.std.proofs.lemmas.Int.{ints}
-use Rattle.std.proofs.lemmas.List.{get_or-set_same, get_or-set_other, length-set}
+use Rattle.std.proofs.lemmas.List.{get_or-set_same, get_or-set_other, get_or_past, length-set}
 use Rattle.thumb_isa.specs.declared.instr.Instr.TheVariants.{ShiftImm, AddSubReg, AddSubImm3, Imm8, Alu, Adr, AddRdSp, Extend, Rev}
 use Rattle.thumb_core.specs.declared.regs.Regs.{Regs}
-use Rattle.thumb_core.specs.Registers.{reg, word_in, with_flags}
+use Rattle.thumb_core.specs.Registers.{reg, word_in, with_flags, operand, pc_read, with_next, with_reg, with_pc}
 use Rattle.thumb_core.specs.Arith.{sum_or_difference, sum_of, difference_of}
 use Rattle.thumb_core.specs.Shift.{shift_of}
 use Rattle.thumb_core.specs.Alu.{alu_of}
@@ -17,10 +18,10 @@ use Rattle.frame_facts.specs.declared.facts.Source.{Source}
 use Rattle.frame_facts.specs.declared.facts.Source.TheVariants.{Entry, SpAt, Other}
 use Rattle.frame_facts.specs.declared.facts.Fact.{Fact}
 use Rattle.frame_facts.specs.declared.facts.TheConstants.{DEEPEST}
-use Rattle.frame_facts.specs.Facts.{source, slot, with_source, lost, sp_at, sp_plus, moved}
+use Rattle.frame_facts.specs.Facts.{source, slot, with_source, lost, forgotten, sp_at, sp_plus, moved}
 use Rattle.frame_facts.specs.Shifts.{shift_imm}
-use Rattle.frame_facts.specs.Data.{add_sub_imm3, imm8, alu}
-use Rattle.frame_facts.specs.Machine.{Means, Describes, IsRoomy, DataIsDescribed}
+use Rattle.frame_facts.specs.Data.{add_sub_imm3, imm8, alu, copied, sp_set}
+use Rattle.frame_facts.specs.Machine.{Means, Describes, IsRoomy, DataIsDescribed, MovesAreDescribed, ForgettingIsDescribed}
 
 -- ---- places of registers
 
@@ -198,3 +199,81 @@ data_described entry cfa p lowers at (AddRdSp d (negsuc off)) d' f g regs on low
 data_described entry cfa p lowers at (Extend op d m) d' f g regs on low roomy x e = to_g entry cfa (data_effect (Extend op d m) regs) (lost d f) g e (untold entry cfa f regs (data_effect (Extend op d m) regs) d _ (for_d (λ k. k < 8) d d' on low) roomy x refl)
 data_described entry cfa p lowers at (Rev op d m) d' f g regs on low roomy x e = to_g entry cfa (data_effect (Rev op d m) regs) (lost d f) g e (untold entry cfa f regs (data_effect (Rev op d m) regs) d _ (for_d (λ k. k < 8) d d' on low) roomy x refl)
 data_described entry cfa p lowers at i d' f g regs on low roomy x e = absurd (none-some d' on)
+
+-- ---- moves
+
+module _ (entry : ℕ → ℕ) (cfa d m : ℕ) (f : Fact) (regs : Regs) (low : d < 8) (roomy : IsRoomy cfa regs) (x : Describes entry cfa f regs) where
+  sp_copied : (w : ℕ) → w ≡ reg regs 13 % 2 ^ 32 → Means entry cfa (sp_plus f (pos 0)) w
+  sp_copied w e = split f.below refl
+    where
+      split : (b : Bool) → f.below ≡ b → Means entry cfa (cond b Other (sp_at (pos f.depth -ℤ pos 0))) w
+      split true h = tt
+      split false h = at_place entry cfa (pos f.depth -ℤ pos 0) w (λ n z deep. let sum : n ≡ f.depth = omega (arith, ints, z) in omega (arith, roomy.words 13, e, x.sp h, sum))
+
+  pc_unknown : m ≡ 15 → source f m ≡ Other
+  pc_unknown e = ap (source f) e ∙ get_or_past f.regs 14 Other (let l : length f.regs ≤ 14 = omega (arith, x.long) in l)
+
+  copy_means : Means entry cfa (copied m f) (word_in d (operand regs m))
+  copy_means = split (eqb m 13) (eqb m 15) refl refl
+    where
+      split : (a b : Bool) → eqb m 13 ≡ a → eqb m 15 ≡ b → Means entry cfa (cond a (sp_plus f (pos 0)) (source f m)) (word_in d (cond b (pc_read regs) (reg regs m)))
+      split true true p q = absurd (omega (arith, eqb-true m 13 p, eqb-true m 15 q))
+      split true false p q = sp_copied (word_in d (reg regs m)) (low_word entry cfa d (reg regs m) low ∙ ap (λ k. reg regs k % 2 ^ 32) (eqb-true m 13 p))
+      split false true p q = subst (λ s. Means entry cfa s (word_in d (pc_read regs))) (sym (pc_unknown (eqb-true m 15 q))) tt
+      split false false p q = kept entry cfa (source f m) (reg regs m) (word_in d (reg regs m)) (roomy.words m) (low_word entry cfa d (reg regs m) low) (x.sources m)
+
+pub moves_described : MovesAreDescribed
+moves_described entry cfa p lowers at d m size f g regs low roomy x e =
+    by_d (eqb d 13) (eqb d 15) refl refl e
+  where
+    done : Some (with_source f d (copied m f)) ≡ Some g → Describes entry cfa g (with_next size (with_reg regs d (operand regs m)))
+    done h = to_g entry cfa (with_next size (with_reg regs d (operand regs m))) (with_source f d (copied m f)) g h
+        (written entry cfa f regs (with_next size (with_reg regs d (operand regs m))) d (copied m f) (word_in d (operand regs m)) low roomy x refl (copy_means entry cfa d m f regs low roomy x))
+
+    by_d : (a b : Bool) → eqb d 13 ≡ a → eqb d 15 ≡ b
+        → cond a (cond lowers (Some (let r : Fact = record f { below = true } in r)) (sp_set p (copied m f) f)) (Some (with_source f d (copied m f))) ≡ Some g
+        → Describes entry cfa g (cond b (with_pc regs (operand regs m)) (with_next size (with_reg regs d (operand regs m))))
+    by_d true b q r h = absurd (omega (arith, low, eqb-true d 13 q))
+    by_d false true q r h = absurd (omega (arith, low, eqb-true d 15 r))
+    by_d false false q r h = done h
+
+-- ---- forgetting
+
+lost_cases : (f : Fact) (r k : ℕ) → (source (lost r f) k ≡ Other) ⊎ ((source (lost r f) k ≡ source f k) × (k ≡ r → ⊥))
+lost_cases f r k = ⊎_elim
+    (λ (e : slot k ≡ slot r). inl (ap (λ j. get_or (lost r f).regs j Other) e ∙ ⊎_elim
+    (λ (l : slot r < length f.regs). get_or-set_same f.regs (slot r) Other Other l)
+    (λ (l : length f.regs ≤ slot r). get_or_past (lost r f).regs (slot r) Other (omega (arith, length-set f.regs (slot r) Other, l)))
+    (cases_lt (slot r) (length f.regs))))
+    (λ (n : slot k ≡ slot r → ⊥). inr (get_or-set_other f.regs (slot r) (slot k) Other Other n, λ e. n (ap slot e)))
+    (cases_eq (slot k) (slot r))
+
+differs : (a b : ℕ) → (b ≡ a → ⊥) → eqb a b ≡ false
+differs a b n = ⊎_elim (λ (e : eqb a b ≡ true). absurd (n (sym (eqb-true a b e)))) (λ (e : eqb a b ≡ false). e) (cases_Bool (eqb a b))
+
+forgotten_cases : (xs : List ℕ) (f : Fact) (k : ℕ) → (source (forgotten xs f) k ≡ Other) ⊎ ((source (forgotten xs f) k ≡ source f k) × (list_any (λ j. eqb j k) xs ≡ false))
+forgotten_cases [] f k = inr (refl, refl)
+forgotten_cases (r ∷ xs) f k = ⊎_elim
+    (λ (e : source (forgotten xs (lost r f)) k ≡ Other). inl e)
+    (λ (w : (source (forgotten xs (lost r f)) k ≡ source (lost r f) k) × (list_any (λ j. eqb j k) xs ≡ false)). ⊎_elim
+    (λ (e : source (lost r f) k ≡ Other). inl (w.0 ∙ e))
+    (λ (v : (source (lost r f) k ≡ source f k) × (k ≡ r → ⊥)). inr (w.0 ∙ v.0, ap (λ b. b || list_any (λ j. eqb j k) xs) (differs r k v.1) ∙ w.1))
+    (lost_cases f r k))
+    (forgotten_cases xs (lost r f) k)
+
+forgotten_same : (xs : List ℕ) (f : Fact) → (length (forgotten xs f).regs ≡ length f.regs) × ((forgotten xs f).below ≡ f.below) × ((forgotten xs f).depth ≡ f.depth)
+forgotten_same [] f = (refl, refl, refl)
+forgotten_same (r ∷ xs) f = let w = forgotten_same xs (lost r f) in (w.0 ∙ length-set f.regs (slot r) Other, w.1, w.2)
+
+pub forgetting_described : ForgettingIsDescribed
+forgetting_described entry cfa xs f regs new x same keeps =
+    let w = forgotten_same xs f in
+    record {
+      long = w.0 ∙ x.long;
+      sources = λ k. ⊎_elim
+          (λ (e : source (forgotten xs f) k ≡ Other). subst (λ s. Means entry cfa s (reg new k)) (sym e) tt)
+          (λ (v : (source (forgotten xs f) k ≡ source f k) × (list_any (λ j. eqb j k) xs ≡ false)).
+          subst (λ s. Means entry cfa s (reg new k)) (sym v.0) (subst (λ u. Means entry cfa (source f k) u) (sym (same k v.1)) (x.sources k)))
+          (forgotten_cases xs f k);
+      sp = λ b. omega (arith, same 13 keeps, w.2, x.sp (sym w.1 ∙ b));
+    }

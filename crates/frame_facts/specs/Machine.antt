@@ -1,16 +1,18 @@
 -- What a fact says of the machine's registers, and that the effects of the instructions that work on registers keep it so.
-use Rattle.std.specs.Prelude.{ℕ, ◌≡◌, ◌<◌, ◌≤◌, ◌+◌, ◌^◌, Bool, false, length, Option, Some, None, pos}
+use Rattle.std.specs.Prelude.{ℕ, ◌≡◌, ◌<◌, ◌≤◌, ◌+◌, ◌^◌, ◌==◌, Bool, false, List, length, Option, Some, None, pos}
+use Rattle.std.specs.List.{list_any}
 use Rattle.thumb_isa.specs.declared.instr.Instr.{Instr}
-use Rattle.thumb_isa.specs.declared.instr.Instr.TheVariants.{ShiftImm, AddSubReg, AddSubImm3, Imm8, Alu, Adr, AddRdSp, Extend, Rev}
+use Rattle.thumb_isa.specs.declared.instr.Instr.TheVariants.{MovHigh, ShiftImm, AddSubReg, AddSubImm3, Imm8, Alu, Adr, AddRdSp, Extend, Rev}
 use Rattle.thumb_core.specs.declared.regs.Regs.{Regs}
 use Rattle.thumb_core.specs.Registers.{reg}
+use Rattle.thumb_core.specs.Branch.{mov_high}
 use Rattle.thumb_core.specs.Data.{data_effect}
 use Rattle.frame_facts.specs.declared.facts.Source.{Source}
 use Rattle.frame_facts.specs.declared.facts.Source.TheVariants.{Entry, SpAt, Other}
 use Rattle.frame_facts.specs.declared.facts.Fact.{Fact}
 use Rattle.frame_facts.specs.declared.facts.TheConstants.{DEEPEST}
 use Rattle.frame_facts.specs.declared.saves.Prologue.{Prologue}
-use Rattle.frame_facts.specs.Facts.{source}
+use Rattle.frame_facts.specs.Facts.{source, forgotten}
 use Rattle.frame_facts.specs.After.{effect}
 
 -- what a source says of a register's value, by the registers at the entry and the CFA
@@ -50,3 +52,21 @@ abbrev pub DataIsDescribed : Type 0
 DataIsDescribed = (entry : ℕ → ℕ) (cfa : ℕ) (p : Prologue) (lowers : Bool) (at : ℕ) (i : Instr) (d : ℕ) (f g : Fact) (regs : Regs)
     → works_on i ≡ Some d → d < 8 → IsRoomy cfa regs → Describes entry cfa f regs → effect p lowers at i f ≡ Some g
     → Describes entry cfa g (data_effect i regs)
+
+-- So it is for MOV of any register to a low one.
+abbrev pub MovesAreDescribed : Type 0
+MovesAreDescribed = (entry : ℕ → ℕ) (cfa : ℕ) (p : Prologue) (lowers : Bool) (at d m size : ℕ) (f g : Fact) (regs : Regs)
+    → d < 8 → IsRoomy cfa regs → Describes entry cfa f regs → effect p lowers at (MovHigh d m) f ≡ Some g
+    → Describes entry cfa g (mov_high d m size regs)
+
+-- Where a fact describes registers, the fact that forgets some of them describes any that differ only in these, sp not among them: so a
+-- call and a gate may leave what they like in the registers that they may change.
+abbrev pub ForgettingIsDescribed : Type 0
+ForgettingIsDescribed = (entry : ℕ → ℕ) (cfa : ℕ) (forgets : List ℕ) (f : Fact) (regs new : Regs)
+    → Describes entry cfa f regs → ((k : ℕ) → list_any (λ j. j == k) forgets ≡ false → reg new k ≡ reg regs k) → list_any (λ j. j == 13) forgets ≡ false
+    → Describes entry cfa (forgotten forgets f) new
+
+pub record RegistersAreDescribed : Type 0 where
+  pub worked_on : DataIsDescribed
+  pub moves : MovesAreDescribed
+  pub forgetting : ForgettingIsDescribed

@@ -1,6 +1,6 @@
 //! What holds of effects, meetings and sites, whatever the facts. docs/acceptance.md, "Facts".
 ghost use Rattle.frame_facts.specs.Frames.{StandardFrames};
-ghost use Rattle.frame_facts.specs.Machine.{DataIsDescribed};
+ghost use Rattle.frame_facts.specs.Machine.{RegistersAreDescribed};
 ghost use Rattle.frame_facts.specs.Laws.{KeepVagueness, MeetingsAreLeast, HeightsFall, FactsFit};
 
 /// An instruction or a site that is fine by a vague fact is fine by a fact that is at most as vague, and leaves one that is.
@@ -29,8 +29,9 @@ pub fn standard_frames_agree()
     ensures { StandardFrames }
 {}
 
-/// Facts say what is so of the machine: where a fact describes the registers before an instruction that works on a low register, the fact
-/// behind it describes the registers that the core leaves.
-pub fn data_is_described()
-    ensures { DataIsDescribed }
+/// Facts say what is so of the machine's registers: where a fact describes them before an instruction that works on a low register, or a
+/// MOV to one, the fact behind it describes those that the core leaves; and a fact that forgets some registers describes any that differ
+/// only in these.
+pub fn registers_are_described()
+    ensures { RegistersAreDescribed }
 {}
