@@ -6,3 +6,4 @@ pub mod Unwinds
 pub mod Summing
 pub mod Near
 pub mod RecipeLaws
+pub mod Fresh

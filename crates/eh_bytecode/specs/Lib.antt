@@ -1,4 +1,6 @@
 pub mod Codes
 pub mod Meaning
+pub mod Once
 pub mod Recipe
 pub mod RecipeLaw
+pub mod Marks

@@ -6,10 +6,12 @@ ghost use Rattle.eh_bytecode.specs.RecipeLaw.{RecipesRun};
 
 pub mod codes;
 pub mod frame;
+pub mod once;
 pub mod recipe;
 
 pub use codes::{Codes, CodesFault};
 pub use frame::{UnwindEnd, Vrs, unwind};
+pub use once::pops_once;
 pub use recipe::{Recipe, RecipeFault, Src, summarise};
 
 /// Where codes have a recipe, running it on any registers and any memory is unwinding by the codes: the words that the codes load, in

@@ -2,7 +2,7 @@
 use eh_bus::bus::Bus;
 use eh_bus::fault::BusMemory;
 use eh_bus::flat::FlatBus;
-use eh_bytecode::{Codes, CodesFault, Recipe, RecipeFault, Src, UnwindEnd, Vrs, summarise, unwind};
+use eh_bytecode::{Codes, CodesFault, Recipe, RecipeFault, Src, UnwindEnd, Vrs, pops_once, summarise, unwind};
 use std::alloc::Global;
 use std::process::Abort;
 use std::test::Fail;
@@ -272,4 +272,34 @@ fn no_recipe(rt: HostRuntime) {
         assert_eq!(rt; recipe_of(word), Err(fault), "{word:08x}");
     }
     assert_eq!(rt; recipe_of(0x80B2_FF7E).map(|recipe| recipe.vsp), Ok(65_536));
+}
+
+/// Whether an inline entry's codes pop no register twice.
+fn pops_of(word: u32) -> Option<bool> {
+    match Codes::inline(word) {
+        Ok(codes) => Some(pops_once(&codes)),
+        Err(_fault) => None,
+    }
+}
+
+#[test]
+fn registers_popped_twice(rt: HostRuntime) {
+    for (word, once) in [
+        (0x80A8_B0B0u32, true),
+        (0x80A0_A0B0, false),
+        // r4 and lr, then r5; r7 and lr; r4
+        (0x80A8_8002, true),
+        (0x80A8_8408, false),
+        (0x80A0_8001, false),
+        // behind the end of the codes nothing is popped: finish, bytes that begin no code
+        (0x80A0_B0A0, true),
+        (0x80A0_FFA0, true),
+        // the stack pointer may be taken or moved between the two
+        (0x80A0_97A0, false),
+        (0x80A0_00A0, false),
+        (0x80A8_8000, true),
+        (0x80B0_B0B0, true),
+    ] {
+        assert_eq!(rt; pops_of(word), Some(once), "{word:08x}");
+    }
 }

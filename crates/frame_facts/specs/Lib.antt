@@ -1,0 +1,10 @@
+pub mod Access
+pub mod After
+pub mod Agrees
+pub mod Branches
+pub mod Data
+pub mod Facts
+pub mod Laws
+pub mod Lists
+pub mod Saves
+pub mod Shifts

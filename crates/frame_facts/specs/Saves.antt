@@ -1,0 +1,37 @@
+-- The saves of a prologue, and what a word of the stack holds by a fact.
+use Rattle.std.specs.Prelude.{ℕ, min, Bool, List, take, Option, find, count_by, nat_le, if◌then◌else◌, ℤ, pos, ◌+ℤ◌, option_map}
+use Rattle.std.specs.Ordering.{int_eq}
+use Rattle.std.specs.Option.{option_map_or}
+use Rattle.frame_facts.specs.declared.facts.Source.{Source}
+use Rattle.frame_facts.specs.declared.facts.Source.TheVariants.{Entry, Other}
+use Rattle.frame_facts.specs.declared.facts.Fact.{Fact}
+use Rattle.frame_facts.specs.declared.saves.Save.{Save}
+use Rattle.frame_facts.specs.declared.saves.Prologue.{Prologue}
+use Rattle.frame_facts.specs.Facts.{within}
+
+abbrev pub saves_of : Prologue → List Save
+saves_of p = take p.count p.saves
+
+-- how many saves lie at or above sp where it lies at a depth
+abbrev pub saves_within : Prologue → ℕ → ℕ
+saves_within p depth = count_by (λ (s : Save). nat_le s.offset depth) (saves_of p)
+
+-- a save lies at the word that is so many bytes above the CFA minus `at`
+abbrev pub lies_at : ℕ → ℤ → Save → Bool
+lies_at at offset s = int_eq (pos s.offset +ℤ offset) (pos at)
+
+-- what that word holds, where the first `kept` saves are still there
+abbrev pub word : Prologue → ℕ → ℕ → ℤ → Source
+word p kept at offset = option_map_or (λ (s : Save). Entry s.reg) (find (lies_at at offset) (take kept (saves_of p))) Other
+
+-- what a word holds that lies so many bytes above sp
+abbrev pub stack_word : Prologue → Fact → ℤ → Source
+stack_word p f offset = if f.below then Other else word p f.kept f.depth offset
+
+-- sp comes to lie at a depth: saves that lie below it are gone
+abbrev pub moved_to : Prologue → ℕ → Fact → Fact
+moved_to p depth f = record f { depth = depth; kept = min f.kept (saves_within p depth) }
+
+-- the same, where it is a depth
+abbrev pub to_depth : Prologue → ℤ → Fact → Option Fact
+to_depth p depth f = option_map (λ d. moved_to p d f) (within depth)

@@ -1,0 +1,124 @@
+//! Calls, gates, returns and branches to where a register says.
+ghost use Rattle.std.specs.Prelude.{◌≡◌, ◌≤◌, ◌<◌};
+ghost use Rattle.std.specs.List.{list_all};
+ghost use Rattle.thumb_core.specs.Words.{listed};
+ghost use Rattle.frame_facts.specs.Facts.{forgotten};
+ghost use Rattle.frame_facts.specs.Branches.{call_changes, gate_changes, kept_by_calls, is_indirect, return_to, holds_own, returns_well};
+
+use crate::facts::{Fact, Source, forget};
+use crate::lists;
+use crate::saves::Prologue;
+use thumb_isa::instr::Instr;
+
+/// What a call may change: r0 to r3, r12 and lr.
+pub const CALL_CHANGES: u16 = 0x500F;
+/// What a gate may change: r0 to r3 and r12.
+pub const GATE_CHANGES: u16 = 0x100F;
+
+/// A call, behind its return.
+pub(crate) fn call(fact: &Fact) -> Fact
+    ensures { result ≡ forgotten call_changes fact.now }
+{
+    forget(fact, CALL_CHANGES)
+}
+
+/// A gate, behind it.
+pub(crate) fn gate(fact: &Fact) -> Fact
+    ensures { result ≡ forgotten gate_changes fact.now }
+{
+    forget(fact, GATE_CHANGES)
+}
+
+/// Whether an instruction branches to where a register says and is no call and no return.
+pub(crate) fn is_indirect(fact: &Fact, i: &Instr) -> bool
+    ensures { result ≡ is_indirect i.now fact.now }
+{
+    match *i {
+        Instr::MovHigh { d, .. } | Instr::AddHigh { d, .. } => d == 15,
+        Instr::Bx { m } => !fact.source(m).is_entry(14),
+        Instr::ShiftImm { .. }
+        | Instr::AddSubReg { .. }
+        | Instr::AddSubImm3 { .. }
+        | Instr::Imm8 { .. }
+        | Instr::Alu { .. }
+        | Instr::CmpHigh { .. }
+        | Instr::Blx { .. }
+        | Instr::LdrLit { .. }
+        | Instr::MemReg { .. }
+        | Instr::MemImm { .. }
+        | Instr::MemSp { .. }
+        | Instr::Adr { .. }
+        | Instr::AddRdSp { .. }
+        | Instr::AddSp { .. }
+        | Instr::SubSp { .. }
+        | Instr::Extend { .. }
+        | Instr::Rev { .. }
+        | Instr::Push { .. }
+        | Instr::Pop { .. }
+        | Instr::Hint { .. }
+        | Instr::Stm { .. }
+        | Instr::Ldm { .. }
+        | Instr::BCond { .. }
+        | Instr::Svc { .. }
+        | Instr::B { .. }
+        | Instr::Bl { .. }
+        | Instr::Barrier { .. } => false,
+    }
+}
+
+/// Where a return goes to; `None` for an instruction that is none.
+pub(crate) fn return_to(p: &Prologue, fact: &Fact, i: &Instr) -> Option<Source>
+    ensures { result ≡ return_to p.now i.now fact.now }
+{
+    match *i {
+        Instr::Bx { m } => Some(fact.source(m)),
+        Instr::Pop { list } => lists::popped_pc(p, fact, list),
+        Instr::ShiftImm { .. }
+        | Instr::AddSubReg { .. }
+        | Instr::AddSubImm3 { .. }
+        | Instr::Imm8 { .. }
+        | Instr::Alu { .. }
+        | Instr::AddHigh { .. }
+        | Instr::CmpHigh { .. }
+        | Instr::MovHigh { .. }
+        | Instr::Blx { .. }
+        | Instr::LdrLit { .. }
+        | Instr::MemReg { .. }
+        | Instr::MemImm { .. }
+        | Instr::MemSp { .. }
+        | Instr::Adr { .. }
+        | Instr::AddRdSp { .. }
+        | Instr::AddSp { .. }
+        | Instr::SubSp { .. }
+        | Instr::Extend { .. }
+        | Instr::Rev { .. }
+        | Instr::Push { .. }
+        | Instr::Hint { .. }
+        | Instr::Stm { .. }
+        | Instr::Ldm { .. }
+        | Instr::BCond { .. }
+        | Instr::Svc { .. }
+        | Instr::B { .. }
+        | Instr::Bl { .. }
+        | Instr::Barrier { .. } => None,
+    }
+}
+
+/// Whether r4 to r11 hold their own values.
+fn all_own(fact: &Fact) -> bool
+    ensures { result ≡ list_all (holds_own fact.now) kept_by_calls }
+{
+    for reg in 4..12u8 {
+        if !fact.source(reg).is_entry(reg) {
+            return false;
+        }
+    }
+    true
+}
+
+/// Whether a return with this fact behind it leaves the frame as the caller wants it.
+pub(crate) fn returns_well(fact: &Fact, pc: Source) -> bool
+    ensures { result ≡ returns_well fact.now pc }
+{
+    fact.depth == 0 && !fact.below && all_own(fact) && pc.is_entry(14)
+}

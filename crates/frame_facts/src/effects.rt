@@ -1,0 +1,83 @@
+//! The effect of an instruction on a fact, and the causes that it can show. docs/acceptance.md, "Effects".
+ghost use Rattle.std.specs.Prelude.{◌≡◌};
+ghost use Rattle.frame_facts.specs.After.{effect, after_of};
+
+use crate::access::{mem_imm, mem_reg, mem_sp};
+use crate::branches::{call, gate, is_indirect, return_to, returns_well};
+use crate::cause::FrameCause;
+use crate::data::{add_high, add_sub_imm3, alu, imm8, mov_high};
+use crate::facts::{Fact, Source};
+use crate::lists::{ldm, pop, push};
+use crate::saves::Prologue;
+use crate::shifts::shift_imm;
+use thumb_isa::instr::Instr;
+
+/// The fact behind an instruction at the address `at`; `None` where sp is written as it may not be.
+pub(crate) fn effect(fact: &Fact, i: &Instr, at: u32, p: &Prologue, lowers: bool) -> Option<Fact>
+    ensures { result ≡ effect p.now lowers at i.now fact.now }
+{
+    match *i {
+        Instr::ShiftImm { op, d, m, n } => Some(shift_imm(fact, op, d, m, n)),
+        Instr::AddSubReg { d, .. } => Some(fact.with(d, Source::Other)),
+        Instr::AddSubImm3 { sub, d, n, imm } => Some(add_sub_imm3(fact, sub, d, n, imm)),
+        Instr::Imm8 { op, d, imm } => Some(imm8(fact, op, d, imm)),
+        Instr::Alu { op, d, .. } => Some(alu(fact, op, d)),
+        Instr::AddHigh { d, .. } => add_high(fact, d),
+        Instr::CmpHigh { .. } => Some(*fact),
+        Instr::MovHigh { d, m } => mov_high(p, fact, lowers, d, m),
+        Instr::Bx { .. } => Some(*fact),
+        Instr::Blx { .. } => Some(call(fact)),
+        Instr::LdrLit { t, .. } => Some(fact.with(t, Source::Other)),
+        Instr::MemReg { op, t, .. } => Some(mem_reg(fact, op, t)),
+        Instr::MemImm { op, t, .. } => Some(mem_imm(fact, op, t)),
+        Instr::MemSp { load, t, off } => Some(mem_sp(p, fact, load, t, off)),
+        Instr::Adr { d, .. } => Some(fact.with(d, Source::Other)),
+        Instr::AddRdSp { d, off } => Some(fact.with(d, fact.sp_plus(off))),
+        Instr::AddSp { off } => p.to_depth(fact, i64::from(fact.depth) - i64::from(off)),
+        Instr::SubSp { off } => p.to_depth(fact, i64::from(fact.depth) + i64::from(off)),
+        Instr::Extend { d, .. } => Some(fact.with(d, Source::Other)),
+        Instr::Rev { d, .. } => Some(fact.with(d, Source::Other)),
+        Instr::Push { list } => push(p, fact, at, list),
+        Instr::Pop { list } => pop(p, fact, list),
+        Instr::Hint { .. } => Some(*fact),
+        Instr::Stm { n, .. } => Some(fact.with(n, Source::Other)),
+        Instr::Ldm { n, list } => Some(ldm(fact, n, list)),
+        Instr::BCond { .. } => Some(*fact),
+        Instr::Svc { .. } => Some(gate(fact)),
+        Instr::B { .. } => Some(*fact),
+        Instr::Bl { .. } => Some(call(fact)),
+        Instr::Barrier { .. } => Some(*fact),
+    }
+}
+
+/// The fact behind an instruction that stands at the address `at` of a function with this prologue, or the lowest cause that it shows:
+/// `IndirectBranch`, `SpWrite` or `ReturnState`. Behind a return it says what the caller finds.
+///
+/// `lowers` says that `at` is a place where sp is lowered by an amount that is known only at run time; it plays a part only for a MOV
+/// into sp.
+pub fn after(
+    fact: &Fact,
+    i: &Instr,
+    at: u32,
+    p: &Prologue,
+    lowers: bool,
+) -> Result<Fact, FrameCause>
+    ensures { result ≡ after_of p.now lowers at i.now fact.now }
+{
+    if is_indirect(fact, i) {
+        return Err(FrameCause::IndirectBranch);
+    }
+    let Some(next) = effect(fact, i, at, p, lowers) else {
+        return Err(FrameCause::SpWrite);
+    };
+    match return_to(p, fact, i) {
+        None => Ok(next),
+        Some(pc) => {
+            if returns_well(&next, pc) {
+                Ok(next)
+            } else {
+                Err(FrameCause::ReturnState)
+            }
+        }
+    }
+}

@@ -1,0 +1,218 @@
+//! Facts: what is known of registers and stack at a place, what two of them have in common. docs/acceptance.md, "Facts".
+ghost use Rattle.std.specs.Prelude.{◌≡◌, ℕ, ◌+◌, ◌-◌, ◌*◌, ◌<◌, ◌≤◌, ◌^◌, ◌==◌, ℤ, pos, ◌+ℤ◌, ◌-ℤ◌, length, IsTrue, ◌↔◌};
+ghost use Rattle.thumb_core.specs.Words.{listed};
+ghost use Rattle.frame_facts.specs.Facts.{source, with_source, entered, within, sp_at, sp_plus, moved, is_entry, forgotten, met_source, same_source, same_sources, same_fact, join_of};
+
+/// The greatest depth of a frame, and of a place that a register is known to hold, in bytes below the CFA.
+pub const DEEPEST: u32 = 65_536;
+
+/// What a register holds.
+#[derive(Clone, Copy, PartialEq, Eq, Debug)]
+pub enum Source {
+    /// The value that this register had at the function's entry.
+    Entry(u8),
+    /// The CFA, which is sp at the entry, minus so many bytes.
+    SpAt(u32),
+    /// Nothing is known of it.
+    Other,
+}
+
+/// What is known at a place of a function.
+#[derive(Clone, Copy, PartialEq, Eq, Debug)]
+pub struct Fact {
+    /// How many bytes sp lies below the CFA, or at least lies there where `below` is true.
+    pub depth: u32,
+    /// Whether sp may lie further below.
+    pub below: bool,
+    /// How many of the prologue's saves, from the first on, lie at an offset of at most `depth` and are still there.
+    pub kept: u32,
+    /// What r0 to r12 hold, and then lr.
+    pub regs: [Source; 14],
+}
+
+/// The fact at a function's entry: nothing is on the stack, and each register holds its own value.
+pub fn entry_fact() -> Fact
+    ensures { result ≡ entered }
+{
+    Fact {
+        depth: 0,
+        below: false,
+        kept: 0,
+        regs: [
+            Source::Entry(0),
+            Source::Entry(1),
+            Source::Entry(2),
+            Source::Entry(3),
+            Source::Entry(4),
+            Source::Entry(5),
+            Source::Entry(6),
+            Source::Entry(7),
+            Source::Entry(8),
+            Source::Entry(9),
+            Source::Entry(10),
+            Source::Entry(11),
+            Source::Entry(12),
+            Source::Entry(14),
+        ],
+    }
+}
+
+/// A depth, where it is one.
+pub(crate) fn within(depth: i64) -> Option<u32>
+    ensures { result ≡ within depth }
+{
+    if 0 <= depth && depth <= i64::from(DEEPEST) {
+        Some(depth as u32)
+    } else {
+        None
+    }
+}
+
+/// The CFA minus a number of bytes, where it is one.
+pub(crate) fn sp_at(offset: i64) -> Source
+    ensures { result ≡ sp_at offset }
+{
+    match within(offset) {
+        Some(offset) => Source::SpAt(offset),
+        None => Source::Other,
+    }
+}
+
+impl Source {
+    /// What a register holds that had this value and is raised, or lowered, by so many bytes.
+    pub(crate) fn moved(self, sub: bool, by: u32) -> Source
+        ensures { result ≡ moved sub by self }
+    {
+        match self {
+            Source::SpAt(offset) => {
+                if sub {
+                    sp_at(i64::from(offset) + i64::from(by))
+                } else {
+                    sp_at(i64::from(offset) - i64::from(by))
+                }
+            }
+            Source::Entry(_) | Source::Other => Source::Other,
+        }
+    }
+
+    /// Whether it is the value that a register had at the entry.
+    pub(crate) fn is_entry(self, reg: u8) -> bool
+        ensures { result ≡ is_entry reg self }
+    {
+        match self {
+            Source::Entry(k) => k == reg,
+            Source::SpAt(_) | Source::Other => false,
+        }
+    }
+
+    /// What two paths have in common.
+    fn meet(self, other: Source) -> Source
+        ensures { result ≡ met_source self other }
+    {
+        if self == other { self } else { Source::Other }
+    }
+
+    fn is_same(self, other: Source) -> bool
+        ensures { result ≡ same_source self other }
+    {
+        self == other
+    }
+}
+
+impl Fact {
+    /// What a register holds; of sp and pc nothing is said here.
+    pub(crate) fn source(&self, reg: u8) -> Source
+        ensures { result ≡ source self.now reg }
+    {
+        let regs = self.regs;
+        if reg < 13 {
+            regs[reg as usize]
+        } else if reg == 14 {
+            regs[13]
+        } else {
+            Source::Other
+        }
+    }
+
+    /// The fact where a register holds something else.
+    pub(crate) fn with(&self, reg: u8, source: Source) -> Fact
+        ensures { result ≡ with_source self.now reg source }
+    {
+        let mut regs = self.regs;
+        if reg < 13 {
+            regs[reg as usize] = source;
+        } else if reg == 14 {
+            regs[13] = source;
+        }
+        Fact {
+            depth: self.depth,
+            below: self.below,
+            kept: self.kept,
+            regs,
+        }
+    }
+
+    /// The value of sp plus an offset.
+    pub(crate) fn sp_plus(&self, offset: i32) -> Source
+        ensures { result ≡ sp_plus self.now offset }
+    {
+        if self.below {
+            Source::Other
+        } else {
+            sp_at(i64::from(self.depth) - i64::from(offset))
+        }
+    }
+}
+
+/// The fact where nothing is known of the registers of a list; bit k of it stands for register k.
+pub fn forget(fact: &Fact, list: u16) -> Fact
+    ensures { result ≡ forgotten (listed list) fact.now }
+{
+    let mut left = *fact;
+    for k in 0..16u8 {
+        if (list >> k) & 1 == 1 {
+            left = left.with(k, Source::Other);
+        }
+    }
+    left
+}
+
+fn are_alike(a: [Source; 14], b: [Source; 14]) -> bool
+    ensures { result ≡ same_sources a b }
+{
+    for k in 0..14 {
+        if !a[k].is_same(b[k]) {
+            return false;
+        }
+    }
+    true
+}
+
+/// Whether two facts are one.
+pub fn is_same(a: &Fact, b: &Fact) -> bool
+    ensures { result ≡ same_fact a.now b.now }
+{
+    let one = a.regs;
+    let two = b.regs;
+    a.depth == b.depth && a.below == b.below && a.kept == b.kept && are_alike(one, two)
+}
+
+/// What two paths to a place have in common: `None` exactly where their depths differ.
+pub fn join(a: &Fact, b: &Fact) -> Option<Fact>
+    ensures { result ≡ join_of a.now b.now }
+{
+    if a.depth != b.depth {
+        return None;
+    }
+    let mut regs = a.regs;
+    let others = b.regs;
+    for k in 0..14 {
+        regs[k] = regs[k].meet(others[k]);
+    }
+    Some(Fact {
+        depth: a.depth,
+        below: a.below || b.below,
+        kept: a.kept.min(b.kept),
+        regs,
+    })
+}
