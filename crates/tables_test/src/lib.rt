@@ -1,4 +1,5 @@
-//! Tests of the readers of the unwind tables, through their public calls. Expected values are by hand from IHI 0038.
+//! Tests of the readers of the unwind tables, through their public calls. Expected values are by hand from IHI 0038 and the
+//! Itanium C++ ABI.
 #![tactic(auto)]
 
 #[cfg(test)]
@@ -7,5 +8,7 @@ mod descriptors;
 mod first_bytes;
 #[cfg(test)]
 mod rows;
+#[cfg(test)]
+mod types;
 #[cfg(test)]
 mod unwinding;

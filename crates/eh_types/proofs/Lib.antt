@@ -1,0 +1,8 @@
+pub mod Lookups
+pub mod Reading
+pub mod Paths
+pub mod Meaning
+pub mod Steps
+pub mod Work
+pub mod Final
+pub mod Written

@@ -1,0 +1,18 @@
+use Rattle.std.proofs.Common.{sym, ◌∙◌}
+use Rattle.eh_types.specs.Reading.{done_at, open_at, tops}
+use Rattle.eh_types.proofs.Steps.{mapped_some, waiting_done, waiting_reached}
+use Rattle.eh_types.proofs.Work.{work_waited}
+use Rattle.eh_types.proofs.reader.take_waiting.Goals as goal
+
+pub returns-then-is_some-clause-reading : goal.returns-then-is_some-clause-reading
+returns-then-is_some-clause-reading c =
+    waiting_done c.args.source.now.image.now c.args.source.now.roots.now (done_at c.args.state.now) (open_at c.args.state.now) (tops c.args.state.now) c.args.state.now.pending.items c.pop.new.self.items
+    c.in-Some.at c.in-Some.ensures.items c.requires.reading (mapped_some _ c.paths.result c.paths.ensures (sym c.is_some.ensures ∙ c.if-is_some.true))
+
+pub returns-then-is_some-clause-less : goal.returns-then-is_some-clause-less
+returns-then-is_some-clause-less c =
+    λ _. work_waited (done_at c.args.state.now) (tops c.args.state.now) c.args.state.now.pending.items c.pop.new.self.items c.in-Some.at c.in-Some.ensures.items
+
+pub visit-requires-clause-reached : goal.visit-requires-clause-reached
+visit-requires-clause-reached c =
+    waiting_reached c.args.source.now.image.now c.args.source.now.roots.now c.args.state.now.pending.items c.pop.new.self.items c.in-Some.at c.in-Some.ensures.items c.requires.reading.waiting

@@ -1,0 +1,70 @@
+-- What holds of every graph that is read: laws above what the words say of each type (docs/types.md).
+use Rattle.std.specs.Prelude.{ℕ, ◌+◌, ◌-◌, ◌*◌, ◌^◌, ◌<◌, ◌≤◌, ◌≡◌, ◌≢◌, ◌↔◌, Bool, true, false, ℤ, pos, negsuc, List, ◌∷◌, ◌++◌, length, drop, find, All, IsSome, Some, Ok}
+use Rattle.elf_image.specs.Segments.{Segment}
+use Rattle.elf_image.specs.Image.{Image}
+use Rattle.eh_types.specs.declared.fault.TypeFault.{TypeFault}
+use Rattle.eh_types.specs.declared.kind.Base.{Base}
+use Rattle.eh_types.specs.declared.types.TheConstants.{NAME_LIMIT, NAME}
+use Rattle.eh_types.specs.declared.words.TheConstants.{WORD_SIZE}
+use Rattle.eh_types.specs.Graph.{Row, row_of}
+use Rattle.eh_types.specs.Words.{has, word, is_word, is_written}
+use Rattle.eh_types.specs.Types.{base_by, word_count, type_at}
+use Rattle.eh_types.specs.Meant.{Reached, IsGraph, IsBaseOf, Shows}
+
+-- roots mean at most one graph
+abbrev pub GraphsAreOne : Type 0
+GraphsAreOne = (image : Image) (roots : List ℕ) (g h : List Row) → IsGraph image roots g → IsGraph image roots h → g ≡ h
+
+-- it has exactly the types that they reach
+abbrev pub GraphsHoldWhatIsReached : Type 0
+GraphsHoldWhatIsReached = (image : Image) (roots : List ℕ) (g : List Row) → IsGraph image roots g → (a : ℕ) → IsSome (row_of g a) ↔ Reached image roots a
+
+-- no type of it is its own base, through any steps
+abbrev pub NoneIsItsOwnBase : Type 0
+NoneIsItsOwnBase = (image : Image) (roots : List ℕ) (g : List Row) → IsGraph image roots g → (a : ℕ) → IsSome (row_of g a) → ¬ (IsBaseOf image a a)
+
+-- where a type that they reach shows a fault, they mean none
+abbrev pub FaultsHaveNoGraph : Type 0
+FaultsHaveNoGraph = (image : Image) (roots : List ℕ) (fault : TypeFault) → Shows image roots fault → (g : List Row) → ¬ (IsGraph image roots g)
+
+-- ---- what the words say
+
+-- a signed number of 24 bits, and how it is written
+abbrev pub IsOffset : ℤ → Type 0
+IsOffset (pos n) = n < 2 ^ 23
+IsOffset (negsuc n) = n < 2 ^ 23
+
+abbrev pub high_bits : ℤ → ℕ
+high_bits (pos n) = n
+high_bits (negsuc n) = 2 ^ 24 - (n + 1)
+
+abbrev pub bit : Bool → ℕ
+bit true = 1
+bit false = 0
+
+-- the second word of a base: its offset from bit 8 on, bit 1 for a public one, bit 0 for a virtual one
+abbrev pub base_flags : Base → ℕ
+base_flags b = high_bits b.offset * 256 + (2 * bit b.is_public + bit b.is_virtual)
+
+-- a base that is written so is read as it
+abbrev pub BasesAreRead : Type 0
+BasesAreRead = (b : Base) → IsOffset b.offset → base_by b.ty (base_flags b) ≡ b
+
+-- the words of a type that is read are there, and none may be written
+abbrev pub WordsAreFixed : Type 0
+WordsAreFixed =
+    (image : Image) (a k : ℕ) (r : Row) → type_at image a ≡ Ok r → k < word_count image.segments a r.kind
+    → (is_word image.segments (a + WORD_SIZE * k) ≡ true) × (is_written image.segments (a + WORD_SIZE * k) ≡ false)
+
+-- the name stands in a read-only segment's bytes, with a zero byte behind it and none in it, and is not too long
+pub record IsNamed (segments : List Segment) (a : ℕ) (name : List ℕ) : Type 0 where
+  pub segment : Segment
+  pub found : find (has 1 a) segments ≡ Some segment
+  pub read_only : segment.write ≡ false
+  pub rest : List ℕ
+  pub place : drop (a - segment.start) segment.bytes ≡ name ++ 0 ∷ rest
+  pub plain : All (λ b. b ≢ 0) name
+  pub short : length name ≤ NAME_LIMIT
+
+abbrev pub NamesAreEnded : Type 0
+NamesAreEnded = (image : Image) (a : ℕ) (r : Row) → type_at image a ≡ Ok r → IsNamed image.segments (word image.segments (a + NAME)) r.name

@@ -1,0 +1,18 @@
+//! The types that an exception may have, with their bases (Itanium C++ ABI, "Run-Time Type Information"; IHI 0041): read once
+//! from an image, and looked up by address. docs/types.md states the rules.
+#![tactic(auto)]
+
+pub mod fault;
+pub mod graph;
+pub mod info;
+pub mod kind;
+pub mod laws;
+mod reader;
+mod state;
+mod types;
+mod vtables;
+mod words;
+
+pub use fault::TypeFault;
+pub use graph::TypeGraph;
+pub use kind::{Base, TypeKind};
