@@ -1,0 +1,9 @@
+//! One function of an image as the frame checker sees it: its code, where each instruction leads, what the exception index says of its
+//! sites. docs/scenes.md states the rules.
+#![tactic(auto)]
+
+pub mod places;
+pub mod scene;
+
+pub use places::Standing;
+pub use scene::Scene;
