@@ -4,6 +4,8 @@
 
 pub mod places;
 pub mod scene;
+pub mod ways;
 
 pub use places::Standing;
 pub use scene::Scene;
+pub use ways::Way;
