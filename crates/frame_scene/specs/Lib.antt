@@ -1,3 +1,5 @@
 pub mod Scene
 pub mod Places
 pub mod Ways
+pub mod Unwinding
+pub mod Sites

@@ -4,8 +4,11 @@
 
 pub mod places;
 pub mod scene;
+pub mod sites;
+pub mod unwinding;
 pub mod ways;
 
 pub use places::Standing;
 pub use scene::Scene;
+pub use unwinding::Unwinding;
 pub use ways::Way;
