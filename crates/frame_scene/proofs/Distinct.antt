@@ -1,5 +1,5 @@
 -- A list without a number that stands twice, as a test and as a fact.
-use Rattle.std.proofs.Common.{◌≡◌, ℕ, ◌==◌, ◌||◌, ◌&&◌, not, Bool, true, false, List, [], ◌∷◌, IsTrue, ◌↔◌, refl, sym, arith, rules}
+use Rattle.std.proofs.Common.{◌≡◌, ℕ, ◌==◌, ◌||◌, ◌&&◌, not, Bool, true, false, List, [], ◌∷◌, IsTrue, ◌↔◌, refl, sym}
 use Rattle.std.specs.List.{list_any, AllByRecursion, IsDistinct}
 use Rattle.unwind_codes.specs.Cut.{Item}
 use Rattle.eh_bytecode.specs.Once.{popped, PopsOnce}

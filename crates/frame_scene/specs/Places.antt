@@ -3,7 +3,6 @@ use Rattle.std.specs.Prelude.{ℕ, ◌+◌, ◌-◌, ◌*◌, ◌/◌, ◌==◌,
 use Rattle.elf_image.specs.Segments.{Segment, segment_end}
 use Rattle.elf_image.specs.Functions.{segment_at}
 use Rattle.elf_image.specs.Image.{Image, is_code_in}
-use Rattle.thumb_isa.specs.declared.instr.Instr.{Instr}
 use Rattle.thumb_isa.specs.declared.instr.Decoded.{Decoded}
 use Rattle.thumb_isa.specs.declared.instr.Decoded.TheVariants.{Is, Undefined, Unpredictable, NotInProfile}
 use Rattle.thumb_isa.specs.Rows.{decoded_of}

@@ -236,7 +236,11 @@ impl<'s, 'i, 'a> Scene<'s, 'i, 'a> {
     {
         match item {
             Ok(d) => {
-                add_way(ways, unwinding.landing_changes(resumed), self.place_for(site, &d))?;
+                add_way(
+                    ways,
+                    unwinding.landing_changes(resumed),
+                    self.place_for(site, &d),
+                )?;
                 Ok(resumed || cleans(site, &d))
             }
             Err(_) => Ok(resumed),

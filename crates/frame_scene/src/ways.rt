@@ -113,7 +113,12 @@ impl<'s, 'i, 'a> Scene<'s, 'i, 'a> {
     }
 
     /// Where an instruction at an address leads, landing pads apart.
-    pub(crate) fn straight(&self, alloc: Global, a: u32, standing: Standing) -> Result<Vec<Way>, AllocError>
+    pub(crate) fn straight(
+        &self,
+        alloc: Global,
+        a: u32,
+        standing: Standing,
+    ) -> Result<Vec<Way>, AllocError>
         ensures { IfOk result (λ ways. ways.items ≡ straight_by self.now a standing) }
     {
         let mut ways = Vec::new(alloc);

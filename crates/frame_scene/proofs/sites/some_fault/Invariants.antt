@@ -1,6 +1,6 @@
 use Rattle.std.proofs.Common.{◌≡◌}
 use Rattle.std.specs.List.{list_any}
-use Rattle.frame_scene.specs.Sites.{is_one, is_fault}
+use Rattle.frame_scene.specs.Sites.{is_fault}
 use Rattle.frame_scene.proofs.sites.some_fault.Given as goal
 
 abbrev pub invariant-loop-item : goal.invariant-loop-item
