@@ -3,3 +3,4 @@ pub mod Places
 pub mod Ways
 pub mod Unwinding
 pub mod Sites
+pub mod Laws

@@ -2,6 +2,7 @@
 //! sites. docs/scenes.md states the rules.
 #![tactic(auto)]
 
+pub mod laws;
 pub mod places;
 pub mod scene;
 pub mod sites;
