@@ -1,5 +1,5 @@
 -- Ways lead to places below the function's end.
-use Rattle.std.proofs.Common.{ℕ, ◌≡◌, ◌+◌, ◌-◌, ◌*◌, ◌/◌, ◌<◌, ◌≤◌, ◌==◌, ◌&&◌, ◌||◌, ◌⊎◌, nat_le, nat_lt, Bool, true, false, if◌then◌else◌, List, [], ◌∷◌, ◌++◌, Option, Some, None, option_and_then, refl, sym, subst, ⊎_elim, arith, zero, suc}
+use Rattle.std.proofs.Common.{ℕ, ◌≡◌, ◌+◌, ◌-◌, ◌*◌, ◌/◌, ◌<◌, ◌≤◌, ◌==◌, ◌&&◌, ◌||◌, ◌⊎◌, nat_le, nat_lt, Bool, true, false, if◌then◌else◌, List, [], ◌∷◌, ◌++◌, Option, Some, None, option_and_then, refl, sym, subst, ap, ◌∙◌, ⊎_elim, arith, zero, suc}
 use Rattle.std.specs.List.{Contains}
 use Rattle.std.proofs.lemmas.List.Elements.{Contains-append_cases}
 use Rattle.std.proofs.lemmas.Bool.{leb-true, ltb-true}
@@ -13,14 +13,18 @@ use Rattle.frame_scene.specs.declared.places.Standing.TheVariants.{Instruction, 
 use Rattle.frame_scene.specs.declared.unwinding.Unwinding.{Unwinding}
 use Rattle.frame_scene.specs.declared.ways.Way.{Way}
 use Rattle.frame_scene.specs.Scene.{Scene}
-use Rattle.frame_scene.specs.Places.{is_code_of, address_of, place_of, standing_at}
+use Rattle.frame_scene.specs.Places.{is_code_of, address_of, is_place, place_of, standing_at}
 use Rattle.frame_scene.specs.Ways.{goes_on, branch_target, ways_to, onward, straight_by, straight_ways}
 use Rattle.frame_scene.specs.Unwinding.{landing_changes}
 use Rattle.frame_scene.specs.Sites.{Item, cleans, pad_for, pad_ways, ways_from, site_at, unwinding_at, items_at, ways_of}
-use Rattle.frame_scene.specs.Laws.{WaysStayInside}
+use Rattle.frame_scene.specs.Reach.{IsReached, entry, along}
+use Rattle.frame_scene.specs.Laws.{WaysStayInside, ReachedPlacesAreInside, PlacesHaveTheirAddress}
 
 abbrev Inside : Scene → Way → Type 0
 Inside s w = s.start + 2 * w.to < s.end
+
+abbrev Inside_place : Scene → ℕ → Type 0
+Inside_place s p = s.start + 2 * p < s.end
 
 opened : (b : Bool) (x p : ℕ) → (if b then Some x else None) ≡ Some p → (b ≡ true) × (x ≡ p)
 opened true x p e = (refl, same_Some x p e)
@@ -86,3 +90,20 @@ ways_stay_inside s place w h = ⊎_elim
     (λ (l : Contains (straight_ways s place) w). straight s (address_of s place) (standing_at s place) w l)
     (λ (r : Contains (ways_from s (site_at s place)) w). from s (site_at s place) w r)
     (Contains-append_cases (straight_ways s place) (ways_from s (site_at s place)) w h)
+
+reached_inside : (s : Scene) (p : ℕ) → s.start < s.end → IsReached s p → Inside_place s p
+reached_inside s _ l entry = omega arith
+reached_inside s _ l (along {p} {w} r h) = ways_stay_inside s p w h
+
+pub reached_places_are_inside : ReachedPlacesAreInside
+reached_places_are_inside s p l r = reached_inside s p l r
+
+halved : (start p : ℕ) → (start + 2 * p - start) / 2 ≡ p
+halved start p = omega arith
+
+chosen : (b : Bool) (x p : ℕ) → b ≡ true → x ≡ p → (if b then Some x else None) ≡ Some p
+chosen true x p e is = ap (λ n. Some n) is
+chosen false x p e is = absurd cc
+
+pub places_have_their_address : PlacesHaveTheirAddress
+places_have_their_address s p h = chosen (is_place s p) ((s.start + 2 * p - s.start) / 2) p h (halved s.start p)

@@ -4,3 +4,4 @@ pub mod Ways
 pub mod Unwinding
 pub mod Sites
 pub mod Laws
+pub mod Reach
