@@ -122,6 +122,13 @@ impl<'i, 'a> Index<'i, 'a> {
         }
     }
 
+    /// The image whose index it is.
+    pub fn image(&self) -> &'i Image<'a>
+        ensures { result.now ≡ self.now }
+    {
+        self.image
+    }
+
     /// How many entries there are.
     pub fn len(&self) -> usize
         ensures { result ≡ length (entries_of self.now) }

@@ -1,0 +1,4 @@
+pub mod Distinct
+pub mod Items
+pub mod Inside
+pub mod Landings

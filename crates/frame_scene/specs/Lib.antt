@@ -1,0 +1,7 @@
+pub mod Scene
+pub mod Places
+pub mod Ways
+pub mod Unwinding
+pub mod Sites
+pub mod Laws
+pub mod Reach

@@ -1,0 +1,15 @@
+//! One function of an image as the frame checker sees it: its code, where each instruction leads, what the exception index says of its
+//! sites. docs/scenes.md states the rules.
+#![tactic(auto)]
+
+pub mod laws;
+pub mod places;
+pub mod scene;
+pub mod sites;
+pub mod unwinding;
+pub mod ways;
+
+pub use places::Standing;
+pub use scene::Scene;
+pub use unwinding::Unwinding;
+pub use ways::Way;

@@ -1,0 +1,291 @@
+//! Sites, and what the exception index says of each: how it unwinds, which landing pads it leads to. docs/scenes.md, "Sites".
+ghost use Rattle.std.specs.Prelude.{◌≡◌, ◌+◌, ◌*◌, ◌<◌, ◌^◌, ◌++◌, ◌||◌, ◌∷◌, List, Some, false, IfOk, OnOk, option_and_then};
+ghost use Rattle.std.specs.List.{list_any};
+ghost use Rattle.eh_index.specs.Places.{table_of};
+ghost use Rattle.eh_desc.specs.Grammar.{items_of};
+ghost use Rattle.frame_scene.specs.Places.{place_of};
+ghost use Rattle.frame_scene.specs.Ways.{ways_to};
+ghost use Rattle.frame_scene.specs.Unwinding.{landing_changes};
+ghost use Rattle.frame_scene.specs.Sites.{Item, is_one, is_fault, site_of, site_at, entry_at, unwinding_at, items_at, covers, is_scoped, has_fault, pad_of, is_cleanup, cleans, pad_for, pad_ways, ways_from, ways_of, lands_out, pads_out, is_split};
+
+use crate::places::Standing;
+use crate::scene::Scene;
+use crate::unwinding::{Unwinding, of_entry};
+use crate::ways::{Way, add_way};
+use eh_desc::{Desc, DescFault, DescKind, Descs};
+use std::alloc::{AllocError, Global};
+use thumb_isa::instr::Instr;
+
+/// The site of an instruction at an address: its own address, for BL that of its second halfword; None for one that is no call and no
+/// gate.
+fn site_of(a: u32, i: Instr) -> Option<u32>
+    ensures { result ≡ site_of a i }
+{
+    if let Instr::Bl { .. } = i {
+        return Some(a.wrapping_add(2));
+    }
+    if let Instr::Blx { .. } = i {
+        return Some(a);
+    }
+    if let Instr::Svc { .. } = i {
+        return Some(a);
+    }
+    None
+}
+
+fn covers(site: u32, d: &Desc) -> bool
+    ensures { result ≡ covers site d.now }
+{
+    d.start <= site && site < d.start.wrapping_add(d.size)
+}
+
+fn pad_of(kind: &DescKind) -> Option<u32>
+    ensures { result ≡ pad_of kind.now }
+{
+    match *kind {
+        DescKind::Cleanup { pad } => Some(pad),
+        DescKind::Catch { pad, .. } => Some(pad),
+        DescKind::Spec { pad, .. } => pad,
+    }
+}
+
+fn is_cleanup(kind: &DescKind) -> bool
+    ensures { result ≡ is_cleanup kind.now }
+{
+    match kind {
+        DescKind::Cleanup { .. } => true,
+        DescKind::Catch { .. } | DescKind::Spec { .. } => false,
+    }
+}
+
+fn cleans(site: u32, d: &Desc) -> bool
+    ensures { result ≡ cleans site d.now }
+{
+    covers(site, d) && is_cleanup(&d.kind)
+}
+
+/// The landing pad of a descriptor that has the site in its scope.
+fn pad_for(site: u32, d: &Desc) -> Option<u32>
+    ensures { result ≡ pad_for site d.now }
+{
+    if covers(site, d) {
+        pad_of(&d.kind)
+    } else {
+        None
+    }
+}
+
+/// Whether an item is a descriptor that has the site in its scope.
+fn is_covered(site: u32, item: Result<Desc, DescFault>) -> bool
+    ensures { result ≡ is_one (covers site) item }
+{
+    match item {
+        Ok(d) => covers(site, &d),
+        Err(_) => false,
+    }
+}
+
+#[tactic(auto, using(crate::proofs::Items::any_past, crate::proofs::Items::any_here, crate::proofs::Items::any_none))]
+fn some_covered(site: u32, descs: Descs) -> bool
+    ensures { result ≡ list_any (is_one (covers site)) descs.entry }
+{
+    for item in descs {
+        if is_covered(site, item) {
+            return true;
+        }
+    }
+    false
+}
+
+fn is_fault(item: Result<Desc, DescFault>) -> bool
+    ensures { result ≡ is_fault item }
+{
+    match item {
+        Ok(_) => false,
+        Err(_) => true,
+    }
+}
+
+#[tactic(auto, using(crate::proofs::Items::any_past, crate::proofs::Items::any_here, crate::proofs::Items::any_none))]
+fn some_fault(descs: Descs) -> bool
+    ensures { result ≡ list_any is_fault descs.entry }
+{
+    for item in descs {
+        if is_fault(item) {
+            return true;
+        }
+    }
+    false
+}
+
+impl<'s, 'i, 'a> Scene<'s, 'i, 'a> {
+    /// The site of a place, an address in bytes; None exactly where no call and no gate stands there.
+    pub fn site_at(&self, place: u32) -> Option<u32>
+        requires { self.now.start + 2 * place < 2 ^ 32 }
+        ensures { result ≡ site_at self.now place }
+    {
+        let Standing::Instruction(i, _) = self.standing_at(place) else {
+            return None;
+        };
+        site_of(self.address_of(place), i)
+    }
+
+    /// What the codes of the entry say that covers an address.
+    #[tactic(auto, unfolding(crate::specs::Sites::unwinding_at))]
+    pub fn unwinding_at(&self, a: u32) -> Unwinding
+        ensures { result ≡ unwinding_at self.now a }
+    {
+        match self.index.find(a) {
+            None => Unwinding::Refused,
+            Some(e) => of_entry(self.index, &e),
+        }
+    }
+
+    /// Whether a descriptor of the entry that covers a site has the site in its scope.
+    #[tactic(auto, unfolding(crate::specs::Sites::items_at))]
+    pub fn is_scoped(&self, site: u32) -> bool
+        ensures { result ≡ is_scoped self.now site }
+    {
+        match self.index.find(site) {
+            None => false,
+            Some(e) => some_covered(site, Descs::of(self.index, &e)),
+        }
+    }
+
+    /// Whether a descriptor of the entry that covers an address can't be read.
+    #[tactic(auto, unfolding(crate::specs::Sites::items_at))]
+    pub fn has_fault(&self, a: u32) -> bool
+        ensures { result ≡ has_fault self.now a }
+    {
+        match self.index.find(a) {
+            None => false,
+            Some(e) => some_fault(Descs::of(self.index, &e)),
+        }
+    }
+
+    /// Whether the pad of a descriptor in scope isn't code of the function.
+    fn lands_out(&self, site: u32, d: &Desc) -> bool
+        ensures { result ≡ lands_out self.now site d.now }
+    {
+        match pad_for(site, d) {
+            None => false,
+            Some(pad) => !self.is_code(pad),
+        }
+    }
+
+    /// Whether an item is a descriptor in scope whose pad isn't.
+    fn item_lands_out(&self, site: u32, item: Result<Desc, DescFault>) -> bool
+        ensures { result ≡ is_one (lands_out self.now site) item }
+    {
+        match item {
+            Ok(d) => self.lands_out(site, &d),
+            Err(_) => false,
+        }
+    }
+
+    #[tactic(auto, using(crate::proofs::Items::any_past, crate::proofs::Items::any_here, crate::proofs::Items::any_none))]
+    fn some_out(&self, site: u32, descs: Descs) -> bool
+        ensures { result ≡ list_any (is_one (lands_out self.now site)) descs.entry }
+    {
+        for item in descs {
+            if self.item_lands_out(site, item) {
+                return true;
+            }
+        }
+        false
+    }
+
+    /// Whether a landing pad of a site isn't code of the function.
+    #[tactic(auto, unfolding(crate::specs::Sites::items_at))]
+    pub fn pads_out(&self, site: u32) -> bool
+        ensures { result ≡ pads_out self.now site }
+    {
+        match self.index.find(site) {
+            None => false,
+            Some(e) => self.some_out(site, Descs::of(self.index, &e)),
+        }
+    }
+
+    /// Whether the entry that covers a site begins behind the function's start.
+    pub fn is_split(&self, site: u32) -> bool
+        ensures { result ≡ is_split self.now site }
+    {
+        match self.index.find(site) {
+            None => false,
+            Some(e) => self.start < e.start,
+        }
+    }
+
+    fn place_for(&self, site: u32, d: &Desc) -> Option<u32>
+        ensures { result ≡ option_and_then (place_of self.now) (pad_for site d.now) }
+    {
+        let pad = pad_for(site, d)?;
+        self.place_of(pad)
+    }
+
+    /// Adds the way to the landing pad of an item, and answers whether it or one before it cleans.
+    fn add_pad(
+        &self,
+        ways: &mut Vec<Way>,
+        site: u32,
+        unwinding: &Unwinding,
+        resumed: bool,
+        item: Result<Desc, DescFault>,
+    ) -> Result<bool, AllocError>
+        ensures { IfOk result (λ next. (more : List Item) → ways.new.items ++ pad_ways self.now site unwinding.now next more ≡ ways.old.items ++ pad_ways self.now site unwinding.now resumed (item ∷ more)) }
+    {
+        match item {
+            Ok(d) => {
+                add_way(
+                    ways,
+                    unwinding.landing_changes(resumed),
+                    self.place_for(site, &d),
+                )?;
+                Ok(resumed || cleans(site, &d))
+            }
+            Err(_) => Ok(resumed),
+        }
+    }
+
+    /// Adds the ways from a site to the landing pads of descriptors.
+    fn add_pads(
+        &self,
+        ways: &mut Vec<Way>,
+        site: u32,
+        unwinding: &Unwinding,
+        descs: Descs,
+    ) -> Result<(), AllocError>
+        ensures { OnOk result (ways.new.items ≡ ways.old.items ++ pad_ways self.now site unwinding.now false descs.entry) }
+    {
+        let mut resumed = false;
+        for item in descs {
+            resumed = self.add_pad(ways, site, unwinding, resumed, item)?;
+        }
+        Ok(())
+    }
+
+    /// Adds the ways from a site.
+    #[tactic(auto, unfolding(crate::specs::Sites::items_at))]
+    fn add_landings(&self, ways: &mut Vec<Way>, site: u32) -> Result<(), AllocError>
+        ensures { OnOk result (ways.new.items ≡ ways.old.items ++ ways_from self.now (Some site)) }
+    {
+        let unwinding = self.unwinding_at(site);
+        match self.index.find(site) {
+            None => Ok(()),
+            Some(e) => self.add_pads(ways, site, &unwinding, Descs::of(self.index, &e)),
+        }
+    }
+
+    /// Where a place leads: straight on, and from a site to the landing pads of the descriptors in scope.
+    #[tactic(auto, unfolding(crate::specs::Sites::ways_of))]
+    pub fn ways_of(&self, alloc: Global, place: u32) -> Result<Vec<Way>, AllocError>
+        requires { self.now.start + 2 * place < 2 ^ 32 }
+        ensures { IfOk result (λ ways. ways.items ≡ ways_of self.now place) }
+    {
+        let mut ways = self.straight(alloc, self.address_of(place), self.standing_at(place))?;
+        if let Some(site) = self.site_at(place) {
+            self.add_landings(&mut ways, site)?;
+        }
+        Ok(ways)
+    }
+}
