@@ -1,4 +1,5 @@
-//! Tests of the readers of the unwind tables, through their public calls. Expected values are by hand from IHI 0038.
+//! Tests of the readers of the unwind tables and of matching, through their public calls. Expected values are by hand from IHI 0038 and the
+//! pages under docs/, or, where a file says so, from compilers.
 #![tactic(auto)]
 
 #[cfg(test)]
@@ -6,6 +7,14 @@ mod descriptors;
 #[cfg(test)]
 mod first_bytes;
 #[cfg(test)]
+mod hierarchies;
+#[cfg(test)]
+mod matching;
+#[cfg(test)]
+mod matching_words;
+#[cfg(test)]
 mod rows;
+#[cfg(test)]
+mod types_in_memory;
 #[cfg(test)]
 mod unwinding;
