@@ -2,7 +2,9 @@
 use eh_bus::bus::Bus;
 use eh_bus::fault::BusMemory;
 use eh_bus::flat::FlatBus;
-use eh_bytecode::{Codes, CodesFault, Recipe, RecipeFault, Src, UnwindEnd, Vrs, pops_once, summarise, unwind};
+use eh_bytecode::{
+    Codes, CodesFault, Recipe, RecipeFault, Src, UnwindEnd, Vrs, pops_once, summarise, unwind,
+};
 use std::alloc::Global;
 use std::process::Abort;
 use std::test::Fail;
