@@ -1,5 +1,5 @@
 -- Statements with a register list.
-use Rattle.std.proofs.Common.{◌≡◌, ℕ, ◌<◌, ◌≤◌, Bool, true, List, [], ◌∷◌, ◌++◌, Ok, pos, refl, ap, subst, ◌∙◌, arith, codes}
+use Rattle.std.proofs.Common.{◌≡◌, ℕ, ◌^◌, ◌<◌, ◌≤◌, Bool, true, List, [], ◌∷◌, ◌++◌, Ok, pos, refl, ap, subst, ◌∙◌, arith, codes}
 use Rattle.asm_read.specs.declared.form.Operands.{Operands}
 use Rattle.asm_read.specs.declared.makes.Makes.{Makes}
 use Rattle.asm_read.specs.declared.makes.Makes.TheVariants as makes
@@ -48,31 +48,31 @@ of_base_list w m k a list is ha choice makes =
     subst (λ x. read_of (line w (register a ++ (codes ", " ++ x))) ≡ Ok (stmt 1 k ∷ [])) (braced_is list)
     (stands w (reg a ∷ sign 44 ∷ regs (registers_from list 16) ∷ []) m (listing a list) k is (omega arith) ((ha, refl), (comma_ends _, (brace_ends _, close_all_ends (registers_from list 16) (are_registers list 16)))) refl (omega arith) choice makes)
 
-pub push_line : (list : ℕ) → list < 65536 → read_of (line (codes "push") (braced list)) ≡ Ok (stmt 1 (Push list) ∷ [])
+pub push_line : (list : ℕ) → list < 2 ^ 16 → read_of (line (codes "push") (braced list)) ≡ Ok (stmt 1 (Push list) ∷ [])
 unfolding rows directives a_to_b c_to_l m_to_z fitted kind_made
 push_line list h =
     of_list (codes "push") (makes.Transfers transfer.Push) (Push (masked 0 (registers_from list 16))) list (record { named = refl; kept = refl; clean = refl; brief = omega arith }) refl (λ text o g. cc (g.list))
     ∙ ap (λ x. Ok (stmt 1 (Push x) ∷ [])) (registers_are list h)
 
-pub pop_line : (list : ℕ) → list < 65536 → read_of (line (codes "pop") (braced list)) ≡ Ok (stmt 1 (Pop list) ∷ [])
+pub pop_line : (list : ℕ) → list < 2 ^ 16 → read_of (line (codes "pop") (braced list)) ≡ Ok (stmt 1 (Pop list) ∷ [])
 unfolding rows directives a_to_b c_to_l m_to_z fitted kind_made
 pop_line list h =
     of_list (codes "pop") (makes.Transfers transfer.Pop) (Pop (masked 0 (registers_from list 16))) list (record { named = refl; kept = refl; clean = refl; brief = omega arith }) refl (λ text o g. cc (g.list))
     ∙ ap (λ x. Ok (stmt 1 (Pop x) ∷ [])) (registers_are list h)
 
-pub save_line : (list : ℕ) → list < 65536 → read_of (line (codes ".save") (braced list)) ≡ Ok (stmt 1 (Save list) ∷ [])
+pub save_line : (list : ℕ) → list < 2 ^ 16 → read_of (line (codes ".save") (braced list)) ≡ Ok (stmt 1 (Save list) ∷ [])
 unfolding rows directives a_to_b c_to_l m_to_z fitted kind_made
 save_line list h =
     of_list (codes ".save") (makes.Directs directive.Save) (Save (masked 0 (registers_from list 16))) list (record { named = refl; kept = refl; clean = refl; brief = omega arith }) refl (λ text o g. cc (g.list))
     ∙ ap (λ x. Ok (stmt 1 (Save x) ∷ [])) (registers_are list h)
 
-pub stm_line : (a list : ℕ) → a < 16 → list < 65536 → read_of (line (codes "stm") (register a ++ (codes "!, " ++ braced list))) ≡ Ok (stmt 1 (Stm a list) ∷ [])
+pub stm_line : (a list : ℕ) → a < 16 → list < 2 ^ 16 → read_of (line (codes "stm") (register a ++ (codes "!, " ++ braced list))) ≡ Ok (stmt 1 (Stm a list) ∷ [])
 unfolding rows directives a_to_b c_to_l m_to_z fitted kind_made
 stm_line a list ha h =
     of_back_list (codes "stm") (makes.Transfers transfer.Stm) (Stm a (masked 0 (registers_from list 16))) a list (record { named = refl; kept = refl; clean = refl; brief = omega arith }) ha refl (λ text o g. cc (g.list, g.first))
     ∙ ap (λ x. Ok (stmt 1 (Stm a x) ∷ [])) (registers_are list h)
 
-pub ldm_back_line : (a list : ℕ) → a < 16 → list < 65536 → read_of (line (codes "ldm") (register a ++ (codes "!, " ++ braced list))) ≡ Ok (stmt 1 (LdmBack a list) ∷ [])
+pub ldm_back_line : (a list : ℕ) → a < 16 → list < 2 ^ 16 → read_of (line (codes "ldm") (register a ++ (codes "!, " ++ braced list))) ≡ Ok (stmt 1 (LdmBack a list) ∷ [])
 unfolding rows directives a_to_b c_to_l m_to_z fitted kind_made
 ldm_back_line a list ha h =
     of_back_list (codes "ldm") (makes.Transfers transfer.LdmBack) (LdmBack a (masked 0 (registers_from list 16))) a list (record { named = refl; kept = refl; clean = refl; brief = omega arith }) ha refl (λ text o g. cc (g.list, g.first))
@@ -93,7 +93,7 @@ base_rows : (a list : ℕ) → has_register (masked 0 (registers_from list 16)) 
 unfolding rows directives a_to_b c_to_l m_to_z
 base_rows a list h = rw (back_refused a list, base_went a list h) refl
 
-pub ldm_line : (a list : ℕ) → a < 16 → list < 65536 → has_register list a ≡ true → read_of (line (codes "ldm") (register a ++ (codes ", " ++ braced list))) ≡ Ok (stmt 1 (Ldm a list) ∷ [])
+pub ldm_line : (a list : ℕ) → a < 16 → list < 2 ^ 16 → has_register list a ≡ true → read_of (line (codes "ldm") (register a ++ (codes ", " ++ braced list))) ≡ Ok (stmt 1 (Ldm a list) ∷ [])
 unfolding kind_made
 ldm_line a list ha h has =
     of_base_list (codes "ldm") (makes.Transfers transfer.Ldm) (Ldm a (masked 0 (registers_from list 16))) a list (record { named = refl; kept = refl; clean = refl; brief = omega arith }) ha (base_rows a list (ap (λ x. has_register x a) (registers_are list h) ∙ has)) (λ text o g. cc (g.list, g.first))

@@ -1,6 +1,6 @@
 -- The canonical line of a statement: its mnemonic, a blank, and its operands as the manual writes them (Armv6-M
 -- Architecture Reference Manual, DDI 0419), or as the assembler does those of a directive.
-use Rattle.std.specs.Prelude.{◌≡◌, ◌≢◌, ℕ, zero, suc, ◌+◌, ◌-◌, ◌<◌, ◌≤◌, ◌==◌, ◌&&◌, ◌||◌, not, nat_lt, Bool, true, false, if◌then◌else◌, List, [], ◌∷◌, ◌++◌, length, slice_index_or, Ok, ℤ, pos, negsuc, codes}
+use Rattle.std.specs.Prelude.{◌≡◌, ◌≢◌, ℕ, zero, suc, ◌+◌, ◌-◌, ◌^◌, ◌<◌, ◌≤◌, ◌==◌, ◌&&◌, ◌||◌, not, nat_lt, Bool, true, false, if◌then◌else◌, List, [], ◌∷◌, ◌++◌, length, slice_index_or, Ok, ℤ, pos, negsuc, codes}
 use Rattle.std.specs.List.{list_all}
 use Rattle.std.specs.Fmt.{signed_decimal}
 use Rattle.asm_read.specs.declared.statement.StmtKind.{StmtKind}
@@ -317,11 +317,11 @@ IsWritable (LdrPool t value) = (t < 16) × IsExpression false value × (length (
 IsWritable (MemImm op t n off) = (op < 6) × (t < 16) × (n < 16) × (op < 2 → n ≢ 13) × InRange off
 IsWritable (MemReg op t n m) = (op < 8) × (t < 16) × (n < 16) × (m < 16)
 IsWritable (MemSp load t off) = (t < 16) × InRange off
-IsWritable (Push list) = list < 65536
-IsWritable (Pop list) = list < 65536
-IsWritable (Stm n list) = (n < 16) × (list < 65536)
-IsWritable (LdmBack n list) = (n < 16) × (list < 65536)
-IsWritable (Ldm n list) = (n < 16) × (list < 65536) × (has_register list n ≡ true)
+IsWritable (Push list) = list < 2 ^ 16
+IsWritable (Pop list) = list < 2 ^ 16
+IsWritable (Stm n list) = (n < 16) × (list < 2 ^ 16)
+IsWritable (LdmBack n list) = (n < 16) × (list < 2 ^ 16)
+IsWritable (Ldm n list) = (n < 16) × (list < 2 ^ 16) × (has_register list n ≡ true)
 IsWritable (Extend op d m) = (op < 4) × (d < 16) × (m < 16)
 IsWritable (Rev op d m) = (op < 4) × (op ≢ 2) × (d < 16) × (m < 16)
 IsWritable (B name) = IsNameText name
@@ -351,7 +351,7 @@ IsWritable (Align n) = IsPower n
 IsWritable Pool = Unit {0}
 IsWritable FnStart = Unit {0}
 IsWritable FnEnd = Unit {0}
-IsWritable (Save list) = list < 65536
+IsWritable (Save list) = list < 2 ^ 16
 IsWritable (Pad n) = InRange n
 IsWritable (SetFp r off) = (r < 16) × InRange off
 IsWritable CantUnwind = Unit {0}
