@@ -1,4 +1,5 @@
 -- An address of a function has the function's own entry.
+use Rattle.eh_link.specs.declared.places.TheConstants.{MOST_MEMORY}
 use Rattle.eh_link.proofs.Layouts.{rising, ends_of, end_ge}
 use Rattle.asm_layout.specs.declared.place.Section.TheVariants.{Text}
 use Rattle.asm_object.proofs.ObjectLaws.{taken}
@@ -165,7 +166,7 @@ entry_is objects f placed given low own =
     ∙ ap (λ g. body_of g (placed.at.extab + own.has.table)) own.same
     ∙ ap (λ t. body_of given (placed.at.extab + t)) own.has.table_place)
 
-below_30 : (end : ℕ) → end ≤ 0x8000 + 1048576 → end < 2 ^ 30
+below_30 : (end : ℕ) → end ≤ 0x8000 + MOST_MEMORY → end < 2 ^ 30
 below_30 end h = omega (arith, h)
 
 pub law_of_finding : FunctionsAreFound

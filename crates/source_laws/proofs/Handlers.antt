@@ -1,4 +1,5 @@
 -- What stands behind `.handlerdata`.
+use Rattle.asm_layout.specs.declared.walk.TheConstants.{MOST_BYTES}
 use Rattle.std.proofs.Common.{◌≡◌, ℕ, ◌+◌, ◌-◌, ◌*◌, ◌%◌, ◌^◌, ◌≤◌, ◌<◌, min, ◌&&◌, Bool, true, false, cond, List, [], ◌∷◌, ◌++◌, length, drop, flat_map, Option, Some, refl, sym, ap, ◌∙◌, arith, append_assoc, append-nil, subst}
 use Rattle.std.specs.List.{list_any, list_all}
 use Rattle.std.proofs.lemmas.Bool.{true≢false}
@@ -125,7 +126,7 @@ data_there entries labels walk (stmt ∷ own) more at e =
 
 -- ---- the law
 
-table_ends : (n words : ℕ) → min (n + min ((4 - n % 4) % 4 + min (words * 4) (2 ^ 64 - 1)) (2 ^ 64 - 1)) (2 ^ 64 - 1) ≤ 1048576
+table_ends : (n words : ℕ) → min (n + min ((4 - n % 4) % 4 + min (words * 4) (2 ^ 64 - 1)) (2 ^ 64 - 1)) (2 ^ 64 - 1) ≤ MOST_BYTES
     → min (n + min ((4 - n % 4) % 4 + min (words * 4) (2 ^ 64 - 1)) (2 ^ 64 - 1)) (2 ^ 64 - 1) ≡ next_multiple n 4 + 4 * words
 table_ends n words h = omega (arith, h)
 
@@ -184,7 +185,7 @@ table_end stmts f words object same few t closed room there =
     let on : walk_behind entries start (f.before ++ start_at f.start_line ∷ []) ≡ next entries walk statement.FnStart = walks_on entries start f.before (start_at f.start_line ∷ []) in
     let size : (next entries walk statement.FnStart).at.sizes.extab ≡ sum_64 walk.at.sizes.extab (table_size walk.at.sizes.extab (Some (entry.Table words))) =
     ap (λ (c : Cursor). c.sizes.extab) (starts_at entries walk closed room) ∙ ap (λ o. sum_64 walk.at.sizes.extab (table_size walk.at.sizes.extab o)) there in
-    let P : ℕ → Type 0 = λ n. n ≤ 1048576 in
+    let P : ℕ → Type 0 = λ n. n ≤ MOST_BYTES in
     size ∙ table_ends walk.at.sizes.extab (length words) (subst P (ap (λ (w : Walk). w.at.sizes.extab) on ∙ size) small)
 
 pub law_of_handlers : HandlersStandBehindTheirTables

@@ -1,4 +1,5 @@
 -- Each function of an accepted source has its row, and its table stands where the row names it.
+use Rattle.asm_layout.specs.declared.walk.TheConstants.{MOST_BYTES}
 use Rattle.std.proofs.Common.{◌≡◌, ℕ, zero, suc, ◌+◌, ◌%◌, ◌^◌, ◌≤◌, ◌<◌, Bool, true, false, cond, List, [], ◌∷◌, ◌++◌, length, drop, flat_map, Option, Some, None, Ok, unwrap_or, refl, sym, ap, ◌∙◌, arith, append_assoc, append-nil, subst}
 use Rattle.std.specs.Prelude.{slice_get}
 use Rattle.std.proofs.lemmas.Grind.{flat_map-append}
@@ -48,7 +49,7 @@ pub record At (stmts before : List Stmt) (line : ℕ) (more : List Stmt) (object
   pub rows : object.rows ≡ front ++ rows_from (entries_of stmts) (behind stmts before) (start_at line ∷ more)
   pub unrefused : refusals_from (entries_of stmts) (labels_of (entries_of stmts) stmts) (behind stmts before) (start_at line ∷ more) ≡ []
   pub extab : drop (behind stmts before).at.sizes.extab object.extab ≡ tables_from stmts (behind stmts before) (start_at line ∷ more)
-  pub small : (section : Section) → size_in (behind stmts before).at.sizes section ≤ 1048576
+  pub small : (section : Section) → size_in (behind stmts before).at.sizes section ≤ MOST_BYTES
 
 joined_rows : (stmts : List Stmt) → (joined stmts).rows ≡ rows_from (entries_of stmts) start stmts
 unfolding joined
@@ -101,10 +102,10 @@ in_text entries labels walk line more r =
     let parts = refusal_parts labels statement.FnStart walk.at.section (here walk.at).offset word none.0 in
     same_is walk.at.section Text (not_false (same_section walk.at.section Text) parts.1.1)
 
-low_place : (n : ℕ) → n ≤ 1048576 → n % 2 ^ 32 ≡ n
+low_place : (n : ℕ) → n ≤ MOST_BYTES → n % 2 ^ 32 ≡ n
 low_place n h = omega (arith, h)
 
-table_there : (n : ℕ) → n ≤ 1048576 → sum_64 n (gap n 4) % 2 ^ 32 ≡ next_multiple n 4
+table_there : (n : ℕ) → n ≤ MOST_BYTES → sum_64 n (gap n 4) % 2 ^ 32 ≡ next_multiple n 4
 table_there n h = omega (arith, h)
 
 next_there : (n : ℕ) → next_multiple n 4 ≡ n + gap n 4
@@ -204,7 +205,7 @@ table_at (entry.Table words) f object walk same closed is there =
     ∙ ap (λ w. flat_map word_bytes words ++ tables_from stmts w more)
     (ap (λ w. next entries w statement.FnStart) same ∙ sym (walks_on entries start f.before (start_at f.start_line ∷ [])))
 
-row_is : (walk : Walk) (words : EntryWords) → walk.at.sizes.text ≤ 1048576 → walk.at.sizes.extab ≤ 1048576
+row_is : (walk : Walk) (words : EntryWords) → walk.at.sizes.text ≤ MOST_BYTES → walk.at.sizes.extab ≤ 1048576
     → row_of walk (Some words) ≡ record { offset = walk.at.sizes.text; entry = entry_for words (next_multiple walk.at.sizes.extab 4) } ∷ []
 row_is walk words text extab =
     ap (λ n. record { offset = n; entry = row_entry (sum_64 walk.at.sizes.extab (gap walk.at.sizes.extab 4)) words } ∷ []) (low_place walk.at.sizes.text text)
