@@ -4,31 +4,32 @@ use Rattle.std.proofs.Common.{◌%◌, nat_eq, length-drop, ◌≡◌, ℕ, zero
 use Rattle.std.proofs.lemmas.Bool.Decides.{nat_tests}
 use Rattle.std.proofs.lemmas.Bool.{cases_lt, false≢true}
 use Rattle.std.specs.List.{list_any, find}
+use Rattle.elf_image.specs.declared.limits.TheConstants.{ADDRESS_LIMIT}
 use Rattle.elf_image.specs.Segments.{Segment, holds, segment_end, RiseFrom}
 use Rattle.elf_image.specs.Functions.{segment_at}
 use Rattle.elf_image.specs.Image.{Image, IsSound, StandsAt, IndexStands}
 use Rattle.elf_image.proofs.Lookups.{any_is_some, segment_fits, execute_some, execute_none, find_holder, filtered, both_true}
 use Rattle.eh_index.specs.Places.{is_code_bound, holds_byte, bytes_at}
 
--- ---- the index lies below 0x30000000
+-- ---- the index lies below ADDRESS_LIMIT
 
 short_at : (low : ℕ) (xs : List Segment) (i : ℕ) (d : Segment) → RiseFrom low xs → i < length xs → length (get_or xs i d).bytes ≤ (get_or xs i d).size
 short_at low [] i d h inside = absurd (omega arith)
 short_at low (s ∷ xs) zero d h inside = h.2
 short_at low (s ∷ xs) (suc i) d h inside = short_at (s.start + s.size) xs i d h.3 (omega arith)
 
-stands_below : (segments : List Segment) (start : ℕ) (bytes : List ℕ) → RiseFrom 0 segments → StandsAt segments start bytes → start + length bytes ≤ 0x30000000
+stands_below : (segments : List Segment) (start : ℕ) (bytes : List ℕ) → RiseFrom 0 segments → StandsAt segments start bytes → start + length bytes ≤ ADDRESS_LIMIT
 stands_below segments start bytes rise h =
     let c = h.there in
     let fits = rw c.2 at (segment_fits 0 segments c.0 h.segment rise c.1) in
     let short = rw c.2 at (short_at 0 segments c.0 h.segment rise c.1) in
     omega (arith, h.below)
 
-index_fits_in : (segments : List Segment) (start : ℕ) (bytes : List ℕ) → RiseFrom 0 segments → IndexStands segments start bytes → start + length bytes ≤ 0x30000000
+index_fits_in : (segments : List Segment) (start : ℕ) (bytes : List ℕ) → RiseFrom 0 segments → IndexStands segments start bytes → start + length bytes ≤ ADDRESS_LIMIT
 index_fits_in segments start bytes rise (inl h) = omega (arith, h.0, ap length h.1)
 index_fits_in segments start bytes rise (inr h) = stands_below segments start bytes rise h
 
-pub index_fits : (image : Image) → IsSound image → image.index_start + length image.index_bytes ≤ 0x30000000
+pub index_fits : (image : Image) → IsSound image → image.index_start + length image.index_bytes ≤ ADDRESS_LIMIT
 index_fits image h = index_fits_in image.segments image.index_start image.index_bytes h.rise h.index
 
 pub ruleset places = (index_fits)

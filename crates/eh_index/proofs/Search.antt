@@ -8,6 +8,7 @@ use Rattle.std.proofs.lemmas.List.FromFn.{get_or-map-range_with_len, length-map-
 use Rattle.std.specs.List.{range_with_len}
 use Rattle.elf_image.specs.Image.{Image}
 use Rattle.unwind_codes.specs.declared.row.Entry.{Entry}
+use Rattle.unwind_codes.specs.declared.row.TheConstants.{ROW_SIZE}
 use Rattle.eh_index.specs.declared.fault.IndexFault.{IndexFault}
 use Rattle.eh_index.specs.declared.fault.IndexFault.TheVariants.{Length, OutsideImage, Unsorted}
 use Rattle.eh_index.specs.Rows.{entry_at, entry_count, entries_of, first_word}
@@ -78,7 +79,7 @@ rows_step image false h = absurd cc
 pub each_accepted : (image : Image) → index_refusal image ≡ None → (k : ℕ) → k < entry_count image → entry_refusal image k ≡ None
 unfolding index_refusal
 each_accepted image h k inside =
-    ap (entry_refusal image) (sym (zero_left k)) ∙ all_from (entry_refusal image) 0 (entry_count image) (rows_step image (nat_eq (length image.index_bytes % 8) 0) h) k inside
+    ap (entry_refusal image) (sym (zero_left k)) ∙ all_from (entry_refusal image) 0 (entry_count image) (rows_step image (nat_eq (length image.index_bytes % ROW_SIZE) 0) h) k inside
 
 tests_step : (k : ℕ) (b c : Bool) → cond b (Some (OutsideImage k)) (cond c (Some (Unsorted k)) None) ≡ None → (b ≡ false) × (c ≡ false)
 tests_step k true c h = absurd cc

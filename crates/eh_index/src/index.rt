@@ -2,6 +2,7 @@
 ghost use Rattle.eh_index.specs.Laws.{IsEntry};
 ghost use Rattle.std.specs.List.{range_with_len};
 ghost use Rattle.std.specs.Prelude.{ℕ, None, map, ◌==◌, ◌≡◌, ◌+◌, ◌*◌, ◌<◌, ◌≤◌, length, IfSome, option_copied};
+ghost use Rattle.unwind_codes.specs.declared.row.TheConstants.{ROW_SIZE};
 ghost use Rattle.eh_index.specs.Rows.{entry_at, entry_count, entries_of};
 ghost use Rattle.eh_index.specs.Places.{is_table_place, table_of};
 ghost use Rattle.eh_index.specs.Refusal.{first_of, entry_refusal, index_refusal, read_of};
@@ -12,7 +13,7 @@ use crate::place::{bounds_code, bytes_at, has_bytes};
 use crate::row::{entry_at, first_word};
 use elf_image::image::Image;
 use std::marker::Model;
-use unwind_codes::row::{Entry, EntryBody};
+use unwind_codes::row::{Entry, EntryBody, ROW_SIZE};
 
 /// The exception index of an image, which contracts see as that image: its rows are accepted, and rise.
 #[derive(Drop)]
@@ -45,7 +46,7 @@ fn is_table_place(image: &Image, body: EntryBody) -> bool
 /// What is refused of a row.
 #[tactic(auto, unfolding(crate::specs::Refusal::entry_refusal))]
 fn entry_refusal(image: &Image, k: u32) -> Option<IndexFault>
-    requires { 8 * k + 8 ≤ length image.now.index_bytes }
+    requires { ROW_SIZE * k + ROW_SIZE ≤ length image.now.index_bytes }
     ensures { result ≡ entry_refusal image.now k }
 {
     let e = entry_at(image, k);
@@ -81,7 +82,7 @@ fn count(image: &Image) -> u32
     ensures { result ≡ entry_count image.now }
 {
     let bytes = image.index_bytes();
-    (bytes.len() / 8) as u32
+    (bytes.len() / ROW_SIZE as usize) as u32
 }
 
 /// How many of the rows begin at the address or below it, by halving.
@@ -113,7 +114,7 @@ impl<'i, 'a> Index<'i, 'a> {
     pub fn read(image: &'i Image<'a>) -> Result<Index<'i, 'a>, IndexFault>
         ensures { result ≡ read_of image.now }
     {
-        if image.index_bytes().len() % 8 != 0 {
+        if image.index_bytes().len() % ROW_SIZE as usize != 0 {
             return Err(IndexFault::Length);
         }
         match rows_refusal(image, count(image)) {

@@ -1,34 +1,34 @@
-//! The rows of an index, eight bytes for each (docs/unwind-index.md).
+//! The rows of an index (docs/unwind-index.md).
 ghost use Rattle.std.specs.Prelude.{◌≡◌, ◌+◌, ◌*◌, ◌≤◌, length};
 ghost use Rattle.unwind_codes.specs.declared.row.TheConstants.{ROW_SIZE};
 ghost use Rattle.eh_index.specs.Rows.{first_word, second_word, entry_at};
 
 use byteorder::{ByteOrder, LittleEndian};
 use elf_image::image::Image;
-use unwind_codes::row::{Entry, entry_of};
+use unwind_codes::row::{Entry, ROW_SIZE, entry_of};
 
 /// The first word of a row.
 pub(crate) fn first_word(image: &Image, k: u32) -> u32
-    requires { 8 * k + 8 ≤ length image.now.index_bytes }
+    requires { ROW_SIZE * k + ROW_SIZE ≤ length image.now.index_bytes }
     ensures { result ≡ first_word image.now k }
 {
-    LittleEndian::read_u32(&image.index_bytes()[8 * k as usize..])
+    LittleEndian::read_u32(&image.index_bytes()[ROW_SIZE as usize * k as usize..])
 }
 
 /// The second word of a row.
 fn second_word(image: &Image, k: u32) -> u32
-    requires { 8 * k + 8 ≤ length image.now.index_bytes }
+    requires { ROW_SIZE * k + ROW_SIZE ≤ length image.now.index_bytes }
     ensures { result ≡ second_word image.now k }
 {
-    LittleEndian::read_u32(&image.index_bytes()[8 * k as usize + 4..])
+    LittleEndian::read_u32(&image.index_bytes()[ROW_SIZE as usize * k as usize + 4..])
 }
 
 /// A row, as an entry of the index.
 #[tactic(auto, using(crate::proofs::Places::places))]
 pub(crate) fn entry_at(image: &Image, k: u32) -> Entry
-    requires { 8 * k + 8 ≤ length image.now.index_bytes }
+    requires { ROW_SIZE * k + ROW_SIZE ≤ length image.now.index_bytes }
     ensures { result ≡ entry_at image.now k }
 {
-    let place = image.index_start() + 8 * k;
+    let place = image.index_start() + ROW_SIZE * k;
     entry_of(place, first_word(image, k), second_word(image, k))
 }
