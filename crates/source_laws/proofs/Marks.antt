@@ -1,6 +1,6 @@
 -- The last mark at or below a byte of the text says whether code stands there.
 use Rattle.asm_layout.specs.declared.walk.TheConstants.{MOST_BYTES}
-use Rattle.std.proofs.Common.{◌≡◌, ℕ, ℤ, ◌+◌, ◌-◌, ◌*◌, ◌/◌, ◌%◌, ◌^◌, ◌≤◌, ◌<◌, min, ◌==◌, ◌&&◌, ◌⊎◌, inl, inr, not, nat_lt, Bool, true, false, cond, List, [], ◌∷◌, ◌++◌, length, All, Option, Some, None, Ok, refl, sym, ap, ◌∙◌, arith, append-nil, append_assoc, length-append, subst}
+use Rattle.std.proofs.Common.{◌≡◌, ℕ, ℤ, ◌+◌, ◌-◌, ◌%◌, ◌^◌, ◌≤◌, ◌<◌, min, ◌==◌, ◌&&◌, ◌⊎◌, inl, inr, not, nat_lt, Bool, true, false, cond, List, [], ◌∷◌, ◌++◌, length, All, Option, Some, None, refl, sym, ap, ◌∙◌, arith, append-nil, append_assoc, length-append, subst}
 use Rattle.std.proofs.lemmas.Bool.{true≢false}
 use Rattle.std.proofs.lemmas.Bool.Decides.{nat_tests}
 use Rattle.std.proofs.lemmas.Grind.{flat_map-append}
@@ -25,7 +25,6 @@ use Rattle.asm_object.specs.Pieces.{Piece, shows, changes_to, mark_of, marks_fro
 use Rattle.asm_object.specs.Refusals.{refusal}
 use Rattle.asm_object.proofs.PlaceLaws.{Fewer, is_ordinary, ordinary_sets, own_stands, filled_length, none_parts, not_large, text_here, law_of_ends, law_of_places, earlier, split, walks_on, none_behind}
 use Rattle.asm_object.proofs.ObjectLaws.{IsTaken, taken, ends_small, entries_count}
-use Rattle.asm_object.proofs.LabelLaws.{small_behind}
 use Rattle.source_laws.specs.RowLaw.{behind}
 use Rattle.source_laws.specs.MarkLaw.{is_code, pool_at, text_behind, LastMarkSays, MarksTellCode, PoolsAreMarked, LastPoolsAreMarked}
 
