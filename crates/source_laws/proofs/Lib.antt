@@ -4,3 +4,5 @@ pub mod Standing
 pub mod Handlers
 pub mod SourceRows
 pub mod Fields
+pub mod Marks
+pub mod Symbols

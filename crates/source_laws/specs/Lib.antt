@@ -2,3 +2,5 @@ pub mod Functions
 pub mod RowLaw
 pub mod HandlerLaw
 pub mod SourceRowLaw
+pub mod MarkLaw
+pub mod SymbolLaw

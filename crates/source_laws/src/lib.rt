@@ -5,6 +5,8 @@ ghost use Rattle.std.specs.Prelude.{◌<◌, ◌^◌, length};
 ghost use Rattle.source_laws.specs.RowLaw.{RowsStandAtTheirFunctions, RowsAreOfFunctions, FunctionsAreClosed};
 ghost use Rattle.source_laws.specs.HandlerLaw.{HandlersStandBehindTheirTables};
 ghost use Rattle.source_laws.specs.SourceRowLaw.{EachRowIsAFunctions, RowsRise, LaterRowsBeginBehind, RowsLieInTheirObjects, HasShortList, HaveShortLists};
+ghost use Rattle.source_laws.specs.MarkLaw.{MarksTellCode, PoolsAreMarked, LastPoolsAreMarked};
+ghost use Rattle.source_laws.specs.SymbolLaw.{FunctionsAreTyped, ObjectsAreTyped, OthersAreNoFunctions, GlobalsAreGlobal, OthersAreLocal};
 
 use asm_read::{Stmt, StmtKind};
 
@@ -34,6 +36,24 @@ pub fn rows_are_of_the_source()
     ensures rising { RowsRise }
     ensures later { LaterRowsBeginBehind }
     ensures inside { RowsLieInTheirObjects }
+{}
+
+/// The last mark at or below a byte of the text says what the byte is of: code of an instruction or of the filling up to a multiple, or
+/// data. In a pool the filling is code, and the words are data.
+pub fn marks_tell_code()
+    ensures statements { MarksTellCode }
+    ensures pools { PoolsAreMarked }
+    ensures last { LastPoolsAreMarked }
+{}
+
+/// The last `.type` of a name says whether its symbol is a function, and without one it is none. A `.global` makes a name global
+/// wherever it stands, and nothing else does.
+pub fn symbols_are_described()
+    ensures functions { FunctionsAreTyped }
+    ensures objects { ObjectsAreTyped }
+    ensures others { OthersAreNoFunctions }
+    ensures globals { GlobalsAreGlobal }
+    ensures locals { OthersAreLocal }
 {}
 
 /// A register list has 16 bits.

@@ -1,0 +1,121 @@
+-- What the marks of an object say of its text ("ELF for the Arm Architecture", "Mapping symbols"): the last mark at or below a byte says
+-- whether code or data stands there (docs/objects.md, "Marks").
+use Rattle.std.specs.Prelude.{◌≡◌, ℕ, ◌^◌, ◌<◌, ◌≤◌, Bool, true, false, nat_lt, List, [], ◌∷◌, ◌++◌, length, All, Option, Some, None, Ok}
+use Rattle.eh_list.specs.Bytes.{next_multiple}
+use Rattle.asm_read.specs.declared.statement.Stmt.{Stmt}
+use Rattle.asm_read.specs.declared.statement.StmtKind.{StmtKind}
+use Rattle.asm_read.specs.declared.statement.StmtKind.TheVariants as statement
+use Rattle.asm_object.specs.declared.object.Mark.{Mark}
+use Rattle.asm_object.specs.declared.object.Object.{Object}
+use Rattle.asm_object.specs.Objects.{object_of}
+use Rattle.source_laws.specs.RowLaw.{behind}
+
+-- whether a statement's own bytes are code: instructions are, and so is what fills a text up to a multiple; data is not. None for
+-- directives that give no bytes, and for `.pool`, which gives both
+abbrev pub is_code : StmtKind → Option Bool
+is_code (statement.MovsImm _ _) = Some true
+is_code (statement.MovsReg _ _) = Some true
+is_code (statement.Mov _ _) = Some true
+is_code (statement.CmpImm _ _) = Some true
+is_code (statement.CmpReg _ _) = Some true
+is_code (statement.AddSubTwo _ _ _) = Some true
+is_code (statement.AddSubReg _ _ _ _) = Some true
+is_code (statement.AddSubThree _ _ _ _) = Some true
+is_code (statement.AddReg _ _) = Some true
+is_code (statement.AddRdSp _ _) = Some true
+is_code (statement.AddSp _) = Some true
+is_code (statement.SubSp _) = Some true
+is_code (statement.ShiftImm _ _ _ _) = Some true
+is_code (statement.Alu _ _ _) = Some true
+is_code (statement.Rsbs _ _) = Some true
+is_code (statement.Adr _ _) = Some true
+is_code (statement.LdrLabel _ _) = Some true
+is_code (statement.LdrPool _ _) = Some true
+is_code (statement.MemImm _ _ _ _) = Some true
+is_code (statement.MemReg _ _ _ _) = Some true
+is_code (statement.MemSp _ _ _) = Some true
+is_code (statement.Push _) = Some true
+is_code (statement.Pop _) = Some true
+is_code (statement.Stm _ _) = Some true
+is_code (statement.LdmBack _ _) = Some true
+is_code (statement.Ldm _ _) = Some true
+is_code (statement.Extend _ _ _) = Some true
+is_code (statement.Rev _ _ _) = Some true
+is_code (statement.B _) = Some true
+is_code (statement.BCond _ _) = Some true
+is_code (statement.Bl _) = Some true
+is_code (statement.Bx _) = Some true
+is_code (statement.Blx _) = Some true
+is_code (statement.Svc _) = Some true
+is_code (statement.Udf _) = Some true
+is_code (statement.Hint _) = Some true
+is_code (statement.Barrier _) = Some true
+is_code (statement.Align _) = Some true
+is_code (statement.Words _) = Some false
+is_code (statement.Halves _) = Some false
+is_code (statement.Bytes _) = Some false
+is_code (statement.Ascii _) = Some false
+is_code (statement.Asciz _) = Some false
+is_code (statement.Space _) = Some false
+is_code (statement.Label _) = None
+is_code statement.Text = None
+is_code statement.Data = None
+is_code statement.Bss = None
+is_code statement.Rodata = None
+is_code (statement.Global _) = None
+is_code (statement.TypeFunction _) = None
+is_code (statement.TypeObject _) = None
+is_code (statement.Size _) = None
+is_code statement.Pool = None
+is_code statement.FnStart = None
+is_code statement.FnEnd = None
+is_code (statement.Save _) = None
+is_code (statement.Pad _) = None
+is_code (statement.SetFp _ _) = None
+is_code statement.CantUnwind = None
+is_code (statement.PersonalityIndex _) = None
+is_code statement.HandlerData = None
+
+abbrev pub pool_at : ℕ → Stmt
+pool_at line = record { line = line; kind = statement.Pool }
+
+-- where the text has come to behind some statements of a source
+abbrev pub text_behind : List Stmt → List Stmt → ℕ
+text_behind stmts before = (behind stmts before).at.sizes.text
+
+-- of the marks at or below an offset one stands highest, those before it lower and those behind it above the offset, and it says
+-- whether code stands there
+pub record LastMarkSays (marks : List Mark) (offset : ℕ) (code : Bool) : Type 0 where
+  pub before : List Mark
+  pub mark : Mark
+  pub after : List Mark
+  pub split : marks ≡ before ++ mark ∷ after
+  pub at_or_below : mark.offset ≤ offset
+  pub lower : All (λ m. m.offset < mark.offset) before
+  pub above : All (λ m. offset < m.offset) after
+  pub says : mark.code ≡ code
+
+-- of each byte that a statement gives the text, as the statement's own bytes are
+abbrev pub MarksTellCode : Type 0
+MarksTellCode =
+    (before more : List Stmt) (stmt : Stmt) (code : Bool) (object : Object) (offset : ℕ)
+    → let stmts = before ++ stmt ∷ more in
+    length stmts < 2 ^ 64 → object_of stmts ≡ Ok object → is_code stmt.kind ≡ Some code
+    → text_behind stmts before ≤ offset → offset < text_behind stmts (before ++ stmt ∷ []) → LastMarkSays object.marks offset code
+
+-- of a pool code up to its first multiple of 4, and from there on its words
+abbrev pub PoolsAreMarked : Type 0
+PoolsAreMarked =
+    (before more : List Stmt) (line : ℕ) (object : Object) (offset : ℕ)
+    → let stmts = before ++ pool_at line ∷ more in
+    length stmts < 2 ^ 64 → object_of stmts ≡ Ok object
+    → text_behind stmts before ≤ offset → offset < text_behind stmts (before ++ pool_at line ∷ [])
+    → LastMarkSays object.marks offset (nat_lt offset (next_multiple (text_behind stmts before) 4))
+
+-- the same of the pool at the end of the text
+abbrev pub LastPoolsAreMarked : Type 0
+LastPoolsAreMarked =
+    (stmts : List Stmt) (object : Object) (offset : ℕ)
+    → length stmts < 2 ^ 64 → object_of stmts ≡ Ok object
+    → text_behind stmts stmts ≤ offset → offset < length object.text
+    → LastMarkSays object.marks offset (nat_lt offset (next_multiple (text_behind stmts stmts) 4))
