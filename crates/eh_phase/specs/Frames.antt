@@ -62,6 +62,14 @@ abbrev pub caller_of : Result (List ℕ) UnwindEnd → Option Vrs
 caller_of (Ok r) = Some (record { r = r })
 caller_of (Err why) = None
 
+abbrev pub caller_by : List Segment → List ℕ → Option Covered → Option Vrs
+caller_by segments r None = None
+caller_by segments r (Some c) = caller_of (unwound segments r (cut c.codes))
+
+-- the registers that the codes of a site give of those of the frame that stands there
+abbrev pub caller_at : Image → List Segment → ℕ → List ℕ → Option Vrs
+caller_at image segments site r = caller_by segments r (covered_at image site)
+
 abbrev pub checked : ℕ → Option ℕ → Bool → ℕ → Option Vrs → Result Vrs Cause
 checked end limit innermost sp None = Err CannotUnwind
 checked end limit innermost sp (Some next) =

@@ -11,4 +11,4 @@ pub mod walk;
 pub use phase1::{Barrier, Found, search};
 pub use phase2::{Entered, Goal, advance};
 pub use verdict::Thrown;
-pub use walk::Tables;
+pub use walk::{Tables, caller_at};

@@ -3,7 +3,7 @@ ghost use Rattle.std.specs.Prelude.{◌≡◌, Some};
 ghost use Rattle.unwind_codes.specs.Cut.{cut};
 ghost use Rattle.eh_index.specs.Places.{table_of};
 ghost use Rattle.eh_bytecode.specs.Meaning.{unwound};
-ghost use Rattle.eh_phase.specs.Frames.{codes_of, covered_at, is_no_frame, is_above, caller_of, checked, outer, site_of};
+ghost use Rattle.eh_phase.specs.Frames.{codes_of, covered_at, is_no_frame, is_above, caller_of, caller_at, checked, outer, site_of};
 ghost use Rattle.eh_phase.specs.Calls.{stack_of, cursor_of};
 
 use eh_bus::bus::Bus;
@@ -92,6 +92,18 @@ fn caller<B: Bus>(codes: &Codes, bus: &B, vrs: &Vrs) -> Option<Vrs>
     match unwind(codes, &mut next, bus) {
         UnwindEnd::Finished => Some(next),
         UnwindEnd::Refused | UnwindEnd::BadCode(_) | UnwindEnd::Unreadable(_) => None,
+    }
+}
+
+/// The registers that the codes of the entry give which covers a site, of those of the frame that stands there. None where no entry
+/// covers it, where the entry can't be unwound or its codes can't be read, and where they end otherwise than finished. Nothing is
+/// asked of the new stack pointer.
+pub fn caller_at<B: Bus>(t: &Tables, bus: &B, from: &Vrs, site: u32) -> Option<Vrs>
+    ensures { result ≡ caller_at t.now.index (B.memory bus.now).segments site from.now.r }
+{
+    match covered_at(&t.index, site) {
+        None => None,
+        Some(Covered { codes, descs: _ }) => caller(&codes, bus, from),
     }
 }
 

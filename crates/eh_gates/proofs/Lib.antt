@@ -1,0 +1,4 @@
+pub mod Blocks
+pub mod Fifteen
+pub mod Sought
+pub mod Honest

@@ -1,0 +1,149 @@
+//! A landing pad is entered (IHI 0038, "Phase 2 unwinding"; docs/machine.md, "Landing").
+ghost use Rattle.std.specs.Prelude.{◌≡◌, IsSome};
+ghost use Rattle.eh_cxa.specs.Words.{block_slot};
+ghost use Rattle.eh_gates.specs.State.{state_of};
+ghost use Rattle.eh_gates.specs.Landing.{landed, pad_event, words_of, enter_cleanup, enter_handler, entered};
+
+use crate::state::{Core, Turned};
+use eh_bus::bus::Bus;
+use eh_bytecode::Vrs;
+use eh_cxa::{CleanupWords, begin_cleanup, land};
+use eh_phase::Entered;
+use eh_trace::event::MAX_BYTES;
+use eh_trace::{Event, EventKind, Events};
+use thumb_core::ends::{Cause, End};
+use thumb_core::regs::{Regs, SP};
+
+/// The registers at a pad: sp and r4 to r11 of the frame that is entered, `first` in r0, zeros else, and the flags as they are.
+fn landed(regs: &Regs, vrs: &Vrs, pad: u32, first: u32) -> Regs
+    ensures { result ≡ landed regs.now vrs.now.r pad first }
+{
+    let r = vrs.r;
+    Regs {
+        r: [
+            first,
+            0,
+            0,
+            0,
+            r[4],
+            r[5],
+            r[6],
+            r[7],
+            r[8],
+            r[9],
+            r[10],
+            r[11],
+            0,
+            r[SP as usize],
+            0,
+        ],
+        pc: pad - pad % 2,
+        n: regs.n,
+        z: regs.z,
+        c: regs.c,
+        v: regs.v,
+    }
+}
+
+/// The event of a pad that is entered with this sp.
+fn pad_event(kind: EventKind, pad: u32, sp: u32, object: u32) -> Event
+    ensures { result ≡ pad_event kind pad sp object }
+{
+    Event {
+        kind,
+        a: pad,
+        b: sp,
+        c: object,
+        bytes: [0; MAX_BYTES],
+        count: 0,
+    }
+}
+
+/// What a cleanup in progress keeps.
+fn words_of(vrs: &Vrs, next: u32, site: u32) -> CleanupWords
+    ensures { result ≡ words_of vrs.now.r next site }
+{
+    CleanupWords {
+        next,
+        sp: vrs.r[SP as usize],
+        site,
+    }
+}
+
+/// A cleanup is entered, in the frame with these registers: it is the innermost in progress.
+fn enter_cleanup<B: Bus>(
+    core: &mut Core,
+    bus: &mut B,
+    events: &mut Events,
+    block: u32,
+    frame: (Vrs, u32),
+    words: &CleanupWords,
+)
+    requires { IsSome (block_slot block) }
+    ensures { state_of core.new (B.memory bus.new) events.new ≡ enter_cleanup (state_of core.old (B.memory bus.old) events.old) block frame.0.r frame.1 words.now }
+{
+    let (vrs, pad) = frame;
+    let sp = vrs.r[SP as usize];
+    begin_cleanup(bus, &mut core.globals, block, words);
+    core.regs = landed(&core.regs, &vrs, pad, 0);
+    bus.release_below(sp);
+    events.push(pad_event(EventKind::Cleanup, pad, sp, 0));
+}
+
+/// A handler of the exception is entered, in the frame with these registers, with its event.
+fn enter_handler<B: Bus>(
+    core: &mut Core,
+    bus: &mut B,
+    events: &mut Events,
+    block: u32,
+    frame: (Vrs, u32),
+    event: Event,
+)
+    requires block { IsSome (block_slot block) }
+    requires count { event.count ≡ 0 }
+    ensures { state_of core.new (B.memory bus.new) events.new ≡ enter_handler (state_of core.old (B.memory bus.old) events.old) block frame.0.r frame.1 event }
+{
+    let (vrs, pad) = frame;
+    land(bus, block);
+    core.regs = landed(&core.regs, &vrs, pad, block);
+    bus.release_below(vrs.r[SP as usize]);
+    events.push(event);
+}
+
+/// Does what phase 2 enters, for the exception of a control block; the handler of a catch is given `object`.
+pub(crate) fn entered<B: Bus>(
+    core: &mut Core,
+    bus: &mut B,
+    events: &mut Events,
+    block: u32,
+    object: u32,
+    what: Entered,
+) -> Turned
+    requires { IsSome (block_slot block) }
+    ensures { (result, state_of core.new (B.memory bus.new) events.new) ≡ entered (state_of core.old (B.memory bus.old) events.old) block object what }
+{
+    match what {
+        Entered::Cleanup {
+            vrs,
+            pad,
+            next,
+            site,
+        } => {
+            let words = words_of(&vrs, next, site);
+            enter_cleanup(core, bus, events, block, (vrs, pad), &words);
+            Turned::Went
+        }
+        Entered::Catch { vrs, pad } => {
+            let event = pad_event(EventKind::Catch, pad, vrs.r[SP as usize], object);
+            enter_handler(core, bus, events, block, (vrs, pad), event);
+            Turned::Went
+        }
+        Entered::Spec { vrs, pad } => {
+            let event = pad_event(EventKind::Unexpected, pad, vrs.r[SP as usize], 0);
+            enter_handler(core, bus, events, block, (vrs, pad), event);
+            Turned::Went
+        }
+        Entered::Unexpected => Turned::Ended(End::Terminate(Cause::Unexpected)),
+        Entered::Terminate(cause) => Turned::Ended(End::Terminate(cause)),
+    }
+}

@@ -1,0 +1,14 @@
+//! The gates by which a program allocates, throws, catches and cleans up (IHI 0038, IHI 0041; docs/machine.md): what each does to
+//! registers, memory, the globals and the events of a state. The gates 0 to 2, which every machine has, are those of guest_gates.
+#![tactic(auto)]
+
+pub mod calls;
+pub mod gates;
+pub mod landing;
+pub mod resuming;
+pub mod state;
+pub mod throwing;
+
+pub use gates::gate;
+pub use state::{Core, Turned};
+pub use throwing::throw_to;

@@ -1,0 +1,53 @@
+//! A cleanup ends and its throw goes on (IHI 0038, "Phase 2 unwinding"; docs/machine.md, "The end of a cleanup").
+ghost use Rattle.std.specs.Prelude.{◌≡◌};
+ghost use Rattle.eh_gates.specs.State.{state_of, guide_of};
+ghost use Rattle.eh_gates.specs.Resuming.{goal_in, end_cleanup_gate};
+
+use crate::calls::fault_end;
+use crate::landing::entered;
+use crate::state::{Core, Turned};
+use crate::throwing::frame_of;
+use eh_bus::bus::Bus;
+use eh_cxa::{BarrierWords, CxaFault, barrier, end_cleanup, innermost_sp};
+use eh_phase::{Goal, Tables, advance, caller_at};
+use eh_trace::Events;
+use thumb_core::regs::SP;
+
+/// The barrier as phase 2 knows it.
+fn goal_in(b: &BarrierWords) -> Goal
+    ensures { result ≡ goal_in b.now }
+{
+    Goal {
+        sp: b.sp,
+        desc: b.desc,
+    }
+}
+
+/// The function that a cleanup calls at its end: its frame is unwound, the cleanup ends in the caller, and phase 2 goes on from the
+/// cleanup's site and next descriptor. `NoCleanup` with 0 where none is in progress; `CleanupElsewhere` with the sp of the caller where the
+/// cleanup was entered with another, and with 0 where the gate's frame can't be unwound. A terminate leaves the registers.
+pub(crate) fn end_cleanup_gate<B: Bus>(
+    t: &Tables,
+    core: &mut Core,
+    bus: &mut B,
+    events: &mut Events,
+) -> Turned
+    ensures { (result, state_of core.new (B.memory bus.new) events.new) ≡ end_cleanup_gate (guide_of t.now.index t.now.types.now) (state_of core.old (B.memory bus.old) events.old) }
+{
+    let pc = core.regs.pc;
+    if innermost_sp(bus, &core.globals).is_none() {
+        return Turned::Ended(fault_end(CxaFault::NoCleanup, 0, pc));
+    }
+    let Some(vrs) = caller_at(t, bus, &frame_of(&core.regs), pc) else {
+        return Turned::Ended(fault_end(CxaFault::CleanupElsewhere, 0, pc));
+    };
+    let sp = vrs.r[SP as usize];
+    match end_cleanup(bus, &mut core.globals, sp) {
+        Err(fault) => Turned::Ended(fault_end(fault, sp, pc)),
+        Ok((block, words)) => {
+            let b = barrier(bus, block);
+            let what = advance(t, bus, &vrs, words.site, words.next, &goal_in(&b));
+            entered(core, bus, events, block, b.object, what)
+        }
+    }
+}

@@ -1,0 +1,253 @@
+//! A throw and a rethrow (IHI 0038, "Phase 1 unwinding", "Phase 2 unwinding"; docs/machine.md, "A throw").
+ghost use Rattle.std.specs.Prelude.{◌≡◌, ◌<◌, ◌≤◌, IsSome};
+ghost use Rattle.eh_cxa.specs.Words.{block_slot, object_slot};
+ghost use Rattle.thumb_core.specs.Registers.{all_of};
+ghost use Rattle.eh_gates.specs.State.{state_of, guide_of};
+ghost use Rattle.eh_gates.specs.Throwing.{barrier_words, handed, pointed, throw_to, byte_of, throw_event, barrier_in, sought, throw_gate, rethrow_end, rethrow_gate};
+
+use crate::calls::fault_end;
+use crate::landing::entered;
+use crate::state::{Core, Turned};
+use eh_bus::bus::Bus;
+use eh_bytecode::Vrs;
+use eh_cxa::layout::{BARRIER_POINTER, BLOCK};
+use eh_cxa::{
+    BarrierWords, CxaFault, innermost_sp, may_rethrow, may_throw, object_size, rethrow,
+    set_barrier, start_throw, thrown,
+};
+use eh_match::Match;
+use eh_phase::{Barrier, Found, Goal, Tables, Thrown, advance, search};
+use eh_trace::event::MAX_BYTES;
+use eh_trace::{Event, EventKind, Events};
+use thumb_core::ends::{Cause, End, TrapKind};
+use thumb_core::regs::Regs;
+
+/// Where the pointer that a handler of a pointer to a base is given stands, in bytes from the start of the control block.
+pub const POINTER_AT: u32 = 4 * BARRIER_POINTER - BLOCK;
+
+/// The registers as those of a frame; pc is the last of them.
+pub(crate) fn frame_of(regs: &Regs) -> Vrs
+    ensures { result.r ≡ all_of regs.now }
+{
+    let r = regs.r;
+    Vrs {
+        r: [
+            r[0], r[1], r[2], r[3], r[4], r[5], r[6], r[7], r[8], r[9], r[10], r[11], r[12], r[13],
+            r[14], regs.pc,
+        ],
+    }
+}
+
+/// What the handler is given, by the match: the object, or the place of the pointer to its base.
+fn handed(block: u32, hit: Match) -> u32
+    ensures { result ≡ handed block hit }
+{
+    match hit {
+        Match::Object(object) => object,
+        Match::PointerToBase(_) => block.wrapping_add(POINTER_AT),
+        Match::Failed | Match::Unreadable(_) => 0,
+    }
+}
+
+fn pointed(hit: Match) -> u32
+    ensures { result ≡ pointed hit }
+{
+    match hit {
+        Match::PointerToBase(pointer) => pointer,
+        Match::Object(_) | Match::Failed | Match::Unreadable(_) => 0,
+    }
+}
+
+fn barrier_words(block: u32, b: &Barrier) -> BarrierWords
+    ensures { result ≡ barrier_words block b.now }
+{
+    BarrierWords {
+        sp: b.sp,
+        object: handed(block, b.hit),
+        desc: b.desc,
+        pointer: pointed(b.hit),
+    }
+}
+
+/// What a throw and a rethrow do once the exception flies: its barrier is written, phase 2 goes from the registers as they are and a site
+/// to it, and what it enters is entered, with its event, or the run terminates. A terminate leaves the registers.
+#[tactic(auto, unfolding(crate::specs::Throwing::throw_to))]
+pub fn throw_to<B: Bus>(
+    t: &Tables,
+    core: &mut Core,
+    bus: &mut B,
+    events: &mut Events,
+    site: u32,
+    block: u32,
+    b: &Barrier,
+) -> Turned
+    requires { IsSome (block_slot block) }
+    ensures { (result, state_of core.new (B.memory bus.new) events.new) ≡ throw_to (guide_of t.now.index t.now.types.now) (state_of core.old (B.memory bus.old) events.old) site block b.now }
+{
+    let words = barrier_words(block, b);
+    set_barrier(bus, block, &words);
+    let goal = Goal {
+        sp: b.sp,
+        desc: b.desc,
+    };
+    let what = advance(t, bus, &frame_of(&core.regs), site, 0, &goal);
+    entered(core, bus, events, block, words.object, what)
+}
+
+/// One of the first `count` bytes of an object, and 0 behind them.
+fn byte_of<B: Bus>(bus: &B, at: u32, count: u32, k: u32) -> u8
+    ensures { result ≡ byte_of (B.memory bus.now) at count k }
+{
+    if k < count {
+        bus.load8(at.wrapping_add(k)).unwrap_or(0)
+    } else {
+        0
+    }
+}
+
+/// The event of a throw, with the first bytes of the object.
+fn throw_event<B: Bus>(bus: &B, kind: EventKind, what: &Thrown, size: u32) -> Event
+    ensures is { result ≡ throw_event kind (B.memory bus.now) what.now size }
+    ensures count { result.count ≤ MAX_BYTES }
+{
+    let at = what.object;
+    let n = size.min(MAX_BYTES as u32);
+    Event {
+        kind,
+        a: at,
+        b: what.ty,
+        c: 0,
+        bytes: [
+            byte_of(bus, at, n, 0),
+            byte_of(bus, at, n, 1),
+            byte_of(bus, at, n, 2),
+            byte_of(bus, at, n, 3),
+            byte_of(bus, at, n, 4),
+            byte_of(bus, at, n, 5),
+            byte_of(bus, at, n, 6),
+            byte_of(bus, at, n, 7),
+            byte_of(bus, at, n, 8),
+            byte_of(bus, at, n, 9),
+            byte_of(bus, at, n, 10),
+            byte_of(bus, at, n, 11),
+            byte_of(bus, at, n, 12),
+            byte_of(bus, at, n, 13),
+            byte_of(bus, at, n, 14),
+            byte_of(bus, at, n, 15),
+        ],
+        count: n,
+    }
+}
+
+/// The barrier that a search found; without one the run ends.
+fn barrier_in(pc: u32, found: Found) -> Result<Barrier, End>
+    ensures { result ≡ barrier_in pc found }
+{
+    match found {
+        Found::Barrier(b) => Ok(b),
+        Found::Terminate(cause) => Err(End::Terminate(cause)),
+        Found::ObjectRead(a) => Err(End::Trap(TrapKind::ObjectRead, a, pc)),
+    }
+}
+
+/// The barrier of a throw, behind its event, or how the run ends. `BadType` where the graph doesn't hold the type, and then there is no
+/// event.
+#[tactic(auto, unfolding(crate::specs::Throwing::sought))]
+fn sought<B: Bus>(
+    t: &Tables,
+    core: &Core,
+    bus: &B,
+    events: &mut Events,
+    kind: EventKind,
+    what: &Thrown,
+) -> Result<Barrier, End>
+    requires { IsSome (object_slot what.now.object) }
+    ensures { (result, state_of core.now (B.memory bus.now) events.new) ≡ sought (guide_of t.now.index t.now.types.now) (state_of core.now (B.memory bus.now) events.old) kind what.now }
+{
+    let pc = core.regs.pc;
+    if !t.types.holds(what.ty) {
+        return Err(End::Trap(TrapKind::BadType, what.ty, pc));
+    }
+    events.push(throw_event(bus, kind, what, object_size(bus, what.object)));
+    let limit = innermost_sp(bus, &core.globals);
+    let found = search(t, bus, &frame_of(&core.regs), pc, what, limit);
+    barrier_in(pc, found)
+}
+
+/// The object at r0 is thrown, of the type at r1, with the destructor at r2. Traps: `BadObject` with r0, `BadType` with r1, `ObjectRead` with
+/// the address that can't be read; without a barrier the run terminates. Each leaves registers, globals and memory.
+pub(crate) fn throw_gate<B: Bus>(
+    t: &Tables,
+    core: &mut Core,
+    bus: &mut B,
+    events: &mut Events,
+) -> Turned
+    ensures { (result, state_of core.new (B.memory bus.new) events.new) ≡ throw_gate (guide_of t.now.index t.now.types.now) (state_of core.old (B.memory bus.old) events.old) }
+{
+    let pc = core.regs.pc;
+    let [object, ty, destructor, ..] = core.regs.r;
+    if let Err(fault) = may_throw(bus, object) {
+        return Turned::Ended(fault_end(fault, object, pc));
+    }
+    match sought(
+        t,
+        core,
+        bus,
+        events,
+        EventKind::Throw,
+        &Thrown { object, ty },
+    ) {
+        Err(end) => Turned::Ended(end),
+        Ok(b) => match start_throw(bus, &mut core.globals, object, ty, destructor) {
+            Err(fault) => Turned::Ended(fault_end(fault, object, pc)),
+            Ok(block) => throw_to(t, core, bus, events, pc, block, &b),
+        },
+    }
+}
+
+/// How a refused rethrow ends the run: it terminates where nothing is caught.
+fn rethrow_end(fault: CxaFault, given: u32, pc: u32) -> End
+    ensures { result ≡ rethrow_end fault given pc }
+{
+    match fault {
+        CxaFault::NoCaught => End::Terminate(Cause::NothingCaught),
+        CxaFault::PoolFull
+        | CxaFault::TooBig
+        | CxaFault::BadObject
+        | CxaFault::BadUcb
+        | CxaFault::CaughtOrder
+        | CxaFault::NoCleanup
+        | CxaFault::CleanupElsewhere => fault_end(fault, given, pc),
+    }
+}
+
+/// The top of the caught stack is thrown again. Terminates by `NothingCaught`; `CaughtOrder` with its control block; then as a throw.
+pub(crate) fn rethrow_gate<B: Bus>(
+    t: &Tables,
+    core: &mut Core,
+    bus: &mut B,
+    events: &mut Events,
+) -> Turned
+    ensures { (result, state_of core.new (B.memory bus.new) events.new) ≡ rethrow_gate (guide_of t.now.index t.now.types.now) (state_of core.old (B.memory bus.old) events.old) }
+{
+    let pc = core.regs.pc;
+    let block = match may_rethrow(bus, &core.globals) {
+        Ok(block) => block,
+        Err(fault) => return Turned::Ended(rethrow_end(fault, core.globals.caught, pc)),
+    };
+    let (object, ty) = thrown(bus, block);
+    match sought(
+        t,
+        core,
+        bus,
+        events,
+        EventKind::Rethrow,
+        &Thrown { object, ty },
+    ) {
+        Err(end) => Turned::Ended(end),
+        Ok(b) => match rethrow(bus, &mut core.globals) {
+            Err(fault) => Turned::Ended(fault_end(fault, block, pc)),
+            Ok(block) => throw_to(t, core, bus, events, pc, block, &b),
+        },
+    }
+}

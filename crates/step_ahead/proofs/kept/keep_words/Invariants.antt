@@ -1,0 +1,11 @@
+use Rattle.std.proofs.Common.{◌≡◌, ◌+◌, ◌*◌, ◌<◌, ℕ, length, slice_index, Ok}
+use Rattle.eh_bus.specs.Memory.{load}
+use Rattle.step_ahead.specs.declared.kept.TheConstants.{MOST}
+use Rattle.step_ahead.specs.Kept.{SoFar}
+use Rattle.step_ahead.proofs.kept.keep_words.Given as goal
+
+abbrev pub invariant-loop-k : goal.invariant-loop-k
+invariant-loop-k g l = record {
+  count : length l.words ≡ MOST;
+  so_far : SoFar (g.B.Bus.memory l.bus) l.at l.count l.k l.words;
+}

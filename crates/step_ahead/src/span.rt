@@ -1,0 +1,80 @@
+//! The bytes that an instruction may store to (docs/core.md).
+ghost use Rattle.std.specs.Prelude.{◌≡◌, ◌+◌, ◌≤◌, length};
+ghost use Rattle.thumb_core.specs.Words.{listed};
+ghost use Rattle.thumb_core.specs.Registers.{reg};
+ghost use Rattle.thumb_core.specs.Stores.{reg_span, imm_span, stores_of};
+ghost use Rattle.step_ahead.specs.Kept.{spanned};
+
+use thumb_core::access::{STR_IMM, STR_REG, STRB_IMM, STRB_REG, STRH_IMM, STRH_REG};
+use thumb_core::regs::{Regs, SP};
+use thumb_isa::instr::Instr;
+
+/// How many registers a list names.
+#[tactic(auto, using(thumb_core::proofs::Listed::listed_all, thumb_core::proofs::Listed::listed_more, thumb_core::proofs::Listed::listed_none))]
+pub(crate) fn count_of(list: u16) -> u32
+    ensures count { result ≡ length (listed list) }
+    ensures within { result ≤ 16 }
+{
+    let mut count = 0;
+    for k in 0..16u16 {
+        if (list >> k) & 1 == 1 {
+            count += 1;
+        }
+    }
+    count
+}
+
+/// One of the registers r0 to r14.
+fn reg(regs: &Regs, k: u8) -> u32
+    ensures { result ≡ reg regs.now k }
+{
+    match regs.r.get(k as usize) {
+        Some(word) => *word,
+        None => 0,
+    }
+}
+
+fn reg_span(op: u8, at: u32) -> Option<(u32, u32)>
+    ensures { spanned result ≡ reg_span op at }
+{
+    match op {
+        STR_REG => Some((at, 4)),
+        STRH_REG => Some((at, 2)),
+        STRB_REG => Some((at, 1)),
+        _ => None,
+    }
+}
+
+fn imm_span(op: u8, at: u32) -> Option<(u32, u32)>
+    ensures { spanned result ≡ imm_span op at }
+{
+    match op {
+        STR_IMM => Some((at, 4)),
+        STRB_IMM => Some((at, 1)),
+        STRH_IMM => Some((at, 2)),
+        _ => None,
+    }
+}
+
+/// The bytes that an instruction stores to unless it traps: the address of the first, and how many.
+pub(crate) fn span_of(i: Instr, regs: &Regs) -> Option<(u32, u32)>
+    ensures { spanned result ≡ stores_of i regs.now }
+{
+    match i {
+        Instr::MemReg { op, n, m, .. } => reg_span(op, reg(regs, n).wrapping_add(reg(regs, m))),
+        Instr::MemImm { op, n, off, .. } => imm_span(op, reg(regs, n).wrapping_add_signed(off)),
+        Instr::MemSp { load, off, .. } => {
+            if load {
+                None
+            } else {
+                Some((reg(regs, SP).wrapping_add_signed(off), 4))
+            }
+        }
+        Instr::Push { list } => {
+            let bytes = 4 * count_of(list);
+            Some((reg(regs, SP).wrapping_sub(bytes), bytes))
+        }
+        Instr::Stm { n, list } => Some((reg(regs, n), 4 * count_of(list))),
+        _ => None,
+    }
+}
