@@ -2,10 +2,18 @@
 //! address. docs/checking.md states the rules.
 #![tactic(auto)]
 
+pub mod accepted;
+pub mod checking;
 pub mod fault;
+mod judge;
+pub mod laws;
+mod marking;
 pub mod pushes;
 pub mod roots;
 pub mod spots;
+mod walk;
 
+pub use accepted::Accepted;
+pub use checking::check;
 pub use fault::{CheckFault, Rejected};
 pub use spots::Spot;
