@@ -1,5 +1,5 @@
 -- The text of a register list: its registers are those that the list has.
-use Rattle.std.proofs.Common.{◌≡◌, ℕ, zero, suc, ◌+◌, ◌-◌, ◌*◌, ◌/◌, ◌%◌, ◌<◌, ◌≤◌, ◌==◌, Bool, true, false, if◌then◌else◌, List, [], ◌∷◌, ◌++◌, length, bit_or, refl, ap, ◌∙◌, arith}
+use Rattle.std.proofs.Common.{◌≡◌, ℕ, zero, suc, ◌+◌, ◌-◌, ◌*◌, ◌/◌, ◌%◌, ◌^◌, ◌<◌, ◌≤◌, ◌==◌, Bool, true, false, if◌then◌else◌, List, [], ◌∷◌, ◌++◌, length, bit_or, refl, ap, ◌∙◌, arith}
 use Rattle.std.proofs.lemmas.Nat.{or_comm, or_shifted}
 use Rattle.std.proofs.lemmas.Bool.Decides.{nat_tests}
 use Rattle.asm_read.specs.Tokens.{front_of}
@@ -96,20 +96,20 @@ bit_13 list = bit_step list 8192 16384 2 13 refl (λ e. or_comm (list % 8192) 81
 bit_14 : (list : ℕ) → masked (list % 16384) (registers_from list 2) ≡ masked (list % 32768) (registers_from list 1)
 bit_14 list = bit_step list 16384 32768 1 14 refl (λ e. or_comm (list % 16384) 16384 ∙ or_shifted 1 14 (list % 16384) (omega arith) ∙ (let odd : list / 16384 % 2 ≡ 1 = odd_is (list / 16384) e in omega arith)) (λ e. let even : list / 16384 % 2 ≡ 0 = even_is (list / 16384) e in omega arith)
 
-bit_15 : (list : ℕ) → masked (list % 32768) (registers_from list 1) ≡ masked (list % 65536) (registers_from list 0)
-bit_15 list = bit_step list 32768 65536 0 15 refl (λ e. or_comm (list % 32768) 32768 ∙ or_shifted 1 15 (list % 32768) (omega arith) ∙ (let odd : list / 32768 % 2 ≡ 1 = odd_is (list / 32768) e in omega arith)) (λ e. let even : list / 32768 % 2 ≡ 0 = even_is (list / 32768) e in omega arith)
+bit_15 : (list : ℕ) → masked (list % 32768) (registers_from list 1) ≡ masked (list % 2 ^ 16) (registers_from list 0)
+bit_15 list = bit_step list 32768 (2 ^ 16) 0 15 refl (λ e. or_comm (list % 32768) 32768 ∙ or_shifted 1 15 (list % 32768) (omega arith) ∙ (let odd : list / 32768 % 2 ≡ 1 = odd_is (list / 32768) e in omega arith)) (λ e. let even : list / 32768 % 2 ≡ 0 = even_is (list / 32768) e in omega arith)
 
 none_left : (list all : ℕ) → masked all (registers_from list 0) ≡ all
 unfolding registers_from
 none_left list all = refl
 
 -- the registers of a list are that list
-pub registers_are : (list : ℕ) → list < 65536 → masked 0 (registers_from list 16) ≡ list
+pub registers_are : (list : ℕ) → list < 2 ^ 16 → masked 0 (registers_from list 16) ≡ list
 registers_are list h =
     ap (λ x. masked x (registers_from list 16)) (let e : 0 ≡ list % 1 = omega arith in e)
     ∙ bit_0 list ∙ bit_1 list ∙ bit_2 list ∙ bit_3 list ∙ bit_4 list ∙ bit_5 list ∙ bit_6 list ∙ bit_7 list ∙ bit_8 list ∙ bit_9 list ∙ bit_10 list ∙ bit_11 list ∙ bit_12 list ∙ bit_13 list ∙ bit_14 list ∙ bit_15 list
-    ∙ none_left list (list % 65536)
-    ∙ (let e : list % 65536 ≡ list = omega arith in e)
+    ∙ none_left list (list % 2 ^ 16)
+    ∙ (let e : list % 2 ^ 16 ≡ list = omega arith in e)
 
 -- ---- as tokens
 

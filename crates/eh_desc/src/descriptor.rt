@@ -216,7 +216,7 @@ impl<'a> Table<'a> {
     /// A specification whose types stand at a place, with a landing pad behind them.
     fn padded(&self, place: usize, scope: Scope, types: usize, count: u32) -> Found
         requires types { types ≤ length self.now.bytes.now }
-        requires count { count ≤ 1024 }
+        requires count { count ≤ MOST_TYPES }
         ensures { result ≡ padded_at (form self.now) place scope.length scope.offset types count }
     {
         let at = types + 4 * count as usize;
@@ -234,7 +234,7 @@ impl<'a> Table<'a> {
     /// A specification whose types stand at a place.
     fn types(&self, place: usize, scope: Scope, types: usize, count: u32, padded: bool) -> Found
         requires types { types ≤ length self.now.bytes.now }
-        requires count { count ≤ 1024 }
+        requires count { count ≤ MOST_TYPES }
         ensures { result ≡ types_at (form self.now) place scope.length scope.offset types count padded }
     {
         let behind = types + 4 * count as usize;

@@ -7,6 +7,8 @@ use Rattle.std.proofs.lemmas.Bool.Decides.{nat_tests}
 use Rattle.std.proofs.lemmas.List.{length-take-le}
 use Rattle.byteorder.specs.Endian.{little_number}
 use Rattle.eh_word.specs.Words.{moved, number_at}
+use Rattle.unwind_codes.specs.Rows.{prel31_to}
+use Rattle.unwind_codes.proofs.RowLaws.{seen_back}
 use Rattle.thumb_isa.specs.Fields.{field}
 use Rattle.thumb_isa.specs.declared.instr.Instr.{Instr}
 use Rattle.thumb_isa.specs.declared.instr.Instr.TheVariants.{BCond, B, Bl}
@@ -23,13 +25,12 @@ use Rattle.asm_object.specs.declared.relocation.FieldKind.TheVariants.{Absolute,
 use Rattle.eh_link.specs.declared.field.Change.{Change}
 use Rattle.eh_link.specs.declared.field.Change.TheVariants.{Half, Word}
 use Rattle.eh_link.specs.Layout.{address_at}
-use Rattle.eh_link.specs.Index.{prel31_to}
 use Rattle.eh_link.specs.Fields.{size_of, relative, branch, filling, change_of, written_at, changed, filled, lower, unreachable_at, unreachable_in}
 use Rattle.asm_object.specs.Relocations.{width, field_size}
 use Rattle.eh_link.specs.EquationLaw.{target_of, way_of, IsField, Stands, Decodes, AbsoluteFields, RelativeFields, Prel31Fields, Calls, Jumps, CondJumps}
 use Rattle.eh_link.proofs.Changes.{filling_fits}
 use Rattle.eh_link.proofs.Holding.{word_length, half_length, changed_length, change_within, filled_length, same_behind, law_of_fields}
-use Rattle.eh_link.proofs.Words.{Reads, number_is, number_reads, word_reads, half_reads, reads_behind, reads_same, word_halves, seen_back, seen_same}
+use Rattle.eh_link.proofs.Words.{Reads, number_is, number_reads, word_reads, half_reads, reads_behind, reads_same, word_halves, seen_same}
 use Rattle.eh_link.proofs.Branches.{IsSmall, bl_means, b_means, b_cond_means, bl_is_small, b_is_small, b_cond_is_small}
 
 -- ---- what is written over bytes
@@ -143,7 +144,7 @@ back_32 : (target place : ℕ) → target < 2 ^ 32 → place < 2 ^ 32 → ((targ
 back_32 target place t p = omega arith
 
 back_31 : (target place old : ℕ) → target < 2 ^ 32 → place < 2 ^ 32
-    → ((target + (2 ^ 32 - place)) % 2 ^ 32 % 2 ^ 31 + old / 2 ^ 31 * 2 ^ 31 + place) % 2 ^ 31 ≡ target % 2 ^ 31
+    → (prel31_to place target + old / 2 ^ 31 * 2 ^ 31 + place) % 2 ^ 31 ≡ target % 2 ^ 31
 back_31 target place old t p = omega arith
 
 kept_31 : (way old : ℕ) → old < 2 ^ 32 → (way % 2 ^ 31 + old / 2 ^ 31 * 2 ^ 31) / 2 ^ 31 ≡ old / 2 ^ 31

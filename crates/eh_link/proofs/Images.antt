@@ -15,20 +15,22 @@ use Rattle.eh_link.specs.declared.fault.LinkFault.TheVariants.{Duplicate, Undefi
 use Rattle.asm_object.specs.declared.relocation.FieldKind.{FieldKind}
 use Rattle.asm_object.specs.declared.relocation.FieldKind.TheVariants.{Absolute, Relative, Prel31, Call, Jump, CondJump}
 use Rattle.eh_link.specs.declared.field.Change.TheVariants.{Keep}
-use Rattle.eh_link.specs.declared.index.Row.{Row}
+use Rattle.unwind_codes.specs.declared.row.Entry.{Entry}
+use Rattle.unwind_codes.specs.declared.row.TheConstants.{ROW_SIZE}
 use Rattle.eh_link.specs.declared.names.Meaning.{Meaning}
 use Rattle.eh_link.specs.declared.places.Addresses.{Addresses}
+use Rattle.eh_link.specs.declared.places.TheConstants.{CODE_START, MOST_MEMORY}
 use Rattle.eh_link.specs.Placed.{Placed}
 use Rattle.eh_link.specs.Layout.{address_at, layout_of, is_too_large, firsts, all_aligned, ends, placed_from, placed_of}
 use Rattle.eh_link.specs.Symbols.{meaning_of, duplicate_of, undefined_of, has_entry}
 use Rattle.eh_link.specs.Fields.{change_by, change_of, part_in, filled_of, unreachable_in, unreachable_for, unreachable_by, lowest_unreachable}
 use Rattle.asm_layout.specs.Walks.{same_section}
 use Rattle.asm_object.specs.Relocations.{width, kind_of}
-use Rattle.eh_link.specs.Index.{row_of, rows_in, second_word}
+use Rattle.eh_link.specs.Index.{row_of, rows_in, body_at}
 use Rattle.eh_link.specs.Linked.{unless, unless_true, linked}
 use Rattle.eh_link.specs.LayoutLaw.{StandsAt, linked_index, linked_code}
 use Rattle.eh_link.specs.EquationLaw.{ImagesReach}
-use Rattle.eh_link.specs.IndexLaw.{object_rows, index_rows, IsLow, IsLowWord, IsEntryOf, IsRowOf, ImagesHaveTheirRows}
+use Rattle.eh_link.specs.IndexLaw.{object_rows, index_rows, IsLow, IsLowBody, IsEntryOf, IsRowOf, ImagesHaveTheirRows}
 use Rattle.eh_link.proofs.Equations.{none_of}
 use Rattle.eh_link.proofs.Layouts.{rising}
 use Rattle.eh_link.proofs.Reading.{law_of_reading}
@@ -133,7 +135,7 @@ both_of P Q (x ∷ xs) f g =
     let here : P x × Q x = (All-head P x xs f, All-head Q x xs g) in
     All-cons (λ (p : Placed). P p × Q p) x xs here (both_of P Q xs (All-tail P x xs f) (All-tail Q x xs g))
 
-pub all_rows : (P : Row → Type 0) (xs : List Placed) → All (λ (p : Placed). All P (rows_in p)) xs → All P (flat_map rows_in xs)
+pub all_rows : (P : Entry → Type 0) (xs : List Placed) → All (λ (p : Placed). All P (rows_in p)) xs → All P (flat_map rows_in xs)
 all_rows P [] h = All-nil P
 all_rows P (x ∷ xs) h =
     let each : Placed → Type 0 = λ p. All P (rows_in p) in
@@ -145,24 +147,24 @@ part_end address size start part bytes s e =
     let whole : length bytes ≡ length (s.before ++ part ++ s.after) = ap length s.split in
     omega (arith, whole, e, s.place, length-append (s.before ++ part) s.after, length-append s.before part)
 
-is_within : (b : Bool) (n : ℕ) → b ≡ nat_lt 1048576 n → b ≡ false → n ≤ 1048576
+is_within : (b : Bool) (n : ℕ) → b ≡ nat_lt MOST_MEMORY n → b ≡ false → n ≤ MOST_MEMORY
 is_within true n e f = absurd cc
 is_within false n e f = grind (arith, nat_tests)
 
-pub code_below : (objects : List Object) → is_too_large (layout_of objects) ≡ false → (layout_of objects).code_end ≤ 0x8000 + 1048576
+pub code_below : (objects : List Object) → is_too_large (layout_of objects) ≡ false → (layout_of objects).code_end ≤ CODE_START + MOST_MEMORY
 code_below objects h =
     let l = layout_of objects in
-    let all = is_within (is_too_large l) ((l.code_end - 0x8000) + (l.bss_end - l.data_start)) refl h in
+    let all = is_within (is_too_large l) ((l.code_end - CODE_START) + (l.bss_end - l.data_start)) refl h in
     omega arith
 
-low_entry : (object : Object) (at : Addresses) (entry : RowEntry) → at.extab + length object.extab < 2 ^ 30 → IsEntryOf object entry → IsLowWord (second_word at entry)
-low_entry object at entry.CantUnwind h e = omega arith
+low_entry : (object : Object) (at : Addresses) (entry : RowEntry) → at.extab + length object.extab < 2 ^ 30 → IsEntryOf object entry → IsLowBody (body_at at entry)
+low_entry object at entry.CantUnwind h e = tt
 low_entry object at (entry.Inline word) h e = e
 low_entry object at (entry.Table offset) h e = omega (arith, h, e)
 
 low_row : (object : Object) (at : Addresses) (row : IndexRow) → at.text + length object.text < 2 ^ 30 → at.extab + length object.extab < 2 ^ 30
     → IsRowOf object row → IsLow (row_of at row)
-low_row object at row t x is = record { start = omega (arith, t, is.start); second = low_entry object at row.entry x is.second }
+low_row object at row t x is = record { start = omega (arith, t, is.start); body = low_entry object at row.entry x is.second }
 
 low_rows : (objects : List Object) → is_too_large (layout_of objects) ≡ false → All (λ (object : Object). All (IsRowOf object) object.rows) objects
     → All IsLow (object_rows (placed_of objects))
@@ -171,15 +173,15 @@ low_rows objects fits rows =
     let below = code_below objects fits in
     let bytes = code_ends objects in
     let all = placed_of objects in
-    let text_stands : Placed → Type 0 = λ p. StandsAt p.at.text (part_in Text (filled_of all p)) 0x8000 (linked_code objects) in
-    let extab_stands : Placed → Type 0 = λ p. StandsAt p.at.extab (part_in Extab (filled_of all p)) 0x8000 (linked_code objects) in
+    let text_stands : Placed → Type 0 = λ p. StandsAt p.at.text (part_in Text (filled_of all p)) CODE_START (linked_code objects) in
+    let extab_stands : Placed → Type 0 = λ p. StandsAt p.at.extab (part_in Extab (filled_of all p)) CODE_START (linked_code objects) in
     let has_rows : Placed → Type 0 = λ p. All (IsRowOf p.object) p.object.rows in
     let stand = both_of (λ (p : Placed). text_stands p × extab_stands p) has_rows all (both_of text_stands extab_stands all code.0 code.2)
     (placed_too (λ (object : Object). All (IsRowOf object) object.rows) (firsts (layout_of objects)) objects rows) in
     all_rows IsLow all
     (All-weaker (λ (p : Placed). (text_stands p × extab_stands p) × has_rows p) (λ (p : Placed). All IsLow (rows_in p)) (λ p h.
-    let text = part_end p.at.text (length p.object.text) 0x8000 (part_in Text (filled_of all p)) (linked_code objects) h.0.0 (text_sizes all p) in
-    let extab = part_end p.at.extab (length p.object.extab) 0x8000 (part_in Extab (filled_of all p)) (linked_code objects) h.0.1 (extab_sizes all p) in
+    let text = part_end p.at.text (length p.object.text) CODE_START (part_in Text (filled_of all p)) (linked_code objects) h.0.0 (text_sizes all p) in
+    let extab = part_end p.at.extab (length p.object.extab) CODE_START (part_in Extab (filled_of all p)) (linked_code objects) h.0.1 (extab_sizes all p) in
     All-map IsLow (row_of p.at) p.object.rows
     (All-weaker (IsRowOf p.object) (λ (row : IndexRow). IsLow (row_of p.at row)) (λ row is. low_row p.object p.at row (omega arith) (omega arith) is) p.object.rows h.1)) all stand)
 
@@ -192,8 +194,8 @@ law_of_image_rows objects name image e rows =
     let below = code_below objects made.fits in
     let place : image.index.0 ≡ l.index_start = ap (λ (i : ℕ × ℕ). i.0) (law_of_images objects name image e).1 in
     let end = (law_of_index objects).1 in
-    let size : length (linked_index objects) ≡ 8 * (length (object_rows (placed_of objects)) + 1) =
-    rows_length l.text_end l.index_start (index_rows (placed_of objects)) ∙ ap (λ n. 8 * (n + 1)) (order_length (object_rows (placed_of objects))) in
+    let size : length (linked_index objects) ≡ ROW_SIZE * (length (object_rows (placed_of objects)) + 1) =
+    rows_length l.text_end l.index_start (index_rows (placed_of objects)) ∙ ap (λ n. ROW_SIZE * (n + 1)) (order_length (object_rows (placed_of objects))) in
     rw place
     (law_of_reading (placed_of objects) l.text_end l.index_start low
     (omega (arith, r.rodata, r.extab, r.index, r.code, below)) (omega (arith, end, size, below)))

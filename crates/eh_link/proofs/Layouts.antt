@@ -7,6 +7,7 @@ use Rattle.asm_layout.specs.declared.place.Section.TheVariants.{Text, Rodata, Ex
 use Rattle.asm_object.specs.declared.object.Object.{Object}
 use Rattle.eh_link.specs.declared.places.Addresses.{Addresses}
 use Rattle.eh_link.specs.declared.places.Layout.{Layout}
+use Rattle.eh_link.specs.declared.places.TheConstants.{CODE_START, PAGE, MOST_MEMORY, REACH}
 use Rattle.eh_link.specs.Placed.{Placed}
 use Rattle.eh_link.specs.Layout.{size_in, end_of, index_size, page_behind, layout_of, code_size, data_size, is_too_large, Rises, firsts, all_aligned, ends, placed_from, placed_of, aligned}
 
@@ -22,7 +23,7 @@ end_next section at xs i x h is =
 -- ---- the layout
 
 pub record Ends (objects : List Object) : Type 0 where
-  pub text : (layout_of objects).text_end ≡ end_of Text 0x8000 objects
+  pub text : (layout_of objects).text_end ≡ end_of Text CODE_START objects
   pub rodata : (layout_of objects).rodata_end ≡ end_of Rodata (layout_of objects).text_end objects
   pub extab : (layout_of objects).extab_end ≡ end_of Extab (layout_of objects).rodata_end objects
   pub index : (layout_of objects).index_start ≡ aligned (layout_of objects).extab_end
@@ -37,7 +38,7 @@ ends_of objects = record { text = refl; rodata = refl; extab = refl; index = ref
 
 -- the ends of a layout
 record SectionEnds (layout : Layout) (objects : List Object) : Type 0 where
-  text : layout.text_end ≡ end_of Text 0x8000 objects
+  text : layout.text_end ≡ end_of Text CODE_START objects
   rodata : layout.rodata_end ≡ end_of Rodata layout.text_end objects
   extab : layout.extab_end ≡ end_of Extab layout.rodata_end objects
   init : layout.init_end ≡ end_of Init layout.data_start objects
@@ -48,13 +49,13 @@ section_ends objects = let e = ends_of objects in record { text = e.text; rodata
 
 -- in rising order
 pub record Rising (layout : Layout) : Type 0 where
-  pub text : 0x8000 ≤ layout.text_end
+  pub text : CODE_START ≤ layout.text_end
   pub rodata : layout.text_end ≤ layout.rodata_end
   pub extab : layout.rodata_end ≤ layout.extab_end
   pub index : layout.extab_end ≤ layout.index_start
   pub code : layout.index_start ≤ layout.code_end
   pub start : layout.code_end ≤ layout.data_start
-  pub page : layout.data_start < layout.code_end + 4096
+  pub page : layout.data_start < layout.code_end + PAGE
   pub init : layout.data_start ≤ layout.init_end
   pub bss : layout.init_end ≤ layout.bss_end
 
@@ -63,7 +64,7 @@ rising objects =
     let e = ends_of objects in
     let l = layout_of objects in
     record {
-      text = omega (arith, e.text, end_ge Text 0x8000 objects);
+      text = omega (arith, e.text, end_ge Text CODE_START objects);
       rodata = omega (arith, e.rodata, end_ge Rodata l.text_end objects);
       extab = omega (arith, e.extab, end_ge Extab l.rodata_end objects);
       index = omega (arith, e.index);
@@ -74,17 +75,17 @@ rising objects =
       bss = omega (arith, e.bss, end_ge Bss l.init_end objects);
     }
 
-is_above : (b : Bool) (n : ℕ) → b ≡ nat_lt 1048576 n → 1048576 < n → b ≡ true
+is_above : (b : Bool) (n : ℕ) → b ≡ nat_lt MOST_MEMORY n → MOST_MEMORY < n → b ≡ true
 is_above true n e h = refl
 is_above false n e h = absurd (grind (arith, nat_tests))
 
-too_large : (objects : List Object) → 0x400000 < (layout_of objects).bss_end → is_too_large (layout_of objects) ≡ true
+too_large : (objects : List Object) → REACH < (layout_of objects).bss_end → is_too_large (layout_of objects) ≡ true
 too_large objects h =
     let r = rising objects in
     let l = layout_of objects in
-    is_above (is_too_large l) ((l.code_end - 0x8000) + (l.bss_end - l.data_start)) refl (omega (arith, r.text, r.rodata, r.extab, r.index, r.code, r.start, r.page, r.init, r.bss))
+    is_above (is_too_large l) ((l.code_end - CODE_START) + (l.bss_end - l.data_start)) refl (omega (arith, r.text, r.rodata, r.extab, r.index, r.code, r.start, r.page, r.init, r.bss))
 
-is_within : (b : Bool) (n : ℕ) → b ≡ nat_lt 1048576 n → n ≤ 1048576 → b ≡ false
+is_within : (b : Bool) (n : ℕ) → b ≡ nat_lt MOST_MEMORY n → n ≤ MOST_MEMORY → b ≡ false
 is_within true n e h = absurd (grind (arith, nat_tests))
 is_within false n e h = refl
 
@@ -92,15 +93,15 @@ is_within false n e h = refl
 none_for : (objects : List Object) → is_too_large (layout_of objects) ≡ true → None ≡ cond (is_too_large (layout_of objects)) None (Some (layout_of objects))
 none_for objects h = rw h refl
 
-none_past : (objects : List Object) → 0x400000 < (layout_of objects).bss_end → None ≡ cond (is_too_large (layout_of objects)) None (Some (layout_of objects))
+none_past : (objects : List Object) → REACH < (layout_of objects).bss_end → None ≡ cond (is_too_large (layout_of objects)) None (Some (layout_of objects))
 none_past objects h = none_for objects (too_large objects h)
 
-pub text_past : (objects : List Object) → 0x400000 < end_of Text 0x8000 objects → None ≡ cond (is_too_large (layout_of objects)) None (Some (layout_of objects))
+pub text_past : (objects : List Object) → REACH < end_of Text CODE_START objects → None ≡ cond (is_too_large (layout_of objects)) None (Some (layout_of objects))
 text_past objects h =
     let r = rising objects in
     none_past objects (omega (arith, h, (ends_of objects).text, r.rodata, r.extab, r.index, r.code, r.start, r.init, r.bss))
 
-pub rodata_past : (objects : List Object) (t : ℕ) → t ≡ end_of Text 0x8000 objects → 0x400000 < end_of Rodata t objects
+pub rodata_past : (objects : List Object) (t : ℕ) → t ≡ end_of Text CODE_START objects → REACH < end_of Rodata t objects
     → None ≡ cond (is_too_large (layout_of objects)) None (Some (layout_of objects))
 rodata_past objects t e h =
     let r = rising objects in
@@ -108,7 +109,7 @@ rodata_past objects t e h =
     let same : end_of Rodata t objects ≡ (layout_of objects).rodata_end = rw (e, ← ends.text) (sym ends.rodata) in
     none_past objects (omega (arith, h, same, r.extab, r.index, r.code, r.start, r.init, r.bss))
 
-pub extab_past : (objects : List Object) (t d : ℕ) → t ≡ end_of Text 0x8000 objects → d ≡ end_of Rodata t objects → 0x400000 < end_of Extab d objects
+pub extab_past : (objects : List Object) (t d : ℕ) → t ≡ end_of Text CODE_START objects → d ≡ end_of Rodata t objects → REACH < end_of Extab d objects
     → None ≡ cond (is_too_large (layout_of objects)) None (Some (layout_of objects))
 extab_past objects t d e f h =
     let r = rising objects in
@@ -116,19 +117,19 @@ extab_past objects t d e f h =
     let same : end_of Extab d objects ≡ (layout_of objects).extab_end = rw (f, e, ← ends.text, ← ends.rodata) (sym ends.extab) in
     none_past objects (omega (arith, h, same, r.index, r.code, r.start, r.init, r.bss))
 
-extab_is : (objects : List Object) (t d x : ℕ) → t ≡ end_of Text 0x8000 objects → d ≡ end_of Rodata t objects → x ≡ end_of Extab d objects
+extab_is : (objects : List Object) (t d x : ℕ) → t ≡ end_of Text CODE_START objects → d ≡ end_of Rodata t objects → x ≡ end_of Extab d objects
     → x ≡ (layout_of objects).extab_end
 extab_is objects t d x e f g = let ends = ends_of objects in g ∙ rw (f, e, ← ends.text, ← ends.rodata) (sym ends.extab)
 
-pub index_past : (objects : List Object) (t d x i : ℕ) → t ≡ end_of Text 0x8000 objects → d ≡ end_of Rodata t objects → x ≡ end_of Extab d objects
-    → i ≡ aligned x → 0x400000 < i + index_size objects → None ≡ cond (is_too_large (layout_of objects)) None (Some (layout_of objects))
+pub index_past : (objects : List Object) (t d x i : ℕ) → t ≡ end_of Text CODE_START objects → d ≡ end_of Rodata t objects → x ≡ end_of Extab d objects
+    → i ≡ aligned x → REACH < i + index_size objects → None ≡ cond (is_too_large (layout_of objects)) None (Some (layout_of objects))
 index_past objects t d x i e f g k h =
     let r = rising objects in
     let ends = ends_of objects in
     let same : i ≡ (layout_of objects).index_start = k ∙ ap aligned (extab_is objects t d x e f g) ∙ sym ends.index in
     none_past objects (omega (arith, h, same, ends.code, r.start, r.init, r.bss))
 
-start_is : (objects : List Object) (t d x i c s : ℕ) → t ≡ end_of Text 0x8000 objects → d ≡ end_of Rodata t objects → x ≡ end_of Extab d objects
+start_is : (objects : List Object) (t d x i c s : ℕ) → t ≡ end_of Text CODE_START objects → d ≡ end_of Rodata t objects → x ≡ end_of Extab d objects
     → i ≡ aligned x → c ≡ i + index_size objects → s ≡ page_behind c → s ≡ (layout_of objects).data_start
 start_is objects t d x i c s e f g k m n =
     let ends = ends_of objects in
@@ -136,16 +137,16 @@ start_is objects t d x i c s e f g k m n =
     let code : c ≡ (layout_of objects).code_end = m ∙ ap (λ a. a + index_size objects) index ∙ sym ends.code in
     n ∙ ap page_behind code ∙ sym ends.start
 
-pub init_past : (objects : List Object) (t d x i c s : ℕ) → t ≡ end_of Text 0x8000 objects → d ≡ end_of Rodata t objects → x ≡ end_of Extab d objects
-    → i ≡ aligned x → c ≡ i + index_size objects → s ≡ page_behind c → 0x400000 < end_of Init s objects
+pub init_past : (objects : List Object) (t d x i c s : ℕ) → t ≡ end_of Text CODE_START objects → d ≡ end_of Rodata t objects → x ≡ end_of Extab d objects
+    → i ≡ aligned x → c ≡ i + index_size objects → s ≡ page_behind c → REACH < end_of Init s objects
     → None ≡ cond (is_too_large (layout_of objects)) None (Some (layout_of objects))
 init_past objects t d x i c s e f g k m n h =
     let r = rising objects in
     let same : end_of Init s objects ≡ (layout_of objects).init_end = ap (λ a. end_of Init a objects) (start_is objects t d x i c s e f g k m n) ∙ sym (ends_of objects).init in
     none_past objects (omega (arith, h, same, r.bss))
 
-pub bss_past : (objects : List Object) (t d x i c s z : ℕ) → t ≡ end_of Text 0x8000 objects → d ≡ end_of Rodata t objects → x ≡ end_of Extab d objects
-    → i ≡ aligned x → c ≡ i + index_size objects → s ≡ page_behind c → z ≡ end_of Init s objects → 0x400000 < end_of Bss z objects
+pub bss_past : (objects : List Object) (t d x i c s z : ℕ) → t ≡ end_of Text CODE_START objects → d ≡ end_of Rodata t objects → x ≡ end_of Extab d objects
+    → i ≡ aligned x → c ≡ i + index_size objects → s ≡ page_behind c → z ≡ end_of Init s objects → REACH < end_of Bss z objects
     → None ≡ cond (is_too_large (layout_of objects)) None (Some (layout_of objects))
 bss_past objects t d x i c s z e f g k m n w h =
     let ends = ends_of objects in
@@ -153,25 +154,25 @@ bss_past objects t d x i c s z e f g k m n w h =
     let same : end_of Bss z objects ≡ (layout_of objects).bss_end = ap (λ a. end_of Bss a objects) init ∙ sym ends.bss in
     none_past objects (omega (arith, h, same))
 
-pub layout_is : (objects : List Object) (t d x i c s z b : ℕ) → t ≡ end_of Text 0x8000 objects → d ≡ end_of Rodata t objects → x ≡ end_of Extab d objects
+pub layout_is : (objects : List Object) (t d x i c s z b : ℕ) → t ≡ end_of Text CODE_START objects → d ≡ end_of Rodata t objects → x ≡ end_of Extab d objects
     → i ≡ aligned x → c ≡ i + index_size objects → s ≡ page_behind c → z ≡ end_of Init s objects → b ≡ end_of Bss z objects
     → record { text_end = t; rodata_end = d; extab_end = x; index_start = i; code_end = c; data_start = s; init_end = z; bss_end = b } ≡ layout_of objects
 unfolding layout_of
 layout_is objects t d x i c s z b e f g k m n w v = rw (v, w, n, m, k, g, f, e) refl
 
-pub found_layout : (objects : List Object) (layout : Layout) → layout ≡ layout_of objects → code_size layout + data_size layout ≤ 1048576
+pub found_layout : (objects : List Object) (layout : Layout) → layout ≡ layout_of objects → code_size layout + data_size layout ≤ MOST_MEMORY
     → Some layout ≡ cond (is_too_large (layout_of objects)) None (Some (layout_of objects))
 found_layout objects layout e h =
     let small : is_too_large layout ≡ false = is_within (is_too_large layout) (code_size layout + data_size layout) refl h in
     rw (← e, small) refl
 
-pub large_layout : (objects : List Object) (layout : Layout) → layout ≡ layout_of objects → 1048576 < code_size layout + data_size layout
+pub large_layout : (objects : List Object) (layout : Layout) → layout ≡ layout_of objects → MOST_MEMORY < code_size layout + data_size layout
     → None ≡ cond (is_too_large (layout_of objects)) None (Some (layout_of objects))
 large_layout objects layout e h =
     let large : is_too_large layout ≡ true = is_above (is_too_large layout) (code_size layout + data_size layout) refl h in
     none_for objects (ap is_too_large (sym e) ∙ large)
 
-pub rises_of : (objects : List Object) (layout : Layout) → layout ≡ layout_of objects → layout.bss_end ≤ 0x400000 → Rises layout
+pub rises_of : (objects : List Object) (layout : Layout) → layout ≡ layout_of objects → layout.bss_end ≤ REACH → Rises layout
 rises_of objects layout e h =
     let r = subst Rising (sym e) (rising objects) in
     record { text = r.text; rodata = r.rodata; extab = r.extab; index = r.index; code = r.code; start = r.start; init = r.init; bss = r.bss; reach = h }
@@ -180,11 +181,11 @@ rises_of objects layout e h =
 
 -- all parts end in reach
 pub record Fits (at : Addresses) (objects : List Object) : Type 0 where
-  pub text : end_of Text at.text objects ≤ 0x400000
-  pub rodata : end_of Rodata at.rodata objects ≤ 0x400000
-  pub extab : end_of Extab at.extab objects ≤ 0x400000
-  pub init : end_of Init at.init objects ≤ 0x400000
-  pub bss : end_of Bss at.bss objects ≤ 0x400000
+  pub text : end_of Text at.text objects ≤ REACH
+  pub rodata : end_of Rodata at.rodata objects ≤ REACH
+  pub extab : end_of Extab at.extab objects ≤ REACH
+  pub init : end_of Init at.init objects ≤ REACH
+  pub bss : end_of Bss at.bss objects ≤ REACH
 
 pub fits_first : (objects : List Object) (layout : Layout) → layout ≡ layout_of objects → Rises layout → Fits (firsts layout) objects
 fits_first objects layout e r =
@@ -209,11 +210,11 @@ fits_next at xs i x h is f = record {
 
 -- an object's parts end in reach
 pub record PartsFit (at : Addresses) (object : Object) : Type 0 where
-  pub text : at.text + length object.text ≤ 0x400000
-  pub rodata : at.rodata + length object.rodata ≤ 0x400000
-  pub extab : at.extab + length object.extab ≤ 0x400000
-  pub init : at.init + length object.init ≤ 0x400000
-  pub bss : at.bss + object.bss ≤ 0x400000
+  pub text : at.text + length object.text ≤ REACH
+  pub rodata : at.rodata + length object.rodata ≤ REACH
+  pub extab : at.extab + length object.extab ≤ REACH
+  pub init : at.init + length object.init ≤ REACH
+  pub bss : at.bss + object.bss ≤ REACH
 
 pub parts_fit : (at : Addresses) (xs : List Object) (i : ℕ) (x : Object) → i < length xs → x ≡ get_or xs i x → Fits at (drop i xs)
     → PartsFit (all_aligned at) x

@@ -13,13 +13,16 @@ use Rattle.elf_write.specs.declared.parts.ImageParts.{ImageParts}
 use Rattle.eh_link.specs.declared.fault.LinkFault.{LinkFault}
 use Rattle.eh_link.specs.declared.fault.LinkFault.TheVariants.{Duplicate, Undefined, NoEntry, TooLarge, RelocationRange}
 use Rattle.eh_link.specs.declared.fill.Filled.{Filled}
-use Rattle.eh_link.specs.declared.index.Row.{Row}
+use Rattle.unwind_codes.specs.declared.row.Entry.{Entry}
+use Rattle.unwind_codes.specs.declared.row.TheConstants.{CANT_UNWIND, ROW_SIZE}
+use Rattle.unwind_codes.specs.Rows.{prel31_to, second_word}
+use Rattle.eh_link.specs.declared.places.TheConstants.{CODE_START, PAGE}
 use Rattle.eh_link.specs.Placed.{Placed}
 use Rattle.eh_link.specs.Layout.{size_in, address_in, end_of, index_size, layout_of, is_too_large, firsts, all_aligned, ends, placed_from, placed_of, address_at, aligned}
 use Rattle.asm_object.specs.ObjectLaw.{bytes_at}
 use Rattle.eh_link.specs.Fields.{part_in, filled_in, filled_of, lowest_unreachable}
 use Rattle.eh_link.specs.Symbols.{meaning_of, duplicate_of, undefined_of, has_entry}
-use Rattle.eh_link.specs.Index.{row_of, rows_in, row_among, in_order, prel31_to, second_at, row_bytes, rows_from, index_of}
+use Rattle.eh_link.specs.Index.{row_of, rows_in, row_among, in_order, row_bytes, rows_from, index_of}
 use Rattle.eh_link.specs.Linked.{joined, segments_of, parts_of, unless, unless_true, linked}
 use Rattle.eh_link.specs.LayoutLaw.{ImagesHaveTheseBytes, all_filled, linked_index, linked_code, linked_data, StandsAt, EachStands, SizesAreOfBytes, CodeStands, IndexStands, DataStands}
 use Rattle.eh_link.proofs.Holding.{filled_length, word_length}
@@ -171,7 +174,7 @@ init_sizes all = filled_sizes all Init (λ p. refl) (λ p. refl)
 
 -- ---- the size of the index
 
-among_length : (rows : List Row) (row : Row) → length (row_among rows row) ≡ length rows + 1
+among_length : (rows : List Entry) (row : Entry) → length (row_among rows row) ≡ length rows + 1
 among_length [] row = refl
 among_length (first ∷ more) row = by_test (nat_lt row.start first.start) (among_length more row)
   where
@@ -179,22 +182,22 @@ among_length (first ∷ more) row = by_test (nat_lt row.start first.start) (amon
     by_test true e = omega arith
     by_test false e = omega (arith, e)
 
-fold_length : (sorted rows : List Row) → length (fold row_among sorted rows) ≡ length sorted + length rows
+fold_length : (sorted rows : List Entry) → length (fold row_among sorted rows) ≡ length sorted + length rows
 fold_length sorted [] = omega arith
 fold_length sorted (row ∷ rows) = omega (arith, fold_length (row_among sorted row) rows, among_length sorted row)
 
-pub order_length : (rows : List Row) → length (in_order rows) ≡ length rows
+pub order_length : (rows : List Entry) → length (in_order rows) ≡ length rows
 unfolding in_order
 order_length rows = fold_length [] rows ∙ omega arith
 
-two_words : (x y : ℕ) → length (word x ++ word y) ≡ 8
+two_words : (x y : ℕ) → length (word x ++ word y) ≡ ROW_SIZE
 two_words x y = length-append (word x) (word y) ∙ omega (arith, word_length x, word_length y)
 
-pub rows_length : (end place : ℕ) (rows : List Row) → length (rows_from end place rows) ≡ 8 * (length rows + 1)
-rows_length end place [] = two_words _ 1
+pub rows_length : (end place : ℕ) (rows : List Entry) → length (rows_from end place rows) ≡ ROW_SIZE * (length rows + 1)
+rows_length end place [] = two_words _ CANT_UNWIND
 rows_length end place (row ∷ more) =
-    length-append (row_bytes place row) (rows_from end (address_at place 8) more)
-    ∙ omega (arith, two_words (prel31_to place row.start) (second_at (address_at place 4) row.second), rows_length end (address_at place 8) more)
+    length-append (row_bytes place row) (rows_from end (address_at place ROW_SIZE) more)
+    ∙ omega (arith, two_words (prel31_to place row.start) (second_word (address_at place 4) row.body), rows_length end (address_at place ROW_SIZE) more)
 
 rows_of_placed : (at : Addresses) (xs : List Object) → length (flat_map rows_in (placed_from at xs)) ≡ sum_by (λ (object : Object). length object.rows) xs
 rows_of_placed at [] = refl
@@ -222,22 +225,22 @@ rodatas objects = joined (texts objects) (parts Rodata (filled_of (placed_of obj
 extabs : List Object → List ℕ
 extabs objects = joined (rodatas objects) (parts Extab (filled_of (placed_of objects)) (placed_of objects))
 
-texts_end : (objects : List Object) → 4 * 0x2000 + length (texts objects) ≡ (layout_of objects).text_end
+texts_end : (objects : List Object) → 4 * (CODE_START / 4) + length (texts objects) ≡ (layout_of objects).text_end
 unfolding texts
 texts_end objects =
-    end_at 0x2000 Text (filled_of (placed_of objects)) (text_sizes (placed_of objects)) (firsts (layout_of objects)) objects [] refl
+    end_at (CODE_START / 4) Text (filled_of (placed_of objects)) (text_sizes (placed_of objects)) (firsts (layout_of objects)) objects [] refl
     ∙ sym (ends_of objects).text
 
-rodatas_end : (objects : List Object) → 4 * 0x2000 + length (rodatas objects) ≡ (layout_of objects).rodata_end
+rodatas_end : (objects : List Object) → 4 * (CODE_START / 4) + length (rodatas objects) ≡ (layout_of objects).rodata_end
 unfolding rodatas
 rodatas_end objects =
-    end_at 0x2000 Rodata (filled_of (placed_of objects)) (rodata_sizes (placed_of objects)) (firsts (layout_of objects)) objects (texts objects) (texts_end objects)
+    end_at (CODE_START / 4) Rodata (filled_of (placed_of objects)) (rodata_sizes (placed_of objects)) (firsts (layout_of objects)) objects (texts objects) (texts_end objects)
     ∙ sym (ends_of objects).rodata
 
-extabs_end : (objects : List Object) → 4 * 0x2000 + length (extabs objects) ≡ (layout_of objects).extab_end
+extabs_end : (objects : List Object) → 4 * (CODE_START / 4) + length (extabs objects) ≡ (layout_of objects).extab_end
 unfolding extabs
 extabs_end objects =
-    end_at 0x2000 Extab (filled_of (placed_of objects)) (extab_sizes (placed_of objects)) (firsts (layout_of objects)) objects (rodatas objects) (rodatas_end objects)
+    end_at (CODE_START / 4) Extab (filled_of (placed_of objects)) (extab_sizes (placed_of objects)) (firsts (layout_of objects)) objects (rodatas objects) (rodatas_end objects)
     ∙ sym (ends_of objects).extab
 
 code_is : (objects : List Object)
@@ -276,22 +279,22 @@ code_from_extabs : (objects : List Object) → linked_code objects ≡ joined (e
 unfolding extabs
 code_from_extabs objects = code_from_rodatas objects ∙ joined_append (rodatas objects) (parts Extab (filled_of (placed_of objects)) (placed_of objects)) _
 
-pub code_ends : (objects : List Object) → 0x8000 + length (linked_code objects) ≡ (layout_of objects).code_end
+pub code_ends : (objects : List Object) → CODE_START + length (linked_code objects) ≡ (layout_of objects).code_end
 code_ends objects =
     let e = ends_of objects in
     let whole : length (linked_code objects) ≡ length ((extabs objects ++ zeros_before (extabs objects)) ++ linked_index objects) =
     ap length (code_from_extabs objects ∙ joined_one (extabs objects) (linked_index objects) []) in
     let split = length-append (extabs objects ++ zeros_before (extabs objects)) (linked_index objects) in
-    let put = zeros_before-length 0x2000 (extabs objects) in
-    let start : aligned (4 * 0x2000 + length (extabs objects)) ≡ (layout_of objects).index_start = ap aligned (extabs_end objects) ∙ sym e.index in
+    let put = zeros_before-length (CODE_START / 4) (extabs objects) in
+    let start : aligned (4 * (CODE_START / 4) + length (extabs objects)) ≡ (layout_of objects).index_start = ap aligned (extabs_end objects) ∙ sym e.index in
     let size : length (linked_index objects) ≡ index_size objects =
     index_length (layout_of objects).text_end (layout_of objects).index_start (firsts (layout_of objects)) objects in
     omega (arith, whole, split, put, start, size, e.code)
 
-index_there : (objects : List Object) → StandsAt (layout_of objects).index_start (linked_index objects) 0x8000 (linked_code objects)
+index_there : (objects : List Object) → StandsAt (layout_of objects).index_start (linked_index objects) CODE_START (linked_code objects)
 index_there objects =
-    subst (StandsAt (layout_of objects).index_start (linked_index objects) 0x8000) (sym (code_from_extabs objects))
-    (first_stands 0x2000 (layout_of objects).index_start (extabs objects) (linked_index objects) []
+    subst (StandsAt (layout_of objects).index_start (linked_index objects) CODE_START) (sym (code_from_extabs objects))
+    (first_stands (CODE_START / 4) (layout_of objects).index_start (extabs objects) (linked_index objects) []
     ((ends_of objects).index ∙ ap aligned (sym (extabs_end objects))))
 
 pub law_of_index : IndexStands
@@ -302,21 +305,21 @@ law_of_index objects = (
       (sym (index_length (layout_of objects).text_end (layout_of objects).index_start (firsts (layout_of objects)) objects)),
 )
 
-texts_stand : (objects : List Object) → EachStands Text objects 0x8000 (linked_code objects)
+texts_stand : (objects : List Object) → EachStands Text objects CODE_START (linked_code objects)
 texts_stand objects =
-    subst (λ bytes. Stand 0x8000 Text (filled_of (placed_of objects)) bytes (placed_of objects)) (sym (code_from_start objects))
-    (each_stands 0x2000 Text (filled_of (placed_of objects)) (text_sizes (placed_of objects)) (firsts (layout_of objects)) objects [] _ refl)
+    subst (λ bytes. Stand CODE_START Text (filled_of (placed_of objects)) bytes (placed_of objects)) (sym (code_from_start objects))
+    (each_stands (CODE_START / 4) Text (filled_of (placed_of objects)) (text_sizes (placed_of objects)) (firsts (layout_of objects)) objects [] _ refl)
 
-rodatas_stand : (objects : List Object) → EachStands Rodata objects 0x8000 (linked_code objects)
+rodatas_stand : (objects : List Object) → EachStands Rodata objects CODE_START (linked_code objects)
 rodatas_stand objects =
-    subst (λ bytes. Stand 0x8000 Rodata (filled_of (placed_of objects)) bytes (placed_of objects)) (sym (code_from_texts objects))
-    (each_stands 0x2000 Rodata (filled_of (placed_of objects)) (rodata_sizes (placed_of objects)) (firsts (layout_of objects)) objects (texts objects) _
+    subst (λ bytes. Stand CODE_START Rodata (filled_of (placed_of objects)) bytes (placed_of objects)) (sym (code_from_texts objects))
+    (each_stands (CODE_START / 4) Rodata (filled_of (placed_of objects)) (rodata_sizes (placed_of objects)) (firsts (layout_of objects)) objects (texts objects) _
     (texts_end objects))
 
-extabs_stand : (objects : List Object) → EachStands Extab objects 0x8000 (linked_code objects)
+extabs_stand : (objects : List Object) → EachStands Extab objects CODE_START (linked_code objects)
 extabs_stand objects =
-    subst (λ bytes. Stand 0x8000 Extab (filled_of (placed_of objects)) bytes (placed_of objects)) (sym (code_from_rodatas objects))
-    (each_stands 0x2000 Extab (filled_of (placed_of objects)) (extab_sizes (placed_of objects)) (firsts (layout_of objects)) objects (rodatas objects) _
+    subst (λ bytes. Stand CODE_START Extab (filled_of (placed_of objects)) bytes (placed_of objects)) (sym (code_from_rodatas objects))
+    (each_stands (CODE_START / 4) Extab (filled_of (placed_of objects)) (extab_sizes (placed_of objects)) (firsts (layout_of objects)) objects (rodatas objects) _
     (rodatas_end objects))
 
 pub law_of_code : CodeStands
@@ -326,7 +329,7 @@ law_of_code objects = (texts_stand objects, rodatas_stand objects, extabs_stand 
 
 -- a multiple of 4
 quarter : List Object → ℕ
-quarter objects = ((layout_of objects).code_end + 4095) / 4096 * 1024
+quarter objects = ((layout_of objects).code_end + (PAGE - 1)) / PAGE * (PAGE / 4)
 
 start_is : (objects : List Object) → 4 * quarter objects ≡ (layout_of objects).data_start
 unfolding quarter

@@ -9,7 +9,8 @@ use Rattle.eh_word.specs.Names.{same_bytes}
 use Rattle.eh_list.specs.Bytes.{zeros, gap}
 use Rattle.asm_object.specs.declared.object.Object.{Object}
 use Rattle.asm_object.specs.declared.object.ObjSymbol.{ObjSymbol}
-use Rattle.eh_link.specs.declared.index.Row.{Row}
+use Rattle.unwind_codes.specs.declared.row.Entry.{Entry}
+use Rattle.unwind_codes.specs.declared.row.TheConstants.{ROW_SIZE}
 use Rattle.eh_link.specs.declared.names.Meaning.{Meaning}
 use Rattle.eh_link.specs.Placed.{Placed}
 use Rattle.eh_link.specs.Layout.{address_at}
@@ -21,8 +22,8 @@ use Rattle.eh_link.specs.declared.fill.Filled.{Filled}
 use Rattle.eh_link.specs.Linked.{joined}
 use Rattle.eh_link.proofs.Changes.{lower_assoc}
 
-pub rows_more : (end place : ℕ) (xs : List Row) (i : ℕ) (d : Row) → i < length xs
-    → rows_from end place (drop i xs) ≡ row_bytes place (get_or xs i d) ++ rows_from end (address_at place 8) (drop (i + 1) xs)
+pub rows_more : (end place : ℕ) (xs : List Entry) (i : ℕ) (d : Entry) → i < length xs
+    → rows_from end place (drop i xs) ≡ row_bytes place (get_or xs i d) ++ rows_from end (address_at place ROW_SIZE) (drop (i + 1) xs)
 rows_more end place xs i d h = at_drop_more (rows_from end place) xs i d h
 
 pub find_more : {X : Type 0} (p : X → Bool) (xs : List X) (i : ℕ) (d : X) → i < length xs

@@ -2,13 +2,11 @@
 use Rattle.std.proofs.Common.{◌≡◌, ℕ, zero, suc, ◌+◌, ◌*◌, ◌%◌, ◌^◌, ◌≤◌, ◌<◌, Bool, true, false, cond, List, [], ◌∷◌, ◌++◌, length, drop, get_or, Some, None, refl, sym, ap, ◌∙◌, arith, nat_le, length-append}
 use Rattle.std.proofs.Math.Seq.{drop-append_seam}
 use Rattle.std.proofs.lemmas.Bool.Decides.{nat_tests}
-use Rattle.std.proofs.lemmas.Int.{ints}
 use Rattle.std.proofs.lemmas.List.{get_or-drop}
 use Rattle.byteorder.specs.Endian.{little_number, little_from}
 use Rattle.eh_word.specs.Words.{prel31_of, number_at}
 use Rattle.elf_write.specs.Layout.{word, half}
 use Rattle.elf_write.proofs.Pieces.{word_back, half_back, drop_more}
-use Rattle.eh_link.specs.Index.{prel31_to}
 use Rattle.eh_link.proofs.Holding.{word_length, half_length}
 
 -- a number of n bytes stands at an offset
@@ -64,10 +62,6 @@ unfolding word half
 word_halves first second h = four _ _ _ _ _ _ _ _ (omega arith) (omega arith) (omega arith) (omega arith)
 
 -- ---- 31-bit relative words
-
-pub seen_back : (place target : ℕ) → place < 2 ^ 30 → target < 2 ^ 30 → prel31_of place (prel31_to place target) ≡ target
-unfolding prel31_of
-seen_back place target p t = grind (arith, ints, nat_tests)
 
 -- bit 31 is not looked at
 pub seen_same : (place one two : ℕ) → one % 2 ^ 31 ≡ two % 2 ^ 31 → prel31_of place one ≡ prel31_of place two

@@ -4,14 +4,15 @@ use Rattle.std.specs.Prelude.{◌≡◌, ℕ, ◌+◌, ◌*◌, ◌^◌, ◌<◌
 use Rattle.std.specs.List.{flat_map}
 use Rattle.std.specs.List.Sorted.{IsNonDecreasingBy, IsPermutation}
 use Rattle.eh_word.specs.Words.{prel31_of, number_at}
+use Rattle.unwind_codes.specs.declared.row.Entry.{Entry}
+use Rattle.unwind_codes.specs.declared.row.EntryBody.{EntryBody}
+use Rattle.unwind_codes.specs.declared.row.EntryBody.TheVariants.{CantUnwind, Inline, Table}
+use Rattle.unwind_codes.specs.declared.row.TheConstants.{CANT_UNWIND, ROW_SIZE}
 use Rattle.asm_object.specs.declared.object.Object.{Object}
 use Rattle.asm_object.specs.declared.object.IndexRow.{IndexRow}
 use Rattle.asm_object.specs.declared.object.RowEntry.{RowEntry}
 use Rattle.asm_object.specs.declared.object.RowEntry.TheVariants as entry
 use Rattle.elf_write.specs.declared.parts.ImageParts.{ImageParts}
-use Rattle.eh_link.specs.declared.index.Row.{Row}
-use Rattle.eh_link.specs.declared.index.RowWord.{RowWord}
-use Rattle.eh_link.specs.declared.index.RowWord.TheVariants.{Given, Table}
 use Rattle.eh_link.specs.Placed.{Placed}
 use Rattle.eh_link.specs.Layout.{layout_of, placed_of}
 use Rattle.eh_link.specs.Index.{rows_in, in_order, index_of}
@@ -21,16 +22,16 @@ use Rattle.eh_link.specs.LayoutLaw.{linked_index}
 -- ---- the rows
 
 -- the rows of the objects, one object after the other
-abbrev pub object_rows : List Placed → List Row
+abbrev pub object_rows : List Placed → List Entry
 object_rows all = flat_map rows_in all
 
 -- the same in the order of the index
-abbrev pub index_rows : List Placed → List Row
+abbrev pub index_rows : List Placed → List Entry
 index_rows all = in_order (object_rows all)
 
 -- no row starts below the one before it
 abbrev pub RowsAscend : Type 0
-RowsAscend = (all : List Placed) → IsNonDecreasingBy (λ (row : Row). row.start) (index_rows all)
+RowsAscend = (all : List Placed) → IsNonDecreasingBy (λ (row : Entry). row.start) (index_rows all)
 
 -- the index has the objects' rows, each as often
 abbrev pub RowsAreKept : Type 0
@@ -40,7 +41,7 @@ RowsAreKept = (all : List Placed) → IsPermutation (object_rows all) (index_row
 abbrev pub SameStartsKeepTheirOrder : Type 0
 SameStartsKeepTheirOrder =
     (all : List Placed) (start : ℕ)
-    → filter (λ (row : Row). row.start == start) (index_rows all) ≡ filter (λ (row : Row). row.start == start) (object_rows all)
+    → filter (λ (row : Entry). row.start == start) (index_rows all) ≡ filter (λ (row : Entry). row.start == start) (object_rows all)
 
 -- ---- the words
 
@@ -51,35 +52,37 @@ pub record LeadsTo (address table : ℕ) (bytes : List ℕ) (offset : ℕ) : Typ
   pub clear : word < 2 ^ 31
   pub leads : prel31_of (table + offset) word ≡ address
 
--- the word at an offset is the given one, or leads to the table
-abbrev pub Says : RowWord → ℕ → List ℕ → ℕ → Type 0
-Says (Given word) table bytes offset = number_at 4 bytes offset ≡ Some word
+-- the word at an offset is 1 where nothing unwinds, is the inline entry, or leads to the table
+abbrev pub Says : EntryBody → ℕ → List ℕ → ℕ → Type 0
+Says CantUnwind table bytes offset = number_at 4 bytes offset ≡ Some CANT_UNWIND
+Says (Inline word) table bytes offset = number_at 4 bytes offset ≡ Some word
 Says (Table address) table bytes offset = LeadsTo address table bytes offset
 
--- a table at an address has these rows, eight bytes each, and one more: from `end` on nothing can be unwound
-pub record HasRows (rows : List Row) (end table : ℕ) (bytes : List ℕ) : Type 0 where
-  pub size : length bytes ≡ 8 * (length rows + 1)
-  pub starts : (k : ℕ) (row : Row) → slice_get rows k ≡ Some row → LeadsTo row.start table bytes (8 * k)
-  pub seconds : (k : ℕ) (row : Row) → slice_get rows k ≡ Some row → Says row.second table bytes (8 * k + 4)
-  pub last : LeadsTo end table bytes (8 * length rows)
-  pub closed : number_at 4 bytes (8 * length rows + 4) ≡ Some 1
+-- a table at an address has these rows, each of the size of a row, and one more: from `end` on nothing can be unwound
+pub record HasRows (rows : List Entry) (end table : ℕ) (bytes : List ℕ) : Type 0 where
+  pub size : length bytes ≡ ROW_SIZE * (length rows + 1)
+  pub starts : (k : ℕ) (row : Entry) → slice_get rows k ≡ Some row → LeadsTo row.start table bytes (ROW_SIZE * k)
+  pub seconds : (k : ℕ) (row : Entry) → slice_get rows k ≡ Some row → Says row.body table bytes (ROW_SIZE * k + 4)
+  pub last : LeadsTo end table bytes (ROW_SIZE * length rows)
+  pub closed : number_at 4 bytes (ROW_SIZE * length rows + 4) ≡ Some CANT_UNWIND
 
 -- ---- the law
 
-abbrev pub IsLowWord : RowWord → Type 0
-IsLowWord (Given word) = word < 2 ^ 32
-IsLowWord (Table address) = address < 2 ^ 30
+abbrev pub IsLowBody : EntryBody → Type 0
+IsLowBody CantUnwind = Unit {0}
+IsLowBody (Inline word) = word < 2 ^ 32
+IsLowBody (Table address) = address < 2 ^ 30
 
 -- a row's addresses are below 2 ^ 30, so that 31 bits lead to them from each place below 2 ^ 30, and an inline entry is a word
-pub record IsLow (row : Row) : Type 0 where
+pub record IsLow (row : Entry) : Type 0 where
   pub start : row.start < 2 ^ 30
-  pub second : IsLowWord row.second
+  pub body : IsLowBody row.body
 
 -- an index that ends at most at 2 ^ 30 has its rows
 abbrev pub IndexReadsBack : Type 0
 IndexReadsBack =
     (all : List Placed) (end table : ℕ)
-    → All IsLow (object_rows all) → end < 2 ^ 30 → table + 8 * (length (object_rows all) + 1) ≤ 2 ^ 30
+    → All IsLow (object_rows all) → end < 2 ^ 30 → table + ROW_SIZE * (length (object_rows all) + 1) ≤ 2 ^ 30
     → HasRows (index_rows all) end table (index_of end table all)
 
 -- ---- images

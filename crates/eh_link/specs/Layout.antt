@@ -7,6 +7,7 @@ use Rattle.asm_object.specs.declared.object.Object.{Object}
 use Rattle.asm_layout.specs.declared.place.Section.{Section}
 use Rattle.asm_layout.specs.declared.place.Section.TheVariants.{Text, Rodata, Extab, Init, Bss}
 use Rattle.eh_list.specs.Bytes.{next_multiple}
+use Rattle.unwind_codes.specs.declared.row.TheConstants.{ROW_SIZE}
 use Rattle.asm_object.specs.ObjectLaw.{bytes_at}
 use Rattle.eh_link.specs.declared.places.TheConstants.{CODE_START, PAGE, MOST_MEMORY, REACH}
 use Rattle.eh_link.specs.declared.places.Addresses.{Addresses}
@@ -34,9 +35,9 @@ abbrev pub end_of : Section → ℕ → List Object → ℕ
 end_of section at [] = at
 end_of section at (object ∷ more) = end_of section (aligned at + size_in section object) more
 
--- a row for each function of the objects, and a last one, of 8 bytes each
+-- a row for each function of the objects, and a last one
 abbrev pub index_size : List Object → ℕ
-index_size objects = 8 * (sum_by (λ object. length object.rows) objects + 1)
+index_size objects = ROW_SIZE * (sum_by (λ object. length object.rows) objects + 1)
 
 -- the next multiple of a page
 abbrev pub page_behind : ℕ → ℕ

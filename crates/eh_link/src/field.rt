@@ -11,6 +11,7 @@ use byteorder::{ByteOrder, LittleEndian};
 use thumb_encode::code::{Code, EncodeFault};
 use thumb_encode::encode::encode;
 use thumb_isa::instr::Instr;
+use unwind_codes::prel31_to;
 
 /// What a relocation does to the bytes of a section.
 #[derive(Clone, Copy, PartialEq, Eq, Debug)]
@@ -96,7 +97,7 @@ fn filling(kind: FieldKind, meaning: Meaning, addend: i32, place: u32, there: &[
         FieldKind::Relative => Change::Word(relative(meaning, addend, place)),
         FieldKind::Prel31 => {
             let kept = LittleEndian::read_u32(there) / 0x8000_0000 * 0x8000_0000;
-            Change::Word(relative(meaning, addend, place) % 0x8000_0000 + kept)
+            Change::Word(prel31_to(place, absolute(meaning, addend)) + kept)
         }
         FieldKind::Call => call(distance(meaning, addend, place)),
         FieldKind::Jump => jump(distance(meaning, addend, place)),

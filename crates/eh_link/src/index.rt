@@ -1,47 +1,31 @@
-//! The exception index (IHI 0038; docs/linking.md).
+//! The exception index (IHI 0038, "Index table entries"; docs/linking.md).
 ghost use Rattle.std.specs.Prelude.{◌≡◌, ◌+◌, ◌++◌, ◌^◌, map, IfOk, OnOk};
 ghost use Rattle.std.specs.List.{flat_map};
-ghost use Rattle.eh_link.specs.Index.{second_word, row_of, rows_in, in_order, prel31_to, second_at, row_bytes, rows_from, index_of};
+ghost use Rattle.eh_link.specs.Index.{row_of, rows_in, in_order, closing, row_bytes, rows_from, index_of};
 
 use crate::places::{Addresses, Placed, address_at};
 use asm_object::object::{IndexRow, RowEntry};
 use eh_list::bytes::push_word;
 use std::alloc::{AllocError, Global};
+use unwind_codes::row::{Entry, EntryBody, ROW_SIZE, prel31_to, second_word};
 
-/// A row of the index: the start of a function, and what the row says of it.
-#[derive(Clone, Copy, PartialEq, Eq, Debug)]
-pub struct Row {
-    /// The address of the function, in bytes.
-    pub start: u32,
-    /// What the row says of it.
-    pub second: RowWord,
-}
-
-/// The second word of a row.
-#[derive(Clone, Copy, PartialEq, Eq, Debug)]
-pub enum RowWord {
-    /// The word itself: 1, or an inline entry.
-    Given(u32),
-    /// The address of a table, in bytes, which is seen from the place of the word.
-    Table(u32),
-}
-
-fn row_of(at: Addresses, row: &IndexRow) -> Row
+/// What an object's row says, where the object's parts stand at these addresses.
+fn row_of(at: Addresses, row: &IndexRow) -> Entry
     ensures { result ≡ row_of at row.now }
 {
-    let second = match row.entry {
-        RowEntry::CantUnwind => RowWord::Given(1),
-        RowEntry::Inline(given) => RowWord::Given(given),
-        RowEntry::Table(offset) => RowWord::Table(address_at(at.extab, offset)),
+    let body = match row.entry {
+        RowEntry::CantUnwind => EntryBody::CantUnwind,
+        RowEntry::Inline(given) => EntryBody::Inline(given),
+        RowEntry::Table(offset) => EntryBody::Table(address_at(at.extab, offset)),
     };
-    Row {
+    Entry {
         start: address_at(at.text, row.offset),
-        second,
+        body,
     }
 }
 
 /// Puts the rows of an object at the end.
-fn push_rows(out: &mut Vec<Row>, placed: &Placed) -> Result<(), AllocError>
+fn push_rows(out: &mut Vec<Entry>, placed: &Placed) -> Result<(), AllocError>
     ensures { OnOk result (out.new.items ≡ out.old.items ++ rows_in placed.now) }
 {
     for row in placed.object.rows.as_slice() {
@@ -51,7 +35,7 @@ fn push_rows(out: &mut Vec<Row>, placed: &Placed) -> Result<(), AllocError>
 }
 
 /// The rows of all objects.
-fn all_rows(alloc: Global, all: &[Placed]) -> Result<Vec<Row>, AllocError>
+fn all_rows(alloc: Global, all: &[Placed]) -> Result<Vec<Entry>, AllocError>
     ensures { IfOk result (λ rows. rows.items ≡ flat_map rows_in all.now) }
 {
     let mut out = Vec::new(alloc);
@@ -62,50 +46,44 @@ fn all_rows(alloc: Global, all: &[Placed]) -> Result<Vec<Row>, AllocError>
 }
 
 /// Puts rows into rising order of their starts.
-fn sort_rows(rows: &mut Vec<Row>) -> Result<(), AllocError>
+fn sort_rows(rows: &mut Vec<Entry>) -> Result<(), AllocError>
     ensures { OnOk result (rows.new.items ≡ in_order rows.old.items) }
 {
     rows.sort_by_key(|row| row.start)?;
     Ok(())
 }
 
-/// An address seen from the place of a word, in bits 30 to 0.
-fn prel31_to(place: u32, target: u32) -> u32
-    ensures { result ≡ prel31_to place target }
+/// The row behind the others: from there on nothing can be unwound.
+fn closing(end: u32) -> Entry
+    ensures { result ≡ closing end }
 {
-    target.wrapping_sub(place) % 0x8000_0000
-}
-
-fn second_at(place: u32, second: RowWord) -> u32
-    ensures { result ≡ second_at place second }
-{
-    match second {
-        RowWord::Given(given) => given,
-        RowWord::Table(address) => prel31_to(place, address),
+    Entry {
+        start: end,
+        body: EntryBody::CantUnwind,
     }
 }
 
+/// Puts the two words of a row at the end, each as seen from its own place.
 #[tactic(auto, unfolding(elf_write::specs::Layout::word))]
-fn put_row(out: &mut Vec<u8>, place: u32, row: Row) -> Result<(), AllocError>
+fn put_row(out: &mut Vec<u8>, place: u32, row: Entry) -> Result<(), AllocError>
     ensures { OnOk result (out.new.items ≡ out.old.items ++ row_bytes place row) }
 {
     push_word(out, prel31_to(place, row.start))?;
-    push_word(out, second_at(address_at(place, 4), row.second))
+    push_word(out, second_word(address_at(place, 4), row.body))
 }
 
 /// The bytes of rows from an address on, and of the row that closes the index.
 #[tactic(auto, using(crate::proofs::Steps::rows), unfolding(elf_write::specs::Layout::word))]
-fn rows_from(alloc: Global, end: u32, start: u32, rows: &[Row]) -> Result<Vec<u8>, AllocError>
+fn rows_from(alloc: Global, end: u32, start: u32, rows: &[Entry]) -> Result<Vec<u8>, AllocError>
     ensures { IfOk result (λ bytes. bytes.items ≡ rows_from end start rows.now) }
 {
     let mut out = Vec::new(alloc);
     let mut place = start;
     for row in rows {
         put_row(&mut out, place, *row)?;
-        place = address_at(place, 8);
+        place = address_at(place, ROW_SIZE);
     }
-    push_word(&mut out, prel31_to(place, end))?;
-    push_word(&mut out, 1)?;
+    put_row(&mut out, place, closing(end))?;
     Ok(out)
 }
 

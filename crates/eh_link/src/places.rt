@@ -7,6 +7,7 @@ use asm_object::object::Object;
 use eh_list::bytes::next_multiple_32;
 use std::alloc::{AllocError, Global};
 use std::marker::Model;
+use unwind_codes::row::ROW_SIZE;
 
 /// Where the first segment begins: an address in bytes.
 pub const CODE_START: u32 = 0x8000;
@@ -143,16 +144,16 @@ fn index_end(start: u32, objects: &[Object]) -> Option<u32>
     ensures some { IfSome result (λ end. (end ≡ start + index_size objects.now) × (end ≤ REACH)) }
     ensures none { IfNone result (REACH < start + index_size objects.now) }
 {
-    if start > REACH - 8 {
+    if start > REACH - ROW_SIZE {
         return None;
     }
-    let mut at = start + 8;
+    let mut at = start + ROW_SIZE;
     for object in objects {
         let rows = object.rows.as_slice().len();
-        if rows > ((REACH - at) / 8) as usize {
+        if rows > ((REACH - at) / ROW_SIZE) as usize {
             return None;
         }
-        at += 8 * rows as u32;
+        at += ROW_SIZE * rows as u32;
     }
     Some(at)
 }

@@ -1,9 +1,9 @@
 -- An address of a function has the function's own entry.
-use Rattle.eh_link.specs.declared.places.TheConstants.{MOST_MEMORY}
+use Rattle.eh_link.specs.declared.places.TheConstants.{CODE_START, MOST_MEMORY}
 use Rattle.eh_link.proofs.Layouts.{rising, ends_of, end_ge}
 use Rattle.asm_layout.specs.declared.place.Section.TheVariants.{Text}
 use Rattle.asm_object.proofs.ObjectLaws.{taken}
-use Rattle.std.proofs.Common.{◌≡◌, ℕ, ◌+◌, ◌%◌, ◌^◌, ◌≤◌, ◌<◌, ◌==◌, nat_le, Bool, true, false, cond, List, [], ◌∷◌, ◌++◌, length, take, drop, map, flat_map, fold, All, Option, Some, None, Result, Ok, refl, sym, ap, ◌∙◌, arith, append_assoc, subst, zero, suc}
+use Rattle.std.proofs.Common.{◌≡◌, ℕ, ◌+◌, ◌%◌, ◌^◌, ◌≤◌, ◌<◌, nat_le, true, false, cond, List, [], ◌∷◌, ◌++◌, length, take, drop, map, flat_map, fold, All, Option, Some, None, Result, Ok, refl, sym, ap, ◌∙◌, arith, append_assoc, subst, zero, suc}
 use Rattle.std.specs.Prelude.{slice_get}
 use Rattle.std.proofs.lemmas.Bool.Decides.{nat_tests}
 use Rattle.std.proofs.lemmas.Grind.{flat_map-append}
@@ -22,10 +22,9 @@ use Rattle.asm_object.specs.declared.object.IndexRow.{IndexRow}
 use Rattle.asm_object.specs.declared.object.Object.{Object}
 use Rattle.asm_object.proofs.ListLemmas.{drop_here}
 use Rattle.elf_write.specs.Parts.{image_of_parts}
-use Rattle.eh_link.specs.declared.index.Row.{Row}
 use Rattle.eh_link.specs.Placed.{Placed}
 use Rattle.eh_link.specs.Layout.{layout_of, firsts, ends}
-use Rattle.eh_link.specs.Index.{row_of, rows_in, second_word}
+use Rattle.eh_link.specs.Index.{row_of, rows_in, body_at, closing}
 use Rattle.eh_link.proofs.Images.{image_made, placed_too, code_below}
 use Rattle.eh_link.proofs.Sorting.{Ascending}
 use Rattle.eh_index.specs.Covering.{covering}
@@ -34,7 +33,7 @@ use Rattle.source_laws.specs.RowLaw.{behind, entry_for, HasItsRow}
 use Rattle.source_laws.specs.SourceRowLaw.{LiesIn, RowLies}
 use Rattle.source_laws.proofs.SourceRows.{text_offset, law_of_later_rows, law_of_rising, starts_inside}
 use Rattle.source_laws.proofs.Standing.{law_of_rows}
-use Rattle.index_laws.specs.SourceIndex.{IsAssembled, even, row_body, row_entry, closing, rows_to_read, IsIn, body_of, own_entry, later_rows, FunctionsAreFound, end_of, AddressesHaveTheirFunction}
+use Rattle.index_laws.specs.SourceIndex.{IsAssembled, even, row_entry, rows_to_read, IsIn, body_of, own_entry, later_rows, FunctionsAreFound, end_of, AddressesHaveTheirFunction}
 use Rattle.index_laws.proofs.Rising.{Orderly, all_orderly, asc_back, Stands, all_stand, asc_rows, asc_objects, offsets_from, behind_placed}
 use Rattle.index_laws.proofs.Reading.{even_rises, entries_are, image_read}
 
@@ -63,7 +62,7 @@ covering_here site before e after h above =
     ∙ ap (λ b. fold (latest site) (cond b (Some e) (fold (latest site) None before)) after) (le_is e.start site h)
     ∙ stays site (Some e) after above
 
-above_rows : (site low : ℕ) (rows : List Row) → Ascending low rows → site < even low → Above site (map row_entry rows)
+above_rows : (site low : ℕ) (rows : List Entry) → Ascending low rows → site < even low → Above site (map row_entry rows)
 above_rows site low [] asc h = tt
 above_rows site low (r ∷ rows) asc h =
     let here : site < even r.start = omega (arith, h, even_rises low r.start asc.0) in
@@ -71,14 +70,14 @@ above_rows site low (r ∷ rows) asc h =
 
 -- ---- the rows, cut at one of them
 
-regroup : (f t : List Row) (x : Row) (d b c : List Row) → (f ++ ((t ++ x ∷ d) ++ b)) ++ c ≡ (f ++ t) ++ x ∷ ((d ++ b) ++ c)
+regroup : (f t : List Entry) (x : Entry) (d b c : List Entry) → (f ++ ((t ++ x ∷ d) ++ b)) ++ c ≡ (f ++ t) ++ x ∷ ((d ++ b) ++ c)
 regroup f t x d b c =
     ap (λ l. (f ++ l) ++ c) (append_assoc t (x ∷ d) b)
     ∙ append_assoc f (t ++ x ∷ (d ++ b)) c
     ∙ ap (λ l. f ++ l) (append_assoc t (x ∷ (d ++ b)) c)
     ∙ sym (append_assoc f t (x ∷ ((d ++ b) ++ c)))
 
-abbrev pub rows_before : (objects : List Object) (f : Function) → IsIn objects f → List Row
+abbrev pub rows_before : (objects : List Object) (f : Function) → IsIn objects f → List Entry
 rows_before objects f there = flat_map rows_in there.front ++ map (row_of there.placed.at) (take (functions_in f.before) there.placed.object.rows)
 
 pub cut_there : (objects : List Object) (f : Function) (there : IsIn objects f) (row : IndexRow) → slice_get there.placed.object.rows (functions_in f.before) ≡ Some row
@@ -140,14 +139,10 @@ upto a b c end h k = omega (arith, h, k)
 upto_four : (a b c end : ℕ) → b + 4 ≤ c → a + c ≤ end → a + b ≤ end
 upto_four a b c end h k = omega (arith, h, k)
 
-inline_is : (word : ℕ) (one : Bool) → one ≡ (word == 1) → 2 ^ 31 ≤ word → cond one body.CantUnwind (body.Inline word) ≡ body.Inline word
-inline_is word true e h = absurd (grind (arith, nat_tests))
-inline_is word false e h = refl
-
 body_is : (p : Placed) (given : EntryWords) (table end : ℕ) → LiesIn p.object (entry_for given table) → p.at.extab + length p.object.extab ≤ end → end < 2 ^ 30
-    → row_body (second_word p.at (entry_for given table)) ≡ body_of given (p.at.extab + table)
+    → body_at p.at (entry_for given table) ≡ body_of given (p.at.extab + table)
 body_is p words.CantUnwind table end lies fits low = refl
-body_is p (words.Inline word) table end lies fits low = inline_is word (word == 1) refl lies.0
+body_is p (words.Inline word) table end lies fits low = refl
 body_is p (words.Table given) table end lies fits low = ap body.Table (low_address p.at.extab table end (upto_four p.at.extab table (length p.object.extab) end lies.1 fits) low)
 
 abbrev entry_with : ℕ → EntryBody → Entry
@@ -166,7 +161,7 @@ entry_is objects f placed given low own =
     ∙ ap (λ g. body_of g (placed.at.extab + own.has.table)) own.same
     ∙ ap (λ t. body_of given (placed.at.extab + t)) own.has.table_place)
 
-below_30 : (end : ℕ) → end ≤ 0x8000 + MOST_MEMORY → end < 2 ^ 30
+below_30 : (end : ℕ) → end ≤ CODE_START + MOST_MEMORY → end < 2 ^ 30
 below_30 end h = omega (arith, h)
 
 pub law_of_finding : FunctionsAreFound
@@ -178,7 +173,7 @@ law_of_finding objects name parts f there given next after site all linked_to wo
     let before = rows_before objects f there in
     let here = row_of there.placed.at row in
     let cut : rows_to_read objects ≡ before ++ here ∷ (next ∷ after) = cut_there objects f there row own.has.row ∙ ap (λ l. before ++ here ∷ l) later in
-    let asc = asc_back 0x8000 before here (next ∷ after) (subst (Ascending 0x8000) cut image.ascend) in
+    let asc = asc_back CODE_START before here (next ∷ after) (subst (Ascending CODE_START) cut image.ascend) in
     let entry = entry_is objects f there.placed given low own in
     let F : Entry → Type 0 = λ e. e.start ≤ site in
     ap (λ l. covering l site)

@@ -12,16 +12,16 @@ use Rattle.eh_word.specs.Words.{prel31_of, number_at}
 use Rattle.unwind_codes.specs.declared.row.Entry.{Entry}
 use Rattle.unwind_codes.specs.declared.row.EntryBody.{EntryBody}
 use Rattle.unwind_codes.specs.declared.row.EntryBody.TheVariants as body
+use Rattle.unwind_codes.specs.declared.row.TheConstants.{CANT_UNWIND, ROW_SIZE}
 use Rattle.unwind_codes.specs.Rows.{body_of, entry_of}
 use Rattle.asm_object.specs.declared.object.Object.{Object}
 use Rattle.elf_image.specs.Segments.{Segment}
 use Rattle.elf_image.specs.Image.{Image}
 use Rattle.elf_write.specs.Parts.{own_segment, image_of_parts}
 use Rattle.elf_write.specs.declared.parts.ImageParts.{ImageParts}
-use Rattle.eh_link.specs.declared.index.Row.{Row}
-use Rattle.eh_link.specs.declared.index.RowWord.{RowWord}
-use Rattle.eh_link.specs.declared.index.RowWord.TheVariants.{Given, Table}
+use Rattle.eh_link.specs.declared.places.TheConstants.{CODE_START}
 use Rattle.eh_link.specs.Layout.{layout_of, placed_of}
+use Rattle.eh_link.specs.Index.{closing}
 use Rattle.eh_link.specs.IndexLaw.{LeadsTo, Says, HasRows, object_rows, index_rows}
 use Rattle.eh_link.specs.Linked.{linked}
 use Rattle.eh_link.specs.LayoutLaw.{linked_index, linked_code}
@@ -35,8 +35,8 @@ use Rattle.eh_index.specs.Rows.{first_word, second_word, entry_at, entry_count, 
 use Rattle.eh_index.specs.Places.{is_code_bound, holds_byte, is_table_place}
 use Rattle.eh_index.specs.Refusal.{is_outside, is_unsorted, entry_refusal, first_of, index_refusal}
 use Rattle.eh_index.proofs.Search.{none_refused}
-use Rattle.index_laws.specs.SourceIndex.{IsAssembled, even, row_body, row_entry, closing, rows_to_read, SourcesAreRead}
-use Rattle.index_laws.proofs.Rising.{all_orderly, law_of_assembled_rows, rows_ascend, in_this_order, SecondFits, RowFits, rows_fit}
+use Rattle.index_laws.specs.SourceIndex.{IsAssembled, even, row_entry, rows_to_read, SourcesAreRead}
+use Rattle.index_laws.proofs.Rising.{all_orderly, law_of_assembled_rows, rows_ascend, in_this_order, BodyFits, RowFits, rows_fit}
 use Rattle.index_laws.proofs.Segments.{code_of, code_first, image_segments, index_is}
 
 -- ---- one row
@@ -53,66 +53,66 @@ lt_isnt m n h = grind (arith, nat_tests)
 is_same : (m n : ℕ) → m ≡ n → (m == n) ≡ true
 is_same m n h = grind (arith, nat_tests)
 
--- the word 1 leads to the place behind its own
-one_leads : (place : ℕ) → place < 2 ^ 30 → prel31_of place 1 ≡ place + 1
+-- the word that says that nothing unwinds leads to the place behind its own
+one_leads : (place : ℕ) → place < 2 ^ 30 → prel31_of place CANT_UNWIND ≡ place + 1
 unfolding prel31_of
 one_leads place h = grind (arith, ints, nat_tests)
 
-given_is : (place word : ℕ) (one : Bool) → one ≡ (word == 1) → (word ≡ 1) ⊎ ((2 ^ 31 ≤ word) × (word < 2 ^ 32))
-    → cond one body.CantUnwind (cond (nat_le (2 ^ 31) word) (body.Inline word) (body.Table (prel31_of place word))) ≡ cond one body.CantUnwind (body.Inline word)
-given_is place word true e h = refl
-given_is place word false e (inl is) = absurd (true≢false (sym (is_same word 1 is) ∙ sym e))
-given_is place word false e (inr h) = ap (λ b. cond b (body.Inline word) (body.Table (prel31_of place word))) (le_is (2 ^ 31) word h.0)
+inline_is : (place word : ℕ) (one : Bool) → one ≡ (word == CANT_UNWIND) → 2 ^ 31 ≤ word
+    → cond one body.CantUnwind (cond (nat_le (2 ^ 31) word) (body.Inline word) (body.Table (prel31_of place word))) ≡ body.Inline word
+inline_is place word true e h = absurd (grind (arith, nat_tests))
+inline_is place word false e h = ap (λ b. cond b (body.Inline word) (body.Table (prel31_of place word))) (le_is (2 ^ 31) word h)
 
-no_one : (place address word : ℕ) → word ≡ 1 → place < 2 ^ 30 → place % 4 ≡ 0 → address % 4 ≡ 0 → prel31_of place word ≡ address → ⊥
+no_one : (place address word : ℕ) → word ≡ CANT_UNWIND → place < 2 ^ 30 → place % 4 ≡ 0 → address % 4 ≡ 0 → prel31_of place word ≡ address → ⊥
 no_one place address word one low four aligned e =
-    let is : prel31_of place 1 ≡ address = ap (prel31_of place) (sym one) ∙ e in
+    let is : prel31_of place CANT_UNWIND ≡ address = ap (prel31_of place) (sym one) ∙ e in
     omega (arith, is, one_leads place low, four, aligned)
 
-table_is : (place address word : ℕ) (one : Bool) → one ≡ (word == 1) → word < 2 ^ 31 → place < 2 ^ 30 → place % 4 ≡ 0 → address % 4 ≡ 0 → prel31_of place word ≡ address
+table_is : (place address word : ℕ) (one : Bool) → one ≡ (word == CANT_UNWIND) → word < 2 ^ 31 → place < 2 ^ 30 → place % 4 ≡ 0 → address % 4 ≡ 0 → prel31_of place word ≡ address
     → cond one body.CantUnwind (cond (nat_le (2 ^ 31) word) (body.Inline word) (body.Table (prel31_of place word))) ≡ body.Table address
 table_is place address word true e clear low four aligned leads = absurd (no_one place address word (grind (arith, nat_tests)) low four aligned leads)
 table_is place address word false e clear low four aligned leads =
     ap (λ b. cond b (body.Inline word) (body.Table (prel31_of place word))) (le_isnt (2 ^ 31) word clear) ∙ ap body.Table leads
 
 -- what a row's words say
-pub record RowRead (image : Image) (k : ℕ) (row : Row) : Type 0 where
+pub record RowRead (image : Image) (k : ℕ) (row : Entry) : Type 0 where
   pub clear : first_word image k < 2 ^ 31
   pub entry : entry_at image k ≡ row_entry row
 
-second_read : (second : RowWord) (end table : ℕ) (bytes : List ℕ) (offset : ℕ) → Says second table bytes offset → SecondFits end second → table + offset < 2 ^ 30 → (table + offset) % 4 ≡ 0
-    → body_of (table + offset) (little_number 4 (drop offset bytes)) ≡ row_body second
-second_read (Given word) end table bytes offset says fits low four =
-    ap (body_of (table + offset)) (number_reads 4 bytes offset word says).is ∙ given_is (table + offset) word (word == 1) refl fits
-second_read (Table address) end table bytes offset leads fits low four =
+second_read : (said : EntryBody) (end table : ℕ) (bytes : List ℕ) (offset : ℕ) → Says said table bytes offset → BodyFits end said → table + offset < 2 ^ 30 → (table + offset) % 4 ≡ 0
+    → body_of (table + offset) (little_number 4 (drop offset bytes)) ≡ said
+second_read body.CantUnwind end table bytes offset says fits low four = ap (body_of (table + offset)) (number_reads 4 bytes offset CANT_UNWIND says).is
+second_read (body.Inline word) end table bytes offset says fits low four =
+    ap (body_of (table + offset)) (number_reads 4 bytes offset word says).is ∙ inline_is (table + offset) word (word == CANT_UNWIND) refl fits.0
+second_read (body.Table address) end table bytes offset leads fits low four =
     let is : little_number 4 (drop offset bytes) ≡ leads.word = (number_reads 4 bytes offset leads.word leads.there).is in
     ap (body_of (table + offset)) is
-    ∙ table_is (table + offset) address leads.word (leads.word == 1) refl leads.clear low four fits.0 leads.leads
+    ∙ table_is (table + offset) address leads.word (leads.word == CANT_UNWIND) refl leads.clear low four fits.0 leads.leads
 
-both_of_entry : (start : ℕ) (row : Row) (b : EntryBody) → start ≡ row.start → b ≡ row_body row.second
+both_of_entry : (start : ℕ) (row : Entry) (b : EntryBody) → start ≡ row.start → b ≡ row.body
     → record { start = start - start % 2; body = b } ≡ row_entry row
 both_of_entry start row b e f = ap (λ a. record { start = a - a % 2; body = b }) e ∙ ap (λ c. record { start = even row.start; body = c }) f
 
-place_behind : (table k : ℕ) → table + (8 * k + 4) < 2 ^ 30 → (table + 8 * k + 4) % 2 ^ 32 ≡ table + (8 * k + 4)
+place_behind : (table k : ℕ) → table + (ROW_SIZE * k + 4) < 2 ^ 30 → (table + ROW_SIZE * k + 4) % 2 ^ 32 ≡ table + (ROW_SIZE * k + 4)
 place_behind table k h = omega (arith, h)
 
-four_there : (table k : ℕ) → table % 4 ≡ 0 → (table + (8 * k + 4)) % 4 ≡ 0
+four_there : (table k : ℕ) → table % 4 ≡ 0 → (table + (ROW_SIZE * k + 4)) % 4 ≡ 0
 four_there table k h = omega (arith, h)
 
-read_at : (image : Image) (table : ℕ) (bytes : List ℕ) (k end : ℕ) (row : Row) → image.index_start ≡ table → image.index_bytes ≡ bytes → LeadsTo row.start table bytes (8 * k)
-    → Says row.second table bytes (8 * k + 4) → SecondFits end row.second → table % 4 ≡ 0 → table + (8 * k + 4) < 2 ^ 30 → RowRead image k row
+read_at : (image : Image) (table : ℕ) (bytes : List ℕ) (k end : ℕ) (row : Entry) → image.index_start ≡ table → image.index_bytes ≡ bytes → LeadsTo row.start table bytes (ROW_SIZE * k)
+    → Says row.body table bytes (ROW_SIZE * k + 4) → BodyFits end row.body → table % 4 ≡ 0 → table + (ROW_SIZE * k + 4) < 2 ^ 30 → RowRead image k row
 read_at image table bytes k end row start same leads says fits four low =
-    let first : first_word image k ≡ leads.word = ap (λ b. little_number 4 (drop (8 * k) b)) same ∙ (number_reads 4 bytes (8 * k) leads.word leads.there).is in
+    let first : first_word image k ≡ leads.word = ap (λ b. little_number 4 (drop (ROW_SIZE * k) b)) same ∙ (number_reads 4 bytes (ROW_SIZE * k) leads.word leads.there).is in
     let L : ℕ → Type 0 = λ n. n < 2 ^ 31 in
     record {
       clear = subst L (sym first) leads.clear;
       entry =
-          ap (λ s. entry_of (s + 8 * k) (first_word image k) (second_word image k)) start
-          ∙ ap (λ w. entry_of (table + 8 * k) w (second_word image k)) first
-          ∙ ap (λ b. entry_of (table + 8 * k) leads.word (little_number 4 (drop (8 * k + 4) b))) same
-          ∙ both_of_entry (prel31_of (table + 8 * k) leads.word) row (body_of ((table + 8 * k + 4) % 2 ^ 32) (little_number 4 (drop (8 * k + 4) bytes))) leads.leads
-          (ap (λ p. body_of p (little_number 4 (drop (8 * k + 4) bytes))) (place_behind table k low)
-          ∙ second_read row.second end table bytes (8 * k + 4) says fits low (four_there table k four));
+          ap (λ s. entry_of (s + ROW_SIZE * k) (first_word image k) (second_word image k)) start
+          ∙ ap (λ w. entry_of (table + ROW_SIZE * k) w (second_word image k)) first
+          ∙ ap (λ b. entry_of (table + ROW_SIZE * k) leads.word (little_number 4 (drop (ROW_SIZE * k + 4) b))) same
+          ∙ both_of_entry (prel31_of (table + ROW_SIZE * k) leads.word) row (body_of ((table + ROW_SIZE * k + 4) % 2 ^ 32) (little_number 4 (drop (ROW_SIZE * k + 4) bytes))) leads.leads
+          (ap (λ p. body_of p (little_number 4 (drop (ROW_SIZE * k + 4) bytes))) (place_behind table k low)
+          ∙ second_read row.body end table bytes (ROW_SIZE * k + 4) says fits low (four_there table k four));
     }
 
 -- ---- all rows
@@ -128,33 +128,33 @@ got_cases (x ∷ xs) y z (suc k) e =
     ]
 
 -- every row of the sources, and the closing one, is read in its place
-pub record AllRead (image : Image) (rows : List Row) : Type 0 where
-  pub each : (k : ℕ) (row : Row) → slice_get rows k ≡ Some row → RowRead image k row
+pub record AllRead (image : Image) (rows : List Entry) : Type 0 where
+  pub each : (k : ℕ) (row : Entry) → slice_get rows k ≡ Some row → RowRead image k row
   pub count : entry_count image ≡ length rows
-  pub whole : length image.index_bytes % 8 ≡ 0
+  pub whole : length image.index_bytes % ROW_SIZE ≡ 0
 
-eight : (n : ℕ) → 8 * (n + 1) / 8 ≡ n + 1
-eight n = omega arith
+row_count : (n : ℕ) → ROW_SIZE * (n + 1) / ROW_SIZE ≡ n + 1
+row_count n = omega arith
 
-eight_whole : (n : ℕ) → 8 * (n + 1) % 8 ≡ 0
-eight_whole n = omega arith
+whole_rows : (n : ℕ) → ROW_SIZE * (n + 1) % ROW_SIZE ≡ 0
+whole_rows n = omega arith
 
-fit_at : (end : ℕ) (rows : List Row) (k : ℕ) (row : Row) → All (RowFits end) rows → slice_get rows k ≡ Some row → RowFits end row
+fit_at : (end : ℕ) (rows : List Entry) (k : ℕ) (row : Entry) → All (RowFits end) rows → slice_get rows k ≡ Some row → RowFits end row
 fit_at end rows k row all e =
     subst (RowFits end) (get_or_from_slice_get rows k row row e) (All-get_or (RowFits end) rows k row (slice_get_within rows k row e) all)
 
-all_read : (image : Image) (rows : List Row) (end text_end table : ℕ) (bytes : List ℕ) → image.index_start ≡ table → image.index_bytes ≡ bytes → HasRows rows text_end table bytes
+all_read : (image : Image) (rows : List Entry) (end text_end table : ℕ) (bytes : List ℕ) → image.index_start ≡ table → image.index_bytes ≡ bytes → HasRows rows text_end table bytes
     → All (RowFits end) rows → table % 4 ≡ 0 → table + length bytes ≤ 2 ^ 30 → AllRead image (rows ++ closing text_end ∷ [])
 all_read image rows end text_end table bytes start same has fit four low = record {
   each = λ k row e. by k row (got_cases rows (closing text_end) row k e);
-  count = ap (λ (b : List ℕ). length b / 8) same ∙ ap (λ n. n / 8) has.size ∙ eight (length rows) ∙ sym (length-append rows (closing text_end ∷ []));
-  whole = ap (λ (b : List ℕ). length b % 8) same ∙ ap (λ n. n % 8) has.size ∙ eight_whole (length rows);
+  count = ap (λ (b : List ℕ). length b / ROW_SIZE) same ∙ ap (λ n. n / ROW_SIZE) has.size ∙ row_count (length rows) ∙ sym (length-append rows (closing text_end ∷ []));
+  whole = ap (λ (b : List ℕ). length b % ROW_SIZE) same ∙ ap (λ n. n % ROW_SIZE) has.size ∙ whole_rows (length rows);
 }
   where
-    inside : (n k : ℕ) → k ≤ n → table + 8 * (n + 1) ≤ 2 ^ 30 → table + (8 * k + 4) < 2 ^ 30
+    inside : (n k : ℕ) → k ≤ n → table + ROW_SIZE * (n + 1) ≤ 2 ^ 30 → table + (ROW_SIZE * k + 4) < 2 ^ 30
     inside n k h l = omega (arith, h, l)
 
-    room : table + 8 * (length rows + 1) ≤ 2 ^ 30
+    room : table + ROW_SIZE * (length rows + 1) ≤ 2 ^ 30
     room = let L : ℕ → Type 0 = λ n. table + n ≤ 2 ^ 30 in subst L has.size low
 
     below : (k n : ℕ) → k < n → k ≤ n
@@ -163,18 +163,18 @@ all_read image rows end text_end table bytes start same has fit four low = recor
     same_le : (k n : ℕ) → k ≡ n → k ≤ n
     same_le k n h = omega (arith, h)
 
-    by : (k : ℕ) (row : Row) → (slice_get rows k ≡ Some row) ⊎ ((k ≡ length rows) × (closing text_end ≡ row)) → RowRead image k row
+    by : (k : ℕ) (row : Entry) → (slice_get rows k ≡ Some row) ⊎ ((k ≡ length rows) × (closing text_end ≡ row)) → RowRead image k row
     by k row (inl e) =
-        read_at image table bytes k end row start same (has.starts k row e) (has.seconds k row e) (fit_at end rows k row fit e).second four (inside (length rows) k (below _ _ (slice_get_within rows k row e)) room)
+        read_at image table bytes k end row start same (has.starts k row e) (has.seconds k row e) (fit_at end rows k row fit e).body four (inside (length rows) k (below _ _ (slice_get_within rows k row e)) room)
     by k row (inr e) =
-        let R : Row → Type 0 = λ r. RowRead image k r in
-        let last : LeadsTo text_end table bytes (8 * k) = let P : ℕ → Type 0 = λ n. LeadsTo text_end table bytes (8 * n) in subst P (sym e.0) has.last in
-        let closed : number_at 4 bytes (8 * k + 4) ≡ Some 1 = ap (λ n. number_at 4 bytes (8 * n + 4)) e.0 ∙ has.closed in
-        subst R e.1 (read_at image table bytes k end (closing text_end) start same last closed (inl refl) four (inside (length rows) k (same_le _ _ e.0) room))
+        let R : Entry → Type 0 = λ r. RowRead image k r in
+        let last : LeadsTo text_end table bytes (ROW_SIZE * k) = let P : ℕ → Type 0 = λ n. LeadsTo text_end table bytes (ROW_SIZE * n) in subst P (sym e.0) has.last in
+        let closed : number_at 4 bytes (ROW_SIZE * k + 4) ≡ Some CANT_UNWIND = ap (λ n. number_at 4 bytes (ROW_SIZE * n + 4)) e.0 ∙ has.closed in
+        subst R e.1 (read_at image table bytes k end (closing text_end) start same last closed tt four (inside (length rows) k (same_le _ _ e.0) room))
 
 -- ---- the list of entries
 
-maps_are : (f : ℕ → Entry) (low n : ℕ) (rows : List Row) → n ≡ length rows → ((k : ℕ) (r : Row) → slice_get rows k ≡ Some r → f (low + k) ≡ row_entry r)
+maps_are : (f : ℕ → Entry) (low n : ℕ) (rows : List Entry) → n ≡ length rows → ((k : ℕ) (r : Entry) → slice_get rows k ≡ Some r → f (low + k) ≡ row_entry r)
     → map f (range_with_len low n) ≡ map row_entry rows
 maps_are f low zero [] e h = refl
 maps_are f low (suc n) [] e h = absurd (omega (arith, e))
@@ -187,7 +187,7 @@ maps_are f low (suc n) (r ∷ rows) e h =
 zero_left : (k : ℕ) → 0 + k ≡ k
 zero_left k = omega arith
 
-pub entries_are : (image : Image) (rows : List Row) → AllRead image rows → entries_of image ≡ map row_entry rows
+pub entries_are : (image : Image) (rows : List Entry) → AllRead image rows → entries_of image ≡ map row_entry rows
 unfolding entries_of
 entries_are image rows read = maps_are (entry_at image) 0 (entry_count image) rows read.count (λ k r e. ap (entry_at image) (zero_left k) ∙ (read.each k r e).entry)
 
@@ -198,14 +198,14 @@ got_some [] k h = absurd (omega (arith, h))
 got_some (x ∷ xs) zero h = (x, refl)
 got_some (x ∷ xs) (suc k) h = got_some xs k (omega (arith, h))
 
-asc_next : (low : ℕ) (rows : List Row) (j : ℕ) (a b : Row) → Ascending low rows → slice_get rows j ≡ Some a → slice_get rows (suc j) ≡ Some b → a.start ≤ b.start
+asc_next : (low : ℕ) (rows : List Entry) (j : ℕ) (a b : Entry) → Ascending low rows → slice_get rows j ≡ Some a → slice_get rows (suc j) ≡ Some b → a.start ≤ b.start
 asc_next low [] j a b asc e f = absurd (cc)
 asc_next low (r ∷ []) zero a b asc e f = absurd (cc)
 asc_next low (r ∷ s ∷ rows) zero a b asc e f =
     let first : r ≡ a = cc in
     let second : s ≡ b = cc in
-    let L : Row → Type 0 = λ x. x.start ≤ b.start in
-    let M : Row → Type 0 = λ x. r.start ≤ x.start in
+    let L : Entry → Type 0 = λ x. x.start ≤ b.start in
+    let M : Entry → Type 0 = λ x. r.start ≤ x.start in
     subst L first (subst M second asc.1.0)
 asc_next low (r ∷ rows) (suc j) a b asc e f = asc_next r.start rows j a b asc.1 e f
 
@@ -214,7 +214,7 @@ even_rises a b h = omega (arith, h)
 
 -- a segment that holds the code
 pub record HoldsCode (end : ℕ) (s : Segment) : Type 0 where
-  pub start : s.start ≡ 0x8000
+  pub start : s.start ≡ CODE_START
   pub size : s.start + s.size ≡ end
   pub bytes : s.start + length s.bytes ≡ end
   pub exec : s.exec ≡ true
@@ -223,13 +223,13 @@ pub record HoldsCode (end : ℕ) (s : Segment) : Type 0 where
 any_first : (p : Segment → Bool) (s : Segment) (more : List Segment) → p s ≡ true → list_any p (s ∷ more) ≡ true
 any_first p s more h = ap (λ b. b || list_any p more) h
 
-bound_there : (end a : ℕ) (s : Segment) (more : List Segment) → HoldsCode end s → 0x8000 ≤ a → a ≤ end → is_code_bound (s ∷ more) (even a) ≡ true
+bound_there : (end a : ℕ) (s : Segment) (more : List Segment) → HoldsCode end s → CODE_START ≤ a → a ≤ end → is_code_bound (s ∷ more) (even a) ≡ true
 bound_there end a s more h low high =
     let from : s.start ≤ even a = even_from s.start a h.start low in
     let to : even a ≤ s.start + s.size = even_to a end (s.start + s.size) h.size high in
     any_first (λ g. g.exec && nat_le g.start (even a) && nat_le (even a) (g.start + g.size)) s more (all_three _ _ _ h.exec (le_is _ _ from) (le_is _ _ to))
   where
-    even_from : (start a : ℕ) → start ≡ 0x8000 → 0x8000 ≤ a → start ≤ even a
+    even_from : (start a : ℕ) → start ≡ CODE_START → CODE_START ≤ a → start ≤ even a
     even_from start a e h = omega (arith, e, h)
 
     even_to : (a end b : ℕ) → b ≡ end → a ≤ end → even a ≤ b
@@ -238,13 +238,13 @@ bound_there end a s more h low high =
     all_three : (a b c : Bool) → a ≡ true → b ≡ true → c ≡ true → (a && b && c) ≡ true
     all_three a b c e f g = simp (e, f, g)
 
-pub byte_there : (end a : ℕ) (s : Segment) → HoldsCode end s → 0x8000 ≤ a → a + 4 ≤ end → holds_byte a s ≡ true
+pub byte_there : (end a : ℕ) (s : Segment) → HoldsCode end s → CODE_START ≤ a → a + 4 ≤ end → holds_byte a s ≡ true
 byte_there end a s h low high =
     let from : s.start ≤ a = start_le s.start a h.start low in
     let to : a < s.start + length s.bytes = below a end (s.start + length s.bytes) h.bytes high in
     all_three s.write _ _ h.write (le_is _ _ from) (lt_is _ _ to)
   where
-    start_le : (start a : ℕ) → start ≡ 0x8000 → 0x8000 ≤ a → start ≤ a
+    start_le : (start a : ℕ) → start ≡ CODE_START → CODE_START ≤ a → start ≤ a
     start_le start a e h = omega (arith, e, h)
 
     below : (a end b : ℕ) → b ≡ end → a + 4 ≤ end → a < b
@@ -256,13 +256,10 @@ byte_there end a s h low high =
     all_three : (a b c : Bool) → a ≡ false → b ≡ true → c ≡ true → (not a && b && c) ≡ true
     all_three a b c e f g = simp (e, f, g)
 
-body_there : (end : ℕ) (second : RowWord) (s : Segment) (more : List Segment) → HoldsCode end s → SecondFits end second → is_table_place (s ∷ more) (row_body second) ≡ true
-body_there end (Given word) s more h fits = by (word == 1)
-  where
-    by : (b : Bool) → is_table_place (s ∷ more) (cond b body.CantUnwind (body.Inline word)) ≡ true
-    by true = refl
-    by false = refl
-body_there end (Table a) s more h fits = both _ _ (is_same (a % 4) 0 fits.0) (any_first (holds_byte a) s more (byte_there end a s h fits.1.0 fits.1.1))
+body_there : (end : ℕ) (said : EntryBody) (s : Segment) (more : List Segment) → HoldsCode end s → BodyFits end said → is_table_place (s ∷ more) said ≡ true
+body_there end body.CantUnwind s more h fits = refl
+body_there end (body.Inline word) s more h fits = refl
+body_there end (body.Table a) s more h fits = both _ _ (is_same (a % 4) 0 fits.0) (any_first (holds_byte a) s more (byte_there end a s h fits.1.0 fits.1.1))
   where
     both : (a b : Bool) → a ≡ true → b ≡ true → (a && b) ≡ true
     both a b e f = simp (e, f)
@@ -279,7 +276,7 @@ accepted image k e f = by (is_outside image k) (is_unsorted image k) e f
     by false true e f = absurd (true≢false f)
     by false false e f = refl
 
-sorted_at : (image : Image) (rows : List Row) (low k : ℕ) (row : Row) → AllRead image rows → Ascending low rows → slice_get rows k ≡ Some row → is_unsorted image k ≡ false
+sorted_at : (image : Image) (rows : List Entry) (low k : ℕ) (row : Entry) → AllRead image rows → Ascending low rows → slice_get rows k ≡ Some row → is_unsorted image k ≡ false
 sorted_at image rows low zero row read asc e = ap (λ b. b && nat_lt (entry_at image 0).start (entry_at image (0 - 1)).start) (lt_isnt 0 0 (omega arith))
 sorted_at image rows low (suc j) row read asc e =
     let inside : suc j < length rows = slice_get_within rows (suc j) row e in
@@ -297,7 +294,7 @@ sorted_at image rows low (suc j) row read asc e =
     not_below : (a b c d : ℕ) → a ≡ c → b ≡ d → d ≤ c → b ≤ a
     not_below a b c d e f h = omega (arith, e, f, h)
 
-row_accepted : (image : Image) (rows : List Row) (low end k : ℕ) (row : Row) (s : Segment) (more : List Segment) → AllRead image rows → Ascending low rows → All (RowFits end) rows
+row_accepted : (image : Image) (rows : List Entry) (low end k : ℕ) (row : Entry) (s : Segment) (more : List Segment) → AllRead image rows → Ascending low rows → All (RowFits end) rows
     → image.segments ≡ s ∷ more → HoldsCode end s → slice_get rows k ≡ Some row → entry_refusal image k ≡ None
 row_accepted image rows low end k row s more read asc fit segments holds e =
     let one = read.each k row e in
@@ -305,14 +302,14 @@ row_accepted image rows low end k row s more read asc fit segments holds e =
     let code : is_code_bound image.segments (entry_at image k).start ≡ true =
     ap (λ l. is_code_bound l (entry_at image k).start) segments ∙ ap (λ (x : Entry). is_code_bound (s ∷ more) x.start) one.entry ∙ bound_there end row.start s more holds fits.from fits.to in
     let table : is_table_place image.segments (entry_at image k).body ≡ true =
-    ap (λ l. is_table_place l (entry_at image k).body) segments ∙ ap (λ (x : Entry). is_table_place (s ∷ more) x.body) one.entry ∙ body_there end row.second s more holds fits.second in
+    ap (λ l. is_table_place l (entry_at image k).body) segments ∙ ap (λ (x : Entry). is_table_place (s ∷ more) x.body) one.entry ∙ body_there end row.body s more holds fits.body in
     accepted image k (none_outside k _ _ _ (le_isnt (2 ^ 31) (first_word image k) one.clear) code table) (sorted_at image rows low k row read asc e)
 
-pub none_is_refused : (image : Image) (rows : List Row) (low end : ℕ) (s : Segment) (more : List Segment) → AllRead image rows → Ascending low rows → All (RowFits end) rows
+pub none_is_refused : (image : Image) (rows : List Entry) (low end : ℕ) (s : Segment) (more : List Segment) → AllRead image rows → Ascending low rows → All (RowFits end) rows
     → image.segments ≡ s ∷ more → HoldsCode end s → index_refusal image ≡ None
 unfolding index_refusal
 none_is_refused image rows low end s more read asc fit segments holds =
-    ap (λ b. cond b (first_of (map (entry_refusal image) (range_with_len 0 (entry_count image)))) (Some Length)) (is_same (length image.index_bytes % 8) 0 read.whole)
+    ap (λ b. cond b (first_of (map (entry_refusal image) (range_with_len 0 (entry_count image)))) (Some Length)) (is_same (length image.index_bytes % ROW_SIZE) 0 read.whole)
     ∙ none_refused image (λ k inside.
     let L : ℕ → Type 0 = λ n. k < n in
     let got = got_some rows k (subst L read.count inside) in
@@ -320,13 +317,13 @@ none_is_refused image rows low end s more read asc fit segments holds =
 
 -- ---- the law
 
-closing_fits : (end text_end : ℕ) → 0x8000 ≤ text_end → text_end ≤ end → RowFits end (closing text_end)
-closing_fits end text_end low high = record { from = low; to = high; second = inl refl }
+closing_fits : (end text_end : ℕ) → CODE_START ≤ text_end → text_end ≤ end → RowFits end (closing text_end)
+closing_fits end text_end low high = record { from = low; to = high; body = tt }
 
 -- what holds of the image of objects of accepted sources
 pub record ImageRead (objects : List Object) (image : Image) : Type 0 where
   pub read : AllRead image (rows_to_read objects)
-  pub ascend : Ascending 0x8000 (rows_to_read objects)
+  pub ascend : Ascending CODE_START (rows_to_read objects)
   pub fit : All (RowFits (layout_of objects).code_end) (rows_to_read objects)
   pub first : Segment
   pub more : List Segment
@@ -347,7 +344,7 @@ image_read objects name parts all e =
     let place : parts.index.0 ≡ l.index_start = ap (λ (i : ℕ × ℕ). i.0) (law_of_images objects name parts e).1 in
     let has = law_of_image_rows objects name parts e (law_of_assembled_rows objects all) in
     let H : ℕ → Type 0 = λ n. HasRows (index_rows (placed_of objects)) l.text_end n (linked_index objects) in
-    let I : List Row → Type 0 = λ rows. HasRows rows l.text_end l.index_start (linked_index objects) in
+    let I : List Entry → Type 0 = λ rows. HasRows rows l.text_end l.index_start (linked_index objects) in
     let rows = object_rows (placed_of objects) in
     let rows_fit_all = rows_fit objects own fits in
     let four : l.index_start % 4 ≡ 0 = omega (arith, ends.index) in
@@ -373,6 +370,6 @@ image_read objects name parts all e =
 pub law_of_reading : SourcesAreRead
 law_of_reading objects name parts all e =
     let image = image_read objects name parts all e in (
-      none_is_refused (image_of_parts parts) (rows_to_read objects) 0x8000 (layout_of objects).code_end image.first image.more image.read image.ascend image.fit image.segments image.holds,
+      none_is_refused (image_of_parts parts) (rows_to_read objects) CODE_START (layout_of objects).code_end image.first image.more image.read image.ascend image.fit image.segments image.holds,
       entries_are (image_of_parts parts) (rows_to_read objects) image.read,
     )

@@ -1,5 +1,5 @@
 -- The rows of the sources rise as they stand: in the order of the objects, and there in the order of the text.
-use Rattle.std.proofs.Common.{ap, ◌∙◌, ◌≡◌, ℕ, false, suc, ◌+◌, ◌%◌, ◌^◌, ◌≤◌, ◌<◌, ◌⊎◌, inl, inr, List, [], ◌∷◌, ◌++◌, length, map, flat_map, All, Some, refl, sym, arith, append_assoc, subst}
+use Rattle.std.proofs.Common.{ap, ◌∙◌, ◌≡◌, ℕ, false, suc, ◌+◌, ◌%◌, ◌^◌, ◌≤◌, ◌<◌, List, [], ◌∷◌, ◌++◌, length, map, flat_map, All, Some, refl, sym, arith, append_assoc, subst}
 use Rattle.std.specs.Prelude.{slice_get}
 use Rattle.std.proofs.lemmas.List.Elements.{All-nil, All-cons, All-head, All-tail, All-map, All-weaker}
 use Rattle.asm_layout.specs.declared.place.Section.TheVariants.{Text, Extab}
@@ -7,14 +7,15 @@ use Rattle.asm_object.specs.declared.object.IndexRow.{IndexRow}
 use Rattle.asm_object.specs.declared.object.Object.{Object}
 use Rattle.asm_object.specs.declared.object.RowEntry.{RowEntry}
 use Rattle.asm_object.specs.declared.object.RowEntry.TheVariants as entry
-use Rattle.eh_link.specs.declared.index.Row.{Row}
-use Rattle.eh_link.specs.declared.index.RowWord.{RowWord}
-use Rattle.eh_link.specs.declared.index.RowWord.TheVariants.{Given, Table}
+use Rattle.unwind_codes.specs.declared.row.Entry.{Entry}
+use Rattle.unwind_codes.specs.declared.row.EntryBody.{EntryBody}
+use Rattle.unwind_codes.specs.declared.row.EntryBody.TheVariants.{CantUnwind, Inline, Table}
 use Rattle.eh_link.specs.declared.places.Addresses.{Addresses}
+use Rattle.eh_link.specs.declared.places.TheConstants.{CODE_START}
 use Rattle.eh_link.specs.Placed.{Placed}
 use Rattle.eh_link.specs.Layout.{end_of, layout_of, is_too_large, firsts, all_aligned, ends, placed_from, placed_of, aligned}
 use Rattle.eh_link.specs.Fields.{part_in, filled_of}
-use Rattle.eh_link.specs.Index.{row_of, rows_in, second_word}
+use Rattle.eh_link.specs.Index.{row_of, rows_in, body_at, closing}
 use Rattle.eh_link.specs.IndexLaw.{object_rows, index_rows, IsEntryOf, IsRowOf}
 use Rattle.eh_link.specs.LayoutLaw.{StandsAt, linked_code}
 use Rattle.eh_link.proofs.Images.{placed_too, both_of, all_rows, part_end, code_below}
@@ -23,7 +24,7 @@ use Rattle.eh_link.proofs.Sorting.{Ascending, sorted_is, never_falls}
 use Rattle.eh_link.proofs.Standing.{text_sizes, extab_sizes, code_ends, law_of_code}
 use Rattle.source_laws.specs.SourceRowLaw.{LiesIn, RowLies}
 use Rattle.source_laws.proofs.SourceRows.{law_of_rising, law_of_lying}
-use Rattle.index_laws.specs.SourceIndex.{IsAssembled, AssembledRowsLie, closing, rows_to_read}
+use Rattle.index_laws.specs.SourceIndex.{IsAssembled, AssembledRowsLie, rows_to_read}
 
 -- ---- one object
 
@@ -64,22 +65,22 @@ all_orderly objects all = All-weaker IsAssembled Orderly (λ object a. orderly o
 
 -- ---- rows that ascend
 
-pub asc_lower : (a b : ℕ) (rows : List Row) → a ≤ b → Ascending b rows → Ascending a rows
+pub asc_lower : (a b : ℕ) (rows : List Entry) → a ≤ b → Ascending b rows → Ascending a rows
 asc_lower a b [] h asc = tt
 asc_lower a b (r ∷ rows) h asc = (omega (arith, h, asc.0), asc.1)
 
-pub asc_front : (low : ℕ) (xs ys : List Row) → Ascending low (xs ++ ys) → Ascending low xs
+pub asc_front : (low : ℕ) (xs ys : List Entry) → Ascending low (xs ++ ys) → Ascending low xs
 asc_front low [] ys asc = tt
 asc_front low (x ∷ xs) ys asc = (asc.0, asc_front x.start xs ys asc.1)
 
-pub asc_back : (low : ℕ) (xs : List Row) (y : Row) (ys : List Row) → Ascending low (xs ++ y ∷ ys) → Ascending y.start ys
+pub asc_back : (low : ℕ) (xs : List Entry) (y : Entry) (ys : List Entry) → Ascending low (xs ++ y ∷ ys) → Ascending y.start ys
 asc_back low [] y ys asc = asc.1
 asc_back low (x ∷ xs) y ys asc = asc_back x.start xs y ys asc.1
 
 low_address : (start offset len : ℕ) → offset ≤ len → start + len < 2 ^ 32 → (start + offset) % 2 ^ 32 ≡ start + offset
 low_address start offset len h k = omega (arith, h, k)
 
-pub asc_rows : (at : Addresses) (rows : List IndexRow) (low len m : ℕ) (ys : List Row) → Offsets low rows → All (λ (r : IndexRow). r.offset ≤ len) rows → low ≤ len
+pub asc_rows : (at : Addresses) (rows : List IndexRow) (low len m : ℕ) (ys : List Entry) → Offsets low rows → All (λ (r : IndexRow). r.offset ≤ len) rows → low ≤ len
     → at.text + len ≡ m → m < 2 ^ 32 → Ascending m ys → Ascending (at.text + low) (map (row_of at) rows ++ ys)
 asc_rows at [] low len m ys o inside le e fits asc = asc_lower (at.text + low) m ys (omega (arith, le, e)) asc
 asc_rows at (r ∷ rows) low len m ys o inside le e fits asc =
@@ -99,7 +100,7 @@ asc_objects at (x ∷ xs) end all e fits =
     let rest = asc_objects next xs end (All-tail Orderly x xs all) e fits in
     let inside = All-weaker (RowLies x) (λ (r : IndexRow). r.offset ≤ length x.text) (λ r h. h.start) x.rows own.lie in
     let below : next.text ≤ end_of Text next.text xs = end_ge Text next.text xs in
-    let A : List Row → Type 0 = λ l. Ascending at.text l in
+    let A : List Entry → Type 0 = λ l. Ascending at.text l in
     subst A (sym (append_assoc (rows_in p) (flat_map rows_in (placed_from next xs)) (closing end ∷ [])))
     (asc_lower at.text (here.text + 0) _ (rounded at.text)
     (asc_rows here x.rows 0 (length x.text) next.text (flat_map rows_in (placed_from next xs) ++ closing end ∷ []) own.rise inside (omega arith) refl (fits_too next.text _ end below e fits) rest))
@@ -137,7 +138,7 @@ behind_placed at (x ∷ xs) end (y ∷ front) placed back all e is =
     let p : Placed = record { object = x; at = all_aligned at } in
     behind_placed (ends (all_aligned at) x) xs end front placed back (All-tail Orderly x xs all) e (heads p y (placed_from (ends (all_aligned at) x) xs) (front ++ placed ∷ back) is).1
 
-pub rows_ascend : (objects : List Object) → All Orderly objects → is_too_large (layout_of objects) ≡ false → Ascending 0x8000 (rows_to_read objects)
+pub rows_ascend : (objects : List Object) → All Orderly objects → is_too_large (layout_of objects) ≡ false → Ascending CODE_START (rows_to_read objects)
 rows_ascend objects all fits =
     let l = layout_of objects in
     let r = rising objects in
@@ -148,25 +149,26 @@ rows_ascend objects all fits =
 pub in_this_order : (objects : List Object) → All Orderly objects → is_too_large (layout_of objects) ≡ false → index_rows (placed_of objects) ≡ object_rows (placed_of objects)
 in_this_order objects all fits =
     let rows = object_rows (placed_of objects) in
-    let up = asc_front 0x8000 rows (closing (layout_of objects).text_end ∷ []) (rows_ascend objects all fits) in
-    sym (sorted_is rows rows (never_falls 0x8000 rows up) (λ k. refl))
+    let up = asc_front CODE_START rows (closing (layout_of objects).text_end ∷ []) (rows_ascend objects all fits) in
+    sym (sorted_is rows rows (never_falls CODE_START rows up) (λ k. refl))
 
 -- ---- where the rows lie in the image
 
-abbrev pub SecondFits : ℕ → RowWord → Type 0
-SecondFits end (Given word) = (word ≡ 1) ⊎ ((2 ^ 31 ≤ word) × (word < 2 ^ 32))
-SecondFits end (Table address) = (address % 4 ≡ 0) × ((0x8000 ≤ address) × (address + 4 ≤ end))
+abbrev pub BodyFits : ℕ → EntryBody → Type 0
+BodyFits end CantUnwind = Unit {0}
+BodyFits end (Inline word) = (2 ^ 31 ≤ word) × (word < 2 ^ 32)
+BodyFits end (Table address) = (address % 4 ≡ 0) × ((CODE_START ≤ address) × (address + 4 ≤ end))
 
-pub record RowFits (end : ℕ) (row : Row) : Type 0 where
-  pub from : 0x8000 ≤ row.start
+pub record RowFits (end : ℕ) (row : Entry) : Type 0 where
+  pub from : CODE_START ≤ row.start
   pub to : row.start ≤ end
-  pub second : SecondFits end row.second
+  pub body : BodyFits end row.body
 
 -- where an object's parts stand
 pub record Stands (end : ℕ) (p : Placed) : Type 0 where
-  pub text_from : 0x8000 ≤ p.at.text
+  pub text_from : CODE_START ≤ p.at.text
   pub text_to : p.at.text + length p.object.text ≤ end
-  pub extab_from : 0x8000 ≤ p.at.extab
+  pub extab_from : CODE_START ≤ p.at.extab
   pub extab_to : p.at.extab + length p.object.extab ≤ end
   pub four : p.at.extab % 4 ≡ 0
 
@@ -186,15 +188,15 @@ all_stand objects =
     let code = law_of_code objects in
     let bytes = code_ends objects in
     let all = placed_of objects in
-    let text_stands : Placed → Type 0 = λ p. StandsAt p.at.text (part_in Text (filled_of all p)) 0x8000 (linked_code objects) in
-    let extab_stands : Placed → Type 0 = λ p. StandsAt p.at.extab (part_in Extab (filled_of all p)) 0x8000 (linked_code objects) in
+    let text_stands : Placed → Type 0 = λ p. StandsAt p.at.text (part_in Text (filled_of all p)) CODE_START (linked_code objects) in
+    let extab_stands : Placed → Type 0 = λ p. StandsAt p.at.extab (part_in Extab (filled_of all p)) CODE_START (linked_code objects) in
     let four : Placed → Type 0 = λ p. p.at.extab % 4 ≡ 0 in
     All-weaker (λ (p : Placed). (text_stands p × extab_stands p) × four p) (Stands (layout_of objects).code_end)
     (λ p h. record {
-      text_from = stands_from p.at.text 0x8000 (part_in Text (filled_of all p)) (linked_code objects) h.0.0;
-      text_to = upto _ _ _ (part_end p.at.text (length p.object.text) 0x8000 (part_in Text (filled_of all p)) (linked_code objects) h.0.0 (text_sizes all p)) bytes;
-      extab_from = stands_from p.at.extab 0x8000 (part_in Extab (filled_of all p)) (linked_code objects) h.0.1;
-      extab_to = upto _ _ _ (part_end p.at.extab (length p.object.extab) 0x8000 (part_in Extab (filled_of all p)) (linked_code objects) h.0.1 (extab_sizes all p)) bytes;
+      text_from = stands_from p.at.text CODE_START (part_in Text (filled_of all p)) (linked_code objects) h.0.0;
+      text_to = upto _ _ _ (part_end p.at.text (length p.object.text) CODE_START (part_in Text (filled_of all p)) (linked_code objects) h.0.0 (text_sizes all p)) bytes;
+      extab_from = stands_from p.at.extab CODE_START (part_in Extab (filled_of all p)) (linked_code objects) h.0.1;
+      extab_to = upto _ _ _ (part_end p.at.extab (length p.object.extab) CODE_START (part_in Extab (filled_of all p)) (linked_code objects) h.0.1 (extab_sizes all p)) bytes;
       four = h.1;
     }) all
     (both_of (λ (p : Placed). text_stands p × extab_stands p) four all (both_of text_stands extab_stands all code.0 code.2) (four_placed (firsts (layout_of objects)) objects))
@@ -202,10 +204,10 @@ all_stand objects =
     upto : (a b c : ℕ) → a ≤ b → b ≡ c → a ≤ c
     upto a b c h k = omega (arith, h, k)
 
-second_fits : (end : ℕ) (p : Placed) (e : RowEntry) → Stands end p → end < 2 ^ 30 → LiesIn p.object e → SecondFits end (second_word p.at e)
-second_fits end p entry.CantUnwind s low h = inl refl
-second_fits end p (entry.Inline word) s low h = inr h
-second_fits end p (entry.Table offset) s low h = (table_four p.at.extab offset s.four h.0 (omega (arith, s.extab_to, h.1, low)), (omega (arith, s.extab_from, s.extab_to, h.1, low), omega (arith, s.extab_to, h.1, low)))
+body_fits : (end : ℕ) (p : Placed) (e : RowEntry) → Stands end p → end < 2 ^ 30 → LiesIn p.object e → BodyFits end (body_at p.at e)
+body_fits end p entry.CantUnwind s low h = tt
+body_fits end p (entry.Inline word) s low h = h
+body_fits end p (entry.Table offset) s low h = (table_four p.at.extab offset s.four h.0 (omega (arith, s.extab_to, h.1, low)), (omega (arith, s.extab_from, s.extab_to, h.1, low), omega (arith, s.extab_to, h.1, low)))
   where
     table_four : (a b : ℕ) → a % 4 ≡ 0 → b % 4 ≡ 0 → a + b < 2 ^ 32 → (a + b) % 2 ^ 32 % 4 ≡ 0
     table_four a b e f h = omega (arith, e, f, h)
@@ -214,7 +216,7 @@ pub row_fits : (end : ℕ) (p : Placed) (r : IndexRow) → Stands end p → end 
 row_fits end p r s low h = record {
   from = omega (arith, s.text_from, s.text_to, h.start, low);
   to = omega (arith, s.text_to, h.start, low);
-  second = second_fits end p r.entry s low h.second;
+  body = body_fits end p r.entry s low h.second;
 }
 
 pub rows_fit : (objects : List Object) → All Orderly objects → is_too_large (layout_of objects) ≡ false → All (RowFits (layout_of objects).code_end) (object_rows (placed_of objects))

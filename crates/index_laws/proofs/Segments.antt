@@ -11,6 +11,7 @@ use Rattle.elf_image.proofs.Entries.{cmp_greater}
 use Rattle.elf_write.specs.Parts.{own_segment, has_memory, with_segment, segments_of_parts, holds_range, range_in, index_of_parts, image_of_parts}
 use Rattle.elf_write.specs.declared.parts.ImageParts.{ImageParts}
 use Rattle.elf_write.specs.declared.parts.OwnSegment.{OwnSegment}
+use Rattle.eh_link.specs.declared.places.TheConstants.{CODE_START}
 use Rattle.eh_link.specs.Layout.{layout_of, code_size, data_size}
 use Rattle.eh_link.specs.Linked.{code_segment, data_segment, linked}
 use Rattle.eh_link.specs.LayoutLaw.{StandsAt, linked_index, linked_code, linked_data}
@@ -58,7 +59,7 @@ code_memory objects =
 pub code_first : (objects : List Object) (name : List ℕ) (parts : ImageParts) → linked objects name ≡ Ok parts → CodeFirst objects parts
 code_first objects name parts e = by (data_size (layout_of objects) == 0) refl (law_of_images objects name parts e).0
   where
-    apart : 0x8000 < (layout_of objects).data_start
+    apart : CODE_START < (layout_of objects).data_start
     apart =
         let r = rising objects in
         let e = ends_of objects in
@@ -144,13 +145,13 @@ index_is objects name parts e =
     let stands = law_of_index objects in
     let code = code_ends objects in
     let four : l.index_start % 4 ≡ 0 = omega (arith, ends.index) in
-    let low : 0x8000 ≤ l.index_start = omega (arith, r.text, r.rodata, r.extab, r.index) in
-    let within : l.index_start + length (linked_index objects) ≤ 0x8000 + length (linked_code objects) = omega (arith, stands.1, code) in
+    let low : CODE_START ≤ l.index_start = omega (arith, r.text, r.rodata, r.extab, r.index) in
+    let within : l.index_start + length (linked_index objects) ≤ CODE_START + length (linked_code objects) = omega (arith, stands.1, code) in
     let some : 0 < length (linked_index objects) = omega (arith, stands.1, ends.code) in
     let there =
     index_there parts (segments_of_parts parts.segments) l.index_start (linked_index objects) (own_segment (code_of objects)) first.more (law_of_images objects name parts e).1 some first.segments
     (holds_there l.index_start (length (linked_index objects)) (own_segment (code_of objects)) refl (le_is _ _ low) (le_is _ _ within) (zero_is _ four))
-    (range_there l.index_start 0x8000 (linked_index objects) (linked_code objects) stands.0) in
+    (range_there l.index_start CODE_START (linked_index objects) (linked_code objects) stands.0) in
     record {
       start = (image_index parts).0 ∙ ap (λ (i : ℕ × List ℕ). i.0) there;
       bytes = (image_index parts).1 ∙ ap (λ (i : ℕ × List ℕ). i.1) there;

@@ -17,6 +17,7 @@ use Rattle.asm_object.specs.ObjectLaw.{StandInOrder}
 use Rattle.asm_object.specs.Relocations.{field_size}
 use Rattle.eh_list.specs.Bytes.{next_multiple}
 use Rattle.elf_image.specs.Segments.{Segment}
+use Rattle.eh_link.specs.declared.places.TheConstants.{CODE_START}
 use Rattle.eh_link.specs.Placed.{Placed}
 use Rattle.eh_link.specs.Layout.{layout_of, placed_of}
 use Rattle.eh_link.specs.FieldLaw.{IsInField, IsInNoField}
@@ -158,7 +159,7 @@ table_words f object given w table other e t h =
 inside_end : (at table len end : ℕ) → table + 4 ≤ len → at + len ≤ end → at + table + 4 ≤ end
 inside_end at table len end h k = omega (arith, h, k)
 
-above_start : (at table : ℕ) → 0x8000 ≤ at → 0x8000 ≤ at + table
+above_start : (at table : ℕ) → CODE_START ≤ at → CODE_START ≤ at + table
 above_start at table h = omega (arith, h)
 
 inside_part : (table len filled : ℕ) → table + 4 ≤ len → filled ≡ len → table ≤ filled
@@ -173,7 +174,7 @@ law_of_tables objects name parts f there given all linked_to words_given =
     let table = next_multiple (behind (source_of f) f.before).at.sizes.extab 4 in
     let end = (layout_of objects).code_end in
     let part = part_in Extab (filled_of (placed_of objects) placed) in
-    let S : Placed → Type 0 = λ p. StandsAt p.at.extab (part_in Extab (filled_of (placed_of objects) p)) 0x8000 (linked_code objects) in
+    let S : Placed → Type 0 = λ p. StandsAt p.at.extab (part_in Extab (filled_of (placed_of objects) p)) CODE_START (linked_code objects) in
     let stands = all_mid S there.front placed there.back (subst (All S) there.split (law_of_code objects).2) in
     let room = table_lies object given own.has.words own.has.table table own.same own.has.table_place own.lies.second in
     let size : length part ≡ length object.extab = extab_sizes (placed_of objects) placed in
@@ -186,8 +187,8 @@ law_of_tables objects name parts f there given all linked_to words_given =
           ap (λ l. bytes_at l (table_at f placed)) image.segments
           ∙ first_found (table_at f placed) image.first image.more holds
           ∙ ap (λ n. Some (drop (table_at f placed - n) image.first.bytes)) image.holds.start
-          ∙ ap (λ b. Some (drop (table_at f placed - 0x8000) b)) image.bytes
-          ∙ ap (λ b. Some b) (part_there placed.at.extab 0x8000 table part (linked_code objects) stands (inside_part table (length object.extab) (length part) room size)
+          ∙ ap (λ b. Some (drop (table_at f placed - CODE_START) b)) image.bytes
+          ∙ ap (λ b. Some b) (part_there placed.at.extab CODE_START table part (linked_code objects) stands (inside_part table (length object.extab) (length part) room size)
           ∙ ap (λ b. b ++ stands.after) (words_there table given part object.extab _ words_stand size
           (λ k low high. law_of_other_bytes (meaning_of (placed_of objects) placed) Extab placed.at.extab object.extab object.relocs k
           (in_no_field object table (table + 4 * length given) k around low high))));

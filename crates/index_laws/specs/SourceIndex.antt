@@ -1,5 +1,5 @@
 -- The index of an image, as the sources of its objects meant it (docs/unwind-index.md, "From the source").
-use Rattle.std.specs.Prelude.{◌≡◌, ℕ, ◌+◌, ◌-◌, ◌*◌, ◌%◌, ◌^◌, ◌<◌, ◌≤◌, ◌==◌, if◌then◌else◌, List, [], ◌∷◌, ◌++◌, length, drop, map, flat_map, All, Some, None, Ok}
+use Rattle.std.specs.Prelude.{◌≡◌, ℕ, ◌+◌, ◌-◌, ◌*◌, ◌%◌, ◌^◌, ◌<◌, ◌≤◌, List, [], ◌∷◌, ◌++◌, length, drop, map, flat_map, All, Some, None, Ok}
 use Rattle.eh_list.specs.Bytes.{next_multiple}
 use Rattle.asm_read.specs.declared.statement.Stmt.{Stmt}
 use Rattle.asm_unwind.specs.declared.entry.EntryWords.{EntryWords}
@@ -8,20 +8,16 @@ use Rattle.asm_unwind.specs.Entries.{entry_words_of}
 use Rattle.unwind_codes.specs.declared.row.Entry.{Entry}
 use Rattle.unwind_codes.specs.declared.row.EntryBody.{EntryBody}
 use Rattle.unwind_codes.specs.declared.row.EntryBody.TheVariants as body
-use Rattle.unwind_codes.specs.declared.row.TheConstants.{CANT_UNWIND}
 use Rattle.asm_layout.specs.declared.place.Section.TheVariants.{Extab}
 use Rattle.asm_object.specs.declared.object.Object.{Object}
 use Rattle.asm_object.specs.Bytes.{word_bytes}
 use Rattle.asm_object.specs.Objects.{object_of}
 use Rattle.elf_write.specs.declared.parts.ImageParts.{ImageParts}
 use Rattle.elf_write.specs.Parts.{image_of_parts}
-use Rattle.eh_link.specs.declared.index.Row.{Row}
-use Rattle.eh_link.specs.declared.index.RowWord.{RowWord}
-use Rattle.eh_link.specs.declared.index.RowWord.TheVariants.{Given, Table}
 use Rattle.eh_link.specs.Placed.{Placed}
 use Rattle.eh_link.specs.Layout.{layout_of, placed_of}
 use Rattle.eh_link.specs.Fields.{part_in, filled_of}
-use Rattle.eh_link.specs.Index.{row_of, rows_in}
+use Rattle.eh_link.specs.Index.{row_of, rows_in, closing}
 use Rattle.eh_link.specs.IndexLaw.{object_rows, IsRowOf}
 use Rattle.eh_link.specs.Linked.{linked}
 use Rattle.eh_index.specs.Rows.{entries_of}
@@ -51,20 +47,13 @@ AssembledRowsLie = (objects : List Object) → All IsAssembled objects → All (
 abbrev pub even : ℕ → ℕ
 even address = address - address % 2
 
-abbrev pub row_body : RowWord → EntryBody
-row_body (Given word) = if word == CANT_UNWIND then body.CantUnwind else body.Inline word
-row_body (Table address) = body.Table address
+-- a row as it is read
+abbrev pub row_entry : Entry → Entry
+row_entry row = record { start = even row.start; body = row.body }
 
--- the entry that a row says
-abbrev pub row_entry : Row → Entry
-row_entry row = record { start = even row.start; body = row_body row.second }
-
--- the row that closes the index: from there on nothing can be unwound
-abbrev pub closing : ℕ → Row
-closing end = record { start = end; second = Given CANT_UNWIND }
-
--- the functions' rows in the order of the objects, and there in the order of the text; and the closing one
-abbrev pub rows_to_read : List Object → List Row
+-- the functions' rows in the order of the objects, and there in the order of the text; and the closing one, from which on nothing
+-- can be unwound
+abbrev pub rows_to_read : List Object → List Entry
 rows_to_read objects = object_rows (placed_of objects) ++ closing (layout_of objects).text_end ∷ []
 
 -- the index of the image is read, and its entries are those of the functions, in the order of the sources
@@ -103,7 +92,7 @@ abbrev pub own_entry : Function → Placed → EntryWords → Entry
 own_entry f placed given = record { start = even (start_of f placed); body = body_of given (table_at f placed) }
 
 -- the rows behind its own, in its object and in those behind; the closing one last
-abbrev pub later_rows : (objects : List Object) → (f : Function) → IsIn objects f → List Row
+abbrev pub later_rows : (objects : List Object) → (f : Function) → IsIn objects f → List Entry
 later_rows objects f there =
     map (row_of there.placed.at) (drop (functions_in f.before + 1) there.placed.object.rows)
     ++ flat_map rows_in there.back ++ closing (layout_of objects).text_end ∷ []
@@ -111,7 +100,7 @@ later_rows objects f there =
 -- an address from its `.fnstart` to below the next row has its entry
 abbrev pub FunctionsAreFound : Type 0
 FunctionsAreFound =
-    (objects : List Object) (name : List ℕ) (parts : ImageParts) (f : Function) (there : IsIn objects f) (given : EntryWords) (next : Row) (after : List Row) (site : ℕ)
+    (objects : List Object) (name : List ℕ) (parts : ImageParts) (f : Function) (there : IsIn objects f) (given : EntryWords) (next : Entry) (after : List Entry) (site : ℕ)
     → All IsAssembled objects → linked objects name ≡ Ok parts → entry_words_of (directives_of f) ≡ Ok given
     → later_rows objects f there ≡ next ∷ after → even (start_of f there.placed) ≤ site → site < even next.start
     → covering (entries_of (image_of_parts parts)) site ≡ Some (own_entry f there.placed given)

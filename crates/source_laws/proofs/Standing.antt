@@ -205,7 +205,7 @@ table_at (entry.Table words) f object walk same closed is there =
     ∙ ap (λ w. flat_map word_bytes words ++ tables_from stmts w more)
     (ap (λ w. next entries w statement.FnStart) same ∙ sym (walks_on entries start f.before (start_at f.start_line ∷ [])))
 
-row_is : (walk : Walk) (words : EntryWords) → walk.at.sizes.text ≤ MOST_BYTES → walk.at.sizes.extab ≤ 1048576
+row_is : (walk : Walk) (words : EntryWords) → walk.at.sizes.text ≤ MOST_BYTES → walk.at.sizes.extab ≤ MOST_BYTES
     → row_of walk (Some words) ≡ record { offset = walk.at.sizes.text; entry = entry_for words (next_multiple walk.at.sizes.extab 4) } ∷ []
 row_is walk words text extab =
     ap (λ n. record { offset = n; entry = row_entry (sum_64 walk.at.sizes.extab (gap walk.at.sizes.extab 4)) words } ∷ []) (low_place walk.at.sizes.text text)
