@@ -1,0 +1,4 @@
+pub mod Codes
+pub mod Leading
+pub mod Meanings
+pub mod Labels

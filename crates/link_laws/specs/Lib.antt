@@ -1,0 +1,3 @@
+pub mod BranchLaw
+pub mod MeaningLaw
+pub mod LabelLaw
