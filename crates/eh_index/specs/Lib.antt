@@ -3,3 +3,4 @@ pub mod Places
 pub mod Refusal
 pub mod Covering
 pub mod Laws
+pub mod FaultNames

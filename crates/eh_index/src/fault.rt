@@ -1,4 +1,7 @@
 //! Why an image's index isn't read (docs/unwind-index.md).
+ghost use Rattle.std.specs.Prelude.{◌≡◌, ◌≤◌, length};
+ghost use Rattle.eh_index.specs.FaultNames.{fault_name};
+
 use thiserror::Error;
 
 /// Why an index isn't read. Rows are counted from 0.
@@ -14,4 +17,18 @@ pub enum IndexFault {
     /// This row's start is below that of the row before it.
     #[error("row {0} begins below the row before it")]
     Unsorted(u32),
+}
+
+impl IndexFault {
+    /// The name of the refusal, as a report writes it.
+    pub fn name(self) -> &'static [u8]
+        ensures name { result.now ≡ fault_name self }
+        ensures short { length result.now ≤ 16 }
+    {
+        match self {
+            IndexFault::Length => b"Length",
+            IndexFault::OutsideImage(_) => b"OutsideImage",
+            IndexFault::Unsorted(_) => b"Unsorted",
+        }
+    }
 }

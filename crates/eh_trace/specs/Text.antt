@@ -1,5 +1,5 @@
 -- The text of a trace. Each line ends in a line feed.
-use Rattle.std.specs.Prelude.{ℕ, ◌+◌, ◌-◌, ◌/◌, ◌%◌, ◌^◌, ◌==◌, ◌&&◌, nat_le, nat_lt, min, List, [], ◌∷◌, ◌++◌, map, take, find, flat_map, codes, decimal, Option, Some, None, if◌then◌else◌}
+use Rattle.std.specs.Prelude.{ℕ, ◌+◌, ◌-◌, ◌==◌, ◌&&◌, nat_le, nat_lt, min, List, [], ◌∷◌, ◌++◌, map, take, find, flat_map, codes, decimal, Option, Some, None, if◌then◌else◌}
 use Rattle.hex.specs.Hex.{encode_lower}
 use Rattle.eh_digits.specs.Address.{address_text}
 use Rattle.elf_image.specs.Image.{Image}
@@ -39,13 +39,17 @@ bytes_text (b ∷ more) = encode_lower (b ∷ more)
 
 -- ---- places: a function and an offset in it
 
+abbrev pub named_place : List ℕ → ℕ → List ℕ
+named_place name offset = map printed name ++ codes "+" ++ offset_text offset
+
 -- the function that holds the address
 abbrev pub holder : Image → ℕ → Option Function
 holder image a = find (is_inside a) image.functions
 
+-- an address in no function stands behind a question mark
 abbrev pub place_in : Option Function → ℕ → List ℕ
-place_in None a = codes "?" ++ codes "+" ++ offset_text a
-place_in (Some f) a = map printed f.name ++ codes "+" ++ offset_text (a - f.start)
+place_in None a = named_place (codes "?") a
+place_in (Some f) a = named_place f.name (a - f.start)
 
 unfoldable pub place_text : Image → ℕ → List ℕ
 place_text image a = place_in (holder image a) a

@@ -11,3 +11,4 @@ pub use event::{Event, EventKind, TraceMemory};
 pub use events::Events;
 pub use lines::trace_lines;
 pub use names::TypeNames;
+pub use text::push_named_place;

@@ -1,7 +1,7 @@
 //! The parts of a trace's lines: addresses, offsets, names, bytes and places: docs/exceptions.md.
 ghost use Rattle.std.specs.Prelude.{◌≡◌, ◌<◌, ◌≤◌, ◌++◌, [], map, OnOk, option_copied};
 ghost use Rattle.eh_digits.specs.Address.{address_text};
-ghost use Rattle.eh_trace.specs.Text.{without_zeros, offset_text, printed, type_text, bytes_text, holder, place_text};
+ghost use Rattle.eh_trace.specs.Text.{without_zeros, offset_text, printed, type_text, bytes_text, named_place, holder, place_text};
 
 use eh_digits::address_text;
 use elf_image::{Function, Image};
@@ -93,21 +93,22 @@ fn holder<'b, 'a>(image: &'b Image<'a>, a: u32) -> Option<&'b Function<'a>>
     }
 }
 
+/// Adds a place by the name of its function and its offset there.
+pub fn push_named_place(out: &mut Vec<u8>, name: &[u8], offset: u32) -> Result<(), AllocError>
+    ensures { OnOk result (out.new.items ≡ out.old.items ++ named_place name.now offset) }
+{
+    push_printed(out, name)?;
+    out.extend_from_slice(b"+")?;
+    push_offset(out, offset)
+}
+
 /// Adds a place: the function that holds it and the offset there, or a question mark and the address.
 #[tactic(auto, unfolding(crate::specs::Text::place_text))]
 pub(crate) fn push_place(out: &mut Vec<u8>, image: &Image, a: u32) -> Result<(), AllocError>
     ensures { OnOk result (out.new.items ≡ out.old.items ++ place_text image.now a) }
 {
     match holder(image, a) {
-        Some(function) => {
-            push_printed(out, function.name)?;
-            out.extend_from_slice(b"+")?;
-            push_offset(out, a.saturating_sub(function.start))
-        }
-        None => {
-            out.extend_from_slice(b"?")?;
-            out.extend_from_slice(b"+")?;
-            push_offset(out, a)
-        }
+        Some(function) => { push_named_place(out, function.name, a.saturating_sub(function.start)) }
+        None => push_named_place(out, b"?", a),
     }
 }

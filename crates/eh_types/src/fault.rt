@@ -1,4 +1,7 @@
 //! Why the types that an image's roots lead to aren't read (docs/types.md).
+ghost use Rattle.std.specs.Prelude.{◌≡◌, ◌≤◌, length};
+ghost use Rattle.eh_types.specs.FaultNames.{fault_name};
+
 use std::alloc::AllocError;
 use thiserror::Error;
 
@@ -23,6 +26,23 @@ pub enum TypeFault {
     /// Memory is wanted.
     #[error("out of memory")]
     OutOfMemory,
+}
+
+impl TypeFault {
+    /// The name of the refusal, as a report writes it.
+    pub fn name(self) -> &'static [u8]
+        ensures name { result.now ≡ fault_name self }
+        ensures short { length result.now ≤ 16 }
+    {
+        match self {
+            TypeFault::Unreadable(_) => b"Unreadable",
+            TypeFault::Writable(_) => b"Writable",
+            TypeFault::NameTooLong(_) => b"NameTooLong",
+            TypeFault::Cyclic(_) => b"Cyclic",
+            TypeFault::TooManyPaths(_) => b"TooManyPaths",
+            TypeFault::OutOfMemory => b"OutOfMemory",
+        }
+    }
 }
 
 impl From<AllocError> for TypeFault {

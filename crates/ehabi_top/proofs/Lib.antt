@@ -1,4 +1,5 @@
 mod Answering
+mod Lines
 mod AllAnswers
 mod FileLoads
 mod Buildings

@@ -4,10 +4,11 @@ use Rattle.eh_port.specs.declared.FileAnswer.{FileAnswer}
 use Rattle.eh_port.specs.declared.FileAnswer.TheVariants.{Found, Missing, TooLong}
 use Rattle.image_memory.specs.Start.{State, code_start}
 use Rattle.eh_bus.specs.declared.map.TheConstants.{MAX_IMAGE_SIZE}
+use Rattle.elf_image.specs.declared.fault.ImageFault.TheVariants.{TooLarge}
 use Rattle.plain_run.specs.Machine.{flat_ran}
 use Rattle.ehabi_top.specs.Finding.{file_bytes, found_report}
 use Rattle.ehabi_top.specs.Loading.{Report, ran_report}
-use Rattle.ehabi_top.specs.Text.{image_too_large}
+use Rattle.ehabi_top.specs.Text.{image_fault_line}
 use Rattle.ehabi_top.specs.declared.status.TheConstants.{REFUSED}
 
 -- behind the guest's bytes stands a line feed, whatever the last state
@@ -16,7 +17,7 @@ line_feed state = codes "\n"
 
 unfoldable pub code_report : ℕ → List ℕ → List ℕ → Report
 code_report budget code input =
-    if nat_lt MAX_IMAGE_SIZE (length code) then record { text = image_too_large; status = REFUSED; left = input }
+    if nat_lt MAX_IMAGE_SIZE (length code) then record { text = image_fault_line TooLarge; status = REFUSED; left = input }
     else ran_report line_feed (flat_ran budget (code_start code) input)
 
 unfoldable pub flat_report : List ℕ → ℕ → List (List ℕ × List ℕ) → List ℕ → Report

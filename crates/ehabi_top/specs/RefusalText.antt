@@ -4,9 +4,11 @@ use Rattle.asm_layout.specs.FaultNames.{what_name as asm_name}
 use Rattle.asm_layout.specs.declared.fault.AsmFault.{AsmFault}
 use Rattle.asm_read.specs.Fault.{what_name}
 use Rattle.asm_read.specs.declared.fault.SourceFault.{SourceFault}
+use Rattle.eh_link.specs.FaultNames.{fault_name as link_name}
 use Rattle.eh_link.specs.declared.fault.LinkFault.{LinkFault}
 use Rattle.eh_link.specs.declared.fault.LinkFault.TheVariants as link
 use Rattle.eh_digits.specs.Address.{address_text}
+use Rattle.ehabi_top.specs.Text.{refusal_line, behind_blank}
 
 -- ---- a text that is no source
 
@@ -28,15 +30,14 @@ asm_line name fault = name ++ asm_place fault
 
 -- ---- objects that are not linked
 
--- the place of a relocation has eight digits
-abbrev pub range_line : ℕ → List ℕ
-range_line place = codes "link: RelocationRange " ++ address_text place ++ codes "\n"
+-- the name that is meant twice or not at all; the place of a relocation
+abbrev pub link_said : LinkFault → List ℕ
+link_said (link.Duplicate name) = behind_blank name
+link_said (link.Undefined name) = behind_blank name
+link_said link.NoEntry = []
+link_said link.TooLarge = []
+link_said (link.RelocationRange place) = behind_blank (address_text place)
+link_said link.OutOfMemory = []
 
--- want of memory has none
 abbrev pub link_line : LinkFault → List ℕ
-link_line (link.Duplicate name) = codes "link: Duplicate " ++ name ++ codes "\n"
-link_line (link.Undefined name) = codes "link: Undefined " ++ name ++ codes "\n"
-link_line link.NoEntry = codes "link: NoEntry\n"
-link_line link.TooLarge = codes "link: TooLarge\n"
-link_line (link.RelocationRange place) = range_line place
-link_line link.OutOfMemory = []
+link_line fault = refusal_line (codes "link") (link_name fault) (link_said fault)

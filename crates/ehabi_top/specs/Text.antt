@@ -1,8 +1,9 @@
 -- The texts that the program writes. Each line ends in a line feed.
 use Rattle.std.specs.Prelude.{ℕ, List, [], ◌++◌, codes, decimal}
 use Rattle.eh_digits.specs.Address.{address_text}
+use Rattle.elf_image.specs.Fault.{fault_name as image_name}
 use Rattle.elf_image.specs.declared.fault.ImageFault.{ImageFault}
-use Rattle.elf_image.specs.declared.fault.ImageFault.TheVariants.{Truncated, NotElf, Class, Machine, Version, «Type», EntrySize, NoSymbols, SegmentRange, SegmentOverlap, IndexRange, TooLarge, Entry, OutOfMemory}
+use Rattle.elf_image.specs.declared.fault.ImageFault.TheVariants.{Truncated}
 use Rattle.thumb_core.specs.declared.ends.Cause.{Cause}
 use Rattle.thumb_core.specs.declared.ends.Cause.TheVariants.{NoHandler, CannotUnwind, NoThrow, LeavesCleanup, Unexpected, NothingCaught, PoolFull, Called}
 use Rattle.thumb_core.specs.declared.ends.End.{End}
@@ -68,29 +69,24 @@ missing_line name = name ++ codes ": missing\n"
 abbrev pub too_long_line : List ℕ → List ℕ
 too_long_line name = name ++ codes ": too long\n"
 
+-- where something is refused, what is refused, and what is said of it
+abbrev pub refusal_line : List ℕ → List ℕ → List ℕ → List ℕ
+refusal_line place what said = place ++ codes ": " ++ what ++ said ++ codes "\n"
+
+abbrev pub behind_blank : List ℕ → List ℕ
+behind_blank text = codes " " ++ text
+
+-- of a file that is too short: how many bytes it would need
+abbrev pub image_said : ImageFault → List ℕ
+image_said (Truncated need) = behind_blank (decimal need)
+image_said fault = []
+
+-- why a file is no image
+abbrev pub image_fault_line : ImageFault → List ℕ
+image_fault_line fault = refusal_line (codes "image") (image_name fault) (image_said fault)
+
+-- ---- runs
+
 -- `run` has a line between the guest's bytes and its end
 abbrev pub trace_head : List ℕ
 trace_head = codes "\n-- trace\n"
-
-abbrev pub image_too_large : List ℕ
-image_too_large = codes "image: TooLarge\n"
-
-abbrev pub image_line : List ℕ → List ℕ
-image_line what = codes "image: " ++ what ++ codes "\n"
-
--- why a file is no image; want of memory is none
-abbrev pub image_fault_line : ImageFault → List ℕ
-image_fault_line (Truncated need) = image_line (codes "Truncated " ++ decimal need)
-image_fault_line NotElf = image_line (codes "NotElf")
-image_fault_line Class = image_line (codes "Class")
-image_fault_line Machine = image_line (codes "Machine")
-image_fault_line Version = image_line (codes "Version")
-image_fault_line «Type» = image_line (codes "Type")
-image_fault_line EntrySize = image_line (codes "EntrySize")
-image_fault_line NoSymbols = image_line (codes "NoSymbols")
-image_fault_line SegmentRange = image_line (codes "SegmentRange")
-image_fault_line SegmentOverlap = image_line (codes "SegmentOverlap")
-image_fault_line IndexRange = image_line (codes "IndexRange")
-image_fault_line TooLarge = image_line (codes "TooLarge")
-image_fault_line Entry = image_line (codes "Entry")
-image_fault_line OutOfMemory = []

@@ -6,12 +6,14 @@ ghost use Rattle.ehabi_top.specs.Words.{FlatFile};
 ghost use Rattle.ehabi_top.specs.Yields.{Yields, shelf, streams};
 
 use crate::answer::{answer_end, answer_text};
+use crate::line::image_fault_line;
 use crate::refusal::answer_files_fault;
 use crate::sources::read_file;
 use crate::status::REFUSED;
 use crate::stop::Stop;
 use eh_bus::map::MAX_IMAGE_SIZE;
 use eh_port::{Files, Sink, Source};
+use elf_image::ImageFault;
 use image_memory::{CODE_START, code_memory, start_regs};
 use plain_run::flat_run;
 use std::alloc::Global;
@@ -29,7 +31,11 @@ fn run_code<I: Source, O: Sink>(
         (streams (I.left input.new) (I.faults input.new) (O.written out.new) (O.faults out.new)) result }
 {
     if code.len() > MAX_IMAGE_SIZE as usize {
-        return answer_text(out, b"image: TooLarge\n", REFUSED);
+        return answer_text(
+            out,
+            image_fault_line(ImageFault::TooLarge).as_slice(),
+            REFUSED,
+        );
     }
     let mut regs = start_regs(CODE_START);
     let mut bus = match code_memory(alloc, code) {

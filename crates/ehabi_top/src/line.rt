@@ -1,8 +1,8 @@
 //! The lines that are written, each built before it is written.
-ghost use Rattle.std.specs.Prelude.{◌≡◌, ◌<◌, ◌≤◌, ◌+◌, ◌++◌, length, codes, decimal};
+ghost use Rattle.std.specs.Prelude.{◌≡◌, ◌≤◌, ◌+◌, ◌++◌, [], length};
 ghost use Rattle.arrayvec.specs.ArrayVec.{array_vec_len};
 ghost use Rattle.eh_digits.specs.Address.{address_text};
-ghost use Rattle.ehabi_top.specs.Text.{kind_name, cause_name, end_line, image_fault_line};
+ghost use Rattle.ehabi_top.specs.Text.{kind_name, cause_name, end_line, refusal_line, behind_blank, image_fault_line};
 
 use arrayvec::ArrayVec;
 use eh_digits::address_text;
@@ -101,37 +101,50 @@ pub fn end_line(end: End) -> Line
     line
 }
 
-/// The line of why a file is no image.
-pub(crate) fn image_fault_line(fault: ImageFault) -> Line
-    ensures { result.items ≡ image_fault_line fault }
+/// The line of a refusal: where, and what.
+pub(crate) fn refusal_line(place: &[u8], what: &[u8]) -> Line
+    requires place { length place.now ≤ 8 }
+    requires what { length what.now ≤ 16 }
+    ensures { result.items ≡ refusal_line place.now what.now [] }
 {
-    let name: &[u8] = match fault {
-        ImageFault::Truncated(need) => return truncated_line(need),
-        ImageFault::NotElf => b"image: NotElf\n",
-        ImageFault::Class => b"image: Class\n",
-        ImageFault::Machine => b"image: Machine\n",
-        ImageFault::Version => b"image: Version\n",
-        ImageFault::Type => b"image: Type\n",
-        ImageFault::EntrySize => b"image: EntrySize\n",
-        ImageFault::NoSymbols => b"image: NoSymbols\n",
-        ImageFault::SegmentRange => b"image: SegmentRange\n",
-        ImageFault::SegmentOverlap => b"image: SegmentOverlap\n",
-        ImageFault::IndexRange => b"image: IndexRange\n",
-        ImageFault::TooLarge => b"image: TooLarge\n",
-        ImageFault::Entry => b"image: Entry\n",
-        ImageFault::OutOfMemory => b"",
-    };
     let mut line = Line::new();
-    append(&mut line, name);
+    append(&mut line, place);
+    append(&mut line, b": ");
+    append(&mut line, what);
+    append(&mut line, b"\n");
     line
 }
 
-fn truncated_line(need: u64) -> Line
-    ensures { result.items ≡ codes "image: Truncated " ++ decimal need ++ codes "\n" }
+/// The line of a refusal of which something is said: where, what, and that.
+pub(crate) fn refusal_line_with(place: &[u8], what: &[u8], said: &[u8]) -> Line
+    requires place { length place.now ≤ 8 }
+    requires what { length what.now ≤ 16 }
+    requires said { length said.now ≤ 40 }
+    ensures { result.items ≡ refusal_line place.now what.now (behind_blank said.now) }
 {
     let mut line = Line::new();
-    append(&mut line, b"image: Truncated ");
-    append(&mut line, Buffer::new().format(need).as_bytes());
+    append(&mut line, place);
+    append(&mut line, b": ");
+    append(&mut line, what);
+    append(&mut line, b" ");
+    append(&mut line, said);
     append(&mut line, b"\n");
     line
+}
+
+/// The line of why a file is no image.
+#[tactic(auto, using(crate::proofs::Lines::image_name_short))]
+pub(crate) fn image_fault_line(fault: ImageFault) -> Line
+    ensures { result.items ≡ image_fault_line fault }
+{
+    match fault {
+        ImageFault::Truncated(need) => {
+            refusal_line_with(
+                b"image",
+                fault.name(),
+                Buffer::new().format(need).as_bytes(),
+            )
+        }
+        _ => refusal_line(b"image", fault.name()),
+    }
 }

@@ -1,12 +1,13 @@
 //! Why files give no image, and the lines that say so.
 ghost use Rattle.std.specs.Prelude.{◌≡◌, ◌≢◌, ◌≤◌, ◌++◌, length, codes, IfOk, true, false};
 ghost use Rattle.ehabi_top.specs.Building.{is_memory, is_link_memory, fault_line, wants_memory, refusal_of};
-ghost use Rattle.ehabi_top.specs.RefusalText.{source_place, asm_place, range_line, link_line};
+ghost use Rattle.ehabi_top.specs.RefusalText.{source_place, asm_place, link_line};
+ghost use Rattle.ehabi_top.specs.Text.{refusal_line, behind_blank};
 ghost use Rattle.ehabi_top.specs.Loading.{IsOfCommand};
 ghost use Rattle.ehabi_top.specs.Writes.{Answers};
 
 use crate::answer::{answer_both, answer_missing, answer_text, answer_three, answer_too_long};
-use crate::line::{Line, append, image_fault_line};
+use crate::line::{Line, append, image_fault_line, refusal_line, refusal_line_with};
 use crate::status::REFUSED;
 use crate::stop::Stop;
 use asm_layout::{AsmFault, AsmWhat};
@@ -14,6 +15,7 @@ use asm_read::{SourceFault, SourceWhat};
 use eh_digits::address_text;
 use eh_link::LinkFault;
 use eh_port::Sink;
+use eh_word::Name;
 use elf_image::ImageFault;
 use itoa::Buffer;
 use std::alloc::AllocFailed;
@@ -96,14 +98,30 @@ fn asm_place(fault: AsmFault) -> Line
     line
 }
 
-fn range_line(place: u32) -> Line
-    ensures { result.items ≡ range_line place }
+/// What stands before the name of which a refusal of the linker speaks.
+fn link_head(what: &[u8]) -> Line
+    requires { length what.now ≤ 16 }
+    ensures { result.items ≡ codes "link: " ++ what.now ++ codes " " }
 {
     let mut line = Line::new();
-    append(&mut line, b"link: RelocationRange ");
-    append(&mut line, &address_text(place));
-    append(&mut line, b"\n");
+    append(&mut line, b"link: ");
+    append(&mut line, what);
+    append(&mut line, b" ");
     line
+}
+
+/// Ends with the line of a refusal of the linker that speaks of a name.
+fn answer_link_name<O: Sink>(out: &mut O, what: &[u8], name: &Name) -> Result<u8, Stop>
+    requires { length what.now ≤ 16 }
+    ensures { Answers (refusal_line (codes "link") what.now (behind_blank name.now)) REFUSED result (O.written out.old) (O.written out.new) (O.faults out.old) (O.faults out.new) }
+{
+    answer_three(
+        out,
+        link_head(what).as_slice(),
+        name.bytes(),
+        b"\n",
+        REFUSED,
+    )
 }
 
 /// Ends with the line of objects that can't be linked.
@@ -111,26 +129,15 @@ fn answer_link<O: Sink>(out: &mut O, fault: &LinkFault) -> Result<u8, Stop>
     requires { is_link_memory fault.now ≡ false }
     ensures { Answers (link_line fault.now) REFUSED result (O.written out.old) (O.written out.new) (O.faults out.old) (O.faults out.new) }
 {
+    let what = fault.name();
     match fault {
-        LinkFault::Duplicate(name) => answer_three(
-            out,
-            b"link: Duplicate ",
-            name.bytes(),
-            b"\n",
-            REFUSED,
-        ),
-        LinkFault::Undefined(name) => answer_three(
-            out,
-            b"link: Undefined ",
-            name.bytes(),
-            b"\n",
-            REFUSED,
-        ),
-        LinkFault::NoEntry => answer_text(out, b"link: NoEntry\n", REFUSED),
-        LinkFault::TooLarge => answer_text(out, b"link: TooLarge\n", REFUSED),
+        LinkFault::Duplicate(name) => answer_link_name(out, what, name),
+        LinkFault::Undefined(name) => answer_link_name(out, what, name),
+        LinkFault::NoEntry => answer_text(out, refusal_line(b"link", what).as_slice(), REFUSED),
+        LinkFault::TooLarge => answer_text(out, refusal_line(b"link", what).as_slice(), REFUSED),
         LinkFault::RelocationRange(place) => answer_text(
             out,
-            range_line(*place).as_slice(),
+            refusal_line_with(b"link", what, &address_text(*place)).as_slice(),
             REFUSED,
         ),
         LinkFault::OutOfMemory => unreachable!(),

@@ -2,6 +2,7 @@ pub mod Access
 pub mod After
 pub mod Agrees
 pub mod Branches
+pub mod CauseNames
 pub mod Data
 pub mod Facts
 pub mod Frames

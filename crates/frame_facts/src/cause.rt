@@ -1,4 +1,6 @@
 //! Why a function's frame is refused; docs/acceptance.md explains each.
+ghost use Rattle.std.specs.Prelude.{◌≡◌, ◌≤◌, length};
+ghost use Rattle.frame_facts.specs.CauseNames.{cause_name};
 
 /// Why a function's frame isn't accepted, in the order in which the causes are numbered. A cause stands at an address that a path from
 /// the function's entry reaches in a state that meets its condition.
@@ -37,4 +39,31 @@ pub enum FrameCause {
     GenericModel,
     /// More than 16,384 instructions are reached.
     TooLong,
+}
+
+impl FrameCause {
+    /// The name of the cause, as a report writes it.
+    pub fn name(self) -> &'static [u8]
+        ensures name { result.now ≡ cause_name self }
+        ensures short { length result.now ≤ 16 }
+    {
+        match self {
+            FrameCause::Undecodable => b"Undecodable",
+            FrameCause::BranchOut => b"BranchOut",
+            FrameCause::IndirectBranch => b"IndirectBranch",
+            FrameCause::CallNotFunction => b"CallNotFunction",
+            FrameCause::SpWrite => b"SpWrite",
+            FrameCause::JoinDepth => b"JoinDepth",
+            FrameCause::ReturnState => b"ReturnState",
+            FrameCause::CallState { .. } => b"CallState",
+            FrameCause::FramePointerLost { .. } => b"FramePointerLost",
+            FrameCause::BadBytecode => b"BadBytecode",
+            FrameCause::BadDescriptor => b"BadDescriptor",
+            FrameCause::PadDepth => b"PadDepth",
+            FrameCause::ThrowInLeafScope => b"ThrowInLeafScope",
+            FrameCause::SplitEntry => b"SplitEntry",
+            FrameCause::GenericModel => b"GenericModel",
+            FrameCause::TooLong => b"TooLong",
+        }
+    }
 }

@@ -1,10 +1,11 @@
 use Rattle.std.specs.Prelude.{codes}
-use Rattle.std.proofs.Common.{◌<◌, arith, length, refl}
+use Rattle.std.proofs.Common.{◌<◌, ◌∙◌, arith, length, refl}
 use Rattle.image_memory.specs.Start.{State, code_start}
 use Rattle.eh_bus.specs.declared.map.TheConstants.{MAX_IMAGE_SIZE}
+use Rattle.elf_image.specs.declared.fault.ImageFault.TheVariants.{TooLarge}
 use Rattle.plain_run.specs.Machine.{flat_machine}
 use Rattle.ehabi_top.specs.FlatReport.{code_report, line_feed}
-use Rattle.ehabi_top.specs.Text.{image_too_large}
+use Rattle.ehabi_top.specs.Text.{image_fault_line}
 use Rattle.ehabi_top.specs.declared.status.TheConstants.{REFUSED}
 use Rattle.ehabi_top.proofs.FlatReports.{code_large, code_small}
 use Rattle.ehabi_top.proofs.Statuses.{says_unfit, refused_reported}
@@ -15,8 +16,8 @@ pub returns-then-code : goal.returns-then-code
 returns-then-code g c =
     let code = c.args.code.now in
     let large = c.if-code.true in
-    yields_answer (code_report c.args.budget code) (MAX_IMAGE_SIZE < length code) image_too_large REFUSED _ _ _ _ _ _ _
-    (λ b. code_large c.args.budget code b large) (says_unfit ⊥ (MAX_IMAGE_SIZE < length code) (λ l. l) large) refused_reported c.answer_text.ensures
+    yields_answer (code_report c.args.budget code) (MAX_IMAGE_SIZE < length code) (image_fault_line TooLarge) REFUSED _ _ _ _ _ _ _
+    (λ b. code_large c.args.budget code b large) (says_unfit ⊥ (MAX_IMAGE_SIZE < length code) (λ l. l) large) refused_reported (rw (c.as_slice.ensures.value ∙ c.image_fault_line.ensures) at c.answer_text.ensures)
 
 pub returns : goal.returns
 returns g c =
