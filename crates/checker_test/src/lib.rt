@@ -7,6 +7,7 @@ mod effects;
 mod flows;
 #[cfg(test)]
 mod framed;
+#[cfg(test)]
 mod reached;
 #[cfg(test)]
 mod runs;
