@@ -8,6 +8,8 @@ mod flows;
 #[cfg(test)]
 mod framed;
 #[cfg(test)]
+mod reached;
+#[cfg(test)]
 mod runs;
 #[cfg(test)]
 mod sites;
