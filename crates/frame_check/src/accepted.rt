@@ -1,7 +1,10 @@
 //! An image that is accepted. docs/checking.md, "Look-ups".
-ghost use Rattle.std.specs.Prelude.{◌≡◌, ◌↔◌, IsTrue};
+ghost use Rattle.std.specs.Prelude.{◌≡◌, ◌↔◌, IsTrue, Contains, true};
+ghost use Rattle.elf_image.specs.Functions.{Function as Range, is_inside};
 ghost use Rattle.image_memory.specs.Start.{begins_function};
-ghost use Rattle.frame_check.specs.Accepts.{Accepted as Parts, IsSound, IsInstr};
+ghost use Rattle.frame_reach.specs.Marks.{Marks, AreMarks};
+ghost use Rattle.frame_check.specs.Roots.{scene_of};
+ghost use Rattle.frame_check.specs.Accepts.{Accepted as Parts, IsSound, IsInstr, saves_at};
 ghost use Rattle.frame_check.specs.Spots.{look};
 
 use crate::spots::Spots;
@@ -69,7 +72,9 @@ impl<'a> Accepted<'a> {
     /// Which words that the PUSH at an address stores are saves of its function's prologue: bit k stands for word k, counted from the
     /// lowest address; 0 where no PUSH of a prologue stands. One look-up.
     pub fn saves_at(&self, a: u32) -> u16
-        ensures { result ≡ (look self.now.spots a).saves }
+        ensures spot { result ≡ (look self.now.spots a).saves }
+        ensures saves { (f : Range) (m : Marks) → Contains self.now.image.functions f → AreMarks (scene_of self.now.image f) m → is_inside a f ≡ true → result ≡ saves_at (scene_of self.now.image f) m a }
+        ensures none { ((f : Range) → Contains self.now.image.functions f → is_inside a f ≡ true → ⊥) → result ≡ 0 }
     {
         self.spots.look(a).saves
     }
