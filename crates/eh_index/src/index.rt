@@ -122,6 +122,14 @@ impl<'i, 'a> Index<'i, 'a> {
         }
     }
 
+    /// The index of an image whose index is read. It takes no time.
+    pub fn of(image: &'i Image<'a>) -> Index<'i, 'a>
+        requires { index_refusal image.now ≡ None }
+        ensures { result ≡ image.entry.now }
+    {
+        Index { image }
+    }
+
     /// The image whose index it is.
     pub fn image(&self) -> &'i Image<'a>
         ensures { result.now ≡ self.now }

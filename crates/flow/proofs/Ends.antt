@@ -4,8 +4,8 @@ use Rattle.std.proofs.lemmas.Option.{same_Some, none-some}
 use Rattle.std.proofs.lemmas.List.{get_or-set_same, length-set, length_push, length-replicate}
 use Rattle.std.proofs.lemmas.List.Sums.{sum_by-set}
 use Rattle.std.specs.List.{Contains}
-use Rattle.flow.specs.Flow.{Flow, IsState, at_entry, meeting, Stands, met, apart, fact_at, Passes, AreValid}
-use Rattle.flow.specs.Laws.{Laws, Falls, HasValidFacts, NoneStands, Decides}
+use Rattle.flow.specs.Flow.{Flow, IsState, at_entry, meeting, Stands, met, apart, fact_at, Passes, AreValid, AreStates}
+use Rattle.flow.specs.Laws.{Laws, Falls, IsFinite, HasValidFacts, NoneStands, Decides, Settle}
 use Rattle.flow.proofs.Law.{none_stand}
 use Rattle.flow.specs.Sound.{Sound, weigh, weight}
 use Rattle.flow.proofs.Work.{written, contains_head, contains_one, contains_none, grow, keep, take_up, unasked, over}
@@ -94,7 +94,7 @@ module _ (F C : Type 0) (flow : Flow F C) (at_most : F → F → Type 0) (laws :
   refused facts work todo p f c s is m = met (s.states p f is) m
 
   abbrev pub Outcome : Type 0
-  Outcome = ((facts : List (Option F)) × AreValid F C flow at_most facts) ⊎ ((p : ℕ) × (c : C) × Stands F C flow p c)
+  Outcome = ((facts : List (Option F)) × AreValid F C flow at_most facts × AreStates F C flow facts) ⊎ ((p : ℕ) × (c : C) × Stands F C flow p c)
 
   module _ (first : ℕ → F → Option C) (first_met : (p : ℕ) (f : F) (c : C) → first p f ≡ Some c → flow.meets c p f ≡ true) (first_none : (p : ℕ) (f : F) → first p f ≡ None → Passes flow p f) (named : ℕ → C) (named_is : (q : ℕ) → flow.parted q (named q) ≡ true) where
     follow : (fuel : ℕ) (rest : (facts : List (Option F)) (work : List ℕ) → Sound F C flow at_most n facts work [] → weight height top facts work < fuel → Outcome)
@@ -114,7 +114,7 @@ module _ (F C : Type 0) (flow : Flow F C) (at_most : F → F → Type 0) (laws :
     settle : (fuel : ℕ) (facts : List (Option F)) (work : List ℕ) → Sound F C flow at_most n facts work [] → weight height top facts work < fuel → Outcome
     settle zero facts work s l = absurd (omega (arith, l))
     settle (suc fuel) facts work s l = ⊎_elim
-        (λ (e : work ≡ []). inl (facts, over F C flow at_most laws n inside facts (subst (λ w. Sound F C flow at_most n facts w []) e s)))
+        (λ (e : work ≡ []). inl (facts, over F C flow at_most laws n inside facts (subst (λ w. Sound F C flow at_most n facts w []) e s), s.states))
         (λ (w : (ys : List ℕ) × (y : ℕ) × (work ≡ ys ++ y ∷ [])).
         let s' = subst (λ w. Sound F C flow at_most n facts w []) w.2 s in
         let l' : weight height top facts w.0 < fuel = omega (arith, popped height top facts w.0 w.1, subst (λ v. weight height top facts v < suc fuel) w.2 l) in
@@ -133,10 +133,18 @@ module _ (F C : Type 0) (flow : Flow F C) (at_most : F → F → Type 0) (laws :
         let facts = set (replicate n (nothing F)) flow.entry (Some flow.start) in
         settle (suc (weight height top facts (flow.entry ∷ []))) facts (flow.entry ∷ []) (starts (replicate n (nothing F)) (length-replicate n (nothing F)) (blank n) l) (omega arith)
 
+-- the search from the entry on, with what a finite flow has
+settled : (F C : Type 0) (flow : Flow F C) (at_most : F → F → Type 0) (laws : Laws F C flow at_most) (finite : IsFinite F C flow) → Outcome F C flow at_most laws finite.count finite.inside finite.height finite.top finite.falls
+settled F C flow at_most laws finite =
+    either F C flow at_most laws finite.count finite.inside finite.height finite.top finite.falls finite.first finite.first_met finite.first_none finite.named finite.named_is finite.begins
+
 -- valid facts exist exactly where no cause stands
 pub decides : (F C : Type 0) (at_most : F → F → Type 0) → Decides F C at_most
 decides F C at_most flow laws finite =
-    let outcome = either F C flow at_most laws finite.count finite.inside finite.height finite.top finite.falls finite.first finite.first_met finite.first_none finite.named finite.named_is finite.begins in (
+    let outcome : HasValidFacts F C flow at_most ⊎ ((p : ℕ) × (c : C) × Stands F C flow p c) = ⊎_elim
+    (λ (v : (facts : List (Option F)) × AreValid F C flow at_most facts × AreStates F C flow facts). inl (v.0, v.1))
+    (λ (w : (p : ℕ) × (c : C) × Stands F C flow p c). inr w)
+    (settled F C flow at_most laws finite) in (
       outcome,
       (
         λ (v : HasValidFacts F C flow at_most). λ p c s. none_stand F C flow at_most laws v.0 v.1 p c s,
@@ -146,3 +154,10 @@ decides F C at_most flow laws finite =
             outcome,
       ),
     )
+
+-- and then there are some that are states
+pub settles : (F C : Type 0) (at_most : F → F → Type 0) → Settle F C at_most
+settles F C at_most flow laws finite none = ⊎_elim
+    (λ (v : (facts : List (Option F)) × AreValid F C flow at_most facts × AreStates F C flow facts). v)
+    (λ (w : (p : ℕ) × (c : C) × Stands F C flow p c). absurd (none w.0 w.1 w.2))
+    (settled F C flow at_most laws finite)

@@ -43,3 +43,7 @@ pub record AreValid (F C : Type 0) (flow : Flow F C) (at_most : F → F → Type
   pub entry : Covered at_most facts flow.entry flow.start
   pub passes : (p : ℕ) (f : F) → fact_at facts p ≡ Some f → Passes flow p f
   pub closed : (p : ℕ) (f : F) (q : ℕ) (g : F) → fact_at facts p ≡ Some f → Contains (flow.edges p f) (q, g) → Covered at_most facts q g
+
+-- each fact of a table is a state of its place
+abbrev pub AreStates : (F C : Type 0) → Flow F C → List (Option F) → Type 0
+AreStates F C flow facts = (p : ℕ) (f : F) → fact_at facts p ≡ Some f → IsState F C flow p f

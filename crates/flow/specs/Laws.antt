@@ -1,7 +1,7 @@
 -- What facts, their vagueness and their causes have to keep, and what then holds of states, valid facts and causes.
 use Rattle.std.specs.Prelude.{ℕ, ◌≡◌, ◌<◌, ◌⊎◌, ◌↔◌, List, true, Option, Some, None}
 use Rattle.std.specs.List.{Contains}
-use Rattle.flow.specs.Flow.{Flow, IsState, Stands, Passes, Covered, AreValid}
+use Rattle.flow.specs.Flow.{Flow, IsState, Stands, Passes, Covered, AreValid, AreStates}
 
 -- Being at most as vague is reflexive and transitive; the meeting of two facts is the least vague that both are at most as vague as,
 -- and facts that lie below one have a meeting; a fact that is less vague meets no more causes, and leads along no more edges and to
@@ -56,3 +56,9 @@ abbrev pub Decides : (F C : Type 0) → (F → F → Type 0) → Type 0
 Decides F C at_most = (flow : Flow F C) → Laws F C flow at_most → IsFinite F C flow
     → (HasValidFacts F C flow at_most ⊎ ((p : ℕ) × (c : C) × Stands F C flow p c))
     × (HasValidFacts F C flow at_most ↔ NoneStands F C flow)
+
+-- where places and heights are finite, and no cause stands: valid facts each of which is a state. So their table has a fact exactly at
+-- the places that have a state
+abbrev pub Settle : (F C : Type 0) → (F → F → Type 0) → Type 0
+Settle F C at_most = (flow : Flow F C) → Laws F C flow at_most → IsFinite F C flow → NoneStands F C flow
+    → (facts : List (Option F)) × AreValid F C flow at_most facts × AreStates F C flow facts

@@ -1,19 +1,17 @@
 -- Ways lead to places below the function's end.
-use Rattle.std.proofs.Common.{ℕ, ◌≡◌, ◌+◌, ◌-◌, ◌*◌, ◌/◌, ◌<◌, ◌≤◌, ◌==◌, ◌&&◌, ◌||◌, ◌⊎◌, nat_le, nat_lt, Bool, true, false, if◌then◌else◌, List, [], ◌∷◌, ◌++◌, Option, Some, None, option_and_then, refl, sym, subst, ap, ◌∙◌, ⊎_elim, arith, zero, suc}
+use Rattle.std.proofs.Common.{ℕ, ◌≡◌, ◌+◌, ◌-◌, ◌*◌, ◌/◌, ◌<◌, ◌≤◌, ◌==◌, ◌&&◌, ◌||◌, nat_le, nat_lt, Bool, true, false, if◌then◌else◌, List, [], ◌∷◌, Option, Some, None, option_and_then, refl, subst, ap, ⊎_elim, arith, zero, suc}
 use Rattle.std.specs.List.{Contains}
 use Rattle.std.proofs.lemmas.List.Elements.{Contains-append_cases}
 use Rattle.std.proofs.lemmas.Bool.{leb-true, ltb-true}
 use Rattle.std.proofs.lemmas.Option.{same_Some, none-some}
 use Rattle.elf_image.specs.Image.{is_code_in}
-use Rattle.thumb_isa.specs.declared.instr.Instr.{Instr}
-use Rattle.eh_desc.specs.declared.descriptor.Desc.{Desc}
 use Rattle.std.specs.Prelude.{Ok, Err}
 use Rattle.frame_scene.specs.declared.places.Standing.{Standing}
 use Rattle.frame_scene.specs.declared.places.Standing.TheVariants.{Instruction, Udf, Nothing}
 use Rattle.frame_scene.specs.declared.unwinding.Unwinding.{Unwinding}
 use Rattle.frame_scene.specs.declared.ways.Way.{Way}
 use Rattle.frame_scene.specs.Scene.{Scene}
-use Rattle.frame_scene.specs.Places.{is_code_of, address_of, is_place, place_of, standing_at}
+use Rattle.frame_scene.specs.Places.{address_of, is_place, place_of, standing_at}
 use Rattle.frame_scene.specs.Ways.{goes_on, branch_target, ways_to, onward, straight_by, straight_ways}
 use Rattle.frame_scene.specs.Unwinding.{landing_changes}
 use Rattle.frame_scene.specs.Sites.{Item, cleans, pad_for, pad_ways, ways_from, site_at, unwinding_at, items_at, ways_of}

@@ -2,7 +2,6 @@
 use Rattle.std.proofs.Common.{◌≡◌, ◌||◌, ℕ, Bool, true, false, List, [], ◌∷◌, ◌++◌, refl, sym, ap, ◌∙◌, append_assoc, option_and_then}
 use Rattle.std.specs.Prelude.{Ok, Err}
 use Rattle.std.specs.List.{list_any}
-use Rattle.eh_desc.specs.declared.descriptor.Desc.{Desc}
 use Rattle.frame_scene.specs.declared.unwinding.Unwinding.{Unwinding}
 use Rattle.frame_scene.specs.Scene.{Scene}
 use Rattle.frame_scene.specs.Places.{place_of}

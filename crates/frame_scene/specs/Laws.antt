@@ -1,5 +1,5 @@
 -- What scenes tell, in the words of the standard: laws above the definitions.
-use Rattle.std.specs.Prelude.{ℕ, ◌≡◌, ◌+◌, ◌*◌, ◌<◌, Bool, true, false, Some, List, ◌∷◌, ◌++◌, [], Ok, option_and_then}
+use Rattle.std.specs.Prelude.{ℕ, ◌≡◌, ◌+◌, ◌*◌, ◌<◌, true, false, Some, List, ◌∷◌, ◌++◌, [], Ok, option_and_then}
 use Rattle.std.specs.List.{Contains, list_any}
 use Rattle.eh_desc.specs.declared.descriptor.Desc.{Desc}
 use Rattle.frame_scene.specs.declared.unwinding.Unwinding.{Unwinding}

@@ -74,6 +74,10 @@ instruction_at s place = instruction_of (standing_at s place)
 abbrev pub branches_out : Scene → ℕ → Bool
 branches_out s place = option_map_or (λ a. not (is_code_of s a)) (option_and_then (branch_target (address_of s place)) (instruction_at s place)) false
 
+-- the place that a branch at a place leads to, where that is code of the function
+abbrev pub branched_to : Scene → ℕ → Option ℕ
+branched_to s place = option_and_then (place_of s) (option_and_then (branch_target (address_of s place)) (instruction_at s place))
+
 -- BL there leads to where no function begins
 abbrev pub calls_nothing : Scene → ℕ → Bool
 calls_nothing s place = option_map_or (λ a. not (begins_function s.image.functions a)) (option_and_then (call_target (address_of s place)) (instruction_at s place)) false

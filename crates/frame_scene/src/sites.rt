@@ -276,13 +276,25 @@ impl<'s, 'i, 'a> Scene<'s, 'i, 'a> {
         }
     }
 
+    /// The ways from the site of a place to its landing pads; none where no site stands there.
+    pub fn landings(&self, alloc: Global, place: u32) -> Result<Vec<Way>, AllocError>
+        requires { self.now.start + 2 * place < 2 ^ 32 }
+        ensures { IfOk result (λ ways. ways.items ≡ ways_from self.now (site_at self.now place)) }
+    {
+        let mut ways = Vec::new(alloc);
+        if let Some(site) = self.site_at(place) {
+            self.add_landings(&mut ways, site)?;
+        }
+        Ok(ways)
+    }
+
     /// Where a place leads: straight on, and from a site to the landing pads of the descriptors in scope.
     #[tactic(auto, unfolding(crate::specs::Sites::ways_of))]
     pub fn ways_of(&self, alloc: Global, place: u32) -> Result<Vec<Way>, AllocError>
         requires { self.now.start + 2 * place < 2 ^ 32 }
         ensures { IfOk result (λ ways. ways.items ≡ ways_of self.now place) }
     {
-        let mut ways = self.straight(alloc, self.address_of(place), self.standing_at(place))?;
+        let mut ways = self.straight_ways(alloc, place)?;
         if let Some(site) = self.site_at(place) {
             self.add_landings(&mut ways, site)?;
         }

@@ -2,7 +2,7 @@
 ghost use Rattle.std.specs.Int.{cast_unsigned, w32};
 ghost use Rattle.std.specs.Prelude.{◌≡◌, ◌+◌, ◌*◌, ◌%◌, ◌<◌, ◌^◌, ◌++◌, IfOk, is_ok, if◌then◌else◌};
 ghost use Rattle.frame_scene.specs.Places.{address_of, place_of};
-ghost use Rattle.frame_scene.specs.Ways.{goes_on, branch_target, call_target, ways_to, straight_ways, straight_by, is_undecodable, branches_out, calls_nothing};
+ghost use Rattle.frame_scene.specs.Ways.{goes_on, branch_target, branched_to, call_target, ways_to, straight_ways, straight_by, is_undecodable, branches_out, calls_nothing};
 
 use crate::places::Standing;
 use crate::scene::Scene;
@@ -131,6 +131,26 @@ impl<'s, 'i, 'a> Scene<'s, 'i, 'a> {
             }
         }
         Ok(ways)
+    }
+
+    /// Where a place leads, landing pads apart: to the next instruction, and to the target of a branch.
+    pub fn straight_ways(&self, alloc: Global, place: u32) -> Result<Vec<Way>, AllocError>
+        requires { self.now.start + 2 * place < 2 ^ 32 }
+        ensures { IfOk result (λ ways. ways.items ≡ straight_ways self.now place) }
+    {
+        self.straight(alloc, self.address_of(place), self.standing_at(place))
+    }
+
+    /// The place that a branch at a place leads to; None where no branch stands there, and where its target isn't code of the function.
+    pub fn branched_to(&self, place: u32) -> Option<u32>
+        requires { self.now.start + 2 * place < 2 ^ 32 }
+        ensures { result ≡ branched_to self.now place }
+    {
+        let Standing::Instruction(i, _) = self.standing_at(place) else {
+            return None;
+        };
+        let target = branch_target(self.address_of(place), i)?;
+        self.place_of(target)
     }
 
     /// Whether no instruction stands at a place, and not UDF.

@@ -1,0 +1,10 @@
+pub mod Tables
+pub mod Counting
+pub mod Marked
+pub mod Lines
+pub mod Images
+pub mod Wells
+pub mod Naming
+pub mod Judging
+pub mod Walking
+pub mod Saving

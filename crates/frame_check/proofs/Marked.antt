@@ -1,0 +1,159 @@
+-- Spots, as they are marked one after the other.
+use Rattle.std.proofs.Common.{◌≡◌, ℕ, ◌==◌, ◌||◌, ◌⊎◌, inl, inr, Bool, true, false, cond, if◌then◌else◌, List, [], ◌∷◌, ◌++◌, refl, sym, ap, ◌∙◌, arith}
+use Rattle.std.specs.Prelude.{Contains}
+use Rattle.std.proofs.lemmas.Bool.{eqb-true, eqb-false}
+use Rattle.std.proofs.lemmas.List.Elements.{Contains-push, Contains-push_cases, Contains-append_left}
+use Rattle.frame_scene.specs.Scene.{Scene}
+use Rattle.frame_scene.specs.Places.{address_of}
+use Rattle.frame_scene.specs.Reach.{IsReached}
+use Rattle.frame_reach.specs.Marks.{Marks, AreMarks, AreThePlaces}
+use Rattle.frame_reach.specs.Prologue.{prologue, lines, places}
+use Rattle.frame_check.specs.declared.spots.Spot.{Spot}
+use Rattle.frame_check.specs.declared.pushes.Pushed.{Pushed}
+use Rattle.frame_check.specs.Spots.{Table, look}
+use Rattle.frame_check.specs.Pushes.{pushes_of}
+use Rattle.frame_check.specs.Marking.{with_instr, with_start, with_saves, Turned, AreInstrs, AreSaved, saves_over, IsMarked}
+
+-- what a look-up finds behind a change of one spot
+pub turned : (X : Type 0) (part : Spot → X) (change : Spot → Spot) (a b : ℕ) (old new : Table) → Turned change a old new
+    → part (look new b) ≡ (if b == a then part (change (look old b)) else part (look old b))
+turned X part change a b old new t = go (b == a) refl
+  where
+    go : (q : Bool) → (b == a) ≡ q → part (look new b) ≡ cond q (part (change (look old b))) (part (look old b))
+    go true q =
+        let same : b ≡ a = eqb-true b a q in
+        ap (λ (k : ℕ). part (look new k)) same ∙ ap part t.here ∙ ap (λ (k : ℕ). part (change (look old k))) (sym same)
+    go false q = ap part (t.there b (eqb-false b a q))
+
+-- a part that the change leaves is as it was
+pub left : (X : Type 0) (part : Spot → X) (change : Spot → Spot) (a b : ℕ) (old new : Table) → ((x : Spot) → part (change x) ≡ part x) → Turned change a old new
+    → part (look new b) ≡ part (look old b)
+left X part change a b old new k t = turned X part change a b old new t ∙ go (b == a)
+  where
+    go : (q : Bool) → cond q (part (change (look old b))) (part (look old b)) ≡ part (look old b)
+    go true = k (look old b)
+    go false = refl
+
+-- ---- instructions
+
+pub instrs_none : (s : Scene) (x : Table) → AreInstrs s [] x x
+instrs_none s x = record {
+  instr = λ a. (inl, λ o. back a o);
+  starts = λ a. refl;
+  saves = λ a. refl;
+}
+  where
+    back : (a : ℕ) → ((look x a).is_instr ≡ true) ⊎ ((p : ℕ) × Contains [] p × (a ≡ address_of s p)) → (look x a).is_instr ≡ true
+    back a (inl e) = e
+    back a (inr (p, c, e)) = absurd (omega (arith, c.1))
+
+pub instrs_more : (s : Scene) (ps : List ℕ) (p : ℕ) (old mid new : Table) → AreInstrs s ps old mid → Turned with_instr (address_of s p) mid new → AreInstrs s (ps ++ p ∷ []) old new
+instrs_more s ps p old mid new x t = record {
+  instr = λ a. (there a, back a);
+  starts = λ a. left Bool (λ y. y.is_function) with_instr (address_of s p) a mid new (λ y. refl) t ∙ x.starts a;
+  saves = λ a. left ℕ (λ y. y.saves) with_instr (address_of s p) a mid new (λ y. refl) t ∙ x.saves a;
+}
+  where
+    is : (a : ℕ) → (look new a).is_instr ≡ cond (a == address_of s p) true ((look mid a).is_instr)
+    is a = turned Bool (λ y. y.is_instr) with_instr (address_of s p) a mid new t
+
+    more : (a : ℕ) → ((look old a).is_instr ≡ true) ⊎ ((q : ℕ) × Contains ps q × (a ≡ address_of s q))
+        → ((look old a).is_instr ≡ true) ⊎ ((q : ℕ) × Contains (ps ++ p ∷ []) q × (a ≡ address_of s q))
+    more a (inl e) = inl e
+    more a (inr (q, c, e)) = inr (q, Contains-append_left ps (p ∷ []) q c, e)
+
+    there : (a : ℕ) → (look new a).is_instr ≡ true → ((look old a).is_instr ≡ true) ⊎ ((q : ℕ) × Contains (ps ++ p ∷ []) q × (a ≡ address_of s q))
+    there a e = go (a == address_of s p) refl (sym (is a) ∙ e)
+      where
+        go : (t : Bool) → (a == address_of s p) ≡ t → cond t true ((look mid a).is_instr) ≡ true
+            → ((look old a).is_instr ≡ true) ⊎ ((q : ℕ) × Contains (ps ++ p ∷ []) q × (a ≡ address_of s q))
+        go true t f = inr (p, Contains-push ps p, eqb-true a (address_of s p) t)
+        go false t f = more a ((x.instr a).0 f)
+
+    back : (a : ℕ) → ((look old a).is_instr ≡ true) ⊎ ((q : ℕ) × Contains (ps ++ p ∷ []) q × (a ≡ address_of s q)) → (look new a).is_instr ≡ true
+    back a o = go (a == address_of s p) refl
+      where
+        from : ((look old a).is_instr ≡ true) ⊎ ((q : ℕ) × Contains (ps ++ p ∷ []) q × (a ≡ address_of s q)) → (a == address_of s p) ≡ false
+            → (look mid a).is_instr ≡ true
+        from (inl e) t = (x.instr a).1 (inl e)
+        from (inr (q, c, e)) t = part (Contains-push_cases ps p q c)
+          where
+            part : Contains ps q ⊎ (p ≡ q) → (look mid a).is_instr ≡ true
+            part (inl d) = (x.instr a).1 (inr (q, d, e))
+            part (inr same) = absurd (eqb-false a (address_of s p) t (e ∙ ap (address_of s) (sym same)))
+
+        go : (t : Bool) → (a == address_of s p) ≡ t → (look new a).is_instr ≡ true
+        go true t = is a ∙ ap (λ (b : Bool). cond b true ((look mid a).is_instr)) t
+        go false t = is a ∙ ap (λ (b : Bool). cond b true ((look mid a).is_instr)) t ∙ from o t
+
+-- ---- saves
+
+pub saved_none : (x : Table) → AreSaved [] x x
+saved_none x = record { instr = λ a. refl; starts = λ a. refl; saves = λ a. refl }
+
+over_more : (before : ℕ) (xs : List Pushed) (x : Pushed) (a : ℕ) → saves_over before (xs ++ x ∷ []) a ≡ (if x.at == a then x.saves else saves_over before xs a)
+over_more before [] x a = refl
+over_more before (y ∷ ys) x a = over_more (if y.at == a then y.saves else before) ys x a
+
+turn_eq : (a b : ℕ) → (a == b) ≡ (b == a)
+turn_eq a b = go (a == b) refl (b == a) refl
+  where
+    go : (p : Bool) → (a == b) ≡ p → (q : Bool) → (b == a) ≡ q → p ≡ q
+    go true p true q = refl
+    go false p false q = refl
+    go true p false q = absurd (eqb-false b a q (sym (eqb-true a b p)))
+    go false p true q = absurd (eqb-false a b p (sym (eqb-true b a q)))
+
+pub saved_more : (xs : List Pushed) (x : Pushed) (old mid new : Table) → AreSaved xs old mid → Turned (with_saves x.saves) x.at mid new → AreSaved (xs ++ x ∷ []) old new
+saved_more xs x old mid new y t = record {
+  instr = λ a. left Bool (λ z. z.is_instr) (with_saves x.saves) x.at a mid new (λ z. refl) t ∙ y.instr a;
+  starts = λ a. left Bool (λ z. z.is_function) (with_saves x.saves) x.at a mid new (λ z. refl) t ∙ y.starts a;
+  saves = λ a. saves a;
+}
+  where
+    saves : (a : ℕ) → (look new a).saves ≡ saves_over ((look old a).saves) (xs ++ x ∷ []) a
+    saves a =
+        turned ℕ (λ z. z.saves) (with_saves x.saves) x.at a mid new t
+        ∙ ap (λ (n : ℕ). if a == x.at then x.saves else n) (y.saves a)
+        ∙ ap (λ (b : Bool). if b then x.saves else saves_over ((look old a).saves) xs a) (turn_eq a x.at)
+        ∙ sym (over_more ((look old a).saves) xs x a)
+
+-- ---- a function
+
+pub marked_all : (s : Scene) (m : Marks) (ps : List ℕ) (pushes : List Pushed) (old first second new : Table) → AreMarks s m → AreThePlaces m ps
+    → AreInstrs s ps old first → Turned with_start s.start first second → pushes ≡ pushes_of (prologue s m) s.start (lines s m.target (places s) 0) → AreSaved pushes second new
+    → IsMarked s m old new
+marked_all s m ps pushes old first second new am the x t e y = record { instr = λ a. (there a, back a); starts = starts; saves = saves }
+  where
+    kept : (a : ℕ) → (look new a).is_instr ≡ (look first a).is_instr
+    kept a = y.instr a ∙ left Bool (λ z. z.is_instr) with_start s.start a first second (λ z. refl) t
+
+    there : (a : ℕ) → (look new a).is_instr ≡ true → ((look old a).is_instr ≡ true) ⊎ ((p : ℕ) × IsReached s p × (a ≡ address_of s p))
+    there a f = go ((x.instr a).0 (sym (kept a) ∙ f))
+      where
+        go : ((look old a).is_instr ≡ true) ⊎ ((p : ℕ) × Contains ps p × (a ≡ address_of s p)) → ((look old a).is_instr ≡ true) ⊎ ((p : ℕ) × IsReached s p × (a ≡ address_of s p))
+        go (inl g) = inl g
+        go (inr (p, c, g)) = inr (p, (am.reached p).0 ((the.all p).0 c), g)
+
+    back : (a : ℕ) → ((look old a).is_instr ≡ true) ⊎ ((p : ℕ) × IsReached s p × (a ≡ address_of s p)) → (look new a).is_instr ≡ true
+    back a (inl g) = kept a ∙ (x.instr a).1 (inl g)
+    back a (inr (p, r, g)) = kept a ∙ (x.instr a).1 (inr (p, (the.all p).1 ((am.reached p).1 r), g))
+
+    either : (b c : Bool) → (if b then true else c) ≡ (c || b)
+    either true true = refl
+    either true false = refl
+    either false true = refl
+    either false false = refl
+
+    starts : (a : ℕ) → (look new a).is_function ≡ ((look old a).is_function || (s.start == a))
+    starts a =
+        y.starts a ∙ turned Bool (λ z. z.is_function) with_start s.start a first second t
+        ∙ ap (λ (b : Bool). if a == s.start then true else b) (x.starts a)
+        ∙ either (a == s.start) ((look old a).is_function)
+        ∙ ap (λ (b : Bool). (look old a).is_function || b) (turn_eq a s.start)
+
+    saves : (a : ℕ) → (look new a).saves ≡ saves_over ((look old a).saves) (pushes_of (prologue s m) s.start (lines s m.target (places s) 0)) a
+    saves a =
+        y.saves a
+        ∙ ap (λ (n : ℕ). saves_over n pushes a) (left ℕ (λ z. z.saves) with_start s.start a first second (λ z. refl) t ∙ x.saves a)
+        ∙ ap (λ (l : List Pushed). saves_over ((look old a).saves) l a) e

@@ -1,0 +1,121 @@
+-- The roots are what descriptors name, and the type symbols.
+use Rattle.std.proofs.Common.{◌≡◌, ◌≢◌, ℕ, zero, suc, ◌==◌, ◌<◌, ◌⊎◌, inl, inr, Bool, true, false, if◌then◌else◌, nat_le, List, [], ◌∷◌, ◌++◌, Option, Some, None, Ok, Err, refl, sym, ap, ◌∙◌, subst, arith}
+use Rattle.std.specs.Prelude.{Contains}
+use Rattle.std.specs.List.{flat_map, range_with_len}
+use Rattle.std.proofs.lemmas.Bool.{eqb-false, ne_eqb, leb-false}
+use Rattle.std.proofs.lemmas.List.FromFn.{get_or-range_with_len, length-range_with_len}
+use Rattle.std.proofs.lemmas.List.Elements.{Contains-append_left, Contains-append_right, Contains-append_cases}
+use Rattle.elf_image.specs.Segments.{Segment}
+use Rattle.elf_image.specs.Functions.{Function}
+use Rattle.elf_image.specs.Image.{type_symbols_of}
+use Rattle.eh_desc.specs.declared.descriptor.CatchType.{CatchType}
+use Rattle.eh_desc.specs.declared.descriptor.CatchType.TheVariants.{All, AllFails, One}
+use Rattle.eh_desc.specs.declared.descriptor.Desc.{Desc}
+use Rattle.eh_desc.specs.declared.descriptor.DescKind.{DescKind}
+use Rattle.eh_desc.specs.declared.descriptor.DescKind.TheVariants.{Cleanup, Catch, Spec}
+use Rattle.eh_desc.specs.Grammar.{type_in}
+use Rattle.frame_scene.specs.Sites.{Item, items_at}
+use Rattle.frame_check.specs.Roots.{scene_of, type_at, listed, catch_types, kind_types, item_types, function_types, roots_of}
+use Rattle.frame_check.specs.Laws.{Names, RootsAreNamed}
+
+-- ---- joined lists
+
+further : {X : Type 0} (x : X) (xs : List X) (y : X) → Contains xs y → Contains (x ∷ xs) y
+further x xs y c = (suc c.0, omega (arith, c.1), c.2)
+
+first : {X : Type 0} (x : X) (xs : List X) → Contains (x ∷ xs) x
+first x xs = (0, omega arith, refl)
+
+pub from_joined : {X Y : Type 0} (f : X → List Y) (xs : List X) (y : Y) → Contains (flat_map f xs) y → (x : X) × Contains xs x × Contains (f x) y
+from_joined f [] y c = absurd (omega (arith, c.1))
+from_joined {X} {Y} f (x ∷ xs) y c = go (Contains-append_cases (f x) (flat_map f xs) y c) (λ d. from_joined f xs y d)
+  where
+    go : Contains (f x) y ⊎ Contains (flat_map f xs) y → (Contains (flat_map f xs) y → (z : X) × Contains xs z × Contains (f z) y) → (z : X) × Contains (x ∷ xs) z × Contains (f z) y
+    go (inl d) rec = (x, first x xs, d)
+    go (inr d) rec = let r = rec d in (r.0, further x xs r.0 r.1, r.2)
+
+pub to_joined : {X Y : Type 0} (f : X → List Y) (xs : List X) (x : X) (y : Y) → Contains xs x → Contains (f x) y → Contains (flat_map f xs) y
+to_joined f [] x y c d = absurd (omega (arith, c.1))
+to_joined f (z ∷ xs) x y (zero, l, e) d = Contains-append_left (f z) (flat_map f xs) y (subst (λ w. Contains (f w) y) (sym e) d)
+to_joined f (z ∷ xs) x y (suc k, l, e) d = Contains-append_right (f z) (flat_map f xs) y (to_joined f xs x y (k, omega (arith, l), e) d)
+
+-- ---- a type
+
+at_type : (a t : ℕ) → Contains (type_at a) t → (a ≡ t) × (t ≢ 0)
+at_type a t c = go (a == 0) refl c
+  where
+    one : a ≢ 0 → Contains (a ∷ []) t → (a ≡ t) × (t ≢ 0)
+    one ne (zero, l, e) = (e, λ z. ne (e ∙ z))
+    one ne (suc k, l, e) = absurd (omega (arith, l))
+
+    go : (b : Bool) → (a == 0) ≡ b → Contains (if b then [] else a ∷ []) t → (a ≡ t) × (t ≢ 0)
+    go true q c = absurd (omega (arith, c.1))
+    go false q c = one (eqb-false a 0 q) c
+
+is_type : (t : ℕ) → t ≢ 0 → Contains (type_at t) t
+is_type t ne = rw (ne_eqb t 0 ne) (first t [])
+
+catch_type : (ty : CatchType) (t : ℕ) → Contains (catch_types ty) t → (ty ≡ One t) × (t ≢ 0)
+catch_type All t c = absurd (omega (arith, c.1))
+catch_type AllFails t c = absurd (omega (arith, c.1))
+catch_type (One a) t c = let r = at_type a t c in (ap One r.0, r.1)
+
+listed_type : (o : Option ℕ) (t : ℕ) → Contains (listed o) t → (o ≡ Some t) × (t ≢ 0)
+listed_type None t c = absurd (omega (arith, c.1))
+listed_type (Some a) t c = let r = at_type a t c in (ap Some r.0, r.1)
+
+named : (segments : List Segment) (kind : DescKind) (t : ℕ) → Contains (kind_types segments kind) t
+    → (((pad : ℕ) × (reference : Bool) × (kind ≡ Catch pad reference (One t))) ⊎ ((i : ℕ) × (type_in segments kind i ≡ Some t))) × (t ≢ 0)
+named segments (Cleanup pad) t c = absurd (omega (arith, c.1))
+named segments (Catch pad reference ty) t c = let r = catch_type ty t c in (inl (pad, reference, ap (Catch pad reference) r.0), r.1)
+named segments (Spec types count pad) t c =
+    let r = from_joined (λ i. listed (type_in segments (Spec types count pad) i)) (range_with_len 0 count) t c in
+    let s = listed_type (type_in segments (Spec types count pad) r.0) t r.2 in
+    (inr (r.0, s.0), s.1)
+
+in_range : (i count : ℕ) → i < count → Contains (range_with_len 0 count) i
+in_range i count l = (i, rw length-range_with_len l, get_or-range_with_len 0 count i i l ∙ omega arith)
+
+naming : (segments : List Segment) (kind : DescKind) (t : ℕ) → t ≢ 0
+    → (((pad : ℕ) × (reference : Bool) × (kind ≡ Catch pad reference (One t))) ⊎ ((i : ℕ) × (type_in segments kind i ≡ Some t))) → Contains (kind_types segments kind) t
+naming segments kind t ne (inl (pad, reference, e)) = subst (λ k. Contains (kind_types segments k) t) (sym e) (is_type t ne)
+naming segments (Cleanup pad) t ne (inr (i, e)) = absurd (cc)
+naming segments (Catch pad reference ty) t ne (inr (i, e)) = absurd (cc)
+naming segments (Spec types count pad) t ne (inr (i, e)) =
+    to_joined (λ k. listed (type_in segments (Spec types count pad) k)) (range_with_len 0 count) i t (in_range i count (below (nat_le count i) refl e))
+    (subst (λ o. Contains (listed o) t) (sym e) (is_type t ne))
+  where
+    below : (b : Bool) → nat_le count i ≡ b → type_in segments (Spec types count pad) i ≡ Some t → i < count
+    below true q f = absurd (let g : type_in segments (Spec types count pad) i ≡ None = rw q refl in cc)
+    below false q f = leb-false count i q
+
+-- ---- descriptors, functions, the image
+
+pub roots_named : RootsAreNamed
+unfolding roots_of function_types
+roots_named image t = (there, back)
+  where
+    item : (f : Function) → Contains image.functions f → (x : Item) → Contains (items_at (scene_of image f) f.start) x → Contains (item_types image.segments x) t
+        → (g : Function) × (d : Desc) × Contains image.functions g × Contains (items_at (scene_of image g) g.start) (Ok d) × Names image d t × (t ≢ 0)
+    item f c (Ok d) i k = let r = named image.segments d.kind t k in (f, d, c, i, r.0, r.1)
+    item f c (Err fault) i k = absurd (omega (arith, k.1))
+
+    there : Contains (flat_map (λ f. flat_map (item_types image.segments) (items_at (scene_of image f) f.start)) image.functions ++ type_symbols_of image.symbols) t
+        → ((f : Function) × (d : Desc) × Contains image.functions f × Contains (items_at (scene_of image f) f.start) (Ok d) × Names image d t × (t ≢ 0)) ⊎ Contains (type_symbols_of image.symbols) t
+    there c = go (Contains-append_cases (flat_map (λ f. flat_map (item_types image.segments) (items_at (scene_of image f) f.start)) image.functions) (type_symbols_of image.symbols) t c)
+      where
+        go : Contains (flat_map (λ f. flat_map (item_types image.segments) (items_at (scene_of image f) f.start)) image.functions) t ⊎ Contains (type_symbols_of image.symbols) t
+            → ((f : Function) × (d : Desc) × Contains image.functions f × Contains (items_at (scene_of image f) f.start) (Ok d) × Names image d t × (t ≢ 0)) ⊎ Contains (type_symbols_of image.symbols) t
+        go (inl k) =
+            let r = from_joined (λ f. flat_map (item_types image.segments) (items_at (scene_of image f) f.start)) image.functions t k in
+            let q = from_joined (item_types image.segments) (items_at (scene_of image r.0) (r.0).start) t r.2 in
+            inl (item r.0 r.1 q.0 q.1 q.2)
+        go (inr k) = inr k
+
+    back : (((f : Function) × (d : Desc) × Contains image.functions f × Contains (items_at (scene_of image f) f.start) (Ok d) × Names image d t × (t ≢ 0)) ⊎ Contains (type_symbols_of image.symbols) t)
+        → Contains (flat_map (λ f. flat_map (item_types image.segments) (items_at (scene_of image f) f.start)) image.functions ++ type_symbols_of image.symbols) t
+    back (inl (f, d, c, i, n, ne)) =
+        Contains-append_left (flat_map (λ g. flat_map (item_types image.segments) (items_at (scene_of image g) g.start)) image.functions) (type_symbols_of image.symbols) t
+        (to_joined (λ g. flat_map (item_types image.segments) (items_at (scene_of image g) g.start)) image.functions f t c
+        (to_joined (item_types image.segments) (items_at (scene_of image f) f.start) (Ok d) t i (naming image.segments d.kind t ne n)))
+    back (inr k) = Contains-append_right (flat_map (λ f. flat_map (item_types image.segments) (items_at (scene_of image f) f.start)) image.functions) (type_symbols_of image.symbols) t k

@@ -1,0 +1,130 @@
+-- Which functions are well, and which images are accepted.
+use Rattle.std.specs.Prelude.{ℕ, ◌≡◌, ◌<◌, ◌↔◌, true, List, ◌∷◌, ◌++◌, All, Contains, Some, None}
+use Rattle.elf_image.specs.Functions.{Function, is_inside}
+use Rattle.elf_image.specs.Image.{Image}
+use Rattle.image_memory.specs.Start.{begins_function}
+use Rattle.eh_index.specs.Refusal.{index_refusal}
+use Rattle.eh_types.specs.Graph.{Row}
+use Rattle.eh_types.specs.Meant.{IsGraph, Shows}
+use Rattle.frame_facts.specs.declared.cause.FrameCause.{FrameCause}
+use Rattle.frame_facts.specs.declared.cause.FrameCause.TheVariants.{Undecodable, BranchOut, IndirectBranch, CallNotFunction, SpWrite, JoinDepth, ReturnState, CallState, FramePointerLost, BadBytecode, BadDescriptor, PadDepth, ThrowInLeafScope, SplitEntry, GenericModel, TooLong}
+use Rattle.frame_scene.specs.declared.unwinding.Unwinding.TheVariants as unwinding
+use Rattle.frame_scene.specs.Scene.{Scene}
+use Rattle.frame_scene.specs.Places.{address_of}
+use Rattle.frame_scene.specs.Sites.{unwinding_at, has_fault}
+use Rattle.frame_scene.specs.Reach.{IsReached}
+use Rattle.frame_reach.specs.Marks.{Marks, AreMarks, IsTooLong, IsSplit}
+use Rattle.frame_reach.specs.Prologue.{prologue, lines, places}
+use Rattle.frame_flow.specs.Framed.{Framed}
+use Rattle.frame_flow.specs.Flows.{StandsIn, HasFacts}
+use Rattle.frame_check.specs.declared.fault.Rejected.{Rejected}
+use Rattle.frame_check.specs.declared.fault.CheckFault.{CheckFault}
+use Rattle.frame_check.specs.declared.fault.CheckFault.TheVariants.{Index, Function as OfFunction, Types, OutOfMemory}
+use Rattle.frame_check.specs.Spots.{Table, look}
+use Rattle.frame_check.specs.Roots.{scene_of, roots_of}
+use Rattle.frame_check.specs.Pushes.{pushes_of, saves_in}
+
+-- ---- functions
+
+-- a function with its prologue and its landing pads
+abbrev pub framed : Scene → Marks → Framed
+framed s m = record { scene = s; prologue = prologue s m; pad = m.pad }
+
+-- What stands at the start of a function: what the entry that covers it shows, by its codes and by its descriptors, and what is refused of
+-- the function as a whole. Every other cause stands where a fact meets it.
+abbrev pub StandsAtStart : Scene → FrameCause → Type 0
+StandsAtStart s Undecodable = ⊥
+StandsAtStart s BranchOut = ⊥
+StandsAtStart s IndirectBranch = ⊥
+StandsAtStart s CallNotFunction = ⊥
+StandsAtStart s SpWrite = ⊥
+StandsAtStart s JoinDepth = ⊥
+StandsAtStart s ReturnState = ⊥
+StandsAtStart s (CallState reg) = ⊥
+StandsAtStart s (FramePointerLost reg) = ⊥
+StandsAtStart s BadBytecode = unwinding_at s s.start ≡ unwinding.BadBytecode
+StandsAtStart s BadDescriptor = has_fault s s.start ≡ true
+StandsAtStart s PadDepth = ⊥
+StandsAtStart s ThrowInLeafScope = ⊥
+StandsAtStart s SplitEntry = IsSplit s
+StandsAtStart s GenericModel = unwinding_at s s.start ≡ unwinding.GenericModel
+StandsAtStart s TooLong = IsTooLong s
+
+-- a cause stands at a place: by the facts there, or at the start
+pub data CauseStands (s : Scene) : ℕ → FrameCause → Type 0 where
+  by_facts : {p : ℕ} {c : FrameCause} (m : Marks) → AreMarks s m → StandsIn (framed s m) p c → CauseStands s p c
+  at_start : {c : FrameCause} → StandsAtStart s c → CauseStands s 0 c
+
+-- a function is well: it has valid facts, and nothing stands at its start
+pub record IsWell (s : Scene) : Type 0 where
+  pub marks : Marks
+  pub are : AreMarks s marks
+  pub facts : HasFacts (framed s marks)
+  pub start : (c : FrameCause) → StandsAtStart s c → ⊥
+
+-- ---- images
+
+abbrev pub AreWell : Image → List Function → Type 0
+AreWell image functions = All (λ f. IsWell (scene_of image f)) functions
+
+-- its index is read, each of its functions is well, and its roots mean a graph of types
+pub record IsAccepted (image : Image) : Type 0 where
+  pub index : index_refusal image ≡ None
+  pub functions : AreWell image image.functions
+  pub types : List Row
+  pub graph : IsGraph image (roots_of image) types
+
+-- the first function that isn't well, with a place and a cause that stands there
+pub record IsFirstRejected (image : Image) (r : Rejected) : Type 0 where
+  pub before : List Function
+  pub function : Function
+  pub after : List Function
+  pub divided : image.functions ≡ before ++ function ∷ after
+  pub well : AreWell image before
+  pub name : r.function ≡ function.name
+  pub start : r.start ≡ function.start
+  pub place : ℕ
+  pub address : r.at ≡ address_of (scene_of image function) place
+  pub inside : r.at < function.end
+  pub stands : CauseStands (scene_of image function) place r.cause
+
+-- when each refusal may be named: the index first, then the functions in rising order, then the types
+abbrev pub Refuses : Image → CheckFault → Type 0
+Refuses image (Index fault) = index_refusal image ≡ Some fault
+Refuses image (OfFunction r) = (index_refusal image ≡ None) × IsFirstRejected image r
+Refuses image (Types fault) = (index_refusal image ≡ None) × AreWell image image.functions × Shows image (roots_of image) fault
+Refuses image OutOfMemory = ⊥
+
+-- ---- what an accepted image tells of an address
+
+-- an instruction stands there that a path from the entry of one of these functions reaches
+pub record IsInstr (image : Image) (functions : List Function) (a : ℕ) : Type 0 where
+  pub function : Function
+  pub among : Contains functions function
+  pub place : ℕ
+  pub reached : IsReached (scene_of image function) place
+  pub address : a ≡ address_of (scene_of image function) place
+
+-- which words the PUSH at an address stores that are saves of the function's prologue
+unfoldable pub saves_at : Scene → Marks → ℕ → ℕ
+saves_at s m a = saves_in (pushes_of (prologue s m) s.start (lines s m.target (places s) 0)) a
+
+-- the spots of these functions: instructions, starts, and the saves of each function's prologue; elsewhere no words are saves
+pub record AreSpots (image : Image) (functions : List Function) (spots : Table) : Type 0 where
+  pub instr : (a : ℕ) → ((look spots a).is_instr ≡ true) ↔ IsInstr image functions a
+  pub starts : (a : ℕ) → (look spots a).is_function ≡ begins_function functions a
+  pub saves : (f : Function) (m : Marks) (a : ℕ) → Contains functions f → AreMarks (scene_of image f) m → is_inside a f ≡ true
+      → (look spots a).saves ≡ saves_at (scene_of image f) m a
+  pub blank : (a : ℕ) → ((f : Function) → Contains functions f → is_inside a f ≡ true → ⊥) → (look spots a).saves ≡ 0
+
+-- an accepted image with what a run asks of it
+pub record Accepted : Type 0 where
+  pub image : Image
+  pub types : List Row
+  pub spots : Table
+
+pub record IsSound (x : Accepted) : Type 0 where
+  pub index : index_refusal x.image ≡ None
+  pub functions : AreWell x.image x.image.functions
+  pub graph : IsGraph x.image (roots_of x.image) x.types
+  pub spots : AreSpots x.image x.image.functions x.spots

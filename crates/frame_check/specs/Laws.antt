@@ -1,0 +1,72 @@
+-- What holds of every function and every image: laws above the definitions.
+use Rattle.std.specs.Prelude.{ℕ, ◌≡◌, ◌≢◌, ◌<◌, ◌≤◌, ◌↔◌, ◌⊎◌, ◌+◌, ◌*◌, ◌%◌, ◌^◌, Bool, true, false, length, Some, Ok, Contains}
+use Rattle.std.specs.Int.{bit_at}
+use Rattle.thumb_core.specs.Words.{listed}
+use Rattle.thumb_isa.specs.declared.instr.Instr.TheVariants.{Push}
+use Rattle.elf_image.specs.Functions.{Function}
+use Rattle.elf_image.specs.Image.{Image, type_symbols_of}
+use Rattle.eh_desc.specs.declared.descriptor.CatchType.TheVariants.{One}
+use Rattle.eh_desc.specs.declared.descriptor.Desc.{Desc}
+use Rattle.eh_desc.specs.declared.descriptor.DescKind.TheVariants.{Catch}
+use Rattle.eh_desc.specs.Grammar.{type_in}
+use Rattle.frame_facts.specs.declared.cause.FrameCause.{FrameCause}
+use Rattle.frame_facts.specs.declared.saves.Save.{Save}
+use Rattle.frame_facts.specs.declared.straight.Straight.{Straight}
+use Rattle.frame_facts.specs.Saves.{saves_of}
+use Rattle.frame_facts.specs.Prologues.{taken}
+use Rattle.frame_scene.specs.declared.places.Standing.TheVariants.{Instruction}
+use Rattle.frame_scene.specs.Places.{address_of, standing_at}
+use Rattle.frame_reach.specs.Marks.{Marks}
+use Rattle.frame_reach.specs.Prologue.{is_led_to, prologue}
+use Rattle.frame_reach.specs.Laws.{IsRun}
+use Rattle.frame_check.specs.Pushes.{is_saved}
+use Rattle.frame_scene.specs.Scene.{Scene}
+use Rattle.frame_scene.specs.Sites.{items_at}
+use Rattle.frame_check.specs.declared.fault.CheckFault.{CheckFault}
+use Rattle.frame_check.specs.Roots.{scene_of, roots_of}
+use Rattle.frame_check.specs.Accepts.{CauseStands, IsWell, IsAccepted, Refuses, saves_at}
+
+-- a function is well exactly where no cause stands at any of its places
+abbrev pub WellIsUnrefused : Type 0
+WellIsUnrefused = (s : Scene) → s.start < s.end → IsWell s ↔ ((p : ℕ) (c : FrameCause) → CauseStands s p c → ⊥)
+
+-- what may be refused of an image that isn't accepted, and of no other
+abbrev pub RefusalsAreRight : Type 0
+RefusalsAreRight = (image : Image) (fault : CheckFault) → Refuses image fault → IsAccepted image → ⊥
+
+-- a descriptor names a type: a catch of this type, or a specification that has it among its own
+abbrev pub Names : Image → Desc → ℕ → Type 0
+Names image d t = ((pad : ℕ) × (reference : Bool) × (d.kind ≡ Catch pad reference (One t))) ⊎ ((i : ℕ) × (type_in image.segments d.kind i ≡ Some t))
+
+-- the roots are the types, but 0, that a descriptor of the entry names that covers a function's start, and the type symbols
+abbrev pub RootsAreNamed : Type 0
+RootsAreNamed =
+    (image : Image) (t : ℕ) → Contains (roots_of image) t
+    ↔ (((f : Function) × (d : Desc) × Contains image.functions f × Contains (items_at (scene_of image f) f.start) (Ok d) × Names image d t × (t ≢ 0)) ⊎ Contains (type_symbols_of image.symbols) t)
+
+-- ---- the saves of a prologue
+
+-- a PUSH of the prologue: the run has come to its place and takes it
+pub record IsPush (s : Scene) (m : Marks) (p : ℕ) (run : Straight) (list : ℕ) : Type 0 where
+  pub size : ℕ
+  pub next : Straight
+  pub comes : IsRun s m p run
+  pub stands : standing_at s p ≡ Instruction (Push list) size
+  pub free : is_led_to m.target p size ≡ false
+  pub takes : taken run (Push list) size ≡ Some next
+
+-- its word k, counted from the lowest address, lies so many bytes below the CFA: sp falls by a word for each register
+abbrev pub IsWord : Straight → ℕ → ℕ → ℕ → Type 0
+IsWord run list k offset = (k < length (listed list)) × (offset + 4 * k ≡ run.fact.depth + 4 * length (listed list))
+
+-- Of a PUSH of the prologue bit k is set exactly where its word k is a save; of any other address no bit is. And each save of the prologue
+-- is a word of one of its PUSHes.
+pub record SavesAreWords : Type 0 where
+  pub bits : (s : Scene) (m : Marks) (p : ℕ) (run : Straight) (list k offset : ℕ) → s.start % 2 ≡ 0 → s.end + 4 ≤ 2 ^ 32 → IsPush s m p run list → IsWord run list k offset
+      → (bit_at (saves_at s m (address_of s p)) k ≡ 1) ↔ (is_saved (prologue s m) offset ≡ true)
+  pub past : (s : Scene) (m : Marks) (p : ℕ) (run : Straight) (list k : ℕ) → s.start % 2 ≡ 0 → s.end + 4 ≤ 2 ^ 32 → IsPush s m p run list → length (listed list) ≤ k
+      → bit_at (saves_at s m (address_of s p)) k ≡ 0
+  pub elsewhere : (s : Scene) (m : Marks) (a : ℕ) → s.start % 2 ≡ 0 → s.end + 4 ≤ 2 ^ 32
+      → ((p : ℕ) (run : Straight) (list : ℕ) → IsPush s m p run list → a ≡ address_of s p → ⊥) → saves_at s m a ≡ 0
+  pub each : (s : Scene) (m : Marks) (x : Save) → Contains (saves_of (prologue s m)) x
+      → (p : ℕ) × (run : Straight) × (list : ℕ) × (k : ℕ) × IsPush s m p run list × IsWord run list k x.offset

@@ -1,0 +1,7 @@
+pub mod Spots
+pub mod Roots
+pub mod Pushes
+pub mod Accepts
+pub mod Marking
+pub mod Judged
+pub mod Laws

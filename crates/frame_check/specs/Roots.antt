@@ -1,0 +1,48 @@
+-- Which types an image's exceptions may have: those that its descriptors name, and its type symbols.
+use Rattle.std.specs.Prelude.{ℕ, ◌==◌, if◌then◌else◌, List, [], ◌∷◌, ◌++◌, Option, Some, None, Ok, Err}
+use Rattle.std.specs.List.{flat_map, range_with_len}
+use Rattle.elf_image.specs.Segments.{Segment}
+use Rattle.elf_image.specs.Functions.{Function}
+use Rattle.elf_image.specs.Image.{Image, type_symbols_of}
+use Rattle.eh_desc.specs.declared.descriptor.CatchType.{CatchType}
+use Rattle.eh_desc.specs.declared.descriptor.CatchType.TheVariants.{All, AllFails, One}
+use Rattle.eh_desc.specs.declared.descriptor.DescKind.{DescKind}
+use Rattle.eh_desc.specs.declared.descriptor.DescKind.TheVariants.{Cleanup, Catch, Spec}
+use Rattle.eh_desc.specs.Grammar.{type_in}
+use Rattle.frame_scene.specs.Scene.{Scene}
+use Rattle.frame_scene.specs.Sites.{Item, items_at}
+
+-- the function as a scene
+abbrev pub scene_of : Image → Function → Scene
+scene_of image f = record { image = image; start = f.start; end = f.end }
+
+-- a type at an address; 0 is none
+abbrev pub type_at : ℕ → List ℕ
+type_at a = if a == 0 then [] else a ∷ []
+
+abbrev pub listed : Option ℕ → List ℕ
+listed None = []
+listed (Some a) = type_at a
+
+abbrev pub catch_types : CatchType → List ℕ
+catch_types All = []
+catch_types AllFails = []
+catch_types (One a) = type_at a
+
+-- the types that a descriptor names: of a catch its type, of a specification its types
+abbrev pub kind_types : List Segment → DescKind → List ℕ
+kind_types segments (Cleanup pad) = []
+kind_types segments (Catch pad reference type) = catch_types type
+kind_types segments (Spec types count pad) = flat_map (λ i. listed (type_in segments (Spec types count pad) i)) (range_with_len 0 count)
+
+abbrev pub item_types : List Segment → Item → List ℕ
+item_types segments (Ok d) = kind_types segments d.kind
+item_types segments (Err fault) = []
+
+-- those of the descriptors of the entry that covers the function's start
+unfoldable pub function_types : Image → Function → List ℕ
+function_types image f = flat_map (item_types image.segments) (items_at (scene_of image f) f.start)
+
+-- those of all functions, in rising order, and behind them the image's type symbols
+unfoldable pub roots_of : Image → List ℕ
+roots_of image = flat_map (function_types image) image.functions ++ type_symbols_of image.symbols

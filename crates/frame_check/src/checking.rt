@@ -1,0 +1,130 @@
+//! Checking an image. docs/checking.md.
+ghost use Rattle.std.specs.Prelude.{◌≡◌, ◌≢◌, IfOk, IfErr, OnOk};
+ghost use Rattle.eh_types.specs.Meant.{IsGraph};
+ghost use Rattle.frame_check.specs.declared.fault.CheckFault.TheVariants.{OutOfMemory as NoMemory};
+ghost use Rattle.frame_check.specs.Roots.{scene_of, roots_of};
+ghost use Rattle.frame_check.specs.Accepts.{AreWell, AreSpots, IsSound, IsAccepted, Refuses};
+ghost use Rattle.frame_check.specs.Judged.{IsJudged, RefusesOne, RefusesFunctions, RefusesTypes, IsTaken, IsPlaced};
+
+use crate::accepted::Accepted;
+use crate::fault::{CheckFault, Rejected};
+use crate::judge::judge;
+use crate::marking::mark;
+use crate::roots::roots_of;
+use crate::spots::Spots;
+use eh_index::Index;
+use eh_types::{TypeFault, TypeGraph};
+use eh_word::Name;
+use elf_image::function::Function;
+use elf_image::image::Image;
+use frame_flow::FrameFault;
+use frame_scene::Scene;
+use std::alloc::Global;
+
+/// What a run asks of an image that is accepted.
+#[derive(Drop)]
+struct Parts {
+    types: TypeGraph,
+    spots: Spots,
+}
+
+/// The refusal of a function.
+fn rejected(alloc: Global, scene: &Scene, f: &Function, fault: FrameFault) -> CheckFault
+    requires scene { scene.now ≡ scene_of scene.now.image f.now }
+    requires judged { IsJudged scene.now fault }
+    ensures { RefusesOne scene.now.image f.now result }
+{
+    let _end = scene.end();
+    match fault {
+        FrameFault::OutOfMemory => CheckFault::OutOfMemory,
+        FrameFault::Stands(place, cause) => match Name::of(alloc, f.name) {
+            Err(_) => CheckFault::OutOfMemory,
+            Ok(function) => CheckFault::Function(Rejected {
+                function,
+                start: scene.start(),
+                at: scene.address_of(place),
+                cause,
+            }),
+        },
+    }
+}
+
+/// Checks a function, and marks its addresses where it is well.
+fn check_function(
+    alloc: Global,
+    spots: &mut Spots,
+    index: &Index,
+    f: &Function,
+) -> Result<(), CheckFault>
+    requires { IsPlaced f.now }
+    ensures taken { OnOk result (IsTaken index.now f.now spots.old spots.new) }
+    ensures refused { IfErr result (RefusesOne index.now f.now) }
+{
+    let scene = Scene::new(index, f.start, f.end);
+    match judge(alloc, &scene) {
+        Err(fault) => Err(rejected(alloc, &scene, f, fault)),
+        Ok(reached) => Ok(mark(alloc, spots, &scene, &reached)?),
+    }
+}
+
+/// Checks the functions, in rising order.
+fn check_functions(alloc: Global, index: &Index) -> Result<Spots, CheckFault>
+    ensures well { OnOk result (AreWell index.now index.now.functions) }
+    ensures spots { IfOk result (AreSpots index.now index.now.functions) }
+    ensures refused { IfErr result (RefusesFunctions index.now) }
+{
+    let mut spots = Spots::new(alloc);
+    for f in index.image().functions() {
+        match check_function(alloc, &mut spots, index, f) {
+            Ok(()) => {}
+            Err(fault) => return Err(fault),
+        }
+    }
+    Ok(spots)
+}
+
+/// The graph of the types.
+fn check_types(alloc: Global, index: &Index) -> Result<TypeGraph, CheckFault>
+    ensures graph { IfOk result (IsGraph index.now (roots_of index.now)) }
+    ensures refused { IfErr result (RefusesTypes index.now) }
+{
+    let roots = roots_of(alloc, index)?;
+    match TypeGraph::read(alloc, index.image(), &roots) {
+        Ok(types) => Ok(types),
+        Err(TypeFault::OutOfMemory) => Err(CheckFault::OutOfMemory),
+        Err(fault) => Err(CheckFault::Types(fault)),
+    }
+}
+
+/// What a run asks of an image, where it is accepted.
+fn checked(alloc: Global, image: &Image) -> Result<Parts, CheckFault>
+    ensures sound { IfOk result (λ c. IsSound (record { image = image.now; types = c.types; spots = c.spots })) }
+    ensures refused { IfErr result (λ fault. fault ≢ NoMemory → Refuses image.now fault) }
+{
+    match Index::read(image) {
+        Err(fault) => Err(CheckFault::Index(fault)),
+        Ok(index) => {
+            let spots = check_functions(alloc, &index)?;
+            let types = check_types(alloc, &index)?;
+            Ok(Parts { types, spots })
+        }
+    }
+}
+
+/// Checks an image: its index, then its functions in rising order, then its types. The first that isn't well is refused, which drops the
+/// image. Accepted is exactly an image that has nothing to refuse, want of memory aside.
+pub fn check<'a>(alloc: Global, image: Image<'a>) -> Result<Accepted<'a>, CheckFault>
+    ensures same { IfOk result (λ a. a.image ≡ image.entry) }
+    ensures accepted { OnOk result (IsAccepted image.entry) }
+    ensures refused { IfErr result (λ fault. fault ≢ NoMemory → Refuses image.entry fault) }
+    ensures exact { IfErr result (λ fault. fault ≢ NoMemory → IsAccepted image.entry → ⊥) }
+{
+    match checked(alloc, &image) {
+        Err(fault) => Err(fault),
+        Ok(Parts { types, spots }) => Ok(Accepted {
+            image,
+            types,
+            spots,
+        }),
+    }
+}

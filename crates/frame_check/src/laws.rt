@@ -1,0 +1,22 @@
+//! What holds of every function and every image. docs/checking.md.
+ghost use Rattle.frame_check.specs.Laws.{WellIsUnrefused, RefusalsAreRight, RootsAreNamed, SavesAreWords};
+
+/// A function is well exactly where no cause stands at any of its places.
+pub fn a_function_is_well_where_no_cause_stands()
+    ensures { WellIsUnrefused }
+{}
+
+/// An image that has something to refuse isn't accepted.
+pub fn what_is_refused_is_not_accepted()
+    ensures { RefusalsAreRight }
+{}
+
+/// The roots are the types that descriptors of the functions' entries name, and the type symbols.
+pub fn roots_are_what_descriptors_name()
+    ensures { RootsAreNamed }
+{}
+
+/// The words that are told of the PUSHes of a prologue are its saves, all of them and no others.
+pub fn saves_are_words_of_pushes()
+    ensures { SavesAreWords }
+{}

@@ -1,0 +1,19 @@
+//! The frame checker of an image: its index, each of its functions, its types. An image that is accepted keeps what a run asks of each
+//! address. docs/checking.md states the rules.
+#![tactic(auto)]
+
+pub mod accepted;
+pub mod checking;
+pub mod fault;
+mod judge;
+pub mod laws;
+mod marking;
+pub mod pushes;
+pub mod roots;
+pub mod spots;
+mod walk;
+
+pub use accepted::Accepted;
+pub use checking::check;
+pub use fault::{CheckFault, Rejected};
+pub use spots::Spot;

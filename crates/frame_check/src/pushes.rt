@@ -1,0 +1,102 @@
+//! Which of the words that the PUSHes of a prologue store are its saves. docs/checking.md, "Saves".
+ghost use Rattle.std.specs.Prelude.{◌≡◌, ◌+◌, ◌-◌, ◌*◌, ◌^◌, ◌<◌, ◌≤◌, ◌++◌, length, map, OnOk, ◌==◌};
+ghost use Rattle.thumb_core.specs.Words.{listed};
+ghost use Rattle.frame_facts.specs.declared.facts.TheConstants.{DEEPEST};
+ghost use Rattle.frame_facts.specs.Saves.{saves_of};
+ghost use Rattle.frame_check.specs.Pushes.{is_saved, word_bit, word_bits, pushing, marked};
+
+use frame_facts::saves::{Prologue, Save};
+use frame_facts::straight::Straight;
+use std::alloc::AllocError;
+use thumb_isa::instr::Instr;
+
+/// A PUSH of a prologue.
+#[derive(Clone, Copy, PartialEq, Eq, Debug)]
+pub struct Pushed {
+    /// Its address, in bytes.
+    pub at: u32,
+    /// Which of the words that it stores are saves: bit k stands for word k, counted from the lowest address.
+    pub saves: u16,
+}
+
+/// How many registers a list has.
+fn words_of(list: u16) -> u32
+    ensures words { result ≡ length (listed list) }
+    ensures few { result ≤ 16 }
+{
+    let mut words = 0;
+    for k in 0..16u8 {
+        if (list >> k) & 1 == 1 {
+            words += 1;
+        }
+    }
+    words
+}
+
+/// The saves of a prologue.
+fn saves_of(p: &Prologue) -> &[Save]
+    ensures { result.now ≡ saves_of p.now }
+{
+    if (p.count as usize) < p.saves.len() {
+        &p.saves[..p.count as usize]
+    } else {
+        &p.saves
+    }
+}
+
+fn lies_at(save: &Save, offset: u32) -> bool
+    ensures { result ≡ (save.now.offset == offset) }
+{
+    save.offset == offset
+}
+
+/// Whether one of the saves lies so many bytes below the CFA.
+fn is_saved(p: &Prologue, offset: u32) -> bool
+    ensures { result ≡ is_saved p.now offset }
+{
+    saves_of(p).iter().any(|save| lies_at(save, offset))
+}
+
+/// The bit of word k above the lowest one, where it is a save.
+fn word_bit(p: &Prologue, lowest: u32, k: u32) -> u16
+    requires { k < 16 }
+    ensures bit { result ≡ word_bit p.now lowest k }
+    ensures most { result ≤ 2 ^ k }
+{
+    let offset = lowest.saturating_sub(4 * k);
+    if is_saved(p, offset) { 1 << k } else { 0 }
+}
+
+/// Of the words of a PUSH those that are saves.
+#[tactic(auto, unfolding(crate::specs::Pushes::word_bits))]
+fn word_bits(p: &Prologue, lowest: u32, words: u32) -> u16
+    requires { words ≤ 16 }
+    ensures { result ≡ word_bits p.now lowest words }
+{
+    let mut bits = 0;
+    for k in 0..words {
+        bits += word_bit(p, lowest, k);
+    }
+    bits
+}
+
+/// Adds an instruction that stands behind a run, where it is a PUSH.
+pub(crate) fn add_push(
+    pushes: &mut Vec<Pushed>,
+    p: &Prologue,
+    run: &Straight,
+    i: &Instr,
+) -> Result<(), AllocError>
+    requires { run.now.fact.depth ≤ DEEPEST }
+    ensures { OnOk result (pushes.new.items ≡ pushes.old.items ++ map (marked p.now) (pushing run.now i.now)) }
+{
+    if let Instr::Push { list } = *i {
+        let words = words_of(list);
+        let lowest = run.fact.depth + 4 * words;
+        pushes.push(Pushed {
+            at: run.prologue.end,
+            saves: word_bits(p, lowest, words),
+        })?;
+    }
+    Ok(())
+}

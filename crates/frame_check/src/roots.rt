@@ -1,0 +1,113 @@
+//! The types that an image's exceptions may have. docs/checking.md, "Types".
+ghost use Rattle.std.specs.Prelude.{◌≡◌, ℕ, ◌<◌, ◌++◌, IfOk, OnOk};
+ghost use Rattle.std.specs.List.{flat_map, range_with_len};
+ghost use Rattle.eh_desc.specs.Grammar.{type_in};
+ghost use Rattle.frame_check.specs.Roots.{type_at, listed, catch_types, kind_types, item_types, function_types, roots_of};
+
+use eh_desc::{CatchType, Desc, DescFault, DescKind, Descs, spec_type};
+use eh_index::Index;
+use elf_image::function::Function;
+use std::alloc::{AllocError, Global};
+
+/// Adds a type; 0 is none.
+fn add_type(roots: &mut Vec<u32>, ty: u32) -> Result<(), AllocError>
+    ensures { OnOk result (roots.new.items ≡ roots.old.items ++ type_at ty) }
+{
+    if ty != 0 {
+        roots.push(ty)?;
+    }
+    Ok(())
+}
+
+/// Adds the type of a catch.
+fn add_catch(roots: &mut Vec<u32>, ty: CatchType) -> Result<(), AllocError>
+    ensures { OnOk result (roots.new.items ≡ roots.old.items ++ catch_types ty) }
+{
+    match ty {
+        CatchType::All | CatchType::AllFails => Ok(()),
+        CatchType::One(ty) => add_type(roots, ty),
+    }
+}
+
+/// Adds a type of a specification, where there is one.
+fn add_listed(roots: &mut Vec<u32>, ty: Option<u32>) -> Result<(), AllocError>
+    ensures { OnOk result (roots.new.items ≡ roots.old.items ++ listed ty) }
+{
+    match ty {
+        None => Ok(()),
+        Some(ty) => add_type(roots, ty),
+    }
+}
+
+/// Adds the first `count` types of a descriptor that is a specification.
+fn add_listed_types(
+    roots: &mut Vec<u32>,
+    index: &Index,
+    d: &Desc,
+    count: u32,
+) -> Result<(), AllocError>
+    ensures { OnOk result (roots.new.items ≡ roots.old.items ++ flat_map (λ i. listed (type_in index.now.segments d.now.kind i)) (range_with_len 0 count)) }
+{
+    for i in 0..count {
+        add_listed(roots, spec_type(index, d, i))?;
+    }
+    Ok(())
+}
+
+/// Adds the types that a descriptor names.
+fn add_kind(roots: &mut Vec<u32>, index: &Index, d: &Desc) -> Result<(), AllocError>
+    ensures { OnOk result (roots.new.items ≡ roots.old.items ++ kind_types index.now.segments d.now.kind) }
+{
+    match d.kind {
+        DescKind::Cleanup { .. } => Ok(()),
+        DescKind::Catch { ty, .. } => add_catch(roots, ty),
+        DescKind::Spec { count, .. } => add_listed_types(roots, index, d, count),
+    }
+}
+
+fn add_item(
+    roots: &mut Vec<u32>,
+    index: &Index,
+    item: Result<Desc, DescFault>,
+) -> Result<(), AllocError>
+    ensures { OnOk result (roots.new.items ≡ roots.old.items ++ item_types index.now.segments item) }
+{
+    match item {
+        Ok(d) => add_kind(roots, index, &d),
+        Err(_) => Ok(()),
+    }
+}
+
+fn add_items(roots: &mut Vec<u32>, index: &Index, descs: Descs) -> Result<(), AllocError>
+    ensures { OnOk result (roots.new.items ≡ roots.old.items ++ flat_map (item_types index.now.segments) descs.entry) }
+{
+    for item in descs {
+        add_item(roots, index, item)?;
+    }
+    Ok(())
+}
+
+/// Adds the types of the descriptors of the entry that covers a function's start.
+#[tactic(auto, unfolding(crate::specs::Roots::function_types, frame_scene::specs::Sites::items_at))]
+fn add_function(roots: &mut Vec<u32>, index: &Index, f: &Function) -> Result<(), AllocError>
+    ensures { OnOk result (roots.new.items ≡ roots.old.items ++ function_types index.now f.now) }
+{
+    match index.find(f.start()) {
+        None => Ok(()),
+        Some(e) => add_items(roots, index, Descs::of(index, &e)),
+    }
+}
+
+/// The types that the descriptors of an image's functions name, function by function, and behind them its type symbols.
+#[tactic(auto, unfolding(crate::specs::Roots::roots_of))]
+pub fn roots_of(alloc: Global, index: &Index) -> Result<Vec<u32>, AllocError>
+    ensures { IfOk result (λ roots. roots.items ≡ roots_of index.now) }
+{
+    let image = index.image();
+    let mut roots = Vec::new(alloc);
+    for f in image.functions() {
+        add_function(&mut roots, index, f)?;
+    }
+    roots.extend_from_slice(image.type_symbols())?;
+    Ok(roots)
+}

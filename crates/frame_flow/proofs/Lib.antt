@@ -1,0 +1,9 @@
+pub mod Causing
+pub mod Instance
+pub mod Merging
+pub mod Passing
+pub mod Visiting
+pub mod Reaching
+pub mod Rising
+pub mod Conditions
+pub mod Pads

@@ -1,0 +1,63 @@
+-- What an edge makes of the facts and the work list.
+use Rattle.std.proofs.Common.{ℕ, ◌≡◌, ◌<◌, ◌+◌, map, List, [], ◌∷◌, ◌++◌, length, Option, Some, None, Result, Ok, Err, IfOk, IfErr, sym, ◌∙◌, subst, ⊎_elim, arith, set, get_or, drop, drop-cons, add-one}
+use Rattle.std.proofs.lemmas.List.{get_or_read}
+use Rattle.thumb_core.specs.Words.{listed}
+use Rattle.frame_facts.specs.declared.cause.FrameCause.{FrameCause}
+use Rattle.frame_facts.specs.declared.facts.Fact.{Fact}
+use Rattle.frame_facts.specs.Facts.{join_of, height, forgotten, IsAtMost}
+use Rattle.frame_facts.proofs.Vaguer.{join_falls}
+use Rattle.frame_scene.specs.declared.ways.Way.{Way}
+use Rattle.flow.specs.Flow.{fact_at}
+use Rattle.flow.proofs.Work.{contains_head}
+use Rattle.flow.proofs.Ends.{merge_new, merge_vaguer, merge_same, merge_apart}
+use Rattle.frame_flow.specs.declared.work.FrameFault.{FrameFault}
+use Rattle.frame_flow.specs.declared.work.FrameFault.TheVariants.{Stands, OutOfMemory}
+use Rattle.frame_flow.specs.Framed.{Framed}
+use Rattle.frame_flow.specs.Flows.{edge_of, parting, flow_of, count_of}
+use Rattle.frame_flow.specs.Work.{IsSound, top_of, Keeps, Merged, fresh, same, vaguer, parts, spent}
+use Rattle.frame_flow.proofs.Instance.{laws, falls, inside, parting_is}
+
+pub put_fresh : (x : Framed) (facts : List (Option Fact)) (work : List ℕ) (q : ℕ) (g : Fact) (facts' : List (Option Fact)) (work' : List ℕ) (r : Result (Unit {0}) FrameFault)
+    → fact_at facts q ≡ None → facts' ≡ set facts q (Some g) → IfOk r (λ _. work' ≡ work ++ q ∷ []) → IfErr r (λ e. e ≡ OutOfMemory) → Merged x facts work q g facts' work' r
+put_fresh x facts work q g facts' work' (Ok u) none is more e = fresh none is more
+put_fresh x facts work q g facts' work' (Err y) none is more e = subst (λ y. Merged x facts work q g facts' work' (Err y)) (sym e) spent
+
+pub put_vaguer : (x : Framed) (facts : List (Option Fact)) (work : List ℕ) (q : ℕ) (g h k : Fact) (facts' : List (Option Fact)) (work' : List ℕ) (r : Result (Unit {0}) FrameFault)
+    → fact_at facts q ≡ Some h → join_of h g ≡ Some k → (k ≡ h → ⊥) → facts' ≡ set facts q (Some k) → IfOk r (λ _. work' ≡ work ++ q ∷ []) → IfErr r (λ e. e ≡ OutOfMemory) → Merged x facts work q g facts' work' r
+put_vaguer x facts work q g h k facts' work' (Ok u) held met ne is more e = vaguer h k held met ne is more
+put_vaguer x facts work q g h k facts' work' (Err y) held met ne is more e = subst (λ y. Merged x facts work q g facts' work' (Err y)) (sym e) spent
+
+-- two depths part
+pub parts_at : (x : Framed) (facts : List (Option Fact)) (work : List ℕ) (q : ℕ) (g : Fact) (facts' : List (Option Fact)) (work' : List ℕ) (h : Fact) (c : FrameCause)
+    → fact_at facts q ≡ Some h → join_of h g ≡ None → c ≡ parting x q → Merged x facts work q g facts' work' (Err (Stands q c))
+parts_at x facts work q g facts' work' h c held met e = subst (λ d. Merged x facts work q g facts' work' (Err (Stands q d))) (sym e) (parts h held met)
+
+less_from : (h g k : Fact) → join_of h g ≡ Some k → (k ≡ h → ⊥) → height k < height h
+less_from h g k met ne = ⊎_elim (λ (e : k ≡ h). absurd (ne e)) (λ (l : height k < height h). l) (join_falls h g k met)
+
+pub merged_keeps : (x : Framed) (facts : List (Option Fact)) (work : List ℕ) (q : ℕ) (g : Fact) (facts' : List (Option Fact)) (work' : List ℕ) (todo : List (ℕ × Fact)) (r : Result (Unit {0}) FrameFault)
+    → Merged x facts work q g facts' work' r → IsSound x facts work ((q, g) ∷ todo) → Keeps x facts work facts' work' todo r
+merged_keeps x facts work q g facts' work' todo _ (fresh none is more) s =
+    let m = merge_new Fact FrameCause (flow_of x) IsAtMost (laws x) (count_of x.scene) (inside x) height (top_of x) (falls x) facts work todo q g s none in
+    rw (is, more) (m.0, omega (arith, m.1))
+merged_keeps x facts work q g facts' work' todo _ (same h k held met one is more) s =
+    rw (is, more) (merge_same Fact FrameCause (flow_of x) IsAtMost (laws x) (count_of x.scene) (inside x) height (top_of x) (falls x) facts work todo q g h k s held met one, omega arith)
+merged_keeps x facts work q g facts' work' todo _ (vaguer h k held met ne is more) s =
+    let m = merge_vaguer Fact FrameCause (flow_of x) IsAtMost (laws x) (count_of x.scene) (inside x) height (top_of x) (falls x) facts work todo q g h k s held met (less_from h g k met ne) in
+    rw (is, more) (m.0, omega (arith, m.1))
+merged_keeps x facts work q g facts' work' todo _ (parts h held met) s =
+    merge_apart Fact FrameCause (flow_of x) IsAtMost (laws x) (count_of x.scene) (inside x) height (top_of x) (falls x) facts work todo q g h (parting x q) s held met (parting_is x q)
+merged_keeps x facts work q g facts' work' todo _ spent s = tt
+
+pub at_place : (facts : List (Option Fact)) (q : ℕ) (x o : Option Fact) → q < length facts → x ≡ get_or facts q x → x ≡ o → fact_at facts q ≡ o
+at_place facts q x o l e is = sym (get_or_read facts q x l e None) ∙ is
+
+-- the next edge comes in hand
+pub next_edge : (x : Framed) (facts : List (Option Fact)) (work : List ℕ) (f : Fact) (ways : List Way) (i : ℕ) (d : Way) (g : Fact) → i < length ways → g ≡ forgotten (listed (get_or ways i d).forgets) f
+    → IsSound x facts work (map (edge_of f) (drop i ways)) → IsSound x facts work (((get_or ways i d).to, g) ∷ map (edge_of f) (drop (i + 1) ways))
+next_edge x facts work f ways i d g l e s =
+    let cut : drop i ways ≡ get_or ways i d ∷ drop (i + 1) ways = rw (add-one) (drop-cons ways i d l) in
+    subst (λ k. IsSound x facts work (((get_or ways i d).to, k) ∷ map (edge_of f) (drop (i + 1) ways))) (sym e) (subst (λ ws. IsSound x facts work (map (edge_of f) ws)) cut s)
+
+pub edge_within : (x : Framed) (facts : List (Option Fact)) (work : List ℕ) (q : ℕ) (g : Fact) (todo : List (ℕ × Fact)) → IsSound x facts work ((q, g) ∷ todo) → q < length facts
+edge_within x facts work q g todo s = omega (arith, s.long, (s.ahead q g (contains_head (q, g) todo)).1)

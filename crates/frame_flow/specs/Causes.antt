@@ -1,0 +1,121 @@
+-- The causes that a fact meets at a place of a function (docs/acceptance.md, "Causes").
+use Rattle.std.specs.Prelude.{ℕ, ◌==◌, ◌&&◌, not, Bool, true, false, if◌then◌else◌, List, [], ◌∷◌, ◌++◌, Option, Some, None, Result, Ok, Err}
+use Rattle.std.specs.List.{list_any}
+use Rattle.std.specs.Option.{option_map_or}
+use Rattle.thumb_isa.specs.declared.instr.Instr.{Instr}
+use Rattle.thumb_isa.specs.declared.instr.Instr.TheVariants.{Bl, Blx}
+use Rattle.thumb_core.specs.declared.regs.TheConstants.{LR}
+use Rattle.frame_facts.specs.declared.cause.FrameCause.{FrameCause}
+use Rattle.frame_facts.specs.declared.cause.FrameCause.TheVariants.{Undecodable, BranchOut, IndirectBranch, CallNotFunction, SpWrite, JoinDepth, ReturnState, CallState, FramePointerLost, BadBytecode, BadDescriptor, PadDepth, ThrowInLeafScope, SplitEntry, GenericModel, TooLong}
+use Rattle.frame_facts.specs.declared.facts.Fact.{Fact}
+use Rattle.frame_facts.specs.declared.saves.Prologue.{Prologue}
+use Rattle.frame_facts.specs.After.{after_of}
+use Rattle.frame_facts.specs.Agrees.{has_no_room, agreed}
+use Rattle.frame_scene.specs.declared.unwinding.Unwinding.{Unwinding}
+use Rattle.frame_scene.specs.declared.unwinding.Unwinding.TheVariants.{Finds, Refused, BadBytecode as BadCodes, GenericModel as Generic}
+use Rattle.frame_scene.specs.Scene.{Scene}
+use Rattle.frame_scene.specs.Places.{address_of}
+use Rattle.frame_scene.specs.Ways.{is_undecodable, branches_out, calls_nothing, instruction_at}
+use Rattle.frame_scene.specs.Sites.{site_at, unwinding_at, is_scoped, pads_out}
+use Rattle.frame_flow.specs.Framed.{Framed}
+
+-- ---- what a test and an answer show
+
+abbrev pub shown : Bool → FrameCause → List FrameCause
+shown test c = if test then c ∷ [] else []
+
+abbrev pub answered : {X : Type 0} → Result X FrameCause → List FrameCause
+answered (Ok x) = []
+answered (Err c) = c ∷ []
+
+-- ---- sites
+
+-- of the two kinds of site, a call and not a gate
+abbrev pub is_call : Instr → Bool
+is_call (Bl off) = true
+is_call (Blx m) = true
+is_call i = false
+
+-- What the entry that covers a site says: its recipe has to agree; where there is none only calls are asked, and only for a word on the
+-- stack.
+abbrev pub unwound : Prologue → Unwinding → Bool → Fact → List FrameCause
+unwound p (Finds r) call f = answered (agreed p r call f)
+unwound p Refused call f = shown (has_no_room call f LR) (CallState LR)
+unwound p BadCodes call f = shown (has_no_room call f LR) (CallState LR)
+unwound p Generic call f = shown (has_no_room call f LR) (CallState LR)
+
+-- a gate in the scope of a descriptor, with nothing on the stack
+abbrev pub throws_in_leaf : Scene → ℕ → Bool → Fact → Bool
+throws_in_leaf s site call f = not call && (f.depth == 0) && is_scoped s site
+
+abbrev pub site_causes : Framed → Bool → Fact → ℕ → List FrameCause
+site_causes x call f site =
+    unwound x.prologue (unwinding_at x.scene site) call f ++ (shown (pads_out x.scene site) PadDepth ++ shown (throws_in_leaf x.scene site call f) ThrowInLeafScope)
+
+-- ---- places
+
+-- what the instruction at a place does to the fact; no address is a place where sp is lowered by an unknown amount
+abbrev pub after_at : Framed → ℕ → Fact → Instr → Result Fact FrameCause
+after_at x p f i = after_of x.prologue false (address_of x.scene p) i f
+
+abbrev pub instruction_causes : Framed → ℕ → Fact → Instr → List FrameCause
+instruction_causes x p f i = answered (after_at x p f i) ++ option_map_or (site_causes x (is_call i) f) (site_at x.scene p) []
+
+-- The causes that a fact meets at a place, the lowest first. Only BL can call what is no function, and it shows no cause by its effect.
+unfoldable pub found : Framed → ℕ → Fact → List FrameCause
+found x p f =
+    shown (is_undecodable x.scene p) Undecodable ++ (shown (branches_out x.scene p) BranchOut
+    ++ (shown (calls_nothing x.scene p) CallNotFunction ++ option_map_or (instruction_causes x p f) (instruction_at x.scene p) []))
+
+-- ---- one cause and another
+
+-- the causes are numbered from 1 on
+abbrev pub number : FrameCause → ℕ
+number Undecodable = 1
+number BranchOut = 2
+number IndirectBranch = 3
+number CallNotFunction = 4
+number SpWrite = 5
+number JoinDepth = 6
+number ReturnState = 7
+number (CallState reg) = 8
+number (FramePointerLost reg) = 9
+number BadBytecode = 10
+number BadDescriptor = 11
+number PadDepth = 12
+number ThrowInLeafScope = 13
+number SplitEntry = 14
+number GenericModel = 15
+number TooLong = 16
+
+-- two of them name a register
+abbrev pub register : FrameCause → Option ℕ
+register Undecodable = None
+register BranchOut = None
+register IndirectBranch = None
+register CallNotFunction = None
+register SpWrite = None
+register JoinDepth = None
+register ReturnState = None
+register (CallState reg) = Some reg
+register (FramePointerLost reg) = Some reg
+register BadBytecode = None
+register BadDescriptor = None
+register PadDepth = None
+register ThrowInLeafScope = None
+register SplitEntry = None
+register GenericModel = None
+register TooLong = None
+
+abbrev pub same_register : Option ℕ → Option ℕ → Bool
+same_register None None = true
+same_register None (Some b) = false
+same_register (Some a) None = false
+same_register (Some a) (Some b) = a == b
+
+abbrev pub same_cause : FrameCause → FrameCause → Bool
+same_cause a b = (number a == number b) && same_register (register a) (register b)
+
+-- a fact meets a cause at a place where the cause is among those found
+unfoldable pub meets : Framed → FrameCause → ℕ → Fact → Bool
+meets x c p f = list_any (same_cause c) (found x p f)

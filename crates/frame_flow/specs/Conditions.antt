@@ -1,0 +1,68 @@
+-- The condition of each cause on a fact at a place, one line a cause (docs/acceptance.md, "Causes"), and that these are what is met.
+use Rattle.std.specs.Prelude.{ℕ, ◌≡◌, ◌<◌, ◌↔◌, true, false, Some, Ok, Err}
+use Rattle.std.specs.List.{Contains}
+use Rattle.thumb_isa.specs.declared.instr.Instr.{Instr}
+use Rattle.thumb_core.specs.declared.regs.TheConstants.{LR}
+use Rattle.thumb_core.specs.Words.{listed}
+use Rattle.frame_facts.specs.declared.cause.FrameCause.{FrameCause}
+use Rattle.frame_facts.specs.declared.cause.FrameCause.TheVariants.{Undecodable, BranchOut, IndirectBranch, CallNotFunction, SpWrite, JoinDepth, ReturnState, CallState, FramePointerLost, BadBytecode, BadDescriptor, PadDepth, ThrowInLeafScope, SplitEntry, GenericModel, TooLong}
+use Rattle.frame_facts.specs.declared.facts.Fact.{Fact}
+use Rattle.frame_facts.specs.declared.saves.Prologue.{Prologue}
+use Rattle.frame_facts.specs.Facts.{forgotten}
+use Rattle.frame_facts.specs.After.{after_of}
+use Rattle.frame_facts.specs.Agrees.{agreed}
+use Rattle.frame_scene.specs.declared.unwinding.Unwinding.{Unwinding}
+use Rattle.frame_scene.specs.declared.unwinding.Unwinding.TheVariants.{Finds, Refused, BadBytecode as BadCodes, GenericModel as Generic}
+use Rattle.frame_scene.specs.declared.ways.Way.{Way}
+use Rattle.frame_scene.specs.Places.{address_of}
+use Rattle.frame_scene.specs.Ways.{is_undecodable, branches_out, calls_nothing, instruction_at}
+use Rattle.frame_scene.specs.Sites.{site_at, unwinding_at, is_scoped, pads_out, ways_of}
+use Rattle.frame_flow.specs.Framed.{Framed}
+use Rattle.frame_flow.specs.Causes.{is_call, meets}
+use Rattle.frame_flow.specs.Flows.{edges}
+
+-- the effect of the instruction at a place
+abbrev pub Leaves : Framed → ℕ → Fact → Fact → Type 0
+Leaves x p f g = (i : Instr) × (instruction_at x.scene p ≡ Some i) × (after_of x.prologue false (address_of x.scene p) i f ≡ Ok g)
+
+abbrev pub Shows : Framed → ℕ → Fact → FrameCause → Type 0
+Shows x p f c = (i : Instr) × (instruction_at x.scene p ≡ Some i) × (after_of x.prologue false (address_of x.scene p) i f ≡ Err c)
+
+-- a site at a place
+abbrev pub AtSite : Framed → ℕ → (Instr → ℕ → Type 0) → Type 0
+AtSite x p P = (i : Instr) × (site : ℕ) × (instruction_at x.scene p ≡ Some i) × (site_at x.scene p ≡ Some site) × P i site
+
+-- a recipe that doesn't agree; or, without one, a call with no word on the stack
+abbrev pub Disagrees : Prologue → Unwinding → Instr → Fact → FrameCause → Type 0
+Disagrees p (Finds r) i f c = agreed p r (is_call i) f ≡ Err c
+Disagrees p Refused i f c = (is_call i ≡ true) × (f.depth < 4) × (c ≡ CallState LR)
+Disagrees p BadCodes i f c = (is_call i ≡ true) × (f.depth < 4) × (c ≡ CallState LR)
+Disagrees p Generic i f c = (is_call i ≡ true) × (f.depth < 4) × (c ≡ CallState LR)
+
+-- The condition of each cause. JoinDepth is a matter of two facts; those about the covering entry of the function's start, about all of
+-- its sites and about all places that are reached are none of a fact.
+abbrev pub Holds : Framed → ℕ → Fact → FrameCause → Type 0
+Holds x p f Undecodable = is_undecodable x.scene p ≡ true
+Holds x p f BranchOut = branches_out x.scene p ≡ true
+Holds x p f IndirectBranch = Shows x p f IndirectBranch
+Holds x p f CallNotFunction = calls_nothing x.scene p ≡ true
+Holds x p f SpWrite = Shows x p f SpWrite
+Holds x p f JoinDepth = ⊥
+Holds x p f ReturnState = Shows x p f ReturnState
+Holds x p f (CallState reg) = AtSite x p (λ i site. Disagrees x.prologue (unwinding_at x.scene site) i f (CallState reg))
+Holds x p f (FramePointerLost reg) = AtSite x p (λ i site. Disagrees x.prologue (unwinding_at x.scene site) i f (FramePointerLost reg))
+Holds x p f BadBytecode = ⊥
+Holds x p f BadDescriptor = ⊥
+Holds x p f PadDepth = AtSite x p (λ i site. pads_out x.scene site ≡ true)
+Holds x p f ThrowInLeafScope = AtSite x p (λ i site. (is_call i ≡ false) × (f.depth ≡ 0) × (is_scoped x.scene site ≡ true))
+Holds x p f SplitEntry = ⊥
+Holds x p f GenericModel = ⊥
+Holds x p f TooLong = ⊥
+
+-- a fact meets a cause at a place exactly where the cause's condition holds
+abbrev pub CausesAreConditions : Type 0
+CausesAreConditions = (x : Framed) (c : FrameCause) (p : ℕ) (f : Fact) → (meets x c p f ≡ true) ↔ Holds x p f c
+
+-- a fact leads along the ways of its place, with what its instruction leaves and the way doesn't forget, and nowhere else
+abbrev pub EdgesAreWays : Type 0
+EdgesAreWays = (x : Framed) (p : ℕ) (f : Fact) (q : ℕ) (g : Fact) → Contains (edges x p f) (q, g) ↔ ((k : Fact) × (w : Way) × Leaves x p f k × Contains (ways_of x.scene p) w × (q ≡ w.to) × (g ≡ forgotten (listed w.forgets) k))

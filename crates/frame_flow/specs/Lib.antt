@@ -1,0 +1,6 @@
+pub mod Framed
+pub mod Causes
+pub mod Flows
+pub mod Work
+pub mod Conditions
+pub mod Laws

@@ -1,0 +1,60 @@
+-- How a work list finds the facts of a function, or a cause that stands.
+use Rattle.std.specs.Prelude.{ℕ, ◌≡◌, ◌≤◌, ◌+◌, List, [], ◌∷◌, ◌++◌, Option, Some, None, Result, Ok, Err, slice_set}
+use Rattle.frame_facts.specs.declared.cause.FrameCause.{FrameCause}
+use Rattle.frame_facts.specs.declared.facts.Fact.{Fact}
+use Rattle.frame_facts.specs.Facts.{join_of, height, IsAtMost}
+use Rattle.flow.specs.Flow.{fact_at}
+use Rattle.flow.specs.Sound.{Sound, weight}
+use Rattle.frame_flow.specs.declared.work.FrameFault.{FrameFault}
+use Rattle.frame_flow.specs.declared.work.FrameFault.TheVariants.{Stands, OutOfMemory}
+use Rattle.frame_flow.specs.Framed.{Framed}
+use Rattle.frame_flow.specs.Causes.{found}
+use Rattle.frame_flow.specs.Flows.{behind, parting, flow_of, count_of, StandsIn, HasFacts}
+
+-- ---- a place
+
+-- the first cause of a list; where it has none, a value
+abbrev pub by_first : {X : Type 0} → List FrameCause → X → Result X FrameCause
+by_first [] x = Ok x
+by_first (c ∷ more) x = Err c
+
+-- the fact behind a place, where it meets no cause there; else the lowest
+abbrev pub passed : Framed → ℕ → Fact → Result (Option Fact) FrameCause
+passed x p f = by_first (found x p f) (behind x p f)
+
+-- ---- the work list
+
+abbrev pub IsSound : Framed → List (Option Fact) → List ℕ → List (ℕ × Fact) → Type 0
+IsSound x = Sound Fact FrameCause (flow_of x) IsAtMost (count_of x.scene)
+
+-- a height above that of every state: the saves that are kept count, and what is known beside them is less than 32
+abbrev pub top_of : Framed → ℕ
+top_of x = x.prologue.count + 32
+
+-- how much there is to do at most
+abbrev pub load : Framed → List (Option Fact) → List ℕ → ℕ
+load x = weight height (top_of x)
+
+-- a fault names a cause that stands; that memory runs out says nothing
+abbrev pub FaultStands : Framed → FrameFault → Type 0
+FaultStands x (Stands place cause) = StandsIn x place cause
+FaultStands x OutOfMemory = Unit {0}
+
+-- a fault that isn't want of memory shows that there are no valid facts
+abbrev pub LacksFacts : Framed → FrameFault → Type 0
+LacksFacts x (Stands place cause) = HasFacts x → ⊥
+LacksFacts x OutOfMemory = Unit {0}
+
+-- what becomes of the facts and the work list at an edge to the place q with the fact g: the fact is written where there was none, or the
+-- meeting with the one that was there where that is another; then the place is to be visited. Two depths part
+pub data Merged (x : Framed) (facts : List (Option Fact)) (work : List ℕ) (q : ℕ) (g : Fact) (facts' : List (Option Fact)) (work' : List ℕ) : Result (Unit {0}) FrameFault → Type 0 where
+  fresh : fact_at facts q ≡ None → facts' ≡ slice_set facts q (Some g) → work' ≡ work ++ q ∷ [] → Merged x facts work q g facts' work' (Ok tt)
+  same : (h k : Fact) → fact_at facts q ≡ Some h → join_of h g ≡ Some k → k ≡ h → facts' ≡ facts → work' ≡ work → Merged x facts work q g facts' work' (Ok tt)
+  vaguer : (h k : Fact) → fact_at facts q ≡ Some h → join_of h g ≡ Some k → (k ≡ h → ⊥) → facts' ≡ slice_set facts q (Some k) → work' ≡ work ++ q ∷ [] → Merged x facts work q g facts' work' (Ok tt)
+  parts : (h : Fact) → fact_at facts q ≡ Some h → join_of h g ≡ None → Merged x facts work q g facts' work' (Err (Stands q (parting x q)))
+  spent : Merged x facts work q g facts' work' (Err OutOfMemory)
+
+-- the work list stays sound and its load grows no more, or a cause stands
+abbrev pub Keeps : Framed → List (Option Fact) → List ℕ → List (Option Fact) → List ℕ → List (ℕ × Fact) → Result (Unit {0}) FrameFault → Type 0
+Keeps x facts work facts' work' todo (Ok u) = IsSound x facts' work' todo × (load x facts' work' ≤ load x facts work)
+Keeps x facts work facts' work' todo (Err e) = FaultStands x e

@@ -1,0 +1,106 @@
+//! The causes that a fact meets at a place, the lowest first. docs/acceptance.md, "Causes".
+ghost use Rattle.std.specs.Prelude.{◌≡◌, ◌+◌, ◌*◌, ◌<◌, ◌^◌};
+ghost use Rattle.frame_flow.specs.Framed.{framed_of};
+ghost use Rattle.frame_flow.specs.Causes.{is_call, unwound, throws_in_leaf, site_causes, found};
+ghost use Rattle.frame_flow.specs.Flows.{behind, parting};
+ghost use Rattle.frame_flow.specs.Work.{by_first, passed};
+ghost use Rattle.frame_scene.specs.Sites.{unwinding_at};
+
+use crate::framed::Framed;
+use frame_facts::{Fact, FrameCause, after, agrees};
+use frame_scene::{Standing, Unwinding};
+use thumb_core::regs::LR;
+use thumb_isa::instr::Instr;
+
+/// Of a call and a gate, the call.
+fn is_call(i: &Instr) -> bool
+    ensures { result ≡ is_call i.now }
+{
+    matches!(*i, Instr::Bl { .. } | Instr::Blx { .. })
+}
+
+impl<'f, 's, 'i, 'a> Framed<'f, 's, 'i, 'a> {
+    /// Whether a site agrees with the entry that covers it: by its recipe, and where there is none by the room of a call alone.
+    fn unwound(&self, site: u32, call: bool, fact: &Fact) -> Result<(), FrameCause>
+        ensures { result ≡ by_first (unwound self.now.prologue (unwinding_at self.now.scene site) call fact.now) tt }
+    {
+        match self.scene.unwinding_at(site) {
+            Unwinding::Finds(recipe) => agrees(fact, &self.prologue, &recipe, call),
+            Unwinding::Refused | Unwinding::BadBytecode | Unwinding::GenericModel => {
+                if call && fact.depth < 4 {
+                    Err(FrameCause::CallState { reg: LR })
+                } else {
+                    Ok(())
+                }
+            }
+        }
+    }
+
+    /// Whether a gate stands in the scope of a descriptor with nothing on the stack.
+    fn throws_in_leaf(&self, site: u32, call: bool, fact: &Fact) -> bool
+        ensures { result ≡ throws_in_leaf self.now.scene site call fact.now }
+    {
+        !call && fact.depth == 0 && self.scene.is_scoped(site)
+    }
+
+    /// The lowest cause that a fact meets at a site.
+    fn agrees_at(&self, site: u32, call: bool, fact: &Fact) -> Result<(), FrameCause>
+        ensures { result ≡ by_first (site_causes (framed_of self.now) call fact.now site) tt }
+    {
+        self.unwound(site, call, fact)?;
+        if self.scene.pads_out(site) {
+            return Err(FrameCause::PadDepth);
+        }
+        if self.throws_in_leaf(site, call, fact) {
+            return Err(FrameCause::ThrowInLeafScope);
+        }
+        Ok(())
+    }
+
+    /// The fact behind a place, none where nothing leads on; or the lowest cause that the fact before it meets there.
+    pub(crate) fn passed(&self, place: u32, fact: &Fact) -> Result<Option<Fact>, FrameCause>
+        requires { self.now.scene.start + 2 * place < 2 ^ 32 }
+        ensures { result ≡ passed (framed_of self.now) place fact.now }
+    {
+        if self.scene.is_undecodable(place) {
+            return Err(FrameCause::Undecodable);
+        }
+        if self.scene.branches_out(place) {
+            return Err(FrameCause::BranchOut);
+        }
+        if self.scene.calls_nothing(place) {
+            return Err(FrameCause::CallNotFunction);
+        }
+        let Standing::Instruction(i, _) = self.scene.standing_at(place) else {
+            return Ok(None);
+        };
+        match after(
+            fact,
+            &i,
+            self.scene.address_of(place),
+            &self.prologue,
+            false,
+        ) {
+            Err(cause) => Err(cause),
+            Ok(next) => match self.scene.site_at(place) {
+                None => Ok(Some(next)),
+                Some(site) => match self.agrees_at(site, is_call(&i), fact) {
+                    Err(cause) => Err(cause),
+                    Ok(()) => Ok(Some(next)),
+                },
+            },
+        }
+    }
+
+    /// Which cause is named where two paths reach a place with different depths.
+    pub(crate) fn parting(&self, place: u32) -> FrameCause
+        ensures { result ≡ parting (framed_of self.now) place }
+    {
+        let place = place as usize;
+        if place < self.pads.len() && self.pads[place] {
+            FrameCause::PadDepth
+        } else {
+            FrameCause::JoinDepth
+        }
+    }
+}

@@ -1,0 +1,40 @@
+//! A function of an image with what its facts rest on beside its code. docs/acceptance.md, "The facts of a function".
+ghost use Rattle.std.specs.Prelude.{◌≡◌};
+ghost use Rattle.frame_flow.specs.Framed.{Parts};
+
+use frame_facts::Prologue;
+use frame_scene::Scene;
+use std::marker::Model;
+
+/// A function, its prologue, and a mark for each of its places that says whether it is a landing pad; a place without a mark is none.
+#[derive(Drop)]
+pub struct Framed<'f, 's, 'i, 'a> {
+    pub(crate) scene: &'f Scene<'s, 'i, 'a>,
+    pub(crate) prologue: Prologue,
+    pub(crate) pads: &'f [bool],
+}
+
+impl<'f, 's, 'i, 'a> Model for Framed<'f, 's, 'i, 'a> {
+    ghost use Rattle.frame_flow.specs.Framed.{Parts};
+
+    ghost Value = { Parts };
+
+    ghost view = { λ f. record { scene = f.scene.now; prologue = f.prologue; pads = f.pads.now } };
+}
+
+impl<'f, 's, 'i, 'a> Framed<'f, 's, 'i, 'a> {
+    /// The function of a scene with its prologue and its pads.
+    pub fn new(
+        scene: &'f Scene<'s, 'i, 'a>,
+        prologue: Prologue,
+        pads: &'f [bool],
+    ) -> Framed<'f, 's, 'i, 'a>
+        ensures { result ≡ record { scene = scene.entry.now; prologue = prologue; pads = pads.entry.now } }
+    {
+        Framed {
+            scene,
+            prologue,
+            pads,
+        }
+    }
+}

@@ -1,0 +1,39 @@
+//! What the facts of a function show, whatever the function. docs/acceptance.md, "The facts of a function".
+ghost use Rattle.frame_flow.specs.Conditions.{CausesAreConditions, EdgesAreWays};
+ghost use Rattle.frame_flow.specs.Laws.{FlowsKeepLaws, FactsDecide, FoundAreMet, LowestIsFirst, FactsReach};
+
+/// Facts of frames flow as flows have to: vagueness is an order, meetings are least, and a fact that is less vague meets no more causes
+/// and leads along no more edges.
+pub fn flows_keep_laws()
+    ensures { FlowsKeepLaws }
+{}
+
+/// A function whose entry lies below its end has valid facts exactly where no cause stands.
+pub fn valid_facts_exist_where_no_cause_stands()
+    ensures { FactsDecide }
+{}
+
+/// A fact meets a cause at a place exactly where the condition of the cause holds.
+pub fn causes_are_conditions()
+    ensures { CausesAreConditions }
+{}
+
+/// A fact leads along the ways of its place and nowhere else, with what the instruction leaves and the way doesn't forget.
+pub fn edges_are_ways()
+    ensures { EdgesAreWays }
+{}
+
+/// A fact meets exactly the causes that are found.
+pub fn found_causes_are_met()
+    ensures { FoundAreMet }
+{}
+
+/// The first cause that is found has the lowest number.
+pub fn lowest_cause_is_first()
+    ensures { LowestIsFirst }
+{}
+
+/// Where a function has valid facts, exactly the places that are reached have a state, and each has a fact.
+pub fn reached_places_have_facts()
+    ensures { FactsReach }
+{}

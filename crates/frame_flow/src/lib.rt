@@ -1,0 +1,11 @@
+//! The facts of one function: what is known at each of its places, and the causes that stand there. docs/acceptance.md, "The facts of a
+//! function", states the rules.
+#![tactic(auto)]
+
+pub mod causes;
+pub mod framed;
+pub mod laws;
+pub mod work;
+
+pub use framed::Framed;
+pub use work::{FrameFault, settle};

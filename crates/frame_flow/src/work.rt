@@ -1,0 +1,147 @@
+//! A work list that finds the facts of a function. docs/acceptance.md, "The facts of a function".
+ghost use Rattle.std.specs.Prelude.{◌≡◌, ℕ, ◌+◌, ◌*◌, ◌<◌, ◌≤◌, ◌^◌, ◌++◌, ◌∷◌, [], List, Option, map, length, IfOk, IfErr, vec_len, slice_set, replicate};
+ghost use Rattle.frame_flow.specs.Framed.{framed_of};
+ghost use Rattle.frame_flow.specs.Flows.{edge_of, count_of, HasFacts, NoneStands};
+ghost use Rattle.frame_flow.specs.Work.{IsSound, FaultStands, LacksFacts, Keeps, Merged};
+
+use crate::framed::Framed;
+use frame_facts::{Fact, FrameCause, entry_fact, forget, is_same, join};
+use frame_scene::Way;
+use std::alloc::{AllocError, Global};
+
+/// Why a function has no valid facts, or why none were found.
+#[derive(Clone, Copy, PartialEq, Eq, Debug)]
+pub enum FrameFault {
+    /// A cause stands at a place, which is told by how many halfwords it lies behind the entry.
+    Stands(u32, FrameCause),
+    /// There is no memory left.
+    OutOfMemory,
+}
+
+/// Writes the fact of a place, which is then to be visited.
+fn put(
+    facts: &mut Vec<Option<Fact>>,
+    work: &mut Vec<u32>,
+    to: u32,
+    fact: Fact,
+) -> Result<(), FrameFault>
+    requires { to < vec_len facts.old }
+    ensures facts { facts.new.items ≡ slice_set facts.old.items to (Some fact) }
+    ensures work { IfOk result (λ _. work.new.items ≡ work.old.items ++ to ∷ []) }
+    ensures spent { IfErr result (λ e. e ≡ FrameFault.OutOfMemory) }
+{
+    facts[to as usize] = Some(fact);
+    match work.push(to) {
+        Ok(()) => Ok(()),
+        Err(_) => Err(FrameFault::OutOfMemory),
+    }
+}
+
+/// Takes an edge to a place, with the fact there.
+fn merge(
+    x: &Framed,
+    facts: &mut Vec<Option<Fact>>,
+    work: &mut Vec<u32>,
+    to: u32,
+    fact: &Fact,
+) -> Result<(), FrameFault>
+    requires { to < vec_len facts.old }
+    ensures { Merged (framed_of x.now) facts.old.items work.old.items to fact.now facts.new.items work.new.items result }
+{
+    match facts[to as usize] {
+        None => put(facts, work, to, *fact),
+        Some(held) => match join(&held, fact) {
+            None => Err(FrameFault::Stands(to, x.parting(to))),
+            Some(met) => {
+                if is_same(&met, &held) {
+                    Ok(())
+                } else {
+                    put(facts, work, to, met)
+                }
+            }
+        },
+    }
+}
+
+/// Takes all edges of a place, where `fact` stands behind it.
+fn spread(
+    x: &Framed,
+    facts: &mut Vec<Option<Fact>>,
+    work: &mut Vec<u32>,
+    ways: &[Way],
+    fact: &Fact,
+) -> Result<(), FrameFault>
+    requires { IsSound (framed_of x.now) facts.old.items work.old.items (map (edge_of fact.now) ways.now) }
+    ensures { Keeps (framed_of x.now) facts.old.items work.old.items facts.new.items work.new.items [] result }
+{
+    for way in ways {
+        let next = forget(fact, way.forgets);
+        match merge(x, facts, work, way.to, &next) {
+            Ok(()) => {}
+            Err(fault) => return Err(fault),
+        }
+    }
+    Ok(())
+}
+
+/// Visits a place that was taken from the end of the work list.
+fn visit(
+    alloc: Global,
+    x: &Framed,
+    facts: &mut Vec<Option<Fact>>,
+    work: &mut Vec<u32>,
+    place: u32,
+) -> Result<(), FrameFault>
+    requires short { x.now.scene.end < 2 ^ 32 }
+    requires sound { IsSound (framed_of x.now) facts.old.items (work.old.items ++ place ∷ []) [] }
+    ensures { Keeps (framed_of x.now) facts.old.items work.old.items facts.new.items work.new.items [] result }
+{
+    match facts[place as usize] {
+        None => Ok(()),
+        Some(fact) => match x.passed(place, &fact) {
+            Err(cause) => Err(FrameFault::Stands(place, cause)),
+            Ok(None) => Ok(()),
+            Ok(Some(next)) => match x.scene.ways_of(alloc, place) {
+                Ok(ways) => spread(x, facts, work, &ways, &next),
+                Err(_) => Err(FrameFault::OutOfMemory),
+            },
+        },
+    }
+}
+
+/// A table for so many places, in which none has a fact.
+fn no_facts(alloc: Global, count: u32) -> Result<Vec<Option<Fact>>, AllocError>
+    ensures { IfOk result (λ facts. facts.items ≡ replicate count None) }
+{
+    let mut facts = Vec::new(alloc);
+    for i in 0..count {
+        facts.push(None)?;
+    }
+    Ok(facts)
+}
+
+/// Finds the facts of a function whose entry lies below its end.
+///
+/// `Ok` where it has valid facts, so that no cause stands at any place of it; `Stands` with a place and a cause that stands there, so that
+/// it has none. Only `OutOfMemory` leaves that open.
+pub fn settle(alloc: Global, x: &Framed) -> Result<(), FrameFault>
+    requires { x.now.scene.start < x.now.scene.end }
+    ensures accepted { IfOk result (λ _. HasFacts (framed_of x.now)) }
+    ensures clear { IfOk result (λ _. NoneStands (framed_of x.now)) }
+    ensures refused { IfErr result (FaultStands (framed_of x.now)) }
+    ensures lacks { IfErr result (LacksFacts (framed_of x.now)) }
+{
+    let count = (x.scene.end() - x.scene.start()).div_ceil(2);
+    let Ok(mut facts) = no_facts(alloc, count) else {
+        return Err(FrameFault::OutOfMemory);
+    };
+    let mut work = Vec::new(alloc);
+    put(&mut facts, &mut work, 0, entry_fact())?;
+    while let Some(place) = work.pop() {
+        match visit(alloc, x, &mut facts, &mut work, place) {
+            Ok(()) => {}
+            Err(fault) => return Err(fault),
+        }
+    }
+    Ok(())
+}

@@ -1,0 +1,223 @@
+-- What a search finds: the places of the function that are reached, once all ways are followed.
+use Rattle.std.proofs.Common.{ℕ, ◌≡◌, ◌<◌, ◌≤◌, ◌+◌, ◌*◌, ◌^◌, ◌⊎◌, inl, inr, Bool, true, false, List, [], length, get_or, take, Option, Some, None, sym, ◌∙◌, ap, subst, refl, ⊎_elim, arith, zero, suc, replicate}
+use Rattle.std.proofs.lemmas.Grind.{get_or_default_zero}
+use Rattle.std.proofs.lemmas.List.Elements.{Contains-append_left, Contains-append_right, Contains-append_cases, Contains-push_cases, Contains-get_or}
+use Rattle.std.proofs.lemmas.Bool.{cases_eq, true≢false}
+use Rattle.std.specs.Option.{option_map_or}
+use Rattle.std.proofs.lemmas.List.{take_more, take_all, length-replicate}
+use Rattle.std.specs.Prelude.{nat_eq, slice_index}
+use Rattle.std.specs.List.{Contains, IsDistinct}
+use Rattle.frame_scene.specs.declared.ways.Way.{Way}
+use Rattle.frame_scene.specs.Scene.{Scene}
+use Rattle.frame_scene.specs.declared.places.Standing.{Standing}
+use Rattle.frame_scene.specs.declared.places.Standing.TheVariants.{Instruction, Udf, Nothing}
+use Rattle.frame_scene.specs.Places.{address_of, place_of, standing_at}
+use Rattle.frame_scene.specs.Ways.{branch_target, ways_to, onward, straight_by, straight_ways, instruction_of, branched_to}
+use Rattle.std.proofs.lemmas.Option.{none-some}
+use Rattle.std.specs.Prelude.{option_and_then}
+use Rattle.flow.proofs.Work.{contains_head}
+use Rattle.frame_scene.specs.Sites.{site_at, ways_from, ways_of, is_split}
+use Rattle.frame_scene.specs.Reach.{IsReached, entry, along}
+use Rattle.frame_scene.proofs.Inside.{ways_stay_inside}
+use Rattle.frame_reach.specs.Marks.{IsPad, IsBranched, IsTarget, IsTooLong, IsSplit, Marks, AreMarks, AreThePlaces}
+use Rattle.frame_reach.specs.Held.{Held, is_set, marks_of, splits_at}
+use Rattle.frame_reach.specs.Prologue.{places}
+use Rattle.frame_reach.specs.Search.{AreSound, Grow, AreFollowed, IsPutIn, IsLandedIn}
+use Rattle.frame_reach.proofs.Marking.{no_more}
+
+-- ---- places that are reached lie inside
+
+pub inside : (s : Scene) (p : ℕ) → IsReached s p → (p ≡ 0) ⊎ (s.start + 2 * p < s.end)
+inside s _ entry = inl refl
+inside s _ (along {p} {w} r h) = inr (ways_stay_inside s p w h)
+
+pub below : (s : Scene) (p : ℕ) → IsReached s p → p < places s
+below s p r = ⊎_elim
+    (λ (e : p ≡ 0). omega (arith, e))
+    (λ (l : s.start + 2 * p < s.end). omega (arith, l))
+    (inside s p r)
+
+pub low : (s : Scene) (p : ℕ) → IsReached s p → s.start < 2 ^ 32 → s.end < 2 ^ 32 → s.start + 2 * p < 2 ^ 32
+low s p r a b = ⊎_elim
+    (λ (e : p ≡ 0). omega (arith, e, a))
+    (λ (l : s.start + 2 * p < s.end). omega (arith, l, b))
+    (inside s p r)
+
+-- ---- ways lead to places that are reached
+
+pub straight_reached : (s : Scene) (p : ℕ) (w : Way) → IsReached s p → Contains (straight_ways s p) w → IsReached s w.to
+unfolding ways_of
+straight_reached s p w r h = along r (Contains-append_left (straight_ways s p) (ways_from s (site_at s p)) w h)
+
+pub landing_reached : (s : Scene) (p : ℕ) (w : Way) → IsReached s p → Contains (ways_from s (site_at s p)) w → IsReached s w.to
+unfolding ways_of
+landing_reached s p w r h = along r (Contains-append_right (straight_ways s p) (ways_from s (site_at s p)) w h)
+
+pub pad_reached : (s : Scene) (q : ℕ) → IsPad s q → IsReached s q
+pad_reached s q d = subst (λ (x : ℕ). IsReached s x) d.4 (landing_reached s d.0 d.1 d.2 d.3)
+
+-- ---- all ways are followed
+
+module _ (s : Scene) (h : Held) (a : AreSound s h) (begins : is_set h.reached 0 ≡ true)
+    (followed : (k : ℕ) → k < length h.places → AreFollowed s h (slice_index h.places k)) where
+  follow : (p : ℕ) → is_set h.reached p ≡ true → AreFollowed s h p
+  follow p e =
+      let c = (a.listed.all p).1 e in
+      subst (λ (x : ℕ). AreFollowed s h x) (sym (get_or_default_zero h.places c.0 p c.1) ∙ c.2) (followed c.0 c.1)
+
+  every : (p : ℕ) → IsReached s p → is_set h.reached p ≡ true
+  unfolding ways_of
+  every _ entry = begins
+  every _ (along {p} {w} r e) =
+      let f = follow p (every p r) in ⊎_elim
+      (λ (c : Contains (straight_ways s p) w). f.straight w c)
+      (λ (c : Contains (ways_from s (site_at s p)) w). (f.landings w c).0)
+      (Contains-append_cases (straight_ways s p) (ways_from s (site_at s p)) w e)
+
+  pad_marked : (q : ℕ) → IsPad s q → IsLandedIn h q
+  pad_marked q d = subst (λ (x : ℕ). IsLandedIn h x) d.4 ((follow d.0 (every d.0 d.2)).landings d.1 d.3)
+
+  pub all_marked : AreMarks s (marks_of h)
+  all_marked = record {
+    reached = λ p. (a.reached p, every p);
+    target = λ q. (
+      a.target q,
+      λ t. ⊎_elim
+          (λ (b : IsBranched s q). (follow b.0 (every b.0 b.1)).branch q b.2)
+          (λ (d : IsPad s q). (pad_marked q d).1)
+          t,
+    );
+    pad = λ q. (a.pad q, λ d. (pad_marked q d).2);
+  }
+
+  pub not_too_long : IsTooLong s → ⊥
+  not_too_long t = omega (arith, t.3, a.few, no_more t.0 h.places t.1 (λ p c. (a.listed.all p).1 (every p (t.2 p c))))
+
+branch_way : (s : Scene) (a : ℕ) (t : Standing) (q : ℕ) → option_and_then (place_of s) (option_and_then (branch_target a) (instruction_of t)) ≡ Some q
+    → Contains (straight_by s a t) (record { to = q; forgets = 0 })
+branch_way s a (Instruction i size) q e =
+    let w : Way = record { to = q; forgets = 0 } in
+    let to = option_and_then (place_of s) (branch_target a i) in
+    Contains-append_right (onward s a i size) (ways_to 0 to) w (subst (λ (o : Option ℕ). Contains (ways_to 0 o) w) (sym e) (contains_head w []))
+branch_way s a Udf q e = absurd (none-some q e)
+branch_way s a Nothing q e = absurd (none-some q e)
+
+branch_reached : (s : Scene) (q : ℕ) → IsBranched s q → IsReached s q
+branch_reached s q b = straight_reached s b.0 (record { to = q; forgets = 0 }) b.1 (branch_way s (address_of s b.0) (standing_at s b.0) q b.2)
+
+pub target_below : (s : Scene) (q : ℕ) → IsTarget s q → q < places s
+target_below s q t = below s q (⊎_elim (λ (b : IsBranched s q). branch_reached s q b) (λ (d : IsPad s q). pad_reached s q d) t)
+
+-- ---- nothing is found yet
+
+pub unmarked : (n p : ℕ) → is_set (replicate n false) p ≡ false
+unmarked zero p = refl
+unmarked (suc n) zero = refl
+unmarked (suc n) (suc p) = unmarked n p
+
+none_listed : (p : ℕ) → Contains [] p → ⊥
+none_listed p c = omega (arith, c.1)
+
+none_twice : IsDistinct nat_eq []
+unfolding IsDistinct
+none_twice = tt
+
+blank_sound : (s : Scene) (n : ℕ) → n ≡ places s → AreSound s (record { reached = replicate n false; target = replicate n false; pad = replicate n false; places = [] })
+blank_sound s n e = record {
+  reached_long = length-replicate n false ∙ e;
+  target_long = length-replicate n false ∙ e;
+  pad_long = length-replicate n false ∙ e;
+  listed = record { once = none_twice; all = λ p. (λ c. absurd (none_listed p c), λ h. absurd (true≢false (sym h ∙ unmarked n p))) };
+  few = omega arith;
+  reached = λ p h. absurd (true≢false (sym h ∙ unmarked n p));
+  target = λ p h. absurd (true≢false (sym h ∙ unmarked n p));
+  pad = λ p h. absurd (true≢false (sym h ∙ unmarked n p));
+}
+
+pub blanks_sound : (s : Scene) (n : ℕ) (a b c : List Bool) (ps : List ℕ) → n ≡ places s → a ≡ replicate n false → b ≡ replicate n false → c ≡ replicate n false → ps ≡ []
+    → AreSound s (record { reached = a; target = b; pad = c; places = ps })
+blanks_sound s n a b c ps e x y z w =
+    let blank = replicate n false in
+    subst (λ (u : List Bool). AreSound s (record { reached = u; target = b; pad = c; places = ps })) (sym x)
+    (subst (λ (u : List Bool). AreSound s (record { reached = blank; target = u; pad = c; places = ps })) (sym y)
+    (subst (λ (u : List Bool). AreSound s (record { reached = blank; target = blank; pad = u; places = ps })) (sym z)
+    (subst (λ (u : List ℕ). AreSound s (record { reached = blank; target = blank; pad = blank; places = u })) (sym w) (blank_sound s n e))))
+
+-- ---- the ways of one place
+
+-- what is followed stays so
+pub followed_grow : (s : Scene) (h g : Held) (p : ℕ) → Grow h g → AreFollowed s h p → AreFollowed s g p
+followed_grow s h g p more f = record {
+  straight = λ w c. more.reached w.to (f.straight w c);
+  landings = λ w c. let l = f.landings w c in (more.reached w.to l.0, more.target w.to l.1, more.pad w.to l.2);
+  branch = λ q e. more.target q (f.branch q e);
+}
+
+pub followed : (s : Scene) (a b c : Held) (p : ℕ) (ways landings : List Way) (target : Option ℕ) → ways ≡ straight_ways s p → landings ≡ ways_from s (site_at s p) → target ≡ branched_to s p
+    → Grow a b → Grow b c → ((w : Way) → Contains ways w → IsPutIn a w.to) → ((w : Way) → Contains landings w → IsLandedIn b w.to) → ((q : ℕ) → target ≡ Some q → is_set c.target q ≡ true) → AreFollowed s c p
+followed s a b c p ways landings target is_ways is_landings is_target g h put landed aimed = record {
+  straight = λ w e. h.reached w.to (g.reached w.to (put w (subst (λ (ws : List Way). Contains ws w) (sym is_ways) e)));
+  landings = λ w e. let l = landed w (subst (λ (ws : List Way). Contains ws w) (sym is_landings) e) in (h.reached w.to l.0, h.target w.to l.1, h.pad w.to l.2);
+  branch = λ q e. aimed q (is_target ∙ e);
+}
+
+pub straight_all : (s : Scene) (p : ℕ) (ways : List Way) → IsReached s p → ways ≡ straight_ways s p → (w : Way) → Contains ways w → IsReached s w.to
+straight_all s p ways r e w c = straight_reached s p w r (subst (λ (ws : List Way). Contains ws w) e c)
+
+pub landings_all : (s : Scene) (p : ℕ) (ways : List Way) → IsReached s p → ways ≡ ways_from s (site_at s p) → (w : Way) → Contains ways w → IsPad s w.to
+landings_all s p ways r e w c = (p, w, r, subst (λ (ws : List Way). Contains ws w) e c, refl)
+
+-- a place more is followed
+pub followed_more : (s : Scene) (h g : Held) (n p : ℕ) → Grow h g → n < length h.places → p ≡ slice_index h.places n → ((k : ℕ) → k < n → AreFollowed s h (slice_index h.places k)) → AreFollowed s g p
+    → (k : ℕ) → k < n + 1 → AreFollowed s g (slice_index g.places k)
+followed_more s h g n p more l is before now k m = ⊎_elim
+    (λ (e : k ≡ n). subst (λ (x : ℕ). AreFollowed s g x) (is ∙ (sym (more.kept n l) ∙ ap (λ (x : ℕ). slice_index g.places x) (sym e))) now)
+    (λ (other : k ≡ n → ⊥).
+    let less : k < n = omega (arith, m, other) in
+    subst (λ (x : ℕ). AreFollowed s g x) (sym (more.kept k (omega (arith, less, l)))) (followed_grow s h g (slice_index h.places k) more (before k less)))
+    (cases_eq k n)
+
+-- ---- lists of places
+
+-- the place at an index
+pub at_index : (s : Scene) (places : List ℕ) (n p : ℕ) → n < length places → p ≡ get_or places n p → p ≡ slice_index places n
+at_index s places n p l e = e ∙ get_or_default_zero places n p l
+
+pub listed_reached : (s : Scene) (h : Held) (n : ℕ) → AreSound s h → n < length h.places → IsReached s (slice_index h.places n)
+listed_reached s h n a l = a.reached (slice_index h.places n) ((a.listed.all (slice_index h.places n)).0 (Contains-get_or h.places n 0 l))
+
+-- ---- whether a function is split
+
+found_split : (s : Scene) (o : Option ℕ) → option_map_or (is_split s) o false ≡ true → (site : ℕ) × (o ≡ Some site) × (is_split s site ≡ true)
+found_split s None h = absurd (true≢false (sym h))
+found_split s (Some site) h = (site, refl, h)
+
+module _ (s : Scene) (m : Marks) (places : List ℕ) (marks : AreMarks s m) (a : AreThePlaces m places) where
+  pub index_reached : (k : ℕ) → k < length places → IsReached s (slice_index places k)
+  index_reached k l = (marks.reached (slice_index places k)).0 ((a.all (slice_index places k)).0 (Contains-get_or places k 0 l))
+
+  pub splits_here : (k : ℕ) → k < length places → splits_at s (slice_index places k) ≡ true → IsSplit s
+  splits_here k l h =
+      let w = found_split s (site_at s (slice_index places k)) h in
+      (slice_index places k, w.0, index_reached k l, w.1, w.2)
+
+  pub splits_nowhere : (n : ℕ) → length places ≤ n → ((k : ℕ) → k < n → splits_at s (slice_index places k) ≡ false) → IsSplit s → ⊥
+  splits_nowhere n l none (p, site, r, e, t) =
+      let c = (a.all p).1 ((marks.reached p).1 r) in
+      let here : splits_at s p ≡ true = ap (λ (o : Option ℕ). option_map_or (is_split s) o false) e ∙ t in
+      let is : slice_index places c.0 ≡ p = sym (get_or_default_zero places c.0 p c.1) ∙ c.2 in
+      true≢false (sym here ∙ (ap (splits_at s) (sym is) ∙ none c.0 (omega (arith, c.1, l))))
+
+-- ---- steps of a loop over ways
+
+-- one way more
+pub contains_next : (P : Way → Type 0) (ways : List Way) (i : ℕ) (d : Way) → i < length ways → ((w : Way) → Contains (take i ways) w → P w) → P (get_or ways i d)
+    → (w : Way) → Contains (take (i + 1) ways) w → P w
+contains_next P ways i d l before now w c = ⊎_elim
+    (λ (old : Contains (take i ways) w). before w old)
+    (λ (new : get_or ways i d ≡ w). subst (λ (x : Way). P x) new now)
+    (Contains-push_cases (take i ways) (get_or ways i d) w (subst (λ (xs : List Way). Contains xs w) (take_more ways i d l) c))
+
+-- all of them
+pub contains_all : (P : Way → Type 0) (ways : List Way) (i : ℕ) → length ways ≤ i → ((w : Way) → Contains (take i ways) w → P w) → (w : Way) → Contains ways w → P w
+contains_all P ways i l all w c = all w (subst (λ (xs : List Way). Contains xs w) (sym (take_all i ways l)) c)

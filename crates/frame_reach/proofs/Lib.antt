@@ -1,0 +1,5 @@
+pub mod Marking
+pub mod Stands
+pub mod Found
+pub mod Runs
+pub mod Existing

@@ -1,0 +1,28 @@
+-- Marks of places as lists, and what a site of a place tells.
+use Rattle.std.specs.Prelude.{ℕ, Bool, true, false, List, slice_index_or, slice_set}
+use Rattle.std.specs.Option.{option_map_or}
+use Rattle.frame_scene.specs.Scene.{Scene}
+use Rattle.frame_scene.specs.Sites.{site_at, is_split}
+use Rattle.frame_reach.specs.Marks.{Marks}
+
+-- a mark for each place, of each of the three kinds, and the places that are marked as reached
+pub record Held : Type 0 where
+  pub reached : List Bool
+  pub target : List Bool
+  pub pad : List Bool
+  pub places : List ℕ
+
+abbrev pub is_set : List Bool → ℕ → Bool
+is_set marks p = slice_index_or marks p false
+
+-- one mark more
+abbrev pub with_mark : List Bool → ℕ → List Bool
+with_mark marks p = slice_set marks p true
+
+-- the marks that the lists are; past their ends none is set
+abbrev pub marks_of : Held → Marks
+marks_of h = record { reached = is_set h.reached; target = is_set h.target; pad = is_set h.pad }
+
+-- a site stands at the place whose covering entry begins behind the function's start
+abbrev pub splits_at : Scene → ℕ → Bool
+splits_at s p = option_map_or (is_split s) (site_at s p) false

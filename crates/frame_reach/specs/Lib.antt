@@ -1,0 +1,5 @@
+pub mod Marks
+pub mod Held
+pub mod Prologue
+pub mod Search
+pub mod Laws

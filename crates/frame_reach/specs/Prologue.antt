@@ -1,0 +1,38 @@
+-- The prologue of a function of an image. docs/acceptance.md, "The prologue".
+use Rattle.std.specs.Prelude.{ℕ, ◌+◌, ◌-◌, ◌/◌, ◌==◌, ◌&&◌, ◌||◌, max, zero, suc, Bool, if◌then◌else◌, List, [], ◌∷◌, Option, Some, None}
+use Rattle.std.specs.Option.{option_map_or}
+use Rattle.thumb_isa.specs.declared.instr.Instr.{Instr}
+use Rattle.frame_facts.specs.declared.saves.Prologue.{Prologue}
+use Rattle.frame_facts.specs.Prologues.{prologue_of}
+use Rattle.frame_scene.specs.declared.places.Standing.{Standing}
+use Rattle.frame_scene.specs.declared.places.Standing.TheVariants.{Instruction, Udf, Nothing}
+use Rattle.frame_scene.specs.Scene.{Scene}
+use Rattle.frame_scene.specs.Places.{standing_at}
+use Rattle.frame_reach.specs.Marks.{Marks}
+
+-- how many places there are from the entry to the function's end; the entry is one always
+abbrev pub places : Scene → ℕ
+places s = max 1 ((s.end - s.start + 1) / 2)
+
+-- one of the halfwords of an instruction at a place is a target
+abbrev pub is_led_to : (ℕ → Bool) → ℕ → ℕ → Bool
+is_led_to target place size = target place || ((size == 4) && target (place + 1))
+
+-- an instruction with its size, where no halfword of it is a target
+abbrev pub line_by : (ℕ → Bool) → ℕ → Standing → Option (Instr × ℕ)
+line_by target place (Instruction i size) = if is_led_to target place size then None else Some (i, size)
+line_by target place Udf = None
+line_by target place Nothing = None
+
+abbrev pub line_at : Scene → (ℕ → Bool) → ℕ → Option (Instr × ℕ)
+line_at s target place = line_by target place (standing_at s place)
+
+-- the instructions from a place on, each behind the one before it, up to the first place where none stands or one of whose halfwords
+-- is a target; so many at most
+abbrev pub lines : Scene → (ℕ → Bool) → ℕ → ℕ → List (Instr × ℕ)
+lines s target zero place = []
+lines s target (suc fuel) place = option_map_or (λ line. line ∷ lines s target fuel (place + line.1 / 2)) (line_at s target place) []
+
+-- the prologue
+unfoldable pub prologue : Scene → Marks → Prologue
+prologue s m = prologue_of s.start (lines s m.target (places s) 0)

@@ -1,0 +1,33 @@
+//! What holds of the marks and of the prologue of every function. docs/scenes.md, "Reached places"; docs/acceptance.md, "The prologue".
+ghost use Rattle.frame_reach.specs.Laws.{MarksExist, MarksAgree, PlacesAreCounted, PrologueIsTheLongestRun, RunsAreReached, NoTargetInThePrologue};
+
+/// Every function has marks, however large it is.
+pub fn marks_exist()
+    ensures { MarksExist }
+{}
+
+/// A function has no two marks that differ, and so one prologue.
+pub fn marks_agree()
+    ensures { MarksAgree }
+{}
+
+/// More places are reached than a function may have exactly where a list of them, each once, is longer than that.
+pub fn places_are_counted()
+    ensures { PlacesAreCounted }
+{}
+
+/// The prologue is a run of instructions one behind the other from the entry on, none of them a target, each of which may stand in it; and
+/// the one behind it may not, or is a target, or isn't there.
+pub fn prologue_is_the_longest_run()
+    ensures { PrologueIsTheLongestRun }
+{}
+
+/// Each instruction of a prologue stands at a place that is reached.
+pub fn runs_are_reached()
+    ensures { RunsAreReached }
+{}
+
+/// No target of a branch that is reached and no landing pad lies in the prologue.
+pub fn no_target_in_the_prologue()
+    ensures { NoTargetInThePrologue }
+{}

@@ -1,0 +1,103 @@
+//! The marks of a function's places. docs/scenes.md, "Reached places".
+ghost use Rattle.std.specs.Prelude.{◌≡◌, ◌+◌, ◌*◌, ◌<◌, ◌^◌, ◌↔◌, IsTrue};
+ghost use Rattle.frame_reach.specs.Marks.{AreMarks, AreThePlaces, IsSplit};
+ghost use Rattle.frame_reach.specs.Held.{is_set, marks_of, splits_at};
+
+use frame_scene::Scene;
+use std::marker::Model;
+
+/// The most places of a function that may be reached.
+pub const MOST_REACHED: u32 = 16_384;
+
+/// Which places of a function are reached, which of them are targets, and which are landing pads. Contracts see a list of each, and the
+/// places that are reached in the order in which they were found.
+#[derive(Drop)]
+pub struct Reached {
+    pub(crate) reached: Vec<bool>,
+    pub(crate) targets: Vec<bool>,
+    pub(crate) pads: Vec<bool>,
+    pub(crate) places: Vec<u32>,
+}
+
+impl Model for Reached {
+    ghost use Rattle.frame_reach.specs.Marks.{AreThePlaces};
+    ghost use Rattle.frame_reach.specs.Held.{Held, marks_of};
+
+    ghost Value = { Held };
+
+    ghost view = { λ r. record { reached = r.reached.items; target = r.targets.items; pad = r.pads.items; places = r.places.items } };
+
+    ghost invariant = { λ r. AreThePlaces (marks_of (record { reached = r.reached.items; target = r.targets.items; pad = r.pads.items; places = r.places.items })) r.places.items };
+}
+
+/// Whether a place is marked; past the last one none is.
+pub(crate) fn is_set(marks: &[bool], place: usize) -> bool
+    ensures { result ≡ is_set marks.now place }
+{
+    place < marks.len() && marks[place]
+}
+
+/// Whether a site stands at a place whose covering entry begins behind the function's start.
+fn splits_at(scene: &Scene, place: u32) -> bool
+    requires { scene.now.start + 2 * place < 2 ^ 32 }
+    ensures { result ≡ splits_at scene.now place }
+{
+    match scene.site_at(place) {
+        None => false,
+        Some(site) => scene.is_split(site),
+    }
+}
+
+impl Reached {
+    /// Whether a place is reached.
+    pub fn is_reached(&self, place: u32) -> bool
+        ensures { result ≡ (marks_of self.now).reached place }
+    {
+        is_set(&self.reached, place as usize)
+    }
+
+    /// Whether a branch that is reached leads to a place, or it is a landing pad.
+    pub fn is_target(&self, place: u32) -> bool
+        ensures { result ≡ (marks_of self.now).target place }
+    {
+        is_set(&self.targets, place as usize)
+    }
+
+    /// Whether a place is the landing pad of a site that is reached.
+    pub fn is_pad(&self, place: u32) -> bool
+        ensures { result ≡ (marks_of self.now).pad place }
+    {
+        is_set(&self.pads, place as usize)
+    }
+
+    /// For each place whether it is a landing pad; a place past the last one is none.
+    pub fn pads(&self) -> &[bool]
+        ensures { result.now ≡ self.now.pad }
+    {
+        &self.pads
+    }
+
+    /// The places that are reached, each once, in the order in which they were found.
+    pub fn places(&self) -> &[u32]
+        ensures same { result.now ≡ self.now.places }
+        ensures all { AreThePlaces (marks_of self.now) result.now }
+    {
+        &self.places
+    }
+
+    /// Whether the entry that covers a reached site of the function begins behind the function's start. The marks have to be those of
+    /// the scene.
+    pub fn splits(&self, scene: &Scene) -> bool
+        requires { AreMarks scene.now (marks_of self.now) }
+        ensures { IsTrue result ↔ IsSplit scene.now }
+    {
+        let _start = scene.start();
+        let _end = scene.end();
+        for place in self.places() {
+            if splits_at(scene, *place) {
+                return true;
+            }
+        }
+        false
+    }
+}

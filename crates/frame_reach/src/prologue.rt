@@ -1,0 +1,70 @@
+//! The prologue of a function of an image. docs/acceptance.md, "The prologue".
+ghost use Rattle.std.specs.Prelude.{◌≡◌, ◌^◌, ◌≤◌};
+ghost use Rattle.frame_reach.specs.Held.{marks_of};
+ghost use Rattle.frame_reach.specs.Prologue.{places, is_led_to, line_at, prologue};
+
+use crate::marks::{Reached, is_set};
+use frame_facts::{Prologue, Straight};
+use frame_scene::{Scene, Standing};
+use thumb_isa::instr::Instr;
+
+/// How many places there are from the entry to the function's end; the entry is one always.
+pub fn places(scene: &Scene) -> u32
+    ensures count { result ≡ places scene.now }
+    ensures few { result ≤ 2 ^ 31 }
+{
+    let size = scene.end().saturating_sub(scene.start());
+    (size / 2 + size % 2).max(1)
+}
+
+impl Reached {
+    fn target_at(&self, place: usize) -> bool
+        ensures { result ≡ (marks_of self.now).target place }
+    {
+        is_set(&self.targets, place)
+    }
+
+    /// Whether a halfword of an instruction at a place is a target.
+    fn is_led_to(&self, place: u32, size: u32) -> bool
+        ensures { result ≡ is_led_to (marks_of self.now).target place size }
+    {
+        let place = place as usize;
+        self.target_at(place) || (size == 4 && self.target_at(place + 1))
+    }
+
+    /// The instruction at a place with its size, where no halfword of it is a target.
+    pub fn line_at(&self, scene: &Scene, place: u32) -> Option<(Instr, u32)>
+        ensures { result ≡ line_at scene.now (marks_of self.now).target place }
+    {
+        match scene.standing_at(place) {
+            Standing::Instruction(i, size) => {
+                if self.is_led_to(place, size) {
+                    None
+                } else {
+                    Some((i, size))
+                }
+            }
+            Standing::Udf | Standing::Nothing => None,
+        }
+    }
+
+    /// The prologue: the run of instructions from the entry on that ends before the first which is a target, or isn't one of a
+    /// prologue.
+    pub fn prologue(&self, scene: &Scene) -> Prologue
+        ensures { result ≡ prologue scene.now (marks_of self.now) }
+    {
+        let mut run = Straight::begin(scene.start());
+        let mut place = 0;
+        for step in 0..places(scene) {
+            let Some((i, size)) = self.line_at(scene, place) else {
+                return run.prologue;
+            };
+            let Some(longer) = run.taken(&i, size) else {
+                return run.prologue;
+            };
+            run = longer;
+            place += size / 2;
+        }
+        run.prologue
+    }
+}
