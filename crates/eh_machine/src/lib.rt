@@ -6,8 +6,10 @@ pub mod checked;
 mod event;
 mod guards;
 mod pass;
+pub mod run;
 mod tests_of;
 
 pub use checked::Checked;
 pub use eh_gates::{Core, Turned, throw_to};
 pub use event::{Shared, turn};
+pub use run::Machine;
