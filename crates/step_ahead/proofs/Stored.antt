@@ -289,12 +289,20 @@ nothing_back regs m small e after new done =
 
 -- ---- a push
 
-any_done : (what : Stepped) (P : Type 0) → P → OnDone what P
-any_done Done P p = p
-any_done (Trap trap) P p = tt
-any_done (Call target ret) P p = tt
-any_done (Return to) P p = tt
-any_done (Gate number) P p = tt
+-- a fact for what is no trap
+abbrev OnGo : Stepped → Type 0 → Type 0
+OnGo (Trap trap) P = Unit {0}
+OnGo Done P = P
+OnGo (Call target ret) P = P
+OnGo (Return to) P = P
+OnGo (Gate number) P = P
+
+on_go : (what : Stepped) (P : Type 0) → ((trap : CoreTrap) → what ≡ Trap trap → ⊥) → OnGo what P → P
+on_go Done P h p = p
+on_go (Call target ret) P h p = p
+on_go (Return to) P h p = p
+on_go (Gate number) P h p = p
+on_go (Trap trap) P h p = absurd (h trap refl)
 
 none_pushed : (P : Type 0) → 0 < 0 → P
 none_pushed P h = absurd (omega (arith, h))
@@ -320,13 +328,13 @@ pushed_words m new a size n (w ∷ ws) regs x count low e some done =
     record { aligned = rw (sp, is) al; high = rw (sp, is) (omega arith) }
 
 push_done : (answer : Result (Unit {0}) BusFault × Memory) (size n : ℕ) (regs after : Regs) → (answer.0 ≡ Ok tt → InStack n (with_next size after))
-    → OnDone (store_end answer size regs after).0 (InStack n (store_end answer size regs after).1)
+    → OnGo (store_end answer size regs after).0 (InStack n (store_end answer size regs after).1)
 push_done (Ok u, new) size n regs after f = f refl
 push_done (Err fault, new) size n regs after f = tt
 
--- an outcome pushed words of the stack, where it is done and pushes any
+-- an outcome pushed words of the stack, unless it is a trap, if it pushes any
 abbrev Pushed : Option (Instr × ℕ) → Outcome → Type 0
-Pushed at o = 0 < pushes_some at → OnDone o.0 (InStack (pushes_some at) o.1)
+Pushed at o = 0 < pushes_some at → OnGo o.0 (InStack (pushes_some at) o.1)
 
 effect_pushed : (i : Instr) (size : ℕ) (regs : Regs) (m : Memory) → IsMap m → length regs.r ≡ 15 → Pushed (Some (i, size)) (effect i size regs m)
 effect_pushed (Push list) size regs m x count some =
@@ -337,9 +345,10 @@ effect_pushed (Push list) size regs m x count some =
 effect_pushed i size regs m x count some = none_pushed _ some
 
 pub step_pushed : (regs : Regs) (m : Memory) → IsMap m → length regs.r ≡ 15 → PushesInStack (pushes_some (instr_at m regs.pc)) regs m
-step_pushed regs m x count after new done some =
+step_pushed regs m x count what after new done h some =
+    let n = pushes_some (instr_at m regs.pc) in
     let p = step_at (λ at o. Pushed at o) regs m (λ i size. effect_pushed i size regs m x count) (λ trap h. tt) in
-    subst (λ (o : Outcome). OnDone o.0 (InStack (pushes_some (instr_at m regs.pc)) o.1)) done (p some)
+    on_go what (InStack n after) h (subst (λ (o : Outcome). OnGo o.0 (InStack n o.1)) done (p some))
 
 -- ---- the words of a loop
 

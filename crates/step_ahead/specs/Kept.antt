@@ -7,7 +7,9 @@ use Rattle.thumb_core.specs.Step.{step_of}
 use Rattle.thumb_core.specs.Stores.{Span}
 use Rattle.thumb_core.specs.declared.regs.TheConstants.{SP}
 use Rattle.thumb_core.specs.declared.regs.Regs.{Regs}
-use Rattle.thumb_core.specs.declared.regs.Stepped.TheVariants.{Done}
+use Rattle.thumb_core.specs.declared.regs.CoreTrap.{CoreTrap}
+use Rattle.thumb_core.specs.declared.regs.Stepped.{Stepped}
+use Rattle.thumb_core.specs.declared.regs.Stepped.TheVariants.{Done, Trap}
 use Rattle.step_ahead.specs.declared.kept.Kept.{Kept}
 use Rattle.step_ahead.specs.declared.kept.Kept.TheVariants.{Nothing, Byte, Half, Words}
 use Rattle.step_ahead.specs.declared.kept.TheConstants.{MOST}
@@ -23,13 +25,14 @@ put_back (Words at words count) m = (store_run m at (take (min count MOST) words
 abbrev pub TakesBack : Kept → Regs → Memory → Type 0
 TakesBack kept regs m = (after : Regs) (new : Memory) → step_of regs m ≡ (Done, after, new) → put_back kept new ≡ m
 
--- .. and the words that it pushed are words of the stack from the new sp on
+-- the words that it pushes, unless it traps, are words of the stack from the new sp on
 pub record InStack (count : ℕ) (after : Regs) : Type 0 where
   pub aligned : reg after SP % 4 ≡ 0
   pub high : reg after SP + 4 * count ≤ STACK_END
 
 abbrev pub PushesInStack : ℕ → Regs → Memory → Type 0
-PushesInStack count regs m = (after : Regs) (new : Memory) → step_of regs m ≡ (Done, after, new) → 0 < count → InStack count after
+PushesInStack count regs m =
+    (what : Stepped) (after : Regs) (new : Memory) → step_of regs m ≡ (what, after, new) → ((trap : CoreTrap) → what ≡ Trap trap → ⊥) → 0 < count → InStack count after
 
 -- ---- the bytes of a span
 

@@ -1,0 +1,146 @@
+-- One event, from what the parts of a call have done.
+use Rattle.std.specs.Prelude.{MatchOption}
+use Rattle.std.proofs.Common.{◌≡◌, ℕ, nat_lt, List, [], Bool, true, false, Option, Some, None, IfSome, Result, Ok, Err, refl, sym, ap, subst, ◌∙◌}
+use Rattle.std.specs.Bool.{OnFalse, OnTrue}
+use Rattle.std.proofs.KnownBytes.{Appends-nil}
+use Rattle.event_runs.specs.Runs.{Event, Goes, Ends, GoesOn, Fails, EndsBy}
+use Rattle.guest_gates.specs.declared.gates.TheConstants.{INPUT_GATE}
+use Rattle.guest_gates.specs.Ends.{is_fault}
+use Rattle.guest_gates.specs.Gates.{gate_event, gate_may_fail}
+use Rattle.thumb_core.specs.declared.regs.Regs.{Regs}
+use Rattle.thumb_core.specs.declared.regs.Stepped.{Stepped}
+use Rattle.thumb_core.specs.declared.regs.Stepped.TheVariants.{Done, Call, Return, Gate, Trap}
+use Rattle.thumb_core.specs.declared.ends.End.{End}
+use Rattle.eh_gates.specs.declared.state.Turned.{Turned}
+use Rattle.eh_gates.specs.declared.state.Turned.TheVariants.{Went, Ended}
+use Rattle.elf_image.specs.Image.{Image}
+use Rattle.eh_types.specs.Graph.{Row}
+use Rattle.eh_gates.specs.State.{State, Outcome, guide_of}
+use Rattle.eh_gates.specs.Gates.{gate_of}
+use Rattle.eh_machine.specs.Program.{Program, guide}
+use Rattle.eh_machine.specs.Machine.{Passed, passed, event_of, in_state, gated, acted, onward, machine_event, gate_fails, passed_fails, may_fail, with_pc_of}
+use Rattle.eh_machine.specs.Turns.{TurnedOnce}
+
+event_is : (p : Program) (s : State) (r : Passed) (input : List ℕ) → r ≡ passed p s → machine_event p s input ≡ onward p s r input
+unfolding machine_event
+event_is p s r input e = ap (λ v. onward p s v input) (sym e)
+
+may_is : (p : Program) (s : State) (r : Passed) (end : End) → r ≡ passed p s → passed_fails r end ≡ may_fail p s end
+unfolding may_fail
+may_is p s r end e = ap (λ v. passed_fails v end) e
+
+on_any_false : (b : Bool) (P : Type 0) → P → OnFalse b P
+on_any_false true P p = tt
+on_any_false false P p = p
+
+on_false : (b : Bool) (P Q : Type 0) → OnFalse b P → (P → Q) → OnFalse b Q
+on_false true P Q p f = tt
+on_false false P Q p f = f p
+
+on_true : (b : Bool) (P Q : Type 0) → OnTrue b P → (P → Q) → OnTrue b Q
+on_true true P Q p f = f p
+on_true false P Q p f = tt
+
+not_true : (b : Bool) (P : Type 0) → b ≡ false → OnTrue b P
+not_true true P e = absurd (cc)
+not_true false P e = tt
+
+-- an event that nothing of the outside took part in
+outcome_turned : (p : Program) (s : State) (input : List ℕ) (result : Turned) (new : State) (before : Option (List ℕ))
+    → machine_event p s input ≡ event_of (result, new) input → ((end : End) → result ≡ Ended end → is_fault end ≡ false)
+    → TurnedOnce p s input result new (Some input) before before
+outcome_turned p s input Went new before e honest =
+    record { text = []; rest = input; is = e; leaves = refl; wrote = Appends-nil before }
+outcome_turned p s input (Ended end) new before e honest =
+    record { is = on_any_false (is_fault end) _ e; fails = not_true (is_fault end) _ (honest end refl); leaves = refl; wrote = Appends-nil before }
+
+ended_is : (end other : End) → Ended end ≡ Ended other → end ≡ other
+ended_is end other e = cc
+
+went_ended : (end : End) (P : Type 0) → Went ≡ Ended end → P
+went_ended end P e = absurd (cc)
+
+-- an end before the gates
+pub end_turned : (told before : Option (List ℕ)) (p : Program) (s : State) (end : End) (new : State) → (Err end, new) ≡ passed p s → is_fault end ≡ false
+    → IfSome told (λ input. TurnedOnce p s input (Ended end) new told before before)
+end_turned None before p s end new e fine = tt
+end_turned (Some input) before p s end new e fine =
+    outcome_turned p s input (Ended end) new before (event_is p s (Err end, new) input e)
+    (λ other f. subst (λ (x : End). is_fault x ≡ false) (ended_is end other f) fine)
+
+no_gate : (p : Program) (s : State) (what : Stepped) (new : State) (input : List ℕ) → ((number : ℕ) → what ≡ Gate number → ⊥) → acted p s what new input ≡ Goes new [] input
+no_gate p s Done new input h = refl
+no_gate p s (Call target ret) new input h = refl
+no_gate p s (Return to) new input h = refl
+no_gate p s (Trap trap) new input h = refl
+no_gate p s (Gate number) new input h = absurd (h number refl)
+
+-- an instruction that is no gate
+pub plain_turned : (told before : Option (List ℕ)) (p : Program) (s : State) (what : Stepped) (new : State) → (Ok what, new) ≡ passed p s
+    → ((number : ℕ) → what ≡ Gate number → ⊥) → IfSome told (λ input. TurnedOnce p s input Went new told before before)
+plain_turned None before p s what new e h = tt
+plain_turned (Some input) before p s what new e h =
+    outcome_turned p s input Went new before (event_is p s (Ok what, new) input e ∙ no_gate p s what new input h) (λ end f. went_ended end _ f)
+
+-- a gate of exceptions
+pub gate_turned : (told before : Option (List ℕ)) (p : Program) (s t new : State) (number : ℕ) (result : Turned) → (Ok (Gate number), t) ≡ passed p s
+    → nat_lt INPUT_GATE number ≡ true → (result, new) ≡ gate_of (guide p) number t.regs.pc s → ((end : End) → result ≡ Ended end → is_fault end ≡ false)
+    → IfSome told (λ input. TurnedOnce p s input result new told before before)
+gate_turned None before p s t new number result e high g honest = tt
+gate_turned (Some input) before p s t new number result e high g honest =
+    outcome_turned p s input result new before
+    (event_is p s (Ok (Gate number), t) input e ∙ rw high (ap (λ (o : Outcome). event_of o input) (sym g))) honest
+
+-- a gate of every machine, from what it did to the registers
+pub plain_gate_turned : (told left before now : Option (List ℕ)) (p : Program) (s t : State) (number : ℕ) (old regs : Regs) (result : Option End) → (Ok (Gate number), t) ≡ passed p s
+    → nat_lt INPUT_GATE number ≡ false → old ≡ s.regs
+    → IfSome told (λ input. MatchOption result (GoesOn (gate_event number old t.regs input) regs left before now)
+    (λ end. EndsBy is_fault (gate_may_fail number) (gate_event number old t.regs input) end old regs input left before now))
+    → IfSome told (λ input. MatchOption result (TurnedOnce p s input Went (record s { regs = regs }) left before now)
+    (λ end. TurnedOnce p s input (Ended end) (record s { regs = regs }) left before now))
+plain_gate_turned None left before now p s t number old regs result e low same g = tt
+plain_gate_turned (Some input) left before now p s t number old regs None e low same g =
+    let is : machine_event p s input ≡ in_state s (gate_event number old t.regs input) =
+    event_is p s (Ok (Gate number), t) input e ∙ rw (low, same) refl in
+    record { text = g.text; rest = g.rest; is = is ∙ ap (in_state s) g.is; leaves = g.leaves; wrote = g.wrote }
+plain_gate_turned (Some input) left before now p s t number old regs (Some end) e low same g =
+    let is : machine_event p s input ≡ in_state s (gate_event number old t.regs input) =
+    event_is p s (Ok (Gate number), t) input e ∙ rw (low, same) refl in
+    record {
+      is = on_false (is_fault end) _ _ g.is (λ ends. is ∙ ap (in_state s) ends);
+      fails = on_true (is_fault end) _ _ g.fails (λ fails. record {
+        may = sym (may_is p s (Ok (Gate number), t) end e) ∙ Fails.may fails;
+        same = ap (λ (r : Regs). record s { regs = r }) (Fails.same fails ∙ same);
+      });
+      leaves = g.leaves;
+      wrote = g.wrote;
+    }
+
+-- ---- as the calls are made: the registers before a gate are put back first
+
+pub gate_told : (told before : Option (List ℕ)) (p : Program) (s t new back : State) (number : ℕ) (result : Turned) (image : Image) (types : List Row)
+    → (Ok (Gate number), t) ≡ passed p s → nat_lt INPUT_GATE number ≡ true → (result, new) ≡ gate_of (guide_of image types) number t.regs.pc back
+    → image ≡ p.image → types ≡ p.types → back ≡ s → ((end : End) → result ≡ Ended end → is_fault end ≡ false)
+    → IfSome told (λ input. TurnedOnce p s input result new told before before)
+gate_told told before p s t new back number result image types e high g ei et eb honest =
+    gate_turned told before p s t new number result e high
+    (g ∙ ap (λ (i : Image). gate_of (guide_of i types) number t.regs.pc back) ei ∙ ap (λ (ts : List Row). gate_of (guide_of p.image ts) number t.regs.pc back) et
+    ∙ ap (λ (b : State). gate_of (guide p) number t.regs.pc b) eb) honest
+
+pub plain_gate_told : (told left before now : Option (List ℕ)) (p : Program) (s t : State) (number pc : ℕ) (regs : Regs) (result : Option End) → (Ok (Gate number), t) ≡ passed p s
+    → nat_lt INPUT_GATE number ≡ false → with_pc_of t pc ≡ s
+    → IfSome told (λ input. let old : Regs = record t.regs { pc = pc } in
+    MatchOption result (GoesOn (gate_event number old t.regs input) regs left before now)
+    (λ end. EndsBy is_fault (gate_may_fail number) (gate_event number old t.regs input) end old regs input left before now))
+    → IfSome told (λ input. MatchOption result (TurnedOnce p s input Went (record t { regs = regs }) left before now)
+    (λ end. TurnedOnce p s input (Ended end) (record t { regs = regs }) left before now))
+plain_gate_told told left before now p s t number pc regs result e low back g =
+    subst (λ (b : State). IfSome told (λ input. MatchOption result (TurnedOnce p s input Went (record b { regs = regs }) left before now)
+    (λ end. TurnedOnce p s input (Ended end) (record b { regs = regs }) left before now))) (sym back)
+    (plain_gate_turned told left before now p s t number (record t.regs { pc = pc }) regs result e low (ap (λ (b : State). b.regs) back) g)
+
+pub as_gate : (p : Program) (s t : State) (what : Stepped) (number : ℕ) → what ≡ Gate number → ◌≡◌ {A = Passed} (Ok what, t) (passed p s) → ◌≡◌ {A = Passed} (Ok (Gate number), t) (passed p s)
+as_gate p s t what number is e = let one : Stepped → Passed = λ w. (Ok w, t) in sym (ap one is) ∙ e
+
+pub ok_gate : (what : Stepped) (number : ℕ) → what ≡ Gate number → ◌≡◌ {A = Result Stepped End} (Ok what) (Ok (Gate number))
+ok_gate what number is = ap Ok is

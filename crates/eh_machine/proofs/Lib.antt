@@ -1,0 +1,4 @@
+pub mod Events
+pub mod Saved
+pub mod Passing
+pub mod Running

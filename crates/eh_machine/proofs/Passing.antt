@@ -1,0 +1,153 @@
+-- One instruction up to its gate, from what its step and its tests have done.
+use Rattle.std.proofs.Common.{◌≡◌, ℕ, ◌+◌, ◌*◌, ◌<◌, ◌≤◌, nat_lt, Bool, true, false, List, Option, Some, None, Result, Ok, Err, slice_index, refl, sym, ap, subst, ◌∙◌, cond, arith}
+use Rattle.std.proofs.lemmas.Bool.{ltb-false}
+use Rattle.std.specs.Option.{option_or}
+use Rattle.eh_bus.specs.Memory.{Memory, guard_all, released}
+use Rattle.eh_cxa.specs.Words.{word}
+use Rattle.eh_cxa.specs.Cleanup.{innermost_of}
+use Rattle.guest_gates.specs.Ends.{trap_end}
+use Rattle.thumb_core.specs.Outcome.{Outcome as Stepping}
+use Rattle.thumb_core.specs.Registers.{with_next}
+use Rattle.thumb_core.specs.Step.{step_of, instr_at}
+use Rattle.thumb_core.specs.Laws.{Leaves, LeavesMemory}
+use Rattle.thumb_core.specs.declared.regs.TheConstants.{SP}
+use Rattle.thumb_core.specs.declared.regs.CoreTrap.{CoreTrap}
+use Rattle.thumb_core.specs.declared.regs.Regs.{Regs}
+use Rattle.thumb_core.specs.declared.regs.Stepped.{Stepped}
+use Rattle.thumb_core.specs.declared.regs.Stepped.TheVariants.{Done, Call, Return, Gate, Trap}
+use Rattle.thumb_core.specs.declared.ends.TrapKind.TheVariants as kind
+use Rattle.thumb_core.specs.declared.ends.End.{End}
+use Rattle.thumb_core.specs.declared.ends.End.TheVariants as the_end
+use Rattle.step_ahead.specs.declared.kept.Kept.{Kept}
+use Rattle.step_ahead.specs.Ahead.{branches_some, pushes_some}
+use Rattle.step_ahead.specs.Kept.{put_back, TakesBack}
+use Rattle.eh_gates.specs.State.{State, reg}
+use Rattle.eh_machine.specs.Program.{Program}
+use Rattle.eh_machine.specs.Machine.{Passed, leaves_cleanup, way_end, refusal, tests, settled, settled_at, freed_below, saved_words, tested, stepped, checked, passed, with_pc_of}
+
+-- not a trap
+abbrev pub Goes : Stepped → Type 0
+Goes what = (trap : CoreTrap) → what ≡ Trap trap → ⊥
+
+module _ (p : Program) (s : State) where
+  pub unchecked : (p.look s.regs.pc).is_instr ≡ false → ◌≡◌ {A = Passed} (Err (the_end.Trap kind.FellOff s.regs.pc s.regs.pc), s) (passed p s)
+  unfolding passed
+  unchecked e = rw e refl
+
+  is_checked : (o : Stepping) → (p.look s.regs.pc).is_instr ≡ true → o ≡ step_of s.regs s.memory → stepped p s o ≡ passed p s
+  unfolding passed
+  is_checked o e f = rw e (ap (stepped p s) f)
+
+  -- a trap of the instruction, which left registers and memory
+  pub trap_passes : (trap : CoreTrap) (regs : Regs) (m : Memory) (end : End) → (p.look s.regs.pc).is_instr ≡ true → (Trap trap, regs, m) ≡ step_of s.regs s.memory
+      → regs ≡ s.regs → m ≡ s.memory → end ≡ trap_end trap s.regs.pc → ◌≡◌ {A = Passed} (Err end, record s { regs = regs; memory = m }) (passed p s)
+  trap_passes trap regs m end e f er em ee =
+      let one : Regs → Passed = λ r. (Err end, record s { regs = r; memory = m }) in
+      let two : Memory → Passed = λ n. (Err end, record s { memory = n }) in
+      let three : End → Passed = λ x. (Err x, s) in
+      ap one er ∙ ap two em ∙ ap three ee ∙ is_checked (Trap trap, regs, m) e f
+
+  module _ (what : Stepped) (regs : Regs) (m : Memory) (e : (p.look s.regs.pc).is_instr ≡ true) (f : (what, regs, m) ≡ step_of s.regs s.memory) (h : Goes what) where
+    goes : (w : Stepped) → Goes w → stepped p s (w, regs, m) ≡ tested p s w regs m (tests p s w regs)
+    goes Done h = refl
+    goes (Call target ret) h = refl
+    goes (Return to) h = refl
+    goes (Gate number) h = refl
+    goes (Trap trap) h = absurd (h trap refl)
+
+    is_tested : (o : Option End) → tests p s what regs ≡ o → tested p s what regs m o ≡ passed p s
+    is_tested o g = sym (goes what h ∙ ap (tested p s what regs m) g) ∙ is_checked (what, regs, m) e f
+
+    -- a test ended the run, and registers and memory are back
+    pub refused_passes : (end : End) (back : Memory) → tests p s what regs ≡ Some end → back ≡ s.memory → ◌≡◌ {A = Passed} (Err end, record s { memory = back }) (passed p s)
+    refused_passes end back g em =
+        let two : Memory → Passed = λ n. (Err end, record s { memory = n }) in
+        ap two em ∙ is_tested (Some end) g
+
+    -- no test did
+    pub tested_passes : (new : Memory) → tests p s what regs ≡ None → new ≡ settled_at p s regs m → ◌≡◌ {A = Passed} (Ok what, record s { regs = regs; memory = new }) (passed p s)
+    tested_passes new g en =
+        let two : Memory → Passed = λ n. (Ok what, record s { regs = regs; memory = n }) in
+        ap two en ∙ is_tested None g
+
+    -- what was kept gives the memory back
+    pub kept_back : (kept : Kept) (back : Memory) → TakesBack kept s.regs s.memory → what ≡ Done → back ≡ put_back kept m → back ≡ s.memory
+    kept_back kept back t d eb = eb ∙ t regs m (sym f ∙ ap (λ (w : Stepped). (w, regs, m)) d)
+
+    -- and what is neither done nor a trap left it
+    left_back : (w : Stepped) → Goes w → (w ≡ Done → ⊥) → LeavesMemory w s.memory m → m ≡ s.memory
+    left_back Done h d l = absurd (d refl)
+    left_back (Call target ret) h d l = l
+    left_back (Return to) h d l = l
+    left_back (Gate number) h d l = l
+    left_back (Trap trap) h d l = absurd (h trap refl)
+
+    pub left_as_it_was : (what ≡ Done → ⊥) → LeavesMemory what s.memory m → m ≡ s.memory
+    left_as_it_was d l = left_back what h d l
+
+-- the tests, from what their calls answered
+pub tests_are : (p : Program) (s : State) (what : Stepped) (regs : Regs) (landing : Option ℕ) (low : ℕ) (branches : Bool) (o : Option End)
+    → landing ≡ innermost_of (word s.memory) s.globals → low ≡ s.memory.home.0 → branches ≡ branches_some (instr_at s.memory s.regs.pc) s.regs
+    → o ≡ refusal p (landing, low) (s.regs.pc, reg s SP) branches what regs → tests p s what regs ≡ o
+tests_are p s what regs landing low branches o el eh eb eo =
+    sym (eo
+    ∙ ap (λ (l : Option ℕ). refusal p (l, low) (s.regs.pc, reg s SP) branches what regs) el
+    ∙ ap (λ (n : ℕ). refusal p (innermost_of (word s.memory) s.globals, n) (s.regs.pc, reg s SP) branches what regs) eh
+    ∙ ap (λ (b : Bool). refusal p (innermost_of (word s.memory) s.globals, s.memory.home.0) (s.regs.pc, reg s SP) b what regs) eb)
+
+-- the guards, from what was told of the instruction
+pub settled_is : (p : Program) (s : State) (regs : Regs) (m new : Memory) (saves count old sp : ℕ) → saves ≡ (p.look s.regs.pc).saves → count ≡ pushes_some (instr_at s.memory s.regs.pc)
+    → old ≡ reg s SP → sp ≡ slice_index regs.r SP → new ≡ settled saves count old sp m → new ≡ settled_at p s regs m
+settled_is p s regs m new saves count old sp ea ec eo es e =
+    e ∙ ap (λ (n : ℕ). settled n count old sp m) ea ∙ ap (λ (n : ℕ). settled (p.look s.regs.pc).saves n old sp m) ec
+    ∙ ap (λ (n : ℕ). settled (p.look s.regs.pc).saves (pushes_some (instr_at s.memory s.regs.pc)) n sp m) eo
+    ∙ ap (λ (n : ℕ). settled (p.look s.regs.pc).saves (pushes_some (instr_at s.memory s.regs.pc)) (reg s SP) n m) es
+
+-- no word is pushed and sp stays: the guards stay
+settled_none : (saves sp : ℕ) (m : Memory) → settled saves 0 sp sp m ≡ m
+settled_none saves sp m = go (nat_lt sp sp) (not_below sp)
+  where
+    not_below : (n : ℕ) → nat_lt n n ≡ false
+    not_below n = grind (arith)
+
+    go : (b : Bool) → b ≡ false → cond b (released m sp) m ≡ m
+    go true e = absurd (cc)
+    go false e = refl
+
+-- at a gate
+pub gate_stays : (saves count old sp number : ℕ) (s : State) (regs : Regs) (m new : Memory) → Leaves (instr_at s.memory s.regs.pc) (Gate number) s.regs s.memory regs → m ≡ s.memory
+    → count ≡ pushes_some (instr_at s.memory s.regs.pc) → old ≡ reg s SP → sp ≡ slice_index regs.r SP → new ≡ settled saves count old sp m
+    → with_pc_of (record s { regs = regs; memory = new }) s.regs.pc ≡ s
+gate_stays saves count old sp number s regs m new l em ec eo es en =
+    let none : count ≡ 0 = ec ∙ ap pushes_some l.1 in
+    let same : sp ≡ reg s SP = es ∙ ap (λ (r : Regs). slice_index r.r SP) l.2 in
+    let kept : new ≡ s.memory =
+    en ∙ ap (λ (n : ℕ). settled saves n old sp m) none ∙ ap (λ (n : ℕ). settled saves 0 n sp m) eo ∙ ap (λ (n : ℕ). settled saves 0 (reg s SP) n m) same
+    ∙ settled_none saves (reg s SP) m ∙ em in
+    let one : Regs → State = λ r. with_pc_of (record s { regs = r; memory = new }) s.regs.pc in
+    let two : Memory → State = λ n. record s { memory = n } in
+    ap one l.2 ∙ ap two kept
+
+-- what was done is a gate
+pub gate_done : (what : Stepped) (number : ℕ) → ◌≡◌ {A = Result Stepped End} (Ok what) (Ok (Gate number)) → what ≡ Gate number
+gate_done what number e = cc
+
+pub gate_passes : (what : Stepped) (saves count old sp number : ℕ) (s : State) (regs : Regs) (m new : Memory) → what ≡ Gate number
+    → Leaves (instr_at s.memory s.regs.pc) what s.regs s.memory regs → LeavesMemory what s.memory m
+    → count ≡ pushes_some (instr_at s.memory s.regs.pc) → old ≡ reg s SP → sp ≡ slice_index regs.r SP → new ≡ settled saves count old sp m
+    → with_pc_of (record s { regs = regs; memory = new }) s.regs.pc ≡ s
+gate_passes what saves count old sp number s regs m new e l lm ec eo es en =
+    gate_stays saves count old sp number s regs m new (subst (λ (w : Stepped). Leaves (instr_at s.memory s.regs.pc) w s.regs s.memory regs) e l)
+    (subst (λ (w : Stepped). LeavesMemory w s.memory m) e lm) ec eo es en
+
+-- where no test ended the run, sp is at or above the start of the running stack
+pub above_low : (p : Program) (landing : Option ℕ) (low : ℕ) (at : ℕ × ℕ) (branches : Bool) (what : Stepped) (regs : Regs) → refusal p (landing, low) at branches what regs ≡ None
+    → low ≤ slice_index regs.r SP
+above_low p landing low at branches what regs e = go (leaves_cleanup landing at.1 (slice_index regs.r SP)) (nat_lt (slice_index regs.r SP) low) refl e
+  where
+    go : (a b : Bool) → nat_lt (slice_index regs.r SP) low ≡ b
+        → option_or (cond a (Some (the_end.Trap kind.SpInCleanup (slice_index regs.r SP) at.0)) (cond b (Some (the_end.Trap kind.StackLimit (slice_index regs.r SP) at.0)) None)) (way_end p branches at.0 what regs) ≡ None
+        → low ≤ slice_index regs.r SP
+    go true b f e = absurd (cc)
+    go false true f e = absurd (cc)
+    go false false f e = ltb-false _ _ f

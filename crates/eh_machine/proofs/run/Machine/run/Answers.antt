@@ -1,0 +1,32 @@
+use Rattle.std.proofs.Common.{refl, ap, ◌∙◌, arith}
+use Rattle.event_runs.proofs.Progress.{starts}
+use Rattle.eh_gates.specs.State.{State, state_of}
+use Rattle.eh_machine.specs.Machine.{machine_of}
+use Rattle.eh_machine.proofs.Running.{run_goes_on, run_ends, run_spent}
+use Rattle.thumb_core.specs.declared.ends.End.{End}
+use Rattle.eh_machine.proofs.run.Machine.run.Goals as goal
+
+pub loop-self-init : goal.loop-self-init
+loop-self-init g c = record {
+  progress = starts State End (machine_of (g.C.Checked.program c.args.self.now.accepted.now)) _ _ _ _;
+  input_later = omega arith;
+  out_later = omega arith;
+  same = refl;
+}
+
+pub loop-self-preserved : goal.loop-self-preserved
+loop-self-preserved g c = record {
+  progress = run_goes_on (g.C.Checked.program c.args.self.now.accepted.now) (g.C.Checked.program c.loop-self.self.accepted.now) (ap (λ a. g.C.Checked.program a.now) c.loop-self.invariant.same)
+      _ _ _ _ _ _ _ _ _ _ _ (omega arith) c.loop-self.invariant.progress c.in-Went.ensures.told;
+  input_later = omega arith;
+  out_later = omega arith;
+  same = c.loop-self.invariant.same;
+}
+
+pub returns-in-Ended-clause-told : goal.returns-in-Ended-clause-told
+returns-in-Ended-clause-told g c =
+    run_ends (g.C.Checked.program c.args.self.now.accepted.now) (g.C.Checked.program c.loop-self.self.accepted.now) (ap (λ a. g.C.Checked.program a.now) c.loop-self.invariant.same)
+    _ _ _ _ _ _ _ _ _ _ _ c.in-Ended.end (omega arith) c.loop-self.invariant.progress c.in-Ended.ensures.told
+
+pub returns-clause-told : goal.returns-clause-told
+returns-clause-told g c = run_spent (g.C.Checked.program c.args.self.now.accepted.now) _ _ _ _ _ _ _ _ (omega arith) c.loop-self.invariant.progress

@@ -1,0 +1,4 @@
+pub mod Program
+pub mod Machine
+pub mod Guarded
+pub mod Turns

@@ -1,0 +1,20 @@
+-- A checked program as a run sees it (docs/machine.md): its image, whose index is accepted, its types, and what the checker found at each
+-- address.
+use Rattle.std.specs.Prelude.{ℕ, Bool, List}
+use Rattle.elf_image.specs.Image.{Image}
+use Rattle.eh_types.specs.Graph.{Row}
+use Rattle.eh_gates.specs.State.{Guide, guide_of}
+
+-- at an address: an instruction that the checker reached, the start of a function, and which words of the push there are saves, as bits
+pub record Spot : Type 0 where
+  pub is_instr : Bool
+  pub is_function : Bool
+  pub saves : ℕ
+
+pub record Program : Type 0 where
+  pub image : Image
+  pub types : List Row
+  pub look : ℕ → Spot
+
+abbrev pub guide : Program → Guide
+guide p = guide_of p.image p.types

@@ -1,0 +1,15 @@
+-- What one call of the machine has done.
+use Rattle.std.specs.Prelude.{ℕ, List, Option}
+use Rattle.event_runs.specs.Runs.{GoesOn, EndsBy}
+use Rattle.guest_gates.specs.Ends.{is_fault}
+use Rattle.thumb_core.specs.declared.ends.End.{End}
+use Rattle.eh_gates.specs.declared.state.Turned.{Turned}
+use Rattle.eh_gates.specs.declared.state.Turned.TheVariants.{Went, Ended}
+use Rattle.eh_gates.specs.State.{State}
+use Rattle.eh_machine.specs.Program.{Program}
+use Rattle.eh_machine.specs.Machine.{machine_event, may_fail}
+
+-- one event was done: it went on, or it ended the run, or a fault of the outside stopped it where one may
+abbrev pub TurnedOnce : Program → State → List ℕ → Turned → State → Option (List ℕ) → Option (List ℕ) → Option (List ℕ) → Type 0
+TurnedOnce p old input Went new left before now = GoesOn (machine_event p old input) new left before now
+TurnedOnce p old input (Ended end) new left before now = EndsBy is_fault (may_fail p old) (machine_event p old input) end old new input left before now

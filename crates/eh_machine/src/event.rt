@@ -1,0 +1,59 @@
+//! One event of the machine (docs/machine.md, "An event").
+ghost use Rattle.std.specs.Prelude.{◌≡◌, ◌≤◌, IfSome};
+ghost use Rattle.eh_port.specs.Causes.{Rose};
+ghost use Rattle.eh_gates.specs.State.{State, state_of};
+ghost use Rattle.eh_machine.specs.Turns.{TurnedOnce};
+
+use crate::checked::Checked;
+use crate::pass::pass;
+use eh_bus::bus::Bus;
+use eh_gates::{Core, Turned, gate};
+use eh_port::{Sink, Source};
+use eh_trace::Events;
+use guest_gates::INPUT_GATE;
+use thumb_core::ends::End;
+use thumb_core::regs::Stepped;
+
+/// What the threads of a run have in common: the memory.
+pub struct Shared<B> {
+    pub bus: B,
+}
+
+/// One event of a run of a checked program: its instruction is done, and its gate. A trap, an exit and a fault leave registers, globals and
+/// memory as they were; so does a terminate before the exception flies. `ReadFault` comes only at the input gate, and `WriteFault` only at
+/// the output gate, where the count of the source or of the sink rose in this call. Takes no memory, and a constant time but for a throw.
+pub fn turn<C: Checked, B: Bus, I: Source, O: Sink>(
+    a: &C,
+    core: &mut Core,
+    shared: &mut Shared<B>,
+    events: &mut Events,
+    input: &mut I,
+    out: &mut O,
+) -> Turned
+    ensures told { IfSome (I.left input.old) (λ bytes.
+        let old : State = state_of core.old (B.memory shared.old.bus) events.old in
+        let new : State = state_of core.new (B.memory shared.new.bus) events.new in
+        TurnedOnce (C.program a.now) old bytes result new (I.left input.new) (O.written out.old) (O.written out.new)) }
+    ensures read { result ≡ Turned.Ended End.ReadFault → Rose (I.faults input.old) (I.faults input.new) }
+    ensures write { result ≡ Turned.Ended End.WriteFault → Rose (O.faults out.old) (O.faults out.new) }
+    ensures input_later { I.faults input.old ≤ I.faults input.new }
+    ensures out_later { O.faults out.old ≤ O.faults out.new }
+{
+    let pc = core.regs.pc;
+    let what = match pass(a, core, &mut shared.bus) {
+        Ok(what) => what,
+        Err(end) => return Turned::Ended(end),
+    };
+    let Stepped::Gate(number) = what else {
+        return Turned::Went;
+    };
+    if number > INPUT_GATE {
+        let next = core.regs.pc;
+        core.regs.pc = pc;
+        return gate(&a.tables(), number, next, core, &mut shared.bus, events);
+    }
+    match guest_gates::gate(number, pc, &mut core.regs, input, out) {
+        None => Turned::Went,
+        Some(end) => Turned::Ended(end),
+    }
+}

@@ -1,0 +1,38 @@
+//! Guards of saved words (docs/machine.md, "Guards").
+ghost use Rattle.std.specs.Prelude.{◌≡◌, ◌+◌, ◌*◌, ◌%◌, ◌<◌, ◌≤◌};
+ghost use Rattle.eh_bus.specs.Memory.{guard_all};
+ghost use Rattle.eh_bus.specs.declared.map.TheConstants.{STACK_START, STACK_END};
+ghost use Rattle.eh_machine.specs.Machine.{saved_words, settled};
+
+use eh_bus::bus::Bus;
+
+/// Guards, of `count` words of the stack from `sp` on, those that the bits of `saves` name: the last first.
+fn guard_saves<B: Bus>(saves: u16, count: u32, sp: u32, bus: &mut B)
+    requires few { count ≤ 16 }
+    requires aligned { 0 < count → sp % 4 ≡ 0 }
+    requires low { 0 < count → STACK_START ≤ sp }
+    requires high { 0 < count → sp + 4 * count ≤ STACK_END }
+    ensures { B.memory bus.new ≡ guard_all (saved_words saves count sp) (B.memory bus.old) }
+{
+    let mut k = count;
+    while k > 0 {
+        k -= 1;
+        if (saves >> k) & 1 == 1 {
+            bus.guard(sp + 4 * k);
+        }
+    }
+}
+
+/// Guards the saves among the words that were pushed, and where sp rose releases what is guarded below it.
+pub(crate) fn settle<B: Bus>(saves: u16, count: u32, old: u32, sp: u32, bus: &mut B)
+    requires few { count ≤ 16 }
+    requires aligned { 0 < count → sp % 4 ≡ 0 }
+    requires low { 0 < count → STACK_START ≤ sp }
+    requires high { 0 < count → sp + 4 * count ≤ STACK_END }
+    ensures { B.memory bus.new ≡ settled saves count old sp (B.memory bus.old) }
+{
+    guard_saves(saves, count, sp, bus);
+    if old < sp {
+        bus.release_below(sp);
+    }
+}

@@ -1,0 +1,70 @@
+//! The run of at most so many events (docs/machine.md).
+ghost use Rattle.std.specs.Prelude.{◌≡◌, ◌≤◌, IfSome};
+ghost use Rattle.eh_port.specs.Causes.{Rose};
+ghost use Rattle.event_runs.specs.Runs.{Runs};
+ghost use Rattle.eh_gates.specs.State.{State, state_of};
+ghost use Rattle.eh_machine.specs.Machine.{machine_of};
+
+use crate::checked::Checked;
+use crate::event::{Shared, turn};
+use eh_bus::bus::Bus;
+use eh_gates::{Core, Turned};
+use eh_port::{Sink, Source};
+use eh_trace::Events;
+use thumb_core::ends::End;
+
+/// A run of a checked program: all that it has besides its input and output.
+pub struct Machine<'a, C: Checked, B: Bus> {
+    pub accepted: &'a C,
+    pub core: Core,
+    pub shared: Shared<B>,
+    pub events: Events,
+    /// How many events are left of the budget.
+    pub left: u64,
+}
+
+impl<'a, C: Checked, B: Bus> Machine<'a, C, B> {
+    /// Runs until an event ends the run or none is left of the budget; the event that ends it counts too. A further run goes on from where
+    /// this one came to. Takes no memory.
+    pub fn run<I: Source, O: Sink>(&mut self, input: &mut I, out: &mut O) -> End
+        ensures told { IfSome (I.left input.old) (λ bytes.
+            let old : State = state_of self.old.core (B.memory self.old.shared.bus) self.old.events in
+            let new : State = state_of self.new.core (B.memory self.new.shared.bus) self.new.events in
+            Runs (machine_of (C.program self.old.accepted.now)) self.old.left old bytes result new self.new.left (I.left input.new) (O.written out.old) (O.written out.new)) }
+        ensures read { result ≡ End.ReadFault → Rose (I.faults input.old) (I.faults input.new) }
+        ensures write { result ≡ End.WriteFault → Rose (O.faults out.old) (O.faults out.new) }
+        ensures input_later { I.faults input.old ≤ I.faults input.new }
+        ensures out_later { O.faults out.old ≤ O.faults out.new }
+        ensures accepted { self.new.accepted ≡ self.old.accepted }
+    {
+        while self.left > 0 {
+            self.left -= 1;
+            match turn(
+                self.accepted,
+                &mut self.core,
+                &mut self.shared,
+                &mut self.events,
+                input,
+                out,
+            ) {
+                Turned::Went => {}
+                Turned::Ended(end) => return end,
+            }
+        }
+        End::Budget
+    }
+
+    /// The events so far.
+    pub fn events(&self) -> &Events
+        ensures { result.now ≡ self.now.events }
+    {
+        &self.events
+    }
+
+    /// The registers, and what the runtime keeps of exceptions outside the pool.
+    pub fn core(&self) -> &Core
+        ensures { result.now ≡ self.now.core }
+    {
+        &self.core
+    }
+}

@@ -1,0 +1,116 @@
+//! The tests between an instruction and what it goes on to (docs/machine.md, "An event").
+ghost use Rattle.std.specs.Prelude.{◌≡◌, false, IfSome};
+ghost use Rattle.guest_gates.specs.Ends.{is_fault};
+ghost use Rattle.eh_machine.specs.Machine.{leaves_cleanup, sp_end, fell_off, goes_behind, way_end, refusal};
+
+use crate::checked::Checked;
+use eh_gates::gates::{ALLOCATE_GATE, BEGIN_CATCH_GATE, END_CATCH_GATE, FREE_GATE, UNCAUGHT_GATE};
+use guest_gates::{INPUT_GATE, NO_CALLER, OUTPUT_GATE};
+use thumb_core::ends::{End, TrapKind};
+use thumb_core::regs::{Regs, SP, Stepped};
+
+/// Whether sp rises above the landing sp of the innermost cleanup in progress.
+fn leaves_cleanup(landing: Option<u32>, old: u32, new: u32) -> bool
+    ensures { result ≡ leaves_cleanup landing old new }
+{
+    match landing {
+        None => false,
+        Some(landing) => old < new && landing < new,
+    }
+}
+
+/// The end by sp: it rises out of a cleanup, or stands below the running stack, which begins at `low`.
+fn sp_end(landing: Option<u32>, low: u32, pc: u32, old: u32, new: u32) -> Option<End>
+    ensures { result ≡ sp_end landing low pc old new }
+{
+    if leaves_cleanup(landing, old, new) {
+        Some(End::Trap(TrapKind::SpInCleanup, new, pc))
+    } else if new < low {
+        Some(End::Trap(TrapKind::StackLimit, new, pc))
+    } else {
+        None
+    }
+}
+
+/// The end of a run that goes on past the end of its function.
+fn fell_off<C: Checked>(a: &C, pc: u32, to: u32) -> Option<End>
+    ensures { result ≡ fell_off (C.program a.now) pc to }
+{
+    if a.is_function(to) {
+        Some(End::Trap(TrapKind::FellOff, to, pc))
+    } else {
+        None
+    }
+}
+
+/// Whether a run goes on behind a gate.
+fn goes_behind(number: u8) -> bool
+    ensures { result ≡ goes_behind number }
+{
+    number == OUTPUT_GATE
+        || number == INPUT_GATE
+        || number == ALLOCATE_GATE
+        || number == FREE_GATE
+        || number == BEGIN_CATCH_GATE
+        || number == END_CATCH_GATE
+        || number == UNCAUGHT_GATE
+}
+
+/// The end by where the run would go on. The registers are those behind the instruction; `branches` says whether it took a branch.
+fn way_end<C: Checked>(a: &C, branches: bool, pc: u32, what: Stepped, regs: &Regs) -> Option<End>
+    ensures { result ≡ way_end (C.program a.now) branches pc what regs.now }
+{
+    match what {
+        Stepped::Done => {
+            if branches {
+                None
+            } else {
+                fell_off(a, pc, regs.pc)
+            }
+        }
+        Stepped::Call { target, .. } => {
+            if a.is_function(target) {
+                None
+            } else {
+                Some(End::Trap(TrapKind::BadCallTarget, target, pc))
+            }
+        }
+        Stepped::Return { to } => {
+            if to == NO_CALLER {
+                Some(End::Exit(regs.r[0]))
+            } else {
+                fell_off(a, pc, regs.pc)
+            }
+        }
+        Stepped::Gate(number) => {
+            if goes_behind(number) {
+                fell_off(a, pc, regs.pc)
+            } else {
+                None
+            }
+        }
+        Stepped::Trap(_) => None,
+    }
+}
+
+/// The end by a test: first of sp, then of where the run would go on. `stack` has the landing sp of the innermost cleanup and the start of the
+/// running stack, `at` pc and sp before the instruction.
+pub(crate) fn refusal<C: Checked>(
+    a: &C,
+    stack: (Option<u32>, u32),
+    at: (u32, u32),
+    branches: bool,
+    what: Stepped,
+    regs: &Regs,
+) -> Option<End>
+    ensures is { result ≡ refusal (C.program a.now) stack at branches what regs.now }
+    ensures inside { IfSome result (λ end. is_fault end ≡ false) }
+{
+    let (landing, low) = stack;
+    let (pc, old) = at;
+    let end = sp_end(landing, low, pc, old, regs.r[SP as usize]);
+    if end.is_some() {
+        return end;
+    }
+    way_end(a, branches, pc, what, regs)
+}
