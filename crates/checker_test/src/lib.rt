@@ -6,6 +6,8 @@ mod effects;
 #[cfg(test)]
 mod flows;
 #[cfg(test)]
+mod framed;
+#[cfg(test)]
 mod reached;
 #[cfg(test)]
 mod runs;

@@ -7,3 +7,4 @@ pub mod Reaching
 pub mod Rising
 pub mod Conditions
 pub mod Pads
+pub mod Standing

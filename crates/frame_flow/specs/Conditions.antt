@@ -1,14 +1,15 @@
 -- The condition of each cause on a fact at a place, one line a cause (docs/acceptance.md, "Causes"), and that these are what is met.
-use Rattle.std.specs.Prelude.{ℕ, ◌≡◌, ◌<◌, ◌↔◌, true, false, Some, Ok, Err}
+use Rattle.std.specs.Prelude.{ℕ, ◌≡◌, ◌<◌, ◌↔◌, ◌⊎◌, true, false, Some, Ok, Err}
 use Rattle.std.specs.List.{Contains}
 use Rattle.thumb_isa.specs.declared.instr.Instr.{Instr}
+use Rattle.thumb_isa.specs.declared.instr.Instr.TheVariants.{Svc}
 use Rattle.thumb_core.specs.declared.regs.TheConstants.{LR}
 use Rattle.thumb_core.specs.Words.{listed}
 use Rattle.frame_facts.specs.declared.cause.FrameCause.{FrameCause}
 use Rattle.frame_facts.specs.declared.cause.FrameCause.TheVariants.{Undecodable, BranchOut, IndirectBranch, CallNotFunction, SpWrite, JoinDepth, ReturnState, CallState, FramePointerLost, BadBytecode, BadDescriptor, PadDepth, ThrowInLeafScope, SplitEntry, GenericModel, TooLong}
 use Rattle.frame_facts.specs.declared.facts.Fact.{Fact}
 use Rattle.frame_facts.specs.declared.saves.Prologue.{Prologue}
-use Rattle.frame_facts.specs.Facts.{forgotten}
+use Rattle.frame_facts.specs.Facts.{entered, forgotten}
 use Rattle.frame_facts.specs.After.{after_of}
 use Rattle.frame_facts.specs.Agrees.{agreed}
 use Rattle.frame_scene.specs.declared.unwinding.Unwinding.{Unwinding}
@@ -19,7 +20,7 @@ use Rattle.frame_scene.specs.Ways.{is_undecodable, branches_out, calls_nothing, 
 use Rattle.frame_scene.specs.Sites.{site_at, unwinding_at, is_scoped, pads_out, ways_of}
 use Rattle.frame_flow.specs.Framed.{Framed}
 use Rattle.frame_flow.specs.Causes.{is_call, meets}
-use Rattle.frame_flow.specs.Flows.{edges}
+use Rattle.frame_flow.specs.Flows.{edges, IsStateOf, StandsIn}
 
 -- the effect of the instruction at a place
 abbrev pub Leaves : Framed → ℕ → Fact → Fact → Type 0
@@ -66,3 +67,26 @@ CausesAreConditions = (x : Framed) (c : FrameCause) (p : ℕ) (f : Fact) → (me
 -- a fact leads along the ways of its place, with what its instruction leaves and the way doesn't forget, and nowhere else
 abbrev pub EdgesAreWays : Type 0
 EdgesAreWays = (x : Framed) (p : ℕ) (f : Fact) (q : ℕ) (g : Fact) → Contains (edges x p f) (q, g) ↔ ((k : Fact) × (w : Way) × Leaves x p f k × Contains (ways_of x.scene p) w × (q ≡ w.to) × (g ≡ forgotten (listed w.forgets) k))
+
+-- two states of a place with different depths
+abbrev pub HasTwoDepths : Framed → ℕ → Type 0
+HasTwoDepths x p = (f : Fact) × (g : Fact) × IsStateOf x p f × IsStateOf x p g × (f.depth ≡ g.depth → ⊥)
+
+-- the causes that these are, at a place that isn't a landing pad and at one that is
+abbrev pub OfDepths : Framed → ℕ → FrameCause → Type 0
+OfDepths x p JoinDepth = Unit {0}
+OfDepths x p PadDepth = x.pad p ≡ true
+OfDepths x p c = ⊥
+
+-- a cause stands at a place exactly where its condition holds of a state there, or where it is one of two depths and there are two
+abbrev pub CausesStand : Type 0
+CausesStand = (x : Framed) (p : ℕ) (c : FrameCause) → StandsIn x p c ↔ (((f : Fact) × IsStateOf x p f × Holds x p f c) ⊎ (OfDepths x p c × HasTwoDepths x p))
+
+-- the entry's fact is a state of the first place
+abbrev pub EntryIsAState : Type 0
+EntryIsAState = (x : Framed) → IsStateOf x 0 entered
+
+-- the instruction of a site is a call, or a gate and no call
+abbrev pub SitesAreCallsOrGates : Type 0
+SitesAreCallsOrGates = (x : Framed) (p : ℕ) (i : Instr) (site : ℕ) → instruction_at x.scene p ≡ Some i → site_at x.scene p ≡ Some site
+    → (is_call i ≡ true) ⊎ ((is_call i ≡ false) × ((imm : ℕ) × (i ≡ Svc imm)))

@@ -1,5 +1,5 @@
 //! What the facts of a function show, whatever the function. docs/acceptance.md, "The facts of a function".
-ghost use Rattle.frame_flow.specs.Conditions.{CausesAreConditions, EdgesAreWays};
+ghost use Rattle.frame_flow.specs.Conditions.{CausesAreConditions, CausesStand, EdgesAreWays, EntryIsAState, SitesAreCallsOrGates};
 ghost use Rattle.frame_flow.specs.Laws.{FlowsKeepLaws, FactsDecide, FoundAreMet, LowestIsFirst, FactsReach};
 
 /// Facts of frames flow as flows have to: vagueness is an order, meetings are least, and a fact that is less vague meets no more causes
@@ -16,6 +16,22 @@ pub fn valid_facts_exist_where_no_cause_stands()
 /// A fact meets a cause at a place exactly where the condition of the cause holds.
 pub fn causes_are_conditions()
     ensures { CausesAreConditions }
+{}
+
+/// A cause stands at a place exactly where its condition holds of a state there; `JoinDepth`, and at a landing pad `PadDepth`, also where
+/// two states there have different depths.
+pub fn causes_stand()
+    ensures { CausesStand }
+{}
+
+/// The entry's fact is a state of the first place.
+pub fn entry_is_a_state()
+    ensures { EntryIsAState }
+{}
+
+/// The instruction of a site is a call, or a gate and no call.
+pub fn sites_are_calls_or_gates()
+    ensures { SitesAreCallsOrGates }
 {}
 
 /// A fact leads along the ways of its place and nowhere else, with what the instruction leaves and the way doesn't forget.

@@ -113,7 +113,7 @@ fn visit(
 fn no_facts(alloc: Global, count: u32) -> Result<Vec<Option<Fact>>, AllocError>
     ensures { IfOk result (λ facts. facts.items ≡ replicate count None) }
 {
-    let mut facts = Vec::new(alloc);
+    let mut facts = Vec::with_capacity(alloc, count as usize)?;
     for i in 0..count {
         facts.push(None)?;
     }
