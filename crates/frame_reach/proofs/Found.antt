@@ -22,6 +22,7 @@ use Rattle.frame_scene.proofs.Inside.{ways_stay_inside}
 use Rattle.frame_reach.specs.Marks.{IsPad, IsBranched, IsTarget, IsTooLong, IsSplit, Marks, AreMarks, AreThePlaces}
 use Rattle.frame_reach.specs.Held.{Held, is_set, marks_of, splits_at}
 use Rattle.frame_reach.specs.Prologue.{places}
+use Rattle.frame_reach.specs.Laws.{TargetsAreReached}
 use Rattle.frame_reach.specs.Search.{AreSound, Grow, AreFollowed, IsPutIn, IsLandedIn}
 use Rattle.frame_reach.proofs.Marking.{no_more}
 
@@ -105,8 +106,11 @@ branch_way s a Nothing q e = absurd (none-some q e)
 branch_reached : (s : Scene) (q : ℕ) → IsBranched s q → IsReached s q
 branch_reached s q b = straight_reached s b.0 (record { to = q; forgets = 0 }) b.1 (branch_way s (address_of s b.0) (standing_at s b.0) q b.2)
 
+pub targets_are_reached : TargetsAreReached
+targets_are_reached s q t = ⊎_elim (λ (b : IsBranched s q). branch_reached s q b) (λ (d : IsPad s q). pad_reached s q d) t
+
 pub target_below : (s : Scene) (q : ℕ) → IsTarget s q → q < places s
-target_below s q t = below s q (⊎_elim (λ (b : IsBranched s q). branch_reached s q b) (λ (d : IsPad s q). pad_reached s q d) t)
+target_below s q t = below s q (targets_are_reached s q t)
 
 -- ---- nothing is found yet
 

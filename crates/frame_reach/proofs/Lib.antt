@@ -3,3 +3,4 @@ pub mod Stands
 pub mod Found
 pub mod Runs
 pub mod Existing
+pub mod Others

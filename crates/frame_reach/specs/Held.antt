@@ -1,5 +1,5 @@
 -- Marks of places as lists, and what a site of a place tells.
-use Rattle.std.specs.Prelude.{ℕ, Bool, true, false, List, slice_index_or, slice_set}
+use Rattle.std.specs.Prelude.{ℕ, Bool, false, List, slice_index_or}
 use Rattle.std.specs.Option.{option_map_or}
 use Rattle.frame_scene.specs.Scene.{Scene}
 use Rattle.frame_scene.specs.Sites.{site_at, is_split}
@@ -14,10 +14,6 @@ pub record Held : Type 0 where
 
 abbrev pub is_set : List Bool → ℕ → Bool
 is_set marks p = slice_index_or marks p false
-
--- one mark more
-abbrev pub with_mark : List Bool → ℕ → List Bool
-with_mark marks p = slice_set marks p true
 
 -- the marks that the lists are; past their ends none is set
 abbrev pub marks_of : Held → Marks

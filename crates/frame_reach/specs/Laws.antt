@@ -1,11 +1,12 @@
 -- What holds of every function: laws above the definitions.
-use Rattle.std.specs.Prelude.{ℕ, ◌≡◌, ◌↔◌, ◌+◌, ◌*◌, ◌/◌, ◌^◌, ◌<◌, false, List, length, Some}
+use Rattle.std.specs.Prelude.{ℕ, ◌≡◌, ◌↔◌, ◌+◌, ◌*◌, ◌/◌, ◌^◌, ◌<◌, ◌⊎◌, true, false, List, length, Some}
 use Rattle.thumb_isa.specs.declared.instr.Instr.{Instr}
 use Rattle.frame_facts.specs.declared.straight.Straight.{Straight}
 use Rattle.frame_facts.specs.Prologues.{begun, taken}
 use Rattle.frame_scene.specs.declared.places.Standing.TheVariants.{Instruction}
 use Rattle.frame_scene.specs.Scene.{Scene}
 use Rattle.frame_scene.specs.Places.{standing_at}
+use Rattle.frame_scene.specs.Ways.{goes_on}
 use Rattle.frame_scene.specs.Reach.{IsReached}
 use Rattle.frame_reach.specs.declared.marks.TheConstants.{MOST_REACHED}
 use Rattle.frame_reach.specs.Marks.{Marks, AreMarks, AreThePlaces, IsTarget, IsTooLong}
@@ -24,6 +25,20 @@ MarksAgree = (s : Scene) (m n : Marks) → AreMarks s m → AreMarks s n → m �
 -- how many places are reached tells whether they are too many
 abbrev pub PlacesAreCounted : Type 0
 PlacesAreCounted = (s : Scene) (m : Marks) (ps : List ℕ) → AreMarks s m → AreThePlaces m ps → IsTooLong s ↔ (MOST_REACHED < length ps)
+
+-- ---- targets
+
+-- every target is reached itself
+abbrev pub TargetsAreReached : Type 0
+TargetsAreReached = (s : Scene) (q : ℕ) → IsTarget s q → IsReached s q
+
+-- the place stands behind an instruction that is reached and goes on
+abbrev pub IsBehind : Scene → ℕ → Type 0
+IsBehind s q = (p : ℕ) × (i : Instr) × (size : ℕ) × IsReached s p × (standing_at s p ≡ Instruction i size) × (goes_on i ≡ true) × (q ≡ p + size / 2)
+
+-- and what else is reached is the entry, or stands behind an instruction
+abbrev pub OthersAreBehind : Type 0
+OthersAreBehind = (s : Scene) (q : ℕ) → IsReached s q → (q ≡ 0) ⊎ (IsTarget s q ⊎ IsBehind s q)
 
 -- ---- the prologue
 

@@ -1,5 +1,5 @@
 //! What holds of the marks and of the prologue of every function. docs/scenes.md, "Reached places"; docs/acceptance.md, "The prologue".
-ghost use Rattle.frame_reach.specs.Laws.{MarksExist, MarksAgree, PlacesAreCounted, PrologueIsTheLongestRun, RunsAreReached, NoTargetInThePrologue};
+ghost use Rattle.frame_reach.specs.Laws.{MarksExist, MarksAgree, PlacesAreCounted, TargetsAreReached, OthersAreBehind, PrologueIsTheLongestRun, RunsAreReached, NoTargetInThePrologue};
 
 /// Every function has marks, however large it is.
 pub fn marks_exist()
@@ -14,6 +14,16 @@ pub fn marks_agree()
 /// More places are reached than a function may have exactly where a list of them, each once, is longer than that.
 pub fn places_are_counted()
     ensures { PlacesAreCounted }
+{}
+
+/// Every target of a branch that is reached, and every landing pad, is reached.
+pub fn targets_are_reached()
+    ensures { TargetsAreReached }
+{}
+
+/// A place that is reached is the entry, or a target, or stands behind an instruction that is reached and goes on.
+pub fn others_are_behind()
+    ensures { OthersAreBehind }
 {}
 
 /// The prologue is a run of instructions one behind the other from the entry on, none of them a target, each of which may stand in it; and

@@ -91,6 +91,7 @@ impl Reached {
         requires { AreMarks scene.now (marks_of self.now) }
         ensures { IsTrue result ↔ IsSplit scene.now }
     {
+        // read here, since both are then known to have 32 bits
         let _start = scene.start();
         let _end = scene.end();
         for place in self.places() {

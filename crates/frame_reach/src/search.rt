@@ -151,6 +151,7 @@ fn follow(alloc: Global, scene: &Scene, found: &mut Found) -> Result<(), ReachFa
     requires { Begins scene.now found.old }
     ensures { Follows scene.now found.new result }
 {
+    // read here, since both are then known to have 32 bits
     let _start = scene.start();
     let _end = scene.end();
     let mut next = 0;
