@@ -3,3 +3,4 @@ pub mod Machine
 pub mod Start
 pub mod Guarded
 pub mod Turns
+pub mod Laws

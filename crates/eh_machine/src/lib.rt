@@ -5,6 +5,7 @@
 pub mod checked;
 mod event;
 mod guards;
+pub mod laws;
 pub mod memory;
 mod pass;
 pub mod run;
