@@ -2,3 +2,4 @@ pub mod Blocks
 pub mod Fifteen
 pub mod Sought
 pub mod Honest
+pub mod Leaving

@@ -4,3 +4,4 @@ pub mod Landing
 pub mod Throwing
 pub mod Resuming
 pub mod Gates
+pub mod Laws

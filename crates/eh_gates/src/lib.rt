@@ -5,6 +5,7 @@
 pub mod calls;
 pub mod gates;
 pub mod landing;
+pub mod laws;
 pub mod resuming;
 pub mod state;
 pub mod throwing;

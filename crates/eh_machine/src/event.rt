@@ -15,6 +15,7 @@ use thumb_core::ends::End;
 use thumb_core::regs::Stepped;
 
 /// What the threads of a run have in common: the memory.
+#[derive(Drop)]
 pub struct Shared<B> {
     pub bus: B,
 }

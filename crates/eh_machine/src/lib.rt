@@ -5,11 +5,16 @@
 pub mod checked;
 mod event;
 mod guards;
+pub mod laws;
+pub mod memory;
 mod pass;
 pub mod run;
+mod start;
 mod tests_of;
 
 pub use checked::Checked;
-pub use eh_gates::{Core, Turned, throw_to};
+pub use eh_gates::{Core, Turned};
 pub use event::{Shared, turn};
+pub use memory::MachineMemory;
 pub use run::Machine;
+pub use start::{start_parts, throw_to};

@@ -1,0 +1,46 @@
+-- What gates promise in the words of their users (docs/machine.md, "Laws").
+use Rattle.std.specs.Prelude.{◌≡◌, ℕ, Bool, true, false, is_some, Ok, Err}
+use Rattle.eh_cxa.specs.Words.{word, object_slot}
+use Rattle.eh_cxa.specs.Throw.{throw_fault}
+use Rattle.eh_types.specs.Graph.{row_of}
+use Rattle.eh_trace.specs.Trace.{total_of, one_event}
+use Rattle.eh_trace.specs.declared.event.EventKind.TheVariants as kind
+use Rattle.thumb_core.specs.declared.ends.End.{End}
+use Rattle.thumb_core.specs.declared.ends.End.TheVariants as the_end
+use Rattle.eh_gates.specs.declared.state.Turned.TheVariants.{Ended}
+use Rattle.eh_gates.specs.State.{State, Guide, Outcome, reg}
+use Rattle.eh_gates.specs.Throwing.{throw_gate, barrier_in, searched, thrown_first}
+use Rattle.eh_gates.specs.Gates.{gate_of}
+
+abbrev pub is_terminate : End → Bool
+is_terminate (the_end.Terminate why) = true
+is_terminate (the_end.Exit number) = false
+is_terminate (the_end.Trap kind value pc) = false
+is_terminate the_end.Budget = false
+is_terminate the_end.ReadFault = false
+is_terminate the_end.WriteFault = false
+
+-- what an end leaves: the registers in any case, and globals and memory unless it is a terminate, which leaves what was done before it
+pub record IsLeft (end : End) (s t : State) : Type 0 where
+  pub regs : t.regs ≡ s.regs
+  pub globals : is_terminate end ≡ false → t.globals ≡ s.globals
+  pub memory : is_terminate end ≡ false → t.memory ≡ s.memory
+
+abbrev pub GatesLeave : Type 0
+GatesLeave = (g : Guide) (number next : ℕ) (s t : State) (end : End) → gate_of g number next s ≡ (Ended end, t) → IsLeft end s t
+
+-- only a throw was added to the events
+pub record OnlyThrown (s t : State) : Type 0 where
+  pub throws : total_of kind.Throw t.events ≡ one_event (total_of kind.Throw s.events)
+  pub cleanups : total_of kind.Cleanup t.events ≡ total_of kind.Cleanup s.events
+  pub catches : total_of kind.Catch t.events ≡ total_of kind.Catch s.events
+  pub unexpected : total_of kind.Unexpected t.events ≡ total_of kind.Unexpected s.events
+  pub globals : t.globals ≡ s.globals
+  pub memory : t.memory ≡ s.memory
+
+-- a throw of an object that may be thrown, of a type that the graph holds, whose search finds no barrier: the run ends by what the search
+-- found, nothing was entered, and the exception doesn't fly
+abbrev pub FailedSearchesEnterNothing : Type 0
+FailedSearchesEnterNothing =
+    (g : Guide) (s t : State) (end why : End) → throw_fault (word s.memory) (object_slot (reg s 0)) ≡ Ok tt → is_some (row_of g.types (reg s 1)) ≡ true
+    → barrier_in s.regs.pc (searched g s (thrown_first s)) ≡ Err why → throw_gate g s ≡ (Ended end, t) → (end ≡ why) × OnlyThrown s t

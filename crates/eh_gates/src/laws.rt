@@ -1,0 +1,12 @@
+//! What gates promise in the words of their users (docs/machine.md, "Laws").
+ghost use Rattle.eh_gates.specs.Laws.{GatesLeave, FailedSearchesEnterNothing};
+
+/// A gate that ends the run leaves the registers as before its instruction, and unless it terminates globals and memory too.
+pub fn gates_leave()
+    ensures { GatesLeave }
+{}
+
+/// A throw whose search finds no barrier enters nothing: no cleanup, no handler, and no exception flies. Its own event is all that is new.
+pub fn failed_searches_enter_nothing()
+    ensures { FailedSearchesEnterNothing }
+{}

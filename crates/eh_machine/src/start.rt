@@ -1,0 +1,100 @@
+//! The state that a run starts in (docs/machine.md, "The start").
+ghost use Rattle.std.specs.Prelude.{◌≡◌, IfOk, IsSome};
+ghost use Rattle.eh_bus.specs.Flat.{memory_of};
+ghost use Rattle.eh_cxa.specs.Words.{block_slot};
+ghost use Rattle.eh_gates.specs.State.{state_of};
+ghost use Rattle.eh_gates.specs.Throwing.{throw_to};
+ghost use Rattle.eh_trace.specs.Trace.{no_events};
+ghost use Rattle.eh_machine.specs.Program.{guide};
+ghost use Rattle.eh_machine.specs.Start.{start_of};
+
+use crate::checked::Checked;
+use crate::event::Shared;
+use crate::memory::MachineMemory;
+use crate::run::Machine;
+use eh_bus::bus::Bus;
+use eh_bus::flat::FlatBus;
+use eh_cxa::Globals;
+use eh_gates::{Core, Turned};
+use eh_phase::Barrier;
+use eh_trace::Events;
+use image_memory::{image_memory, start_regs};
+use std::alloc::Global;
+
+/// The state at the start: the image's segments in memory with the stack and the pool, sp at the end of the stack, pc at the entry, no
+/// exceptions and no events, with room for those that are kept.
+pub fn start_parts<C: Checked>(
+    alloc: Global,
+    a: &C,
+) -> Result<(Core, Shared<FlatBus>, Events), MachineMemory>
+    ensures { IfOk result (λ parts. state_of parts.0 (memory_of parts.1.bus) parts.2 ≡ start_of (C.program a.now)) }
+{
+    let tables = a.tables();
+    let image = tables.index.image();
+    let bus = image_memory(alloc, image)?;
+    let core = Core {
+        regs: start_regs(image.entry()),
+        globals: Globals::start(),
+    };
+    let events = Events::reserve(alloc)?;
+    Ok((core, Shared { bus }, events))
+}
+
+impl<'a, C: Checked> Machine<'a, C, FlatBus> {
+    /// A run from the start, of at most `budget` events.
+    pub fn start(alloc: Global, a: &'a C, budget: u64) -> Result<Self, MachineMemory>
+        ensures state { IfOk result (λ m. state_of m.core (memory_of m.shared.bus) m.events ≡ start_of (C.program a.now)) }
+        ensures budget { IfOk result (λ m. m.left ≡ budget) }
+        ensures program { IfOk result (λ m. m.accepted.now ≡ a.now) }
+    {
+        let (core, shared, events) = start_parts(alloc, a)?;
+        Ok(Machine {
+            accepted: a,
+            core,
+            shared,
+            events,
+            left: budget,
+        })
+    }
+}
+
+impl<'a, C: Checked, B: Bus + Drop> Machine<'a, C, B> {
+    /// A run from any registers, globals and memory, of at most `budget` events.
+    pub fn from_parts(
+        alloc: Global,
+        a: &'a C,
+        core: Core,
+        shared: Shared<B>,
+        budget: u64,
+    ) -> Result<Self, MachineMemory>
+        ensures state { IfOk result (λ m. state_of m.core (B.memory m.shared.bus) m.events ≡ state_of core (B.memory shared.bus) no_events) }
+        ensures budget { IfOk result (λ m. m.left ≡ budget) }
+        ensures program { IfOk result (λ m. m.accepted.now ≡ a.now) }
+    {
+        let events = Events::reserve(alloc)?;
+        Ok(Machine {
+            accepted: a,
+            core,
+            shared,
+            events,
+            left: budget,
+        })
+    }
+}
+
+/// What a throw and a rethrow do once the exception of a control block flies, from the registers as they are and a site, to its barrier:
+/// see `eh_gates::throw_to`.
+pub fn throw_to<C: Checked, B: Bus>(
+    a: &C,
+    core: &mut Core,
+    shared: &mut Shared<B>,
+    events: &mut Events,
+    site: u32,
+    ucb: u32,
+    b: &Barrier,
+) -> Turned
+    requires { IsSome (block_slot ucb) }
+    ensures { (result, state_of core.new (B.memory shared.new.bus) events.new) ≡ throw_to (guide (C.program a.now)) (state_of core.old (B.memory shared.old.bus) events.old) site ucb b.now }
+{
+    eh_gates::throw_to(&a.tables(), core, &mut shared.bus, events, site, ucb, b)
+}
