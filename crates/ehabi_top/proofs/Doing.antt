@@ -1,20 +1,19 @@
 -- What a call for a command has done, from its parts. The commands that run bytes differ in where these come from alone.
-use Rattle.std.proofs.Common.{◌≡◌, ℕ, List, Option, Some, None, IfSome, Result, Ok, Err, refl, ap, ◌∙◌, inl, inr, arith}
+use Rattle.std.proofs.Common.{◌≡◌, ℕ, List, Option, Some, None, IfSome, Result, Ok, Err, refl, inl, inr, arith}
 use Rattle.std.specs.Prelude.{IfOk, IfErr, false, ◌↔◌}
 use Rattle.ehabi_top.specs.Building.{wants_memory}
 use Rattle.std.proofs.KnownBytes.{Keeps-refl}
-use Rattle.eh_port.specs.Causes.{Rose}
 use Rattle.ehabi_top.specs.declared.refusal.FilesFault.{FilesFault}
 use Rattle.ehabi_top.specs.declared.status.TheConstants.{USAGE}
 use Rattle.ehabi_top.specs.declared.stop.Stop.{Stop}
 use Rattle.ehabi_top.specs.declared.stop.Stop.TheVariants.{Read, Write, Memory}
-use Rattle.ehabi_top.specs.Finding.{Finds, StandsFor, found_report}
+use Rattle.ehabi_top.specs.Finding.{Finds, FoundReports, StandsFor, found_report}
 use Rattle.ehabi_top.specs.Loading.{Report, SaysWhy, IsReported, IsOfCommand}
 use Rattle.ehabi_top.specs.Report.{Reports, IfTold, Performs, Why, Does}
 use Rattle.ehabi_top.specs.Sources.{Refusal}
 use Rattle.ehabi_top.specs.Text.{usage}
-use Rattle.ehabi_top.specs.Words.{Command, BuildSources}
-use Rattle.ehabi_top.specs.Writes.{Answers}
+use Rattle.ehabi_top.specs.Words.{Command}
+use Rattle.ehabi_top.specs.Writes.{Answers, AnswersOrLacks}
 use Rattle.ehabi_top.specs.Yields.{Shelf, Streams, streams, Gives, Yields}
 use Rattle.ehabi_top.proofs.Statuses.{usage_reported}
 use Rattle.ehabi_top.proofs.Yielding.{gives_answer, of_status, only_write}
@@ -39,34 +38,29 @@ performs command files input r (Err stop) left before now is g = record {
 performs_none : (command : Option Command) (files : Held) (input : List ℕ) (stop : Stop) (left before : Option (List ℕ)) → Performs command files input (Err stop) left before before
 performs_none command files input stop left before = record { whole = tt; part = inl (Keeps-refl before) }
 
--- ---- commands that run bytes
+-- ---- the bytes that a command asks the files for
 
--- What such a command has: the bytes that it asks the files for, the report that it makes of them and of the input, and what
--- makes bytes unfit for it.
-pub record IsRunner (command : Option Command) (ask : Held → Result (List ℕ) Refusal) (ready : List ℕ → List ℕ → Report) (unfit : List ℕ → Type 0) : Type 0 where
-  pub reports : (held : Held) (input : List ℕ) → Reports command held input (found_report ready (ask held) input)
+-- What its status says of these: `unfit` are bytes that it refuses.
+pub record Asks (command : Option Command) (ask : Held → Result (List ℕ) Refusal) (unfit : List ℕ → Type 0) : Type 0 where
   pub fits : (held : Held) (input : Option (List ℕ)) (bytes : List ℕ) (status : ℕ) → ask held ≡ Ok bytes → SaysWhy status ⊥ (unfit bytes) → Why command held input status
   pub lacks : (held : Held) (input : Option (List ℕ)) (refusal : Refusal) → ask held ≡ Err refusal → Why command held input refusal.status
+  pub some : command ≡ None → ⊥
+
+-- A command that runs bytes: the report that it makes of them and of the input.
+pub record IsRunner (command : Option Command) (ask : Held → Result (List ℕ) Refusal) (ready : List ℕ → List ℕ → Report) (unfit : List ℕ → Type 0) : Type 0 where
+  pub reports : (held : Held) (input : List ℕ) → Reports command held input (found_report ready (ask held) input)
+  pub asks : Asks command ask unfit
   pub tells : (files : Option Held) (input left before now : Option (List ℕ)) (result : Result ℕ Stop)
       → IfSome files (λ held. IfSome input (λ bytes. Performs command held bytes result left before now))
       → IfTold command files input left (λ held bytes left. Performs command held bytes result left before now)
-  pub some : command ≡ None → ⊥
 
--- a stop of the call that asked the files
-find_read : {T : Type 0} (bytes_of : T → List ℕ) (ask : Held → Result (List ℕ) Refusal) (files files' : Shelf) (found : Result (Result T FilesFault) Stop) (stop : Stop)
-    → Finds bytes_of ask files files' found → found ≡ Err stop → stop ≡ Read → Rose files.faults files'.faults
-find_read bytes_of ask files files' found stop f e s = f.read (e ∙ ap Err s)
-
-find_write : {T : Type 0} (bytes_of : T → List ℕ) (ask : Held → Result (List ℕ) Refusal) (files files' : Shelf) (found : Result (Result T FilesFault) Stop) (stop : Stop)
-    → Finds bytes_of ask files files' found → found ≡ Err stop → stop ≡ Write → ⊥
-find_write bytes_of ask files files' found stop f e s = f.write (e ∙ ap Err s)
-
-find_memory : {T : Type 0} (bytes_of : T → List ℕ) (ask : Held → Result (List ℕ) Refusal) (files files' : Shelf) (found : Result (Result T FilesFault) Stop) (stop : Stop)
-    → Finds bytes_of ask files files' found → found ≡ Err stop → stop ≡ Memory → files'.faults ≡ files.faults
-find_memory bytes_of ask files files' found stop f e s = f.memory (e ∙ ap Err s)
-
-err_of : (stop other : Stop) → ◌≡◌ {A = Result ℕ Stop} (Err stop) (Err other) → stop ≡ other
-err_of stop other e = cc
+-- A command that runs nothing, and leaves the input: the reports that it may make of bytes.
+pub record IsKeeper (command : Option Command) (ask : Held → Result (List ℕ) Refusal) (Says : List ℕ → List ℕ → Report → Type 0) (unfit : List ℕ → Type 0) : Type 0 where
+  pub reports : (held : Held) (input : List ℕ) (r : Report) → FoundReports Says (ask held) input r → Reports command held input r
+  pub asks : Asks command ask unfit
+  pub tells : (files : Option Held) (input before now : Option (List ℕ)) (result : Result ℕ Stop)
+      → IfSome files (λ held. (bytes : List ℕ) → Performs command held bytes result (Some bytes) before now)
+      → IfTold command files input input (λ held bytes left. Performs command held bytes result left before now)
 
 -- the status is of a command, and there is one
 used : (command : Option Command) (result : Result ℕ Stop) → (command ≡ None → ⊥) → IfOk result IsOfCommand → IfOk result (λ status. (status ≡ USAGE) ↔ (command ≡ None))
@@ -83,6 +77,8 @@ why_all : (command : Option Command) (held : Option Held) (input : Option (List 
 why_all command held input lacks unfit (Ok s) f w = f s w
 why_all command held input lacks unfit (Err stop) f w = tt
 
+-- ---- commands that run bytes
+
 module _ (command : Option Command) (ask : Held → Result (List ℕ) Refusal) (ready : List ℕ → List ℕ → Report) (unfit : List ℕ → Type 0)
     (runner : IsRunner command ask ready unfit) where
   -- the bytes are there
@@ -96,7 +92,7 @@ module _ (command : Option Command) (ask : Held → Result (List ℕ) Refusal) (
     write = y.write;
     memory = λ e. (same, y.memory e);
     status = reported result y.status;
-    usage = used command result runner.some y.status;
+    usage = used command result runner.asks.some y.status;
   }
     where
       told : (held : Option Held) (input : Option (List ℕ)) → IfSome held (λ h. ask h ≡ Ok bytes)
@@ -109,7 +105,7 @@ module _ (command : Option Command) (ask : Held → Result (List ℕ) Refusal) (
 
       why : (held : Option Held) → IfSome held (λ h. ask h ≡ Ok bytes) → (s : ℕ) → SaysWhy s ⊥ (unfit bytes) → IfSome held (λ h. Why command h old.input s)
       why None e s w = tt
-      why (Some h) e s w = runner.fits h old.input bytes s e w
+      why (Some h) e s w = runner.asks.fits h old.input bytes s e w
 
   -- there are none, and the line says why
   pub does_fault : (files files' : Shelf) (input before now : Option (List ℕ)) (i f g : ℕ) (result : Result ℕ Stop) (refusal : Refusal)
@@ -125,7 +121,7 @@ module _ (command : Option Command) (ask : Held → Result (List ℕ) Refusal) (
         write = λ e. (only_write refusal.line refusal.status result Write before now f g a e).1;
         memory = λ e. absurd (let w = (only_write refusal.line refusal.status result Memory before now f g a e).0 in cc);
         status = reported result ofs;
-        usage = used command result runner.some ofs;
+        usage = used command result runner.asks.some ofs;
       }
     where
       told : (held : Option Held) (input : Option (List ℕ)) → IfSome held (λ h. ask h ≡ Err refusal)
@@ -137,68 +133,86 @@ module _ (command : Option Command) (ask : Held → Result (List ℕ) Refusal) (
 
       why : (held : Option Held) → IfSome held (λ h. ask h ≡ Err refusal) → IfSome held (λ h. Why command h input refusal.status)
       why None e = tt
-      why (Some h) e = runner.lacks h input refusal e
+      why (Some h) e = runner.asks.lacks h input refusal e
 
-  -- the files gave no answer
-  pub does_stop : {T : Type 0} (bytes_of : T → List ℕ) (files files' : Shelf) (found : Result (Result T FilesFault) Stop) (input before : Option (List ℕ)) (i f : ℕ) (stop : Stop)
-      → Finds bytes_of ask files files' found → found ≡ Err stop
-      → Does command files files' (streams input i before f) (streams input i before f) (Err stop)
-  does_stop bytes_of files files' found input before i f stop finds e = record {
-    told = runner.tells files.held input input before before (Err stop) (told files.held input);
-    why = tt;
-    read = λ r. inl (find_read bytes_of ask files files' found stop finds e (err_of stop Read r));
-    write = λ r. absurd (find_write bytes_of ask files files' found stop finds e (err_of stop Write r));
-    memory = λ r. (find_memory bytes_of ask files files' found stop finds e (err_of stop Memory r), record { input = refl; output = refl });
-    status = tt;
-    usage = tt;
-  }
-    where
-      told : (held : Option Held) (input : Option (List ℕ)) → IfSome held (λ h. IfSome input (λ b. Performs command h b (Err stop) input before before))
-      told None input = tt
-      told (Some h) None = tt
-      told (Some h) (Some b) = performs_none command h b stop (Some b) before
+-- ---- commands that leave the input
 
--- ---- `build`, which writes the bytes, and leaves the input
-
-module _ (names : List (List ℕ)) where
-  pub build_answers : (files files' : Shelf) (input before now : Option (List ℕ)) (i f g : ℕ) (result : Result ℕ Stop) (text : List ℕ) (status : ℕ)
-      → IfSome files.held (λ held. (b : List ℕ) → Reports (Some (BuildSources names)) held b (record { text = text; status = status; left = b }))
-      → IfSome files.held (λ held. Why (Some (BuildSources names)) held input status) → IsOfCommand status
+module _ (command : Option Command) (ask : Held → Result (List ℕ) Refusal) (Says : List ℕ → List ℕ → Report → Type 0) (unfit : List ℕ → Type 0)
+    (keeper : IsKeeper command ask Says unfit) where
+  -- a report that may be made
+  keeps_answer : (files files' : Shelf) (input before now : Option (List ℕ)) (i f g : ℕ) (result : Result ℕ Stop) (text : List ℕ) (status : ℕ)
+      → IfSome files.held (λ held. (b : List ℕ) → Reports command held b (record { text = text; status = status; left = b }))
+      → IfSome files.held (λ held. Why command held input status) → IsOfCommand status
       → Answers text status result before now f g
-      → Does (Some (BuildSources names)) files files' (streams input i before f) (streams input i now g) result
-  build_answers files files' input before now i f g result text status is why of a =
+      → Does command files files' (streams input i before f) (streams input i now g) result
+  keeps_answer files files' input before now i f g result text status is why of a =
       let ofs = of_status IsOfCommand text status result before now f g of a in
       record {
-        told = (refl, told files.held is);
-        why = of_status (λ s. IfSome files.held (λ held. Why (Some (BuildSources names)) held input s)) text status result before now f g why a;
+        told = keeper.tells files.held input before now result (told files.held is);
+        why = of_status (λ s. IfSome files.held (λ held. Why command held input s)) text status result before now f g why a;
         read = λ e. absurd (let w = (only_write text status result Read before now f g a e).0 in cc);
         write = λ e. (only_write text status result Write before now f g a e).1;
         memory = λ e. absurd (let w = (only_write text status result Memory before now f g a e).0 in cc);
         status = reported result ofs;
-        usage = used (Some (BuildSources names)) result (λ n. cc) ofs;
+        usage = used command result keeper.asks.some ofs;
       }
     where
-      told : (held : Option Held) → IfSome held (λ h. (b : List ℕ) → Reports (Some (BuildSources names)) h b (record { text = text; status = status; left = b }))
-          → IfSome held (λ h. (b : List ℕ) → Performs (Some (BuildSources names)) h b result (Some b) before now)
+      told : (held : Option Held) → IfSome held (λ h. (b : List ℕ) → Reports command h b (record { text = text; status = status; left = b }))
+          → IfSome held (λ h. (b : List ℕ) → Performs command h b result (Some b) before now)
       told None is = tt
-      told (Some h) is = λ b. performs (Some (BuildSources names)) h b _ result (Some b) before now (is b) (gives_answer text status b result before now f g a)
+      told (Some h) is = λ b. performs command h b _ result (Some b) before now (is b) (gives_answer text status b result before now f g a)
 
-  pub build_stops : {T : Type 0} (bytes_of : T → List ℕ) (ask : Held → Result (List ℕ) Refusal) (files files' : Shelf) (found : Result (Result T FilesFault) Stop) (input before : Option (List ℕ)) (i f : ℕ) (stop : Stop)
-      → Finds bytes_of ask files files' found → found ≡ Err stop
-      → Does (Some (BuildSources names)) files files' (streams input i before f) (streams input i before f) (Err stop)
-  build_stops bytes_of ask files files' found input before i f stop finds e = record {
-    told = (refl, told files.held);
+  -- nothing was done, for want of memory
+  keeps_none : (files files' : Shelf) (input before : Option (List ℕ)) (i f : ℕ) → files'.faults ≡ files.faults
+      → Does command files files' (streams input i before f) (streams input i before f) (Err Memory)
+  keeps_none files files' input before i f same = record {
+    told = keeper.tells files.held input before before (Err Memory) (told files.held);
     why = tt;
-    read = λ r. inl (find_read bytes_of ask files files' found stop finds e (err_of stop Read r));
-    write = λ r. absurd (find_write bytes_of ask files files' found stop finds e (err_of stop Write r));
-    memory = λ r. (find_memory bytes_of ask files files' found stop finds e (err_of stop Memory r), record { input = refl; output = refl });
+    read = λ e. absurd (let no : Memory ≡ Read = cc in cc);
+    write = λ e. absurd (let no : Memory ≡ Write = cc in cc);
+    memory = λ _. (same, record { input = refl; output = refl });
     status = tt;
     usage = tt;
   }
     where
-      told : (held : Option Held) → IfSome held (λ h. (b : List ℕ) → Performs (Some (BuildSources names)) h b (Err stop) (Some b) before before)
+      told : (held : Option Held) → IfSome held (λ h. (b : List ℕ) → Performs command h b (Err Memory) (Some b) before before)
       told None = tt
-      told (Some h) = λ b. performs_none (Some (BuildSources names)) h b stop (Some b) before
+      told (Some h) = λ b. performs_none command h b Memory (Some b) before
+
+  -- the bytes are there
+  pub keeps_bytes : (files files' : Shelf) (input before now : Option (List ℕ)) (i f g : ℕ) (result : Result ℕ Stop) (bytes : List ℕ)
+      → IfSome files.held (λ held. ask held ≡ Ok bytes) → files'.faults ≡ files.faults → AnswersOrLacks (Says bytes) (unfit bytes) result before now f g
+      → Does command files files' (streams input i before f) (streams input i now g) result
+  keeps_bytes files files' input before now i f g result bytes found same (inr stopped) =
+      rw (stopped.is, stopped.same, stopped.calm) (keeps_none files files' input before i f same)
+  keeps_bytes files files' input before now i f g result bytes found same (inl one) =
+      keeps_answer files files' input before now i f g result one.text one.status (is files.held found) (why files.held found) one.of one.answers
+    where
+      is : (held : Option Held) → IfSome held (λ h. ask h ≡ Ok bytes)
+          → IfSome held (λ h. (b : List ℕ) → Reports command h b (record { text = one.text; status = one.status; left = b }))
+      is None e = tt
+      is (Some h) e = λ b. keeper.reports h b (record { text = one.text; status = one.status; left = b }) (rw e (one.says b))
+
+      why : (held : Option Held) → IfSome held (λ h. ask h ≡ Ok bytes) → IfSome held (λ h. Why command h input one.status)
+      why None e = tt
+      why (Some h) e = keeper.asks.fits h input bytes one.status e one.why
+
+  -- there are none, and the line says why
+  pub keeps_fault : (files files' : Shelf) (input before now : Option (List ℕ)) (i f g : ℕ) (result : Result ℕ Stop) (refusal : Refusal)
+      → IfSome files.held (λ held. ask held ≡ Err refusal) → IsOfCommand refusal.status
+      → Answers refusal.line refusal.status result before now f g
+      → Does command files files' (streams input i before f) (streams input i now g) result
+  keeps_fault files files' input before now i f g result refusal found of a =
+      keeps_answer files files' input before now i f g result refusal.line refusal.status (is files.held found) (why files.held found) of a
+    where
+      is : (held : Option Held) → IfSome held (λ h. ask h ≡ Err refusal)
+          → IfSome held (λ h. (b : List ℕ) → Reports command h b (record { text = refusal.line; status = refusal.status; left = b }))
+      is None e = tt
+      is (Some h) e = λ b. keeper.reports h b (record { text = refusal.line; status = refusal.status; left = b }) (rw e refl)
+
+      why : (held : Option Held) → IfSome held (λ h. ask h ≡ Err refusal) → IfSome held (λ h. Why command h input refusal.status)
+      why None e = tt
+      why (Some h) e = keeper.asks.lacks h input refusal e
 
 -- ---- words that are no command
 

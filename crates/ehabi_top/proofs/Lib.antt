@@ -1,5 +1,6 @@
 mod Answering
 mod Lines
+mod Registers
 mod AllAnswers
 mod FileLoads
 mod Buildings
@@ -7,5 +8,6 @@ mod Statuses
 mod Yielding
 mod FlatReports
 mod RunReports
+mod Checking
 mod Doing
 mod Runners

@@ -1,24 +1,22 @@
--- The commands that run bytes: of one file as raw code or as an image, and of sources as the image that they are built to.
-use Rattle.std.specs.Prelude.{◌<◌, length}
+-- The commands: what each asks the files for, and what it makes of the bytes.
 use Rattle.std.proofs.Common.{◌≡◌, ℕ, List, Option, Some, None, IfSome, Result, Ok, Err, refl, sym, ap, ◌∙◌}
-use Rattle.elf_image.specs.Image.{image_of}
 use Rattle.eh_port.specs.FileList.{answer_of}
 use Rattle.eh_port.specs.declared.FileAnswer.{FileAnswer}
 use Rattle.eh_port.specs.declared.FileAnswer.TheVariants.{Found, Missing, TooLong}
-use Rattle.eh_bus.specs.declared.map.TheConstants.{MAX_IMAGE_SIZE}
 use Rattle.ehabi_top.specs.declared.sources.TheConstants.{FILE_LIMIT}
-use Rattle.ehabi_top.specs.declared.status.TheConstants.{DONE, LACKING}
-use Rattle.ehabi_top.specs.BuildReport.{build_report, plain_report, run_sources_report}
+use Rattle.ehabi_top.specs.declared.status.TheConstants.{LACKING}
+use Rattle.ehabi_top.specs.BuildReport.{IsUnwritten, build_report, plain_report, run_sources_report}
 use Rattle.ehabi_top.specs.Building.{built, files_of, image_bytes, bytes_of_built, bytes_of_found}
-use Rattle.ehabi_top.specs.Finding.{bytes_of_answer, file_bytes, found_report}
+use Rattle.ehabi_top.specs.CheckReport.{BytesReports, IsUnaccepted}
+use Rattle.ehabi_top.specs.Finding.{FoundReports, bytes_of_answer, file_bytes, found_report}
 use Rattle.ehabi_top.specs.FlatReport.{IsTooLarge, code_report, flat_report}
-use Rattle.ehabi_top.specs.Loading.{SaysWhy, IsLacking}
-use Rattle.ehabi_top.specs.Report.{Reports, Why}
-use Rattle.ehabi_top.specs.RunReport.{IsNoImage, IsRefusedImage, bytes_report, run_report}
+use Rattle.ehabi_top.specs.Loading.{Report, SaysWhy, IsLacking}
+use Rattle.ehabi_top.specs.RunReport.{IsNoImage, bytes_report, run_report}
 use Rattle.ehabi_top.specs.Sources.{NamedText, Refusal}
-use Rattle.ehabi_top.specs.Words.{FlatFile, BuildSources, RunFile, RunSources}
-use Rattle.ehabi_top.proofs.Doing.{Held, IsRunner}
-use Rattle.ehabi_top.proofs.Statuses.{says_lacking, build_fits, build_refused, run_fits, run_refused}
+use Rattle.ehabi_top.specs.Unfit.{HoldsUnfit}
+use Rattle.ehabi_top.specs.Words.{FlatFile, BuildSources, CheckFile, CheckSources, RunFile, RunSources}
+use Rattle.ehabi_top.proofs.Doing.{Held, Asks, IsRunner, IsKeeper}
+use Rattle.ehabi_top.proofs.Statuses.{says_lacking, built_fits, built_refused}
 
 -- ---- one file
 
@@ -35,62 +33,79 @@ pub file_told : (name : List ℕ) (answer : FileAnswer) (held : Option Held) →
 file_told name answer None e = tt
 file_told name answer (Some h) e = file_is name h ∙ ap (bytes_of_answer name) (sym e)
 
--- by what the files answer; `unfit` is of bytes, and `Unfit` of an answer
-module _ (unfit : List ℕ → Type 0) (Unfit : FileAnswer → Type 0) (name : List ℕ)
-    (there : (bytes : List ℕ) → Unfit (Found bytes) → unfit bytes) (here : (bytes : List ℕ) → unfit bytes → Unfit (Found bytes))
-    (missing : Unfit Missing → ⊥) (too_long : Unfit TooLong → ⊥) where
-  answer_fits : (answer : FileAnswer) (bytes : List ℕ) (s : ℕ) → bytes_of_answer name answer ≡ Ok bytes → SaysWhy s ⊥ (unfit bytes) → SaysWhy s (IsLacking answer) (Unfit answer)
+module _ (unfit : List ℕ → Type 0) (name : List ℕ) where
+  answer_fits : (answer : FileAnswer) (bytes : List ℕ) (s : ℕ) → bytes_of_answer name answer ≡ Ok bytes → SaysWhy s ⊥ (unfit bytes) → SaysWhy s (IsLacking answer) (HoldsUnfit unfit answer)
   answer_fits (Found found) bytes s e w =
       let is : found ≡ bytes = cc in
-      rw is (record { missing = ((λ h. absurd (w.missing.0 h)), (λ l. absurd l)); refused = ((λ h. here bytes (w.refused.0 h)), (λ u. w.refused.1 (there bytes u))) })
+      rw is (record { missing = w.missing; refused = w.refused })
   answer_fits Missing bytes s e w = absurd (cc)
   answer_fits TooLong bytes s e w = absurd (cc)
 
-  answer_lacks : (answer : FileAnswer) (refusal : Refusal) → bytes_of_answer name answer ≡ Err refusal → SaysWhy refusal.status (IsLacking answer) (Unfit answer)
+  answer_lacks : (answer : FileAnswer) (refusal : Refusal) → bytes_of_answer name answer ≡ Err refusal → SaysWhy refusal.status (IsLacking answer) (HoldsUnfit unfit answer)
   answer_lacks (Found found) refusal e = absurd (cc)
   answer_lacks Missing refusal e =
       let is : LACKING ≡ refusal.status = ap (λ (r : Result (List ℕ) Refusal). status_in r) e in
-      rw (← is) (says_lacking (Unit {0}) (Unfit Missing) tt missing)
+      rw (← is) (says_lacking (Unit {0}) ⊥ tt (λ u. u))
   answer_lacks TooLong refusal e =
       let is : LACKING ≡ refusal.status = ap (λ (r : Result (List ℕ) Refusal). status_in r) e in
-      rw (← is) (says_lacking (Unit {0}) (Unfit TooLong) tt too_long)
+      rw (← is) (says_lacking (Unit {0}) ⊥ tt (λ u. u))
+
+  file_fits : (held : Held) (bytes : List ℕ) (s : ℕ) → file_bytes name held ≡ Ok bytes → SaysWhy s ⊥ (unfit bytes)
+      → SaysWhy s (IsLacking (answer_of held name FILE_LIMIT)) (HoldsUnfit unfit (answer_of held name FILE_LIMIT))
+  file_fits held bytes s e w = answer_fits (answer_of held name FILE_LIMIT) bytes s (sym (file_is name held) ∙ e) w
+
+  file_lacks : (held : Held) (refusal : Refusal) → file_bytes name held ≡ Err refusal
+      → SaysWhy refusal.status (IsLacking (answer_of held name FILE_LIMIT)) (HoldsUnfit unfit (answer_of held name FILE_LIMIT))
+  file_lacks held refusal e = answer_lacks (answer_of held name FILE_LIMIT) refusal (sym (file_is name held) ∙ e)
 
 flat_at : (name : List ℕ) (budget : ℕ) (held : Held) (input : List ℕ) → flat_report name budget held input ≡ found_report (code_report budget) (file_bytes name held) input
 unfolding flat_report
 flat_at name budget held input = refl
 
-pub flat_runner : (name : List ℕ) (budget : ℕ) → IsRunner (Some (FlatFile name budget)) (file_bytes name) (code_report budget) (λ code. MAX_IMAGE_SIZE < length code)
+flat_asks : (name : List ℕ) (budget : ℕ) → Asks (Some (FlatFile name budget)) (file_bytes name) IsTooLarge
+flat_asks name budget = record {
+  fits = λ held input bytes s e w. let v = file_fits IsTooLarge name held bytes s e w in record { missing = v.missing; refused = v.refused };
+  lacks = λ held input refusal e. let v = file_lacks IsTooLarge name held refusal e in record { missing = v.missing; refused = v.refused };
+  some = λ e. cc;
+}
+
+pub flat_runner : (name : List ℕ) (budget : ℕ) → IsRunner (Some (FlatFile name budget)) (file_bytes name) (code_report budget) IsTooLarge
 flat_runner name budget = record {
   reports = λ held input. sym (flat_at name budget held input);
-  fits = λ held input bytes s e w.
-      let is = sym (file_is name held) ∙ e in
-      let v = answer_fits (λ code. MAX_IMAGE_SIZE < length code) IsTooLarge name (λ _ u. u) (λ _ u. u) (λ u. u) (λ u. u) (answer_of held name FILE_LIMIT) bytes s is w in
-      record { missing = v.missing; refused = v.refused };
-  lacks = λ held input refusal e.
-      let is = sym (file_is name held) ∙ e in
-      let v = answer_lacks (λ code. MAX_IMAGE_SIZE < length code) IsTooLarge name (λ _ u. u) (λ _ u. u) (λ u. u) (λ u. u) (answer_of held name FILE_LIMIT) refusal is in
-      record { missing = v.missing; refused = v.refused };
+  asks = flat_asks name budget;
   tells = λ files input left before now result h. h;
-  some = λ e. cc;
 }
 
 run_at : (name : List ℕ) (budget : ℕ) (held : Held) (input : List ℕ) → run_report name budget held input ≡ found_report (bytes_report budget) (file_bytes name held) input
 unfolding run_report
 run_at name budget held input = refl
 
-pub run_runner : (name : List ℕ) (budget : ℕ) → IsRunner (Some (RunFile name budget)) (file_bytes name) (bytes_report budget) (λ bytes. IsRefusedImage (image_of bytes))
+run_asks : (name : List ℕ) (budget : ℕ) → Asks (Some (RunFile name budget)) (file_bytes name) IsNoImage
+run_asks name budget = record {
+  fits = λ held input bytes s e w. let v = file_fits IsNoImage name held bytes s e w in record { missing = v.missing; refused = v.refused };
+  lacks = λ held input refusal e. let v = file_lacks IsNoImage name held refusal e in record { missing = v.missing; refused = v.refused };
+  some = λ e. cc;
+}
+
+pub run_runner : (name : List ℕ) (budget : ℕ) → IsRunner (Some (RunFile name budget)) (file_bytes name) (bytes_report budget) IsNoImage
 run_runner name budget = record {
   reports = λ held input. sym (run_at name budget held input);
-  fits = λ held input bytes s e w.
-      let is = sym (file_is name held) ∙ e in
-      let v = answer_fits (λ b. IsRefusedImage (image_of b)) IsNoImage name (λ _ u. u) (λ _ u. u) (λ u. u) (λ u. u) (answer_of held name FILE_LIMIT) bytes s is w in
-      record { missing = v.missing; refused = v.refused };
-  lacks = λ held input refusal e.
-      let is = sym (file_is name held) ∙ e in
-      let v = answer_lacks (λ b. IsRefusedImage (image_of b)) IsNoImage name (λ _ u. u) (λ _ u. u) (λ u. u) (λ u. u) (answer_of held name FILE_LIMIT) refusal is in
-      record { missing = v.missing; refused = v.refused };
+  asks = run_asks name budget;
   tells = λ files input left before now result h. h;
+}
+
+check_asks : (name : List ℕ) → Asks (Some (CheckFile name)) (file_bytes name) IsUnaccepted
+check_asks name = record {
+  fits = λ held input bytes s e w. let v = file_fits IsUnaccepted name held bytes s e w in record { missing = v.missing; refused = v.refused };
+  lacks = λ held input refusal e. let v = file_lacks IsUnaccepted name held refusal e in record { missing = v.missing; refused = v.refused };
   some = λ e. cc;
+}
+
+pub check_keeper : (name : List ℕ) → IsKeeper (Some (CheckFile name)) (file_bytes name) BytesReports IsUnaccepted
+check_keeper name = record {
+  reports = λ held input r h. h;
+  asks = check_asks name;
+  tells = λ files input before now result h. (refl, h);
 }
 
 -- ---- sources
@@ -98,10 +113,6 @@ run_runner name budget = record {
 bytes_is : (names : List (List ℕ)) (held : Held) → image_bytes names held ≡ bytes_of_found (files_of held names)
 unfolding image_bytes
 bytes_is names held = refl
-
-sources_at : (names : List (List ℕ)) (budget : ℕ) (held : Held) (input : List ℕ) → run_sources_report names budget held input ≡ found_report (bytes_report budget) (image_bytes names held) input
-unfolding run_sources_report
-sources_at names budget held input = refl
 
 -- a file that is missing or too long
 pub bytes_lacking : (names : List (List ℕ)) (line : List ℕ) (held : Option Held)
@@ -114,40 +125,57 @@ pub bytes_built : (names : List (List ℕ)) (sources : List NamedText) (answer :
 bytes_built names sources answer None e b = tt
 bytes_built names sources answer (Some h) e b = bytes_is names h ∙ ap bytes_of_found (sym e) ∙ ap bytes_of_built b
 
-pub sources_runner : (names : List (List ℕ)) (budget : ℕ) → IsRunner (Some (RunSources names budget)) (image_bytes names) (bytes_report budget) (λ bytes. IsRefusedImage (image_of bytes))
-sources_runner names budget = record {
-  reports = λ held input. sym (sources_at names budget held input);
-  fits = λ held input bytes s e w.
-      let v = run_fits (files_of held names) bytes s (sym (bytes_is names held) ∙ e) w in
-      record { missing = v.missing; refused = v.refused };
-  lacks = λ held input refusal e.
-      let v = run_refused (files_of held names) refusal (sym (bytes_is names held) ∙ e) in
-      record { missing = v.missing; refused = v.refused };
-  tells = λ files input left before now result h. h;
-  some = λ e. cc;
-}
-
--- ---- `build`
-
 build_at : (names : List (List ℕ)) (held : Held) (input : List ℕ) → build_report names held input ≡ found_report plain_report (image_bytes names held) input
 unfolding build_report
 build_at names held input = refl
 
-pub build_reports : (names : List (List ℕ)) (answer : Result (List ℕ) Refusal) (held : Option Held) → IfSome held (λ h. image_bytes names h ≡ answer)
-    → IfSome held (λ h. (b : List ℕ) → Reports (Some (BuildSources names)) h b (found_report plain_report answer b))
-build_reports names answer None e = tt
-build_reports names answer (Some h) e = λ b. sym (build_at names h b ∙ ap (λ a. found_report plain_report a b) e)
+-- what is built is a report by itself
+plain_found : (found : Result (List ℕ) Refusal) (input : List ℕ) (r : Report) → FoundReports (λ bytes b x. x ≡ plain_report bytes b) found input r → r ≡ found_report plain_report found input
+plain_found (Ok bytes) input r h = h
+plain_found (Err refusal) input r h = h
 
-pub build_done : (names : List (List ℕ)) (bytes : List ℕ) (input : Option (List ℕ)) (held : Option Held) → IfSome held (λ h. image_bytes names h ≡ Ok bytes)
-    → IfSome held (λ h. Why (Some (BuildSources names)) h input DONE)
-build_done names bytes input None e = tt
-build_done names bytes input (Some h) e =
-    let v = build_fits (files_of h names) bytes (sym (bytes_is names h) ∙ e) in
-    record { missing = v.missing; refused = v.refused }
+build_asks : (names : List (List ℕ)) → Asks (Some (BuildSources names)) (image_bytes names) IsUnwritten
+build_asks names = record {
+  fits = λ held input bytes s e w. let v = built_fits IsUnwritten (files_of held names) bytes s (sym (bytes_is names held) ∙ e) w in record { missing = v.missing; refused = v.refused };
+  lacks = λ held input refusal e. let v = built_refused IsUnwritten (files_of held names) refusal (sym (bytes_is names held) ∙ e) in record { missing = v.missing; refused = v.refused };
+  some = λ e. cc;
+}
 
-pub build_fails : (names : List (List ℕ)) (refusal : Refusal) (input : Option (List ℕ)) (held : Option Held) → IfSome held (λ h. image_bytes names h ≡ Err refusal)
-    → IfSome held (λ h. Why (Some (BuildSources names)) h input refusal.status)
-build_fails names refusal input None e = tt
-build_fails names refusal input (Some h) e =
-    let v = build_refused (files_of h names) refusal (sym (bytes_is names h) ∙ e) in
-    record { missing = v.missing; refused = v.refused }
+pub build_keeper : (names : List (List ℕ)) → IsKeeper (Some (BuildSources names)) (image_bytes names) (λ bytes b r. r ≡ plain_report bytes b) IsUnwritten
+build_keeper names = record {
+  reports = λ held input r h. plain_found (image_bytes names held) input r h ∙ sym (build_at names held input);
+  asks = build_asks names;
+  tells = λ files input before now result h. (refl, h);
+}
+
+sources_at : (names : List (List ℕ)) (budget : ℕ) (held : Held) (input : List ℕ) → run_sources_report names budget held input ≡ found_report (bytes_report budget) (image_bytes names held) input
+unfolding run_sources_report
+sources_at names budget held input = refl
+
+sources_asks : (names : List (List ℕ)) (budget : ℕ) → Asks (Some (RunSources names budget)) (image_bytes names) IsNoImage
+sources_asks names budget = record {
+  fits = λ held input bytes s e w. let v = built_fits IsNoImage (files_of held names) bytes s (sym (bytes_is names held) ∙ e) w in record { missing = v.missing; refused = v.refused };
+  lacks = λ held input refusal e. let v = built_refused IsNoImage (files_of held names) refusal (sym (bytes_is names held) ∙ e) in record { missing = v.missing; refused = v.refused };
+  some = λ e. cc;
+}
+
+pub sources_runner : (names : List (List ℕ)) (budget : ℕ) → IsRunner (Some (RunSources names budget)) (image_bytes names) (bytes_report budget) IsNoImage
+sources_runner names budget = record {
+  reports = λ held input. sym (sources_at names budget held input);
+  asks = sources_asks names budget;
+  tells = λ files input left before now result h. h;
+}
+
+check_sources_asks : (names : List (List ℕ)) → Asks (Some (CheckSources names)) (image_bytes names) IsUnaccepted
+check_sources_asks names = record {
+  fits = λ held input bytes s e w. let v = built_fits IsUnaccepted (files_of held names) bytes s (sym (bytes_is names held) ∙ e) w in record { missing = v.missing; refused = v.refused };
+  lacks = λ held input refusal e. let v = built_refused IsUnaccepted (files_of held names) refusal (sym (bytes_is names held) ∙ e) in record { missing = v.missing; refused = v.refused };
+  some = λ e. cc;
+}
+
+pub check_sources_keeper : (names : List (List ℕ)) → IsKeeper (Some (CheckSources names)) (image_bytes names) BytesReports IsUnaccepted
+check_sources_keeper names = record {
+  reports = λ held input r h. h;
+  asks = check_sources_asks names;
+  tells = λ files input before now result h. (refl, h);
+}

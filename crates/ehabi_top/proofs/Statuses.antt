@@ -1,16 +1,14 @@
 -- What the status of a command says.
 use Rattle.std.specs.Prelude.{◌==◌, if◌then◌else◌, IsErr}
 use Rattle.std.proofs.Common.{◌≡◌, ℕ, ◌<◌, List, Result, Ok, Err, Bool, true, false, refl, arith}
-use Rattle.elf_image.specs.Image.{image_of}
 use Rattle.guest_gates.specs.Ends.{is_fault}
 use Rattle.thumb_core.specs.declared.ends.End.{End}
 use Rattle.thumb_core.specs.declared.ends.End.TheVariants.{Exit, Terminate, Trap, Budget, ReadFault, WriteFault}
 use Rattle.ehabi_top.specs.declared.status.TheConstants.{DONE, EXITS, USAGE, REFUSED, LACKING}
-use Rattle.ehabi_top.specs.BuildReport.{IsUnbuilt, IsNoBuiltImage, IsNotRun}
 use Rattle.ehabi_top.specs.Building.{built, bytes_of_built, bytes_of_found}
 use Rattle.ehabi_top.specs.Loading.{SaysWhy, IsReported, IsOfCommand, is_settled, status_of}
-use Rattle.ehabi_top.specs.RunReport.{IsRefusedImage}
 use Rattle.ehabi_top.specs.Sources.{NamedText, Refusal}
+use Rattle.ehabi_top.specs.Unfit.{IsUnfitImage, BuildsUnfit}
 
 pub says_lacking : (lacks unfit : Type 0) → lacks → (unfit → ⊥) → SaysWhy LACKING lacks unfit
 says_lacking lacks unfit l n = record { missing = ((λ _. l), (λ _. refl)); refused = ((λ h. absurd (omega arith)), (λ u. absurd (n u))) }
@@ -20,6 +18,10 @@ says_unfit lacks unfit n u = record { missing = ((λ h. absurd (omega arith)), (
 
 pub says_fine : (status : ℕ) (lacks unfit : Type 0) → (status ≡ LACKING → ⊥) → (status ≡ REFUSED → ⊥) → (lacks → ⊥) → (unfit → ⊥) → SaysWhy status lacks unfit
 says_fine status lacks unfit ten three n m = record { missing = ((λ h. absurd (ten h)), (λ l. absurd (n l))); refused = ((λ h. absurd (three h)), (λ u. absurd (m u))) }
+
+-- nothing is refused
+pub done_says : (unfit : Type 0) → (unfit → ⊥) → SaysWhy DONE ⊥ unfit
+done_says unfit n = says_fine DONE ⊥ unfit (λ h. omega arith) (λ h. omega arith) (λ l. l) n
 
 -- ---- statuses of reports
 
@@ -71,38 +73,29 @@ says_end end unfit fine n = let s = end_of_run end fine in says_fine (status_of 
 
 -- ---- what the bytes of an image say of the files
 
-module _ (unfit : Result (List ℕ) (List ℕ) → Type 0) (lacks : Type 0) (there : lacks → ⊥) where
-  line_refused : (answer : Result (List ℕ) (List ℕ)) (refusal : Refusal) → ((line : List ℕ) → unfit (Err line)) → bytes_of_built answer ≡ Err refusal → SaysWhy refusal.status lacks (unfit answer)
-  line_refused (Ok bytes) refusal all e = absurd (cc)
-  line_refused (Err line) refusal all e =
+module _ (unfit : List ℕ → Type 0) where
+  line_refused : (answer : Result (List ℕ) (List ℕ)) (refusal : Refusal) → bytes_of_built answer ≡ Err refusal → SaysWhy refusal.status ⊥ (IsUnfitImage unfit answer)
+  line_refused (Ok bytes) refusal e = absurd (cc)
+  line_refused (Err line) refusal e =
       let is : refusal ≡ record { status = REFUSED; line = line } = cc in
-      rw is (says_unfit lacks (unfit (Err line)) there (all line))
+      rw is (says_unfit ⊥ (Unit {0}) (λ l. l) tt)
 
-  bytes_fit : (answer : Result (List ℕ) (List ℕ)) (bytes : List ℕ) (s : ℕ) → bytes_of_built answer ≡ Ok bytes → SaysWhy s ⊥ (unfit (Ok bytes)) → SaysWhy s lacks (unfit answer)
+  bytes_fit : (answer : Result (List ℕ) (List ℕ)) (bytes : List ℕ) (s : ℕ) → bytes_of_built answer ≡ Ok bytes → SaysWhy s ⊥ (unfit bytes) → SaysWhy s ⊥ (IsUnfitImage unfit answer)
   bytes_fit (Ok found) bytes s e w =
       let is : found ≡ bytes = cc in
-      rw is (record { missing = ((λ h. absurd (w.missing.0 h)), (λ l. absurd (there l))); refused = w.refused })
+      rw is w
   bytes_fit (Err line) bytes s e w = absurd (cc)
 
--- a file that is missing or too long
-line_lacking : (line : List ℕ) (refusal : Refusal) (lacks : Type 0) → lacks → bytes_of_found (Err line) ≡ Err refusal → SaysWhy refusal.status lacks ⊥
-line_lacking line refusal lacks l e =
-    let is : refusal ≡ record { status = LACKING; line = line } = cc in
-    rw is (says_lacking lacks ⊥ l (λ u. u))
+  -- the files are there
+  all_there : (lacks : Type 0) (s : ℕ) (U : Type 0) → (lacks → ⊥) → SaysWhy s ⊥ U → SaysWhy s lacks U
+  all_there lacks s U n w = record { missing = ((λ h. absurd (w.missing.0 h)), (λ l. absurd (n l))); refused = w.refused }
 
-pub build_refused : (found : Result (List NamedText) (List ℕ)) (refusal : Refusal) → bytes_of_found found ≡ Err refusal → SaysWhy refusal.status (IsErr found) (IsUnbuilt found)
-build_refused (Ok sources) refusal e = line_refused (λ answer. IsErr answer) _ (λ l. cc) (built sources) refusal (λ line. refl) e
-build_refused (Err line) refusal e = line_lacking line refusal _ refl e
+  pub built_refused : (found : Result (List NamedText) (List ℕ)) (refusal : Refusal) → bytes_of_found found ≡ Err refusal → SaysWhy refusal.status (IsErr found) (BuildsUnfit unfit found)
+  built_refused (Ok sources) refusal e = all_there _ refusal.status _ (λ l. cc) (line_refused (built sources) refusal e)
+  built_refused (Err line) refusal e =
+      let is : refusal ≡ record { status = LACKING; line = line } = cc in
+      rw is (says_lacking _ ⊥ refl (λ u. u))
 
-pub build_fits : (found : Result (List NamedText) (List ℕ)) (bytes : List ℕ) → bytes_of_found found ≡ Ok bytes → SaysWhy DONE (IsErr found) (IsUnbuilt found)
-build_fits (Ok sources) bytes e =
-    bytes_fit (λ answer. IsErr answer) _ (λ l. cc) (built sources) bytes DONE e (says_fine DONE ⊥ _ (λ h. omega arith) (λ h. omega arith) (λ l. l) (λ u. cc))
-build_fits (Err line) bytes e = absurd (cc)
-
-pub run_refused : (found : Result (List NamedText) (List ℕ)) (refusal : Refusal) → bytes_of_found found ≡ Err refusal → SaysWhy refusal.status (IsErr found) (IsNotRun found)
-run_refused (Ok sources) refusal e = line_refused IsNoBuiltImage _ (λ l. cc) (built sources) refusal (λ line. tt) e
-run_refused (Err line) refusal e = line_lacking line refusal _ refl e
-
-pub run_fits : (found : Result (List NamedText) (List ℕ)) (bytes : List ℕ) (s : ℕ) → bytes_of_found found ≡ Ok bytes → SaysWhy s ⊥ (IsRefusedImage (image_of bytes)) → SaysWhy s (IsErr found) (IsNotRun found)
-run_fits (Ok sources) bytes s e w = bytes_fit IsNoBuiltImage _ (λ l. cc) (built sources) bytes s e w
-run_fits (Err line) bytes s e w = absurd (cc)
+  pub built_fits : (found : Result (List NamedText) (List ℕ)) (bytes : List ℕ) (s : ℕ) → bytes_of_found found ≡ Ok bytes → SaysWhy s ⊥ (unfit bytes) → SaysWhy s (IsErr found) (BuildsUnfit unfit found)
+  built_fits (Ok sources) bytes s e w = all_there _ s _ (λ l. cc) (bytes_fit (built sources) bytes s e w)
+  built_fits (Err line) bytes s e w = absurd (cc)

@@ -29,6 +29,11 @@ abbrev pub found_report : (List ℕ → List ℕ → Report) → Result (List �
 found_report report (Ok bytes) input = report bytes input
 found_report report (Err refusal) input = record { text = refusal.line; status = refusal.status; left = input }
 
+-- a report that may be made of bytes and of the input, or the line of why there are none
+abbrev pub FoundReports : (List ℕ → List ℕ → Report → Type 0) → Result (List ℕ) Refusal → List ℕ → Report → Type 0
+FoundReports Says (Ok bytes) input r = Says bytes input r
+FoundReports Says (Err refusal) input r = r ≡ record { text = refusal.line; status = refusal.status; left = input }
+
 -- the answer is those bytes, or a fault that stands for that refusal
 abbrev pub StandsFor : {T : Type 0} → (T → List ℕ) → Result T FilesFault → Result (List ℕ) Refusal → Type 0
 StandsFor bytes_of (Ok found) asked = asked ≡ Ok (bytes_of found)

@@ -1,7 +1,5 @@
 -- The report of `flat FILE N`: the file's bytes run as raw code.
 use Rattle.std.specs.Prelude.{ℕ, ◌<◌, List, length, codes, nat_lt, if◌then◌else◌}
-use Rattle.eh_port.specs.declared.FileAnswer.{FileAnswer}
-use Rattle.eh_port.specs.declared.FileAnswer.TheVariants.{Found, Missing, TooLong}
 use Rattle.image_memory.specs.Start.{State, code_start}
 use Rattle.eh_bus.specs.declared.map.TheConstants.{MAX_IMAGE_SIZE}
 use Rattle.elf_image.specs.declared.fault.ImageFault.TheVariants.{TooLarge}
@@ -23,8 +21,6 @@ code_report budget code input =
 unfoldable pub flat_report : List ℕ → ℕ → List (List ℕ × List ℕ) → List ℕ → Report
 flat_report name budget files input = found_report (code_report budget) (file_bytes name files) input
 
--- the file is there, and has too many bytes for an image
-abbrev pub IsTooLarge : FileAnswer → Type 0
-IsTooLarge (Found code) = MAX_IMAGE_SIZE < length code
-IsTooLarge Missing = ⊥
-IsTooLarge TooLong = ⊥
+-- too many bytes for an image
+abbrev pub IsTooLarge : List ℕ → Type 0
+IsTooLarge code = MAX_IMAGE_SIZE < length code

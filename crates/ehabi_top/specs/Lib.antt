@@ -10,4 +10,8 @@ pub mod RefusalText
 pub mod Building
 pub mod Finding
 pub mod BuildReport
+pub mod CheckText
+pub mod CheckReport
+pub mod Laws
+pub mod Unfit
 pub mod Report

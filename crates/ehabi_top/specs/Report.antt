@@ -11,12 +11,14 @@ use Rattle.ehabi_top.specs.declared.status.TheConstants.{USAGE, REFUSED, LACKING
 use Rattle.ehabi_top.specs.declared.stop.Stop.{Stop}
 use Rattle.ehabi_top.specs.declared.stop.Stop.TheVariants.{Read, Write, Memory}
 use Rattle.ehabi_top.specs.Loading.{Report, IsLacking, IsReported}
-use Rattle.ehabi_top.specs.BuildReport.{build_report, run_sources_report, IsUnbuilt, IsNotRun}
+use Rattle.ehabi_top.specs.BuildReport.{build_report, run_sources_report, IsUnwritten}
 use Rattle.ehabi_top.specs.Building.{files_of}
+use Rattle.ehabi_top.specs.CheckReport.{CheckReports, CheckSourcesReports, IsUnaccepted}
 use Rattle.ehabi_top.specs.FlatReport.{flat_report, IsTooLarge}
 use Rattle.ehabi_top.specs.RunReport.{run_report, IsNoImage}
 use Rattle.ehabi_top.specs.Text.{usage}
-use Rattle.ehabi_top.specs.Words.{Command, FlatFile, BuildSources, RunFile, RunSources}
+use Rattle.ehabi_top.specs.Unfit.{HoldsUnfit, BuildsUnfit}
+use Rattle.ehabi_top.specs.Words.{Command, FlatFile, BuildSources, CheckFile, CheckSources, RunFile, RunSources}
 use Rattle.ehabi_top.specs.Yields.{Shelf, Streams, AreCalm}
 
 -- ---- by command
@@ -26,6 +28,8 @@ abbrev pub Reports : Option Command → List (List ℕ × List ℕ) → List ℕ
 Reports None files input r = r ≡ record { text = usage; status = USAGE; left = input }
 Reports (Some (FlatFile name budget)) files input r = r ≡ flat_report name budget files input
 Reports (Some (BuildSources names)) files input r = r ≡ build_report names files input
+Reports (Some (CheckFile name)) files input r = CheckReports name files input r
+Reports (Some (CheckSources names)) files input r = CheckSourcesReports names files input r
 Reports (Some (RunFile name budget)) files input r = r ≡ run_report name budget files input
 Reports (Some (RunSources names budget)) files input r = r ≡ run_sources_report names budget files input
 
@@ -34,6 +38,8 @@ abbrev pub LacksFile : Option Command → List (List ℕ × List ℕ) → Type 0
 LacksFile None files = ⊥
 LacksFile (Some (FlatFile name budget)) files = IsLacking (answer_of files name FILE_LIMIT)
 LacksFile (Some (BuildSources names)) files = IsErr (files_of files names)
+LacksFile (Some (CheckFile name)) files = IsLacking (answer_of files name FILE_LIMIT)
+LacksFile (Some (CheckSources names)) files = IsErr (files_of files names)
 LacksFile (Some (RunFile name budget)) files = IsLacking (answer_of files name FILE_LIMIT)
 LacksFile (Some (RunSources names budget)) files = IsErr (files_of files names)
 
@@ -41,10 +47,12 @@ LacksFile (Some (RunSources names budget)) files = IsErr (files_of files names)
 -- refused. A command whose run can be refused asks in its case that the input is told.
 abbrev pub Refuses : Option Command → List (List ℕ × List ℕ) → (input : Option (List ℕ)) → (status : ℕ) → Type 0
 Refuses None files input status = (status ≡ REFUSED) ↔ ⊥
-Refuses (Some (FlatFile name budget)) files input status = (status ≡ REFUSED) ↔ IsTooLarge (answer_of files name FILE_LIMIT)
-Refuses (Some (BuildSources names)) files input status = (status ≡ REFUSED) ↔ IsUnbuilt (files_of files names)
-Refuses (Some (RunFile name budget)) files input status = (status ≡ REFUSED) ↔ IsNoImage (answer_of files name FILE_LIMIT)
-Refuses (Some (RunSources names budget)) files input status = (status ≡ REFUSED) ↔ IsNotRun (files_of files names)
+Refuses (Some (FlatFile name budget)) files input status = (status ≡ REFUSED) ↔ HoldsUnfit IsTooLarge (answer_of files name FILE_LIMIT)
+Refuses (Some (BuildSources names)) files input status = (status ≡ REFUSED) ↔ BuildsUnfit IsUnwritten (files_of files names)
+Refuses (Some (CheckFile name)) files input status = (status ≡ REFUSED) ↔ HoldsUnfit IsUnaccepted (answer_of files name FILE_LIMIT)
+Refuses (Some (CheckSources names)) files input status = (status ≡ REFUSED) ↔ BuildsUnfit IsUnaccepted (files_of files names)
+Refuses (Some (RunFile name budget)) files input status = (status ≡ REFUSED) ↔ HoldsUnfit IsNoImage (answer_of files name FILE_LIMIT)
+Refuses (Some (RunSources names budget)) files input status = (status ≡ REFUSED) ↔ BuildsUnfit IsNoImage (files_of files names)
 
 -- Where what the command reads is told, with the files, the input, and what is left of the input. Words that are no command
 -- read nothing, and a command that runs nothing leaves the input as it was, whatever it is.
@@ -53,6 +61,8 @@ abbrev pub IfTold : Option Command → (files : Option (List (List ℕ × List �
 IfTold None files input left P = (left ≡ input) × ((held : List (List ℕ × List ℕ)) (bytes : List ℕ) → P held bytes (Some bytes))
 IfTold (Some (FlatFile name budget)) files input left P = IfSome files (λ held. IfSome input (λ bytes. P held bytes left))
 IfTold (Some (BuildSources names)) files input left P = (left ≡ input) × IfSome files (λ held. (bytes : List ℕ) → P held bytes (Some bytes))
+IfTold (Some (CheckFile name)) files input left P = (left ≡ input) × IfSome files (λ held. (bytes : List ℕ) → P held bytes (Some bytes))
+IfTold (Some (CheckSources names)) files input left P = (left ≡ input) × IfSome files (λ held. (bytes : List ℕ) → P held bytes (Some bytes))
 IfTold (Some (RunFile name budget)) files input left P = IfSome files (λ held. IfSome input (λ bytes. P held bytes left))
 IfTold (Some (RunSources names budget)) files input left P = IfSome files (λ held. IfSome input (λ bytes. P held bytes left))
 

@@ -2,8 +2,6 @@
 use Rattle.std.specs.Prelude.{ℕ, List, Result, Ok, Err}
 use Rattle.elf_image.specs.Image.{Image, image_of}
 use Rattle.elf_image.specs.declared.fault.ImageFault.{ImageFault}
-use Rattle.eh_port.specs.declared.FileAnswer.{FileAnswer}
-use Rattle.eh_port.specs.declared.FileAnswer.TheVariants.{Found, Missing, TooLong}
 use Rattle.image_memory.specs.Start.{State, image_start}
 use Rattle.plain_run.specs.Machine.{image_ran}
 use Rattle.ehabi_top.specs.Finding.{file_bytes, found_report}
@@ -30,8 +28,6 @@ abbrev pub IsRefusedImage : Result Image ImageFault → Type 0
 IsRefusedImage (Ok image) = ⊥
 IsRefusedImage (Err fault) = Unit {0}
 
--- the file is there, and its bytes stand for no image
-abbrev pub IsNoImage : FileAnswer → Type 0
-IsNoImage (Found bytes) = IsRefusedImage (image_of bytes)
-IsNoImage Missing = ⊥
-IsNoImage TooLong = ⊥
+-- the bytes stand for no image
+abbrev pub IsNoImage : List ℕ → Type 0
+IsNoImage bytes = IsRefusedImage (image_of bytes)

@@ -6,7 +6,7 @@ use Rattle.std.specs.Str.{bytes_eq}
 use Rattle.std.specs.Char.{is_ascii_digit}
 use Rattle.ehabi_top.specs.declared.words.TheConstants.{MOST_INSTRUCTIONS, MOST_SOURCES, MOST_DIGITS}
 use Rattle.ehabi_top.specs.declared.words.Form.{Form}
-use Rattle.ehabi_top.specs.declared.words.Form.TheVariants.{Flat, Build, Run, RunSources as RunOfSources}
+use Rattle.ehabi_top.specs.declared.words.Form.TheVariants.{Flat, Build, Check, CheckSources as CheckOfSources, Run, RunSources as RunOfSources}
 
 -- a command and what it is given
 pub data Command : Type 0 where
@@ -14,6 +14,10 @@ pub data Command : Type 0 where
   FlatFile : (name : List ℕ) (budget : ℕ) → Command
   -- `build FILE..` of sources
   BuildSources : (names : List (List ℕ)) → Command
+  -- `check FILE` of one image
+  CheckFile : (name : List ℕ) → Command
+  -- `check FILE..` of sources
+  CheckSources : (names : List (List ℕ)) → Command
   -- `run FILE N` of one image
   RunFile : (name : List ℕ) (budget : ℕ) → Command
   -- `run FILE.. N` of sources
@@ -27,6 +31,8 @@ texts words = map (λ (w : Bor (List ℕ)). w.now) words
 abbrev pub command : Form → Command
 command (Flat name budget) = FlatFile name.now budget
 command (Build names) = BuildSources (texts names.now)
+command (Check name) = CheckFile name.now
+command (CheckOfSources names) = CheckSources (texts names.now)
 command (Run name budget) = RunFile name.now budget
 command (RunOfSources names budget) = RunSources (texts names.now) budget
 
@@ -67,14 +73,18 @@ unfoldable pub build_command : List (List ℕ) → Option Command
 build_command names = if are_sources names then Some (BuildSources names) else None
 
 -- one name that is not empty; where it is a source's, it does not come here
-abbrev pub image_command : List (List ℕ) → ℕ → Option Command
-image_command [] budget = None
-image_command (name ∷ []) budget = if nat_le 1 (length name) then Some (RunFile name budget) else None
-image_command (name ∷ more ∷ names) budget = None
+abbrev pub image_name : List (List ℕ) → Option (List ℕ)
+image_name [] = None
+image_name (name ∷ []) = if nat_le 1 (length name) then Some name else None
+image_name (name ∷ more ∷ names) = None
+
+-- the words behind `check`: names of sources, or the name of an image
+unfoldable pub check_command : List (List ℕ) → Option Command
+check_command names = if are_sources names then Some (CheckSources names) else option_map CheckFile (image_name names)
 
 -- names of sources, or the name of an image
 unfoldable pub files_command : List (List ℕ) → ℕ → Option Command
-files_command names budget = if are_sources names then Some (RunSources names budget) else image_command names budget
+files_command names budget = if are_sources names then Some (RunSources names budget) else option_map (λ name. RunFile name budget) (image_name names)
 
 abbrev pub with_budget : List (List ℕ) → Option ℕ → Option Command
 with_budget names None = None
@@ -90,4 +100,5 @@ command_of [] = None
 command_of (word ∷ rest) =
     if bytes_eq word (codes "flat") then flat_command rest
     else (if bytes_eq word (codes "build") then build_command rest
-    else (if bytes_eq word (codes "run") then run_command rest else None))
+    else (if bytes_eq word (codes "check") then check_command rest
+    else (if bytes_eq word (codes "run") then run_command rest else None)))

@@ -1,6 +1,6 @@
 //! `flat FILE N`: runs the bytes of a file as raw code.
-ghost use Rattle.std.specs.Prelude.{◌<◌, length, Some};
-ghost use Rattle.ehabi_top.specs.FlatReport.{code_report};
+ghost use Rattle.std.specs.Prelude.{Some};
+ghost use Rattle.ehabi_top.specs.FlatReport.{IsTooLarge, code_report};
 ghost use Rattle.ehabi_top.specs.Report.{Does};
 ghost use Rattle.ehabi_top.specs.Words.{FlatFile};
 ghost use Rattle.ehabi_top.specs.Yields.{Yields, shelf, streams};
@@ -26,7 +26,7 @@ fn run_code<I: Source, O: Sink>(
     input: &mut I,
     out: &mut O,
 ) -> Result<u8, Stop>
-    ensures { Yields (code_report budget code.now) (MAX_IMAGE_SIZE < length code.now)
+    ensures { Yields (code_report budget code.now) (IsTooLarge code.now)
         (streams (I.left input.old) (I.faults input.old) (O.written out.old) (O.faults out.old))
         (streams (I.left input.new) (I.faults input.new) (O.written out.new) (O.faults out.new)) result }
 {

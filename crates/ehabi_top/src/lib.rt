@@ -10,7 +10,10 @@ ghost use Rattle.ehabi_top.specs.Yields.{shelf, streams};
 
 mod answer;
 mod build;
+mod check;
+mod check_line;
 mod flat;
+pub mod laws;
 mod line;
 mod named;
 mod refusal;
@@ -22,6 +25,7 @@ mod words;
 
 use answer::answer_text;
 use build::build;
+use check::{check_file, check_sources};
 use eh_port::{Files, Sink, Source};
 use flat::flat;
 pub use line::{Line, end_line};
@@ -53,6 +57,8 @@ fn perform<F: Files, I: Source, O: Sink>(
         ),
         Some(Form::Flat(name, budget)) => flat(alloc, name, budget, files, input, out),
         Some(Form::Build(names)) => build(alloc, names, files, out),
+        Some(Form::Check(name)) => check_file(alloc, name, files, out),
+        Some(Form::CheckSources(names)) => check_sources(alloc, names, files, out),
         Some(Form::Run(name, budget)) => run(alloc, name, budget, files, input, out),
         Some(Form::RunSources(names, budget)) => {
             run_sources(alloc, names, budget, files, input, out)
@@ -62,10 +68,10 @@ fn perform<F: Files, I: Source, O: Sink>(
 
 /// All that the program does. The words are those after the program's name, and the answer is its status:
 ///
-/// - 0: the guest exits with 0, or `build` wrote the image;
+/// - 0: the guest exits with 0, `build` wrote the image, or `check` accepts it;
 /// - 1: the guest exits with another number;
 /// - 2: the words have no form;
-/// - 3: a file is refused, and the line says why;
+/// - 3: what the files hold is refused, and the line says why;
 /// - 4, 5, 6: the run ends by terminate, by a trap, by the budget;
 /// - 7: a read of a file or of the input failed;
 /// - 8: a write of the output failed;

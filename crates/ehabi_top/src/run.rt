@@ -1,8 +1,7 @@
 //! `run FILE N` and `run FILE.. N`: runs an image, or the one that sources are built to.
 ghost use Rattle.std.specs.Prelude.{Ok, Some};
-ghost use Rattle.elf_image.specs.Image.{image_of};
 ghost use Rattle.ehabi_top.specs.Report.{Does};
-ghost use Rattle.ehabi_top.specs.RunReport.{IsRefusedImage, image_report, bytes_report};
+ghost use Rattle.ehabi_top.specs.RunReport.{IsNoImage, image_report, bytes_report};
 ghost use Rattle.ehabi_top.specs.Words.{RunFile, RunSources, texts};
 ghost use Rattle.ehabi_top.specs.Yields.{Yields, shelf, streams};
 
@@ -50,7 +49,7 @@ fn run_bytes<I: Source, O: Sink>(
     input: &mut I,
     out: &mut O,
 ) -> Result<u8, Stop>
-    ensures { Yields (bytes_report budget bytes.now) (IsRefusedImage (image_of bytes.now))
+    ensures { Yields (bytes_report budget bytes.now) (IsNoImage bytes.now)
         (streams (I.left input.old) (I.faults input.old) (O.written out.old) (O.faults out.old))
         (streams (I.left input.new) (I.faults input.new) (O.written out.new) (O.faults out.new)) result }
 {

@@ -1,12 +1,12 @@
 //! The statuses of the program (docs/command-line.md).
 
-/// The guest exits with 0, or `build` wrote the image.
+/// The guest exits with 0, `build` wrote the image, or `check` accepts it.
 pub const DONE: u8 = 0;
 /// The guest exits with another number.
 pub const EXITS: u8 = 1;
 /// The words have no form.
 pub const USAGE: u8 = 2;
-/// A file is refused, and the line says why.
+/// What the files hold is refused, and the line says why.
 pub const REFUSED: u8 = 3;
 /// The run ends by terminate.
 pub const TERMINATED: u8 = 4;

@@ -1,6 +1,7 @@
 //! The forms of the words that the program is given.
-ghost use Rattle.std.specs.Prelude.{◌≡◌, option_map};
-ghost use Rattle.ehabi_top.specs.Words.{command, texts, number_of, budget_of, is_source, are_sources, flat_command, build_command, files_command, run_command, command_of};
+ghost use Rattle.std.specs.Borrow.{Bor};
+ghost use Rattle.std.specs.Prelude.{◌≡◌, ℕ, List, option_map};
+ghost use Rattle.ehabi_top.specs.Words.{command, texts, number_of, budget_of, is_source, are_sources, flat_command, build_command, image_name, check_command, files_command, run_command, command_of};
 
 /// The most instructions that a run may be allowed.
 pub const MOST_INSTRUCTIONS: u64 = 1_000_000_000;
@@ -18,6 +19,10 @@ pub enum Form<'a> {
     Flat(&'a str, u64),
     /// `build FILE..`: the names of sources.
     Build(&'a [&'a str]),
+    /// `check FILE`: the name of an image.
+    Check(&'a str),
+    /// `check FILE..`: the names of sources.
+    CheckSources(&'a [&'a str]),
     /// `run FILE N`: the name of an image, and how many instructions may run.
     Run(&'a str, u64),
     /// `run FILE.. N`: the names of sources, and how many instructions may run.
@@ -104,6 +109,27 @@ fn build_form<'a>(words: &'a [&'a str]) -> Option<Form<'a>>
     Some(Form::Build(words))
 }
 
+// One name that is not empty.
+fn image_name<'a>(names: &[&'a str]) -> Option<&'a str>
+    ensures { option_map (λ (name : Bor (List ℕ)). name.now) result ≡ image_name (texts names.now) }
+{
+    match names {
+        [name] if !name.is_empty() => Some(*name),
+        _ => None,
+    }
+}
+
+// `check FILE..`, without the first word: sources, or one image.
+#[tactic(auto, unfolding(crate::specs::Words::check_command))]
+fn check_form<'a>(names: &'a [&'a str]) -> Option<Form<'a>>
+    ensures { option_map command result ≡ check_command (texts names.now) }
+{
+    if are_sources(names) {
+        return Some(Form::CheckSources(names));
+    }
+    Some(Form::Check(image_name(names)?))
+}
+
 // The files of `run`: sources, or one image.
 #[tactic(auto, unfolding(crate::specs::Words::files_command))]
 fn files_form<'a>(names: &'a [&'a str], budget: u64) -> Option<Form<'a>>
@@ -112,15 +138,7 @@ fn files_form<'a>(names: &'a [&'a str], budget: u64) -> Option<Form<'a>>
     if are_sources(names) {
         return Some(Form::RunSources(names, budget));
     }
-    match names {
-        [name] => {
-            if name.is_empty() {
-                return None;
-            }
-            Some(Form::Run(name, budget))
-        }
-        _ => None,
-    }
+    Some(Form::Run(image_name(names)?, budget))
 }
 
 // `run FILE.. N`, without the first word.
@@ -142,6 +160,7 @@ pub fn form_of<'a>(words: &'a [&'a str]) -> Option<Form<'a>>
     match *first {
         "flat" => flat_form(rest),
         "build" => build_form(rest),
+        "check" => check_form(rest),
         "run" => run_form(rest),
         _ => None,
     }
