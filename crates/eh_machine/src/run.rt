@@ -14,6 +14,7 @@ use eh_trace::Events;
 use thumb_core::ends::End;
 
 /// A run of a checked program: all that it has besides its input and output.
+#[derive(Drop)]
 pub struct Machine<'a, C: Checked, B: Bus> {
     pub accepted: &'a C,
     pub core: Core,
