@@ -6,3 +6,4 @@ pub mod SourceRows
 pub mod Fields
 pub mod Marks
 pub mod Symbols
+pub mod Sizes

@@ -4,3 +4,4 @@ pub mod HandlerLaw
 pub mod SourceRowLaw
 pub mod MarkLaw
 pub mod SymbolLaw
+pub mod SizeLaw

@@ -7,6 +7,7 @@ ghost use Rattle.source_laws.specs.HandlerLaw.{HandlersStandBehindTheirTables};
 ghost use Rattle.source_laws.specs.SourceRowLaw.{EachRowIsAFunctions, RowsRise, LaterRowsBeginBehind, RowsLieInTheirObjects, HasShortList, HaveShortLists};
 ghost use Rattle.source_laws.specs.MarkLaw.{MarksTellCode, PoolsAreMarked, LastPoolsAreMarked};
 ghost use Rattle.source_laws.specs.SymbolLaw.{FunctionsAreTyped, ObjectsAreTyped, OthersAreNoFunctions, GlobalsAreGlobal, OthersAreLocal};
+ghost use Rattle.source_laws.specs.SizeLaw.{SizesCountBytes, OthersHaveNoSize};
 
 use asm_read::{Stmt, StmtKind};
 
@@ -54,6 +55,12 @@ pub fn symbols_are_described()
     ensures others { OthersAreNoFunctions }
     ensures globals { GlobalsAreGlobal }
     ensures locals { OthersAreLocal }
+{}
+
+/// The last `.size` of a name, behind its label in the same section, counts the bytes between them, and without one there is no size.
+pub fn sizes_count_bytes()
+    ensures sizes { SizesCountBytes }
+    ensures others { OthersHaveNoSize }
 {}
 
 /// A register list has 16 bits.
