@@ -130,7 +130,7 @@ static CASES: [Case; 10] = [
 ];
 
 /// Words of no form, whatever the files hold.
-static NO_FORM: [&[&str]; 12] = [
+static NO_FORM: [&[&str]; 16] = [
     &[],
     &["flat", "c.bin"],
     &["flat", "c.bin", "0"],
@@ -140,6 +140,10 @@ static NO_FORM: [&[&str]; 12] = [
     &["flat", "", "15"],
     &["build"],
     &["build", "c.bin"],
+    &["check"],
+    &["check", ""],
+    &["check", "z.s", "c.bin"],
+    &["check", "c.bin", "100"],
     &["run", "100"],
     &["run", "", "100"],
     // names of sources and of an image do not go together

@@ -1,6 +1,6 @@
 //! Calls of files, source and sink that fail, and the forms that never fail or tell nothing.
 use crate::cases::{COPY, COUNT, ECHO, Failing, NONE, Outcome, call, files};
-use crate::texts::{ECHO_MAIN, ECHO_PUT};
+use crate::texts::{ECHO_MAIN, ECHO_PUT, WRITES_A};
 use eh_port::{Bytes, HostSink, HostSource, SureFiles, SureSink, SureSource};
 use ehabi_top::ehabi_main;
 use std::alloc::{AllocError, Global};
@@ -21,7 +21,7 @@ struct Calls {
     writes: &'static [State],
 }
 
-static CALLS: [Calls; 4] = [
+static CALLS: [Calls; 5] = [
     Calls {
         words: &["flat", "c.bin", "15"],
         held: &[("c.bin", COUNT)],
@@ -46,6 +46,15 @@ static CALLS: [Calls; 4] = [
         input: b"AB",
         status: 0,
         files: &[(0, b"AB"), (0, b"AB")],
+        reads: &[],
+        writes: &[(0, b"AB")],
+    },
+    Calls {
+        words: &["check", "z.s"],
+        held: &[("z.s", WRITES_A)],
+        input: b"AB",
+        status: 0,
+        files: &[(0, b"AB")],
         reads: &[],
         writes: &[(0, b"AB")],
     },

@@ -168,7 +168,7 @@ static EDITS: [(usize, &str, &[u8]); 3] = [
     (1, "frob r0", b"a.s:2:1: UnknownMnemonic\n"),
 ];
 
-/// Whether both `build` and `run` of sources answer this status and write this line alone.
+/// Whether `build`, `check` and `run` of sources each answer this status and write this line alone.
 pub(crate) fn refuses(
     alloc: Global,
     names: &[&str],
@@ -177,14 +177,17 @@ pub(crate) fn refuses(
     line: &[u8],
 ) -> Result<bool, AllocError> {
     let mut build = vec![in alloc; "build"]?;
+    let mut check = vec![in alloc; "check"]?;
     let mut run = vec![in alloc; "run"]?;
     for name in names {
         build.push(*name)?;
+        check.push(*name)?;
         run.push(*name)?;
     }
     run.push("1000")?;
     Ok(
         answers(alloc, build.as_slice(), files, status, line)?
+            && answers(alloc, check.as_slice(), files, status, line)?
             && answers(alloc, run.as_slice(), files, status, line)?,
     )
 }
