@@ -12,14 +12,28 @@ use std::alloc::{AllocError, Global};
 use std::fs;
 use std::io::Error;
 
-/// The examples that have a command.
-const EXAMPLES: [&str; 6] = [
+/// The examples that have a command: programs that run, and for each cause a source that `check` refuses.
+const EXAMPLES: [&str; 20] = [
     "hello.s",
     "shout.s",
     "counter.s",
     "two_main.s",
     "frame.s",
     "table.s",
+    "check/undecodable.s",
+    "check/branch_out.s",
+    "check/indirect_branch.s",
+    "check/call_not_function.s",
+    "check/sp_write.s",
+    "check/join_depth.s",
+    "check/return_state.s",
+    "check/call_state.s",
+    "check/frame_pointer_lost.s",
+    "check/bad_bytecode.s",
+    "check/bad_descriptor.s",
+    "check/pad_depth.s",
+    "check/throw_in_leaf_scope.s",
+    "check/split_entry.s",
 ];
 
 /// What the head comment of an example says: the words of its command behind the program's name, its input, what it
@@ -114,6 +128,15 @@ fn is_built(host: &HostRuntime, sources: &[&str]) -> Result<bool, Error> {
     })
 }
 
+/// The sources of a command: what stands behind its first word, and for all but `check` in front of its last one.
+fn sources_of<'a, 'w>(words: &'w [&'a str]) -> Option<&'w [&'a str]> {
+    let (command, rest) = words.split_first()?;
+    if *command == "check" {
+        return Some(rest);
+    }
+    rest.split_last().map(|(_budget, sources)| sources)
+}
+
 /// What comes of an example.
 fn verdict(host: &HostRuntime, name: &str) -> Result<&'static str, Error> {
     let text = fs::read_to_string(host, name)?;
@@ -123,7 +146,7 @@ fn verdict(host: &HostRuntime, name: &str) -> Result<&'static str, Error> {
         wrote,
         status: said,
     } = head_of(host.alloc(), text.as_str())?;
-    let [_run, sources @ .., _budget] = words.as_slice() else {
+    let Some(sources) = sources_of(words.as_slice()) else {
         return Ok("no command");
     };
     if !is_built(host, sources)? {

@@ -6,6 +6,16 @@ mod cases;
 #[cfg(test)]
 mod checks;
 #[cfg(test)]
+mod check_bounds;
+#[cfg(test)]
+mod check_code;
+#[cfg(test)]
+mod check_images;
+#[cfg(test)]
+mod check_rows;
+#[cfg(test)]
+mod check_sites;
+#[cfg(test)]
 mod faults;
 #[cfg(test)]
 mod images;
