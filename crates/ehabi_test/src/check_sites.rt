@@ -161,7 +161,7 @@ static BAD_DESCRIPTOR: [Row; 4] = [
 ];
 
 /// `PadDepth`.
-static PAD_DEPTH: [Row; 6] = [
+static PAD_DEPTH: [Row; 7] = [
     // another function
     (
         ".save {r4, lr}; push {r4, lr}; .Lb: bl g; .Le: pop {r4, pc}; .Lp: bl __cxa_end_cleanup; \
@@ -179,6 +179,13 @@ static PAD_DEPTH: [Row; 6] = [
         ".save {r4, lr}; push {r4, lr}; .Lb: bl g; .Le: pop {r4, pc}; .Lp: bl __cxa_begin_catch; udf #0; \
          .personalityindex 0; .handlerdata; .half .Le-.Lb+1, .Lb-f; .word <64|.Lp(prel31)>, 0xFFFFFFFF, 0",
         "f+2: PadDepth",
+    ),
+    // two calls with different depths; what is said at the pad stands at the calls too
+    (
+        ".save {r4, r7, lr}; .setfp r7, sp, #0; push {r4, r7, lr}; mov r7, sp; .Lb: bl g; <sub sp, #8|nop>; \
+         bl g; .Le: mov sp, r7; pop {r4, r7, pc}; .Lp: bl __cxa_end_cleanup; .personalityindex 0; \
+         .handlerdata; .half .Le-.Lb, .Lb-f; .word .Lp(prel31), 0",
+        "f+12: PadDepth",
     ),
     // the second of two pads
     (
