@@ -31,7 +31,7 @@ static CASES: [Case; 4] = [
         left: b"z",
     },
     Case {
-        // a branch that just reaches: 2 + 2046 bytes, then two more before its label
+        // a branch that just reaches, 2 + 2046 bytes, then two more before its label, so that it links; it leaves its function
         words: &["run", "near.s", "far.s", "100"],
         files: &[
             (
@@ -44,8 +44,8 @@ static CASES: [Case; 4] = [
             ),
         ],
         input: b"",
-        status: 0,
-        written: b"\n-- trace\n-- exit 0\n",
+        status: 3,
+        written: b"main+0: BranchOut\n",
         left: b"",
     },
 ];
