@@ -3,3 +3,4 @@ pub mod Fifteen
 pub mod Sought
 pub mod Honest
 pub mod Leaving
+pub mod Heads

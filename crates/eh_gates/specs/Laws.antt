@@ -1,6 +1,7 @@
 -- What gates promise in the words of their users (docs/machine.md, "Laws").
-use Rattle.std.specs.Prelude.{◌≡◌, ℕ, Bool, true, false, is_some, Ok, Err}
-use Rattle.eh_cxa.specs.Words.{word, object_slot}
+use Rattle.std.specs.Prelude.{◌≡◌, ◌⊎◌, ℕ, Bool, true, false, is_some, IsSome, Ok, Err}
+use Rattle.eh_cxa.specs.declared.globals.Globals.{Globals}
+use Rattle.eh_cxa.specs.Words.{word, block_slot, object_slot}
 use Rattle.eh_cxa.specs.Throw.{throw_fault}
 use Rattle.eh_types.specs.Graph.{row_of}
 use Rattle.eh_trace.specs.Trace.{total_of, one_event}
@@ -44,3 +45,15 @@ abbrev pub FailedSearchesEnterNothing : Type 0
 FailedSearchesEnterNothing =
     (g : Guide) (s t : State) (end why : End) → throw_fault (word s.memory) (object_slot (reg s 0)) ≡ Ok tt → is_some (row_of g.types (reg s 1)) ≡ true
     → barrier_in s.regs.pc (searched g s (thrown_first s)) ≡ Err why → throw_gate g s ≡ (Ended end, t) → (end ≡ why) × OnlyThrown s t
+
+-- a head of a chain: none, or the control block of a slot
+abbrev pub IsHead : ℕ → Type 0
+IsHead h = (h ≡ 0) ⊎ IsSome (block_slot h)
+
+pub record AreHeads (g : Globals) : Type 0 where
+  pub caught : IsHead g.caught
+  pub cleanup : IsHead g.cleanup
+
+-- where the heads of both chains are heads before a gate, they are behind it
+abbrev pub HeadsStay : Type 0
+HeadsStay = (g : Guide) (number next : ℕ) (s : State) → AreHeads s.globals → AreHeads (gate_of g number next s).1.globals

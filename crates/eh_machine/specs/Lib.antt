@@ -1,4 +1,5 @@
 pub mod Program
+pub mod Checked
 pub mod Machine
 pub mod Start
 pub mod Guarded

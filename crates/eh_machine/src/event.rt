@@ -1,5 +1,5 @@
 //! One event of the machine (docs/machine.md, "An event").
-ghost use Rattle.std.specs.Prelude.{◌≡◌, ◌≤◌, IfSome};
+ghost use Rattle.std.specs.Prelude.{◌≡◌, ◌≢◌, ◌≤◌, IfSome};
 ghost use Rattle.eh_port.specs.Causes.{Rose};
 ghost use Rattle.eh_gates.specs.State.{State, state_of};
 ghost use Rattle.eh_machine.specs.Turns.{TurnedOnce};
@@ -39,6 +39,8 @@ pub fn turn<C: Checked, B: Bus, I: Source, O: Sink>(
     ensures write { result ≡ Turned.Ended End.WriteFault → Rose (O.faults out.old) (O.faults out.new) }
     ensures input_later { I.faults input.old ≤ I.faults input.new }
     ensures out_later { O.faults out.old ≤ O.faults out.new }
+    ensures input_kept { result ≢ Turned.Ended End.ReadFault → I.faults input.new ≡ I.faults input.old }
+    ensures out_kept { result ≢ Turned.Ended End.WriteFault → O.faults out.new ≡ O.faults out.old }
 {
     let pc = core.regs.pc;
     let what = match pass(a, core, &mut shared.bus) {

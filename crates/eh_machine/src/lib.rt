@@ -2,6 +2,7 @@
 //! (docs/machine.md).
 #![tactic(auto)]
 
+mod accepted;
 pub mod checked;
 mod event;
 mod guards;

@@ -1,5 +1,5 @@
 //! The run of at most so many events (docs/machine.md).
-ghost use Rattle.std.specs.Prelude.{◌≡◌, ◌≤◌, IfSome};
+ghost use Rattle.std.specs.Prelude.{◌≡◌, ◌≢◌, ◌≤◌, IfSome};
 ghost use Rattle.eh_port.specs.Causes.{Rose};
 ghost use Rattle.event_runs.specs.Runs.{Runs};
 ghost use Rattle.eh_gates.specs.State.{State, state_of};
@@ -14,6 +14,7 @@ use eh_trace::Events;
 use thumb_core::ends::End;
 
 /// A run of a checked program: all that it has besides its input and output.
+#[derive(Drop)]
 pub struct Machine<'a, C: Checked, B: Bus> {
     pub accepted: &'a C,
     pub core: Core,
@@ -35,6 +36,8 @@ impl<'a, C: Checked, B: Bus> Machine<'a, C, B> {
         ensures write { result ≡ End.WriteFault → Rose (O.faults out.old) (O.faults out.new) }
         ensures input_later { I.faults input.old ≤ I.faults input.new }
         ensures out_later { O.faults out.old ≤ O.faults out.new }
+        ensures input_kept { result ≢ End.ReadFault → I.faults input.new ≡ I.faults input.old }
+        ensures out_kept { result ≢ End.WriteFault → O.faults out.new ≡ O.faults out.old }
         ensures accepted { self.new.accepted ≡ self.old.accepted }
     {
         while self.left > 0 {

@@ -1,5 +1,7 @@
-//! The names of types, as a trace prints them.
+//! The names of types, as a trace prints them (docs/command-line.md).
 ghost use Rattle.std.specs.Prelude.{◌≡◌, ℕ, List};
+
+use eh_types::TypeGraph;
 
 /// What gives names to types. A type is told by the address of its type information.
 pub trait TypeNames {
@@ -8,4 +10,14 @@ pub trait TypeNames {
     /// The name of a type; empty for one that isn't known.
     fn name(&self, ty: u32) -> &[u8]
         ensures { result.now ≡ name_of self.now ty };
+}
+
+impl TypeNames for TypeGraph {
+    ghost use Rattle.eh_types.specs.Graph.{name_of as graph_name};
+
+    ghost name_of = { graph_name };
+
+    fn name(&self, ty: u32) -> &[u8] {
+        TypeGraph::name(self, ty)
+    }
 }

@@ -7,14 +7,14 @@ use Rattle.ehabi_top.specs.declared.refusal.FilesFault.{FilesFault}
 use Rattle.ehabi_top.specs.declared.status.TheConstants.{USAGE}
 use Rattle.ehabi_top.specs.declared.stop.Stop.{Stop}
 use Rattle.ehabi_top.specs.declared.stop.Stop.TheVariants.{Read, Write, Memory}
-use Rattle.ehabi_top.specs.Finding.{Finds, FoundReports, StandsFor, found_report}
+use Rattle.ehabi_top.specs.Finding.{Finds, FoundReports, StandsFor}
 use Rattle.ehabi_top.specs.Loading.{Report, SaysWhy, IsReported, IsOfCommand}
 use Rattle.ehabi_top.specs.Report.{Reports, IfTold, Performs, Why, Does}
 use Rattle.ehabi_top.specs.Sources.{Refusal}
 use Rattle.ehabi_top.specs.Text.{usage}
 use Rattle.ehabi_top.specs.Words.{Command}
 use Rattle.ehabi_top.specs.Writes.{Answers, AnswersOrLacks}
-use Rattle.ehabi_top.specs.Yields.{Shelf, Streams, streams, Gives, Yields}
+use Rattle.ehabi_top.specs.Yields.{Shelf, Streams, streams, Gives, Gave, given, nothing, Yields}
 use Rattle.ehabi_top.proofs.Statuses.{usage_reported}
 use Rattle.ehabi_top.proofs.Yielding.{gives_answer, of_status, only_write}
 
@@ -38,6 +38,12 @@ performs command files input r (Err stop) left before now is g = record {
 performs_none : (command : Option Command) (files : Held) (input : List ℕ) (stop : Stop) (left before : Option (List ℕ)) → Performs command files input (Err stop) left before before
 performs_none command files input stop left before = record { whole = tt; part = inl (Keeps-refl before) }
 
+-- one of the reports was given, or nothing was done
+gave : (command : Option Command) (files : Held) (input : List ℕ) (Says : Report → Type 0) (result : Result ℕ Stop) (left before now : Option (List ℕ))
+    → ((r : Report) → Says r → Reports command files input r) → Gave Says result left before now → Performs command files input result left before now
+gave command files input Says result left before now says (given r is g) = performs command files input r result left before now (says r is) g
+gave command files input Says result left before now says (nothing stop e same) = rw (e, same) (performs_none command files input stop left before)
+
 -- ---- the bytes that a command asks the files for
 
 -- What its status says of these: `unfit` are bytes that it refuses.
@@ -46,9 +52,9 @@ pub record Asks (command : Option Command) (ask : Held → Result (List ℕ) Ref
   pub lacks : (held : Held) (input : Option (List ℕ)) (refusal : Refusal) → ask held ≡ Err refusal → Why command held input refusal.status
   pub some : command ≡ None → ⊥
 
--- A command that runs bytes: the report that it makes of them and of the input.
-pub record IsRunner (command : Option Command) (ask : Held → Result (List ℕ) Refusal) (ready : List ℕ → List ℕ → Report) (unfit : List ℕ → Type 0) : Type 0 where
-  pub reports : (held : Held) (input : List ℕ) → Reports command held input (found_report ready (ask held) input)
+-- A command that runs bytes: the reports that it may make of them and of the input.
+pub record IsRunner (command : Option Command) (ask : Held → Result (List ℕ) Refusal) (Says : List ℕ → List ℕ → Report → Type 0) (unfit : List ℕ → Type 0) : Type 0 where
+  pub reports : (held : Held) (input : List ℕ) (r : Report) → FoundReports Says (ask held) input r → Reports command held input r
   pub asks : Asks command ask unfit
   pub tells : (files : Option Held) (input left before now : Option (List ℕ)) (result : Result ℕ Stop)
       → IfSome files (λ held. IfSome input (λ bytes. Performs command held bytes result left before now))
@@ -79,11 +85,11 @@ why_all command held input lacks unfit (Err stop) f w = tt
 
 -- ---- commands that run bytes
 
-module _ (command : Option Command) (ask : Held → Result (List ℕ) Refusal) (ready : List ℕ → List ℕ → Report) (unfit : List ℕ → Type 0)
-    (runner : IsRunner command ask ready unfit) where
+module _ (command : Option Command) (ask : Held → Result (List ℕ) Refusal) (Says : List ℕ → List ℕ → Report → Type 0) (unfit : List ℕ → Type 0)
+    (runner : IsRunner command ask Says unfit) where
   -- the bytes are there
   pub does_bytes : (files files' : Shelf) (old new : Streams) (result : Result ℕ Stop) (bytes : List ℕ)
-      → IfSome files.held (λ held. ask held ≡ Ok bytes) → files'.faults ≡ files.faults → Yields (ready bytes) (unfit bytes) old new result
+      → IfSome files.held (λ held. ask held ≡ Ok bytes) → files'.faults ≡ files.faults → Yields (Says bytes) (unfit bytes) old new result
       → Does command files files' old new result
   does_bytes files files' old new result bytes found same y = record {
     told = runner.tells files.held old.input new.input old.output new.output result (told files.held old.input found y.told);
@@ -96,12 +102,11 @@ module _ (command : Option Command) (ask : Held → Result (List ℕ) Refusal) (
   }
     where
       told : (held : Option Held) (input : Option (List ℕ)) → IfSome held (λ h. ask h ≡ Ok bytes)
-          → IfSome input (λ b. Gives (ready bytes b) result new.input old.output new.output)
+          → IfSome input (λ b. Gave (Says bytes b) result new.input old.output new.output)
           → IfSome held (λ h. IfSome input (λ b. Performs command h b result new.input old.output new.output))
       told None input e g = tt
       told (Some h) None e g = tt
-      told (Some h) (Some b) e g =
-          performs command h b (found_report ready (ask h) b) result new.input old.output new.output (runner.reports h b) (rw e g)
+      told (Some h) (Some b) e g = gave command h b (Says bytes b) result new.input old.output new.output (λ r s. runner.reports h b r (rw e s)) g
 
       why : (held : Option Held) → IfSome held (λ h. ask h ≡ Ok bytes) → (s : ℕ) → SaysWhy s ⊥ (unfit bytes) → IfSome held (λ h. Why command h old.input s)
       why None e s w = tt
@@ -129,7 +134,7 @@ module _ (command : Option Command) (ask : Held → Result (List ℕ) Refusal) (
       told None input e = tt
       told (Some h) None e = tt
       told (Some h) (Some b) e =
-          performs command h b (found_report ready (ask h) b) result (Some b) before now (runner.reports h b) (rw e (gives_answer refusal.line refusal.status b result before now f g a))
+          performs command h b _ result (Some b) before now (runner.reports h b (record { text = refusal.line; status = refusal.status; left = b }) (rw e refl)) (gives_answer refusal.line refusal.status b result before now f g a)
 
       why : (held : Option Held) → IfSome held (λ h. ask h ≡ Err refusal) → IfSome held (λ h. Why command h input refusal.status)
       why None e = tt

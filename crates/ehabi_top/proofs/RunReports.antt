@@ -1,32 +1,84 @@
--- The report of the bytes of an image.
-use Rattle.std.proofs.Common.{◌≡◌, ℕ, List, Option, Some, None, IfSome, Result, Ok, Err, refl, ap, ◌∙◌}
+-- The reports of a run, from what the checker answers and what the machine does.
+use Rattle.std.specs.Prelude.{◌≢◌}
+use Rattle.std.proofs.Common.{◌≡◌, ◌⊎◌, ℕ, List, Option, Some, None, IfSome, Result, Ok, Err, refl, inl, inr}
+use Rattle.std.specs.Prelude.{IfOk}
 use Rattle.elf_image.specs.Image.{Image, image_of}
 use Rattle.elf_image.specs.declared.fault.ImageFault.{ImageFault}
-use Rattle.ehabi_top.specs.RunReport.{bytes_report, image_report, IsRefusedImage}
+use Rattle.frame_check.specs.Accepts.{Accepted, IsSound, IsAccepted, Refuses}
+use Rattle.frame_check.specs.declared.fault.CheckFault.{CheckFault}
+use Rattle.frame_check.specs.declared.fault.CheckFault.TheVariants.{OutOfMemory}
+use Rattle.ehabi_top.specs.CheckReport.{check_fault_line, IsUnaccepted}
+use Rattle.ehabi_top.specs.Loading.{Report, SaysWhy}
+use Rattle.ehabi_top.specs.RunReport.{RunReportsOf, RunBytesReports, accepted_report}
 use Rattle.ehabi_top.specs.Text.{image_fault_line}
-use Rattle.ehabi_top.specs.Yields.{Gives, Streams, Yields}
+use Rattle.ehabi_top.specs.Writes.{Answers, Stopped}
+use Rattle.ehabi_top.specs.Yields.{Only, Gave, given, nothing, Streams, streams, Yields}
 use Rattle.ehabi_top.specs.declared.status.TheConstants.{REFUSED}
 use Rattle.ehabi_top.specs.declared.stop.Stop.{Stop}
+use Rattle.ehabi_top.specs.declared.stop.Stop.TheVariants.{Memory}
+use Rattle.ehabi_top.proofs.Statuses.{says_unfit, refused_reported}
+use Rattle.ehabi_top.proofs.Yielding.{yields_answer, yields_memory}
 
-bytes_at : (budget : ℕ) (bytes input : List ℕ) → bytes_report budget bytes input ≡ image_report budget (image_of bytes) input
-unfolding bytes_report
-bytes_at budget bytes input = refl
+-- reports that may be made of one thing may be made of another
+gave_other : (Says Other : Report → Type 0) (result : Result ℕ Stop) (left before now : Option (List ℕ)) → ((r : Report) → Says r → Other r)
+    → Gave Says result left before now → Gave Other result left before now
+gave_other Says Other result left before now says (given r is g) = given r (says r is) g
+gave_other Says Other result left before now says (nothing stop e same) = nothing stop e same
+
+told_other : (Says Other : List ℕ → Report → Type 0) (input : Option (List ℕ)) (result : Result ℕ Stop) (left before now : Option (List ℕ)) → ((b : List ℕ) (r : Report) → Says b r → Other b r)
+    → IfSome input (λ b. Gave (Says b) result left before now) → IfSome input (λ b. Gave (Other b) result left before now)
+told_other Says Other None result left before now says g = tt
+told_other Says Other (Some b) result left before now says g = gave_other (Says b) (Other b) result left before now (says b) g
+
+-- none of what is unfit for the one is there, nor for the other
+fit_other : (unfit other : Type 0) (result : Result ℕ Stop) → (unfit → ⊥) → (other → ⊥) → IfOk result (λ status. SaysWhy status ⊥ unfit) → IfOk result (λ status. SaysWhy status ⊥ other)
+fit_other unfit other (Ok s) n m w = record { missing = w.missing; refused = ((λ e. absurd (n (w.refused.0 e))), (λ u. absurd (m u))) }
+fit_other unfit other (Err stop) n m w = tt
+
+-- an image that is accepted, and its run
+pub image_runs : (budget : ℕ) (image : Image) (a : Accepted) (old new : Streams) (result : Result ℕ Stop) → IsSound a → a.image ≡ image → IsAccepted image
+    → Yields (Only (accepted_report budget a)) ⊥ old new result → Yields (RunReportsOf budget (Ok image)) (¬ (IsAccepted image)) old new result
+image_runs budget image a old new result sound same accepted y = record {
+  told = told_other (Only (accepted_report budget a)) (RunReportsOf budget (Ok image)) old.input result new.input old.output new.output
+      (λ b r is. inl (record { accepted = a; sound = sound; same = same; is = is })) y.told;
+  why = fit_other ⊥ (¬ (IsAccepted image)) result (λ l. l) (λ n. n accepted) y.why;
+  read = y.read;
+  write = y.write;
+  memory = y.memory;
+  status = y.status;
+}
+
+-- an image that isn't accepted, or no memory was found
+pub image_not_run : (budget : ℕ) (image : Image) (fault : CheckFault) (result : Result ℕ Stop) (input before now : Option (List ℕ)) (i f g : ℕ)
+    → (fault ≢ OutOfMemory → Refuses image fault) → (fault ≢ OutOfMemory → IsAccepted image → ⊥)
+    → ((fault ≢ OutOfMemory) × Answers (check_fault_line fault) REFUSED result before now f g) ⊎ Stopped Memory result before now f g
+    → Yields (RunReportsOf budget (Ok image)) (¬ (IsAccepted image)) (streams input i before f) (streams input i now g) result
+image_not_run budget image fault result input before now i f g stands exact (inr s) =
+    rw (s.is, s.same, s.calm) (yields_memory (RunReportsOf budget (Ok image)) (¬ (IsAccepted image)) input before i f)
+image_not_run budget image fault result input before now i f g stands exact (inl a) =
+    yields_answer (RunReportsOf budget (Ok image)) (¬ (IsAccepted image)) (check_fault_line fault) REFUSED result input before now i f g
+    (λ b. inr (record { fault = fault; stands = stands a.0; is = refl }))
+    (says_unfit ⊥ (¬ (IsAccepted image)) (λ l. l) (exact a.0)) refused_reported a.1
 
 -- what an image yields, its bytes yield
 pub bytes_yield : (budget : ℕ) (bytes : List ℕ) (image : Image) (old new : Streams) (result : Result ℕ Stop)
-    → image_of bytes ≡ Ok image → Yields (image_report budget (Ok image)) ⊥ old new result
-    → Yields (bytes_report budget bytes) (IsRefusedImage (image_of bytes)) old new result
-bytes_yield budget bytes image old new result e y =
-    rw e (record { told = told old.input y.told; why = y.why; read = y.read; write = y.write; memory = y.memory; status = y.status })
-  where
-    told : (input : Option (List ℕ)) → IfSome input (λ b. Gives (image_report budget (Ok image) b) result new.input old.output new.output)
-        → IfSome input (λ b. Gives (bytes_report budget bytes b) result new.input old.output new.output)
-    told None g = tt
-    told (Some b) g = rw (bytes_at budget bytes b, e) g
+    → image_of bytes ≡ Ok image → Yields (RunReportsOf budget (Ok image)) (¬ (IsAccepted image)) old new result
+    → Yields (RunBytesReports budget bytes) (IsUnaccepted bytes) old new result
+unfolding RunBytesReports
+bytes_yield budget bytes image old new result e y = record {
+  told = told_other (RunReportsOf budget (Ok image)) (RunBytesReports budget bytes) old.input result new.input old.output new.output (λ b r is. rw e is) y.told;
+  why = rw e y.why;
+  read = y.read;
+  write = y.write;
+  memory = y.memory;
+  status = y.status;
+}
 
-pub bytes_refused : (budget : ℕ) (bytes : List ℕ) (fault : ImageFault) → image_of bytes ≡ Err fault
-    → (b : List ℕ) → bytes_report budget bytes b ≡ record { text = image_fault_line fault; status = REFUSED; left = b }
-bytes_refused budget bytes fault e b = bytes_at budget bytes b ∙ ap (λ (v : Result Image ImageFault). image_report budget v b) e
-
-pub unfit_image : (bytes : List ℕ) (fault : ImageFault) → image_of bytes ≡ Err fault → IsRefusedImage (image_of bytes)
-unfit_image bytes fault e = rw e tt
+-- bytes that stand for no image
+pub bytes_refused : (budget : ℕ) (bytes : List ℕ) (fault : ImageFault) (result : Result ℕ Stop) (input before now : Option (List ℕ)) (i f g : ℕ)
+    → image_of bytes ≡ Err fault → Answers (image_fault_line fault) REFUSED result before now f g
+    → Yields (RunBytesReports budget bytes) (IsUnaccepted bytes) (streams input i before f) (streams input i now g) result
+unfolding RunBytesReports
+bytes_refused budget bytes fault result input before now i f g e a =
+    yields_answer (λ b. RunReportsOf budget (image_of bytes) b) (IsUnaccepted bytes) (image_fault_line fault) REFUSED result input before now i f g
+    (λ b. rw e refl) (rw e (says_unfit ⊥ (Unit {0}) (λ l. l) tt)) refused_reported a

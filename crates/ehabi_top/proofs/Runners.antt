@@ -5,13 +5,14 @@ use Rattle.eh_port.specs.declared.FileAnswer.{FileAnswer}
 use Rattle.eh_port.specs.declared.FileAnswer.TheVariants.{Found, Missing, TooLong}
 use Rattle.ehabi_top.specs.declared.sources.TheConstants.{FILE_LIMIT}
 use Rattle.ehabi_top.specs.declared.status.TheConstants.{LACKING}
-use Rattle.ehabi_top.specs.BuildReport.{IsUnwritten, build_report, plain_report, run_sources_report}
+use Rattle.ehabi_top.specs.BuildReport.{IsUnwritten, build_report, plain_report}
 use Rattle.ehabi_top.specs.Building.{built, files_of, image_bytes, bytes_of_built, bytes_of_found}
 use Rattle.ehabi_top.specs.CheckReport.{BytesReports, IsUnaccepted}
 use Rattle.ehabi_top.specs.Finding.{FoundReports, bytes_of_answer, file_bytes, found_report}
 use Rattle.ehabi_top.specs.FlatReport.{IsTooLarge, code_report, flat_report}
 use Rattle.ehabi_top.specs.Loading.{Report, SaysWhy, IsLacking}
-use Rattle.ehabi_top.specs.RunReport.{IsNoImage, bytes_report, run_report}
+use Rattle.ehabi_top.specs.RunReport.{RunBytesReports}
+use Rattle.ehabi_top.specs.Yields.{Only}
 use Rattle.ehabi_top.specs.Sources.{NamedText, Refusal}
 use Rattle.ehabi_top.specs.Unfit.{HoldsUnfit}
 use Rattle.ehabi_top.specs.Words.{FlatFile, BuildSources, CheckFile, CheckSources, RunFile, RunSources}
@@ -58,6 +59,11 @@ module _ (unfit : List ℕ → Type 0) (name : List ℕ) where
       → SaysWhy refusal.status (IsLacking (answer_of held name FILE_LIMIT)) (HoldsUnfit unfit (answer_of held name FILE_LIMIT))
   file_lacks held refusal e = answer_lacks (answer_of held name FILE_LIMIT) refusal (sym (file_is name held) ∙ e)
 
+-- what is made of bytes is a report by itself
+only_found : (ready : List ℕ → List ℕ → Report) (found : Result (List ℕ) Refusal) (input : List ℕ) (r : Report) → FoundReports (λ bytes. Only (ready bytes)) found input r → r ≡ found_report ready found input
+only_found ready (Ok bytes) input r h = h
+only_found ready (Err refusal) input r h = h
+
 flat_at : (name : List ℕ) (budget : ℕ) (held : Held) (input : List ℕ) → flat_report name budget held input ≡ found_report (code_report budget) (file_bytes name held) input
 unfolding flat_report
 flat_at name budget held input = refl
@@ -69,27 +75,23 @@ flat_asks name budget = record {
   some = λ e. cc;
 }
 
-pub flat_runner : (name : List ℕ) (budget : ℕ) → IsRunner (Some (FlatFile name budget)) (file_bytes name) (code_report budget) IsTooLarge
+pub flat_runner : (name : List ℕ) (budget : ℕ) → IsRunner (Some (FlatFile name budget)) (file_bytes name) (λ code. Only (code_report budget code)) IsTooLarge
 flat_runner name budget = record {
-  reports = λ held input. sym (flat_at name budget held input);
+  reports = λ held input r h. only_found (code_report budget) (file_bytes name held) input r h ∙ sym (flat_at name budget held input);
   asks = flat_asks name budget;
   tells = λ files input left before now result h. h;
 }
 
-run_at : (name : List ℕ) (budget : ℕ) (held : Held) (input : List ℕ) → run_report name budget held input ≡ found_report (bytes_report budget) (file_bytes name held) input
-unfolding run_report
-run_at name budget held input = refl
-
-run_asks : (name : List ℕ) (budget : ℕ) → Asks (Some (RunFile name budget)) (file_bytes name) IsNoImage
+run_asks : (name : List ℕ) (budget : ℕ) → Asks (Some (RunFile name budget)) (file_bytes name) IsUnaccepted
 run_asks name budget = record {
-  fits = λ held input bytes s e w. let v = file_fits IsNoImage name held bytes s e w in record { missing = v.missing; refused = v.refused };
-  lacks = λ held input refusal e. let v = file_lacks IsNoImage name held refusal e in record { missing = v.missing; refused = v.refused };
+  fits = λ held input bytes s e w. let v = file_fits IsUnaccepted name held bytes s e w in record { missing = v.missing; refused = v.refused };
+  lacks = λ held input refusal e. let v = file_lacks IsUnaccepted name held refusal e in record { missing = v.missing; refused = v.refused };
   some = λ e. cc;
 }
 
-pub run_runner : (name : List ℕ) (budget : ℕ) → IsRunner (Some (RunFile name budget)) (file_bytes name) (bytes_report budget) IsNoImage
+pub run_runner : (name : List ℕ) (budget : ℕ) → IsRunner (Some (RunFile name budget)) (file_bytes name) (RunBytesReports budget) IsUnaccepted
 run_runner name budget = record {
-  reports = λ held input. sym (run_at name budget held input);
+  reports = λ held input r h. h;
   asks = run_asks name budget;
   tells = λ files input left before now result h. h;
 }
@@ -129,11 +131,6 @@ build_at : (names : List (List ℕ)) (held : Held) (input : List ℕ) → build_
 unfolding build_report
 build_at names held input = refl
 
--- what is built is a report by itself
-plain_found : (found : Result (List ℕ) Refusal) (input : List ℕ) (r : Report) → FoundReports (λ bytes b x. x ≡ plain_report bytes b) found input r → r ≡ found_report plain_report found input
-plain_found (Ok bytes) input r h = h
-plain_found (Err refusal) input r h = h
-
 build_asks : (names : List (List ℕ)) → Asks (Some (BuildSources names)) (image_bytes names) IsUnwritten
 build_asks names = record {
   fits = λ held input bytes s e w. let v = built_fits IsUnwritten (files_of held names) bytes s (sym (bytes_is names held) ∙ e) w in record { missing = v.missing; refused = v.refused };
@@ -141,27 +138,23 @@ build_asks names = record {
   some = λ e. cc;
 }
 
-pub build_keeper : (names : List (List ℕ)) → IsKeeper (Some (BuildSources names)) (image_bytes names) (λ bytes b r. r ≡ plain_report bytes b) IsUnwritten
+pub build_keeper : (names : List (List ℕ)) → IsKeeper (Some (BuildSources names)) (image_bytes names) (λ bytes. Only (plain_report bytes)) IsUnwritten
 build_keeper names = record {
-  reports = λ held input r h. plain_found (image_bytes names held) input r h ∙ sym (build_at names held input);
+  reports = λ held input r h. only_found plain_report (image_bytes names held) input r h ∙ sym (build_at names held input);
   asks = build_asks names;
   tells = λ files input before now result h. (refl, h);
 }
 
-sources_at : (names : List (List ℕ)) (budget : ℕ) (held : Held) (input : List ℕ) → run_sources_report names budget held input ≡ found_report (bytes_report budget) (image_bytes names held) input
-unfolding run_sources_report
-sources_at names budget held input = refl
-
-sources_asks : (names : List (List ℕ)) (budget : ℕ) → Asks (Some (RunSources names budget)) (image_bytes names) IsNoImage
+sources_asks : (names : List (List ℕ)) (budget : ℕ) → Asks (Some (RunSources names budget)) (image_bytes names) IsUnaccepted
 sources_asks names budget = record {
-  fits = λ held input bytes s e w. let v = built_fits IsNoImage (files_of held names) bytes s (sym (bytes_is names held) ∙ e) w in record { missing = v.missing; refused = v.refused };
-  lacks = λ held input refusal e. let v = built_refused IsNoImage (files_of held names) refusal (sym (bytes_is names held) ∙ e) in record { missing = v.missing; refused = v.refused };
+  fits = λ held input bytes s e w. let v = built_fits IsUnaccepted (files_of held names) bytes s (sym (bytes_is names held) ∙ e) w in record { missing = v.missing; refused = v.refused };
+  lacks = λ held input refusal e. let v = built_refused IsUnaccepted (files_of held names) refusal (sym (bytes_is names held) ∙ e) in record { missing = v.missing; refused = v.refused };
   some = λ e. cc;
 }
 
-pub sources_runner : (names : List (List ℕ)) (budget : ℕ) → IsRunner (Some (RunSources names budget)) (image_bytes names) (bytes_report budget) IsNoImage
+pub sources_runner : (names : List (List ℕ)) (budget : ℕ) → IsRunner (Some (RunSources names budget)) (image_bytes names) (RunBytesReports budget) IsUnaccepted
 sources_runner names budget = record {
-  reports = λ held input. sym (sources_at names budget held input);
+  reports = λ held input r h. h;
   asks = sources_asks names budget;
   tells = λ files input left before now result h. h;
 }

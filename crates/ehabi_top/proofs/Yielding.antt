@@ -1,5 +1,5 @@
 -- Reports of an input, from what the parts of a call have done. Nothing here knows a command.
-use Rattle.std.proofs.Common.{◌≡◌, ℕ, ◌≤◌, List, ◌++◌, Option, Some, None, IfSome, Result, Ok, Err, Bool, true, false, refl, sym, ◌∙◌, arith}
+use Rattle.std.proofs.Common.{◌≡◌, ◌⊎◌, inl, inr, ℕ, ◌≤◌, List, ◌++◌, Option, Some, None, IfSome, Result, Ok, Err, Bool, true, false, refl, sym, ◌∙◌, arith}
 use Rattle.std.specs.Bool.{OnFalse, OnTrue}
 use Rattle.std.specs.Prelude.{IfOk}
 use Rattle.std.proofs.KnownBytes.{Appends-trans}
@@ -10,16 +10,14 @@ use Rattle.event_runs.specs.Runs.{Machine, Ran, Runs, ran_of}
 use Rattle.guest_gates.specs.Ends.{is_fault}
 use Rattle.thumb_core.specs.declared.ends.End.{End}
 use Rattle.thumb_core.specs.declared.ends.End.TheVariants.{Exit, Terminate, Trap, Budget, ReadFault, WriteFault}
-use Rattle.elf_image.specs.Functions.{Function}
 use Rattle.image_memory.specs.Start.{State}
-use Rattle.plain_run.specs.Machine.{FlatRuns, ImageRuns, flat_machine, image_machine}
-use Rattle.thumb_core.specs.declared.regs.Regs.{Regs}
+use Rattle.plain_run.specs.Machine.{FlatRuns, flat_machine}
 use Rattle.ehabi_top.specs.declared.stop.Stop.{Stop}
 use Rattle.ehabi_top.specs.declared.stop.Stop.TheVariants.{Read, Write, Memory}
 use Rattle.ehabi_top.specs.Loading.{Report, SaysWhy, IsOfCommand, ran_report, status_of, stop_of_fault}
 use Rattle.ehabi_top.specs.Text.{end_line}
-use Rattle.ehabi_top.specs.Writes.{Answers, AnswersEnd}
-use Rattle.ehabi_top.specs.Yields.{streams, Gives, Yields}
+use Rattle.ehabi_top.specs.Writes.{Answers, AnswersEnd, AnswersRun, Stopped}
+use Rattle.ehabi_top.specs.Yields.{streams, Gives, Gave, given, nothing, Yields}
 use Rattle.ehabi_top.proofs.Statuses.{end_of_run, says_end, IsOfRun}
 
 -- ---- a call that ended with a text
@@ -29,11 +27,11 @@ pub gives_answer : (text : List ℕ) (status : ℕ) (input : List ℕ) (result :
 gives_answer text status input (Ok s) before now f g a = record { part = a.part; status = a.status_is; leaves = refl; wrote = a.ok }
 gives_answer text status input (Err stop) before now f g a = record { part = a.part; status = tt; leaves = tt; wrote = tt }
 
-told_answer : (report : List ℕ → Report) (text : List ℕ) (status : ℕ) (result : Result ℕ Stop) (input before now : Option (List ℕ)) (f g : ℕ)
-    → ((b : List ℕ) → report b ≡ record { text = text; status = status; left = b }) → Answers text status result before now f g
-    → IfSome input (λ b. Gives (report b) result input before now)
-told_answer report text status result None before now f g is a = tt
-told_answer report text status result (Some b) before now f g is a = rw (is b) (gives_answer text status b result before now f g a)
+told_answer : (Says : List ℕ → Report → Type 0) (text : List ℕ) (status : ℕ) (result : Result ℕ Stop) (input before now : Option (List ℕ)) (f g : ℕ)
+    → ((b : List ℕ) → Says b (record { text = text; status = status; left = b })) → Answers text status result before now f g
+    → IfSome input (λ b. Gave (Says b) result input before now)
+told_answer Says text status result None before now f g is a = tt
+told_answer Says text status result (Some b) before now f g is a = given (record { text = text; status = status; left = b }) (is b) (gives_answer text status b result before now f g a)
 
 -- the answer's status is the only one
 pub of_status : (P : ℕ → Type 0) (text : List ℕ) (status : ℕ) (result : Result ℕ Stop) (before now : Option (List ℕ)) (f g : ℕ)
@@ -55,12 +53,12 @@ not_read stop e h = cc
 not_memory : (stop : Stop) → stop ≡ Memory → stop ≡ Write → ⊥
 not_memory stop e h = cc
 
-pub yields_answer : (report : List ℕ → Report) (unfit : Type 0) (text : List ℕ) (status : ℕ) (result : Result ℕ Stop) (input before now : Option (List ℕ)) (i f g : ℕ)
-    → ((b : List ℕ) → report b ≡ record { text = text; status = status; left = b }) → SaysWhy status ⊥ unfit → IsOfCommand status
+pub yields_answer : (Says : List ℕ → Report → Type 0) (unfit : Type 0) (text : List ℕ) (status : ℕ) (result : Result ℕ Stop) (input before now : Option (List ℕ)) (i f g : ℕ)
+    → ((b : List ℕ) → Says b (record { text = text; status = status; left = b })) → SaysWhy status ⊥ unfit → IsOfCommand status
     → Answers text status result before now f g
-    → Yields report unfit (streams input i before f) (streams input i now g) result
-yields_answer report unfit text status result input before now i f g is why of a = record {
-  told = told_answer report text status result input before now f g is a;
+    → Yields Says unfit (streams input i before f) (streams input i now g) result
+yields_answer Says unfit text status result input before now i f g is why of a = record {
+  told = told_answer Says text status result input before now f g is a;
   why = of_status (λ s. SaysWhy s ⊥ unfit) text status result before now f g why a;
   read = λ e. absurd (not_read Read refl (only_write text status result Read before now f g a e).0);
   write = λ e. (only_write text status result Write before now f g a e).1;
@@ -70,14 +68,14 @@ yields_answer report unfit text status result input before now i f g is why of a
 
 -- ---- a call that found no memory, and did nothing
 
-told_nothing : (report : List ℕ → Report) (stop : Stop) (input before : Option (List ℕ)) → IfSome input (λ b. Gives (report b) (Err stop) input before before)
-told_nothing report stop None before = tt
-told_nothing report stop (Some b) before = record { part = part_none before (report b).text; status = tt; leaves = tt; wrote = tt }
+told_nothing : (Says : List ℕ → Report → Type 0) (stop : Stop) (input left before : Option (List ℕ)) → IfSome input (λ b. Gave (Says b) (Err stop) left before before)
+told_nothing Says stop None left before = tt
+told_nothing Says stop (Some b) left before = nothing stop refl refl
 
-pub yields_memory : (report : List ℕ → Report) (unfit : Type 0) (input before : Option (List ℕ)) (i f : ℕ)
-    → Yields report unfit (streams input i before f) (streams input i before f) (Err Memory)
-yields_memory report unfit input before i f = record {
-  told = told_nothing report Memory input before;
+pub yields_memory : (Says : List ℕ → Report → Type 0) (unfit : Type 0) (input before : Option (List ℕ)) (i f : ℕ)
+    → Yields Says unfit (streams input i before f) (streams input i before f) (Err Memory)
+yields_memory Says unfit input before i f = record {
+  told = told_nothing Says Memory input input before;
   why = tt;
   read = λ e. absurd (let no : Memory ≡ Read = cc in cc);
   write = λ e. absurd (let no : Memory ≡ Write = cc in cc);
@@ -119,6 +117,12 @@ fault_memory Budget s = cc
 fault_memory ReadFault s = cc
 fault_memory WriteFault s = cc
 
+not_fault_read : (end : End) → is_fault end ≡ false → end ≡ ReadFault → ⊥
+not_fault_read end fine e = let no : is_fault end ≡ true = rw e refl in cc
+
+not_fault_write : (end : End) → is_fault end ≡ false → end ≡ WriteFault → ⊥
+not_fault_write end fine e = let no : is_fault end ≡ true = rw e refl in cc
+
 same_stop : (result : Result ℕ Stop) (a b : Stop) → result ≡ Err a → result ≡ Err b → a ≡ b
 same_stop result a b e f = let g : ◌≡◌ {A = Result ℕ Stop} (Err a) (Err b) = sym e ∙ f in cc
 
@@ -155,28 +159,28 @@ module _ (S : Type 0) (machine : Machine S End) (fault : (end : End) → machine
       record { part = part_first before now (ran_of machine n state input).text _ r.part; status = tt; leaves = tt; wrote = tt }
 
   -- the whole call: a run from where nothing was done, and the text of its end
-  pub yields_run : (report : List ℕ → Report) (unfit : Type 0) (head : List ℕ) (end : End) (result : Result ℕ Stop) (input left before mid now : Option (List ℕ)) (i j f g h : ℕ)
-      → ((b : List ℕ) → report b ≡ ran_report says (ran_of machine n state b))
+  pub yields_run : (Says : List ℕ → Report → Type 0) (unfit : Type 0) (head : List ℕ) (end : End) (result : Result ℕ Stop) (input left before mid now : Option (List ℕ)) (i j f g h : ℕ)
+      → ((b : List ℕ) → Says b (ran_report says (ran_of machine n state b)))
       → ((s : S) → says s ≡ head) → (unfit → ⊥)
       → IfSome input (λ b. (new : S) × ((unspent : ℕ) × Runs machine n state b end new unspent left before mid))
       → (end ≡ ReadFault → Rose i j) → (end ≡ WriteFault → Rose f g) → f ≤ g
       → AnswersEnd head end result mid now g h
-      → Yields report unfit (streams input i before f) (streams left j now h) result
-  yields_run report unfit head end result input left before mid now i j f g h is says_head fit runs read write later answers = go (is_fault end) refl
+      → Yields Says unfit (streams input i before f) (streams left j now h) result
+  yields_run Says unfit head end result input left before mid now i j f g h is says_head fit runs read write later answers = go (is_fault end) refl
     where
       told_fine : (input : Option (List ℕ)) → is_fault end ≡ false → Answers (head ++ end_line end) (status_of end) result mid now g h
           → IfSome input (λ b. (new : S) × ((unspent : ℕ) × Runs machine n state b end new unspent left before mid))
-          → IfSome input (λ b. Gives (report b) result left before now)
+          → IfSome input (λ b. Gave (Says b) result left before now)
       told_fine None fine a r = tt
-      told_fine (Some b) fine a r = rw (is b) (gives_run b r.0 r.1.0 end result left before mid now g h fine r.1.1 (rw (says_head r.0) a))
+      told_fine (Some b) fine a r = given _ (is b) (gives_run b r.0 r.1.0 end result left before mid now g h fine r.1.1 (rw (says_head r.0) a))
 
       told_stopped : (input : Option (List ℕ)) (stop : Stop) → result ≡ Err stop → now ≡ mid
           → IfSome input (λ b. (new : S) × ((unspent : ℕ) × Runs machine n state b end new unspent left before mid))
-          → IfSome input (λ b. Gives (report b) result left before now)
+          → IfSome input (λ b. Gave (Says b) result left before now)
       told_stopped None stop e same r = tt
-      told_stopped (Some b) stop e same r = rw (is b, e, same) (gives_fault stop b r.0 r.1.0 end left before mid r.1.1)
+      told_stopped (Some b) stop e same r = rw (e, same) (given _ (is b) (gives_fault stop b r.0 r.1.0 end left before mid r.1.1))
 
-      go : (b : Bool) → is_fault end ≡ b → Yields report unfit (streams input i before f) (streams left j now h) result
+      go : (b : Bool) → is_fault end ≡ b → Yields Says unfit (streams input i before f) (streams left j now h) result
       go false fine =
           let a = at_false (is_fault end) _ fine answers.fine in
           let text = head ++ end_line end in
@@ -200,6 +204,63 @@ module _ (S : Type 0) (machine : Machine S End) (fault : (end : End) → machine
             status = rw s.is tt;
           }
 
+  -- .. where what is said of the last state takes memory, which may be wanting behind a run that no fault stopped
+  pub yields_said : (Says : List ℕ → Report → Type 0) (unfit : Type 0) (new : S) (unspent : ℕ) (end : End) (result : Result ℕ Stop) (input left before mid now : Option (List ℕ)) (i j f g h : ℕ)
+      → ((b : List ℕ) → Says b (ran_report says (ran_of machine n state b))) → (unfit → ⊥)
+      → IfSome input (λ b. Runs machine n state b end new unspent left before mid)
+      → (end ≡ ReadFault → Rose i j) → (end ≡ WriteFault → Rose f g) → f ≤ g
+      → ((end ≡ ReadFault → ⊥) → j ≡ i) → ((end ≡ WriteFault → ⊥) → g ≡ f)
+      → AnswersRun (says new) end result mid now g h
+      → Yields Says unfit (streams input i before f) (streams left j now h) result
+  yields_said Says unfit new unspent end result input left before mid now i j f g h is fit runs read write later read_kept write_kept answers = go (is_fault end) refl
+    where
+      told_fine : (input : Option (List ℕ)) → is_fault end ≡ false → Answers (says new ++ end_line end) (status_of end) result mid now g h
+          → IfSome input (λ b. Runs machine n state b end new unspent left before mid)
+          → IfSome input (λ b. Gave (Says b) result left before now)
+      told_fine None fine a r = tt
+      told_fine (Some b) fine a r = given _ (is b) (gives_run b new unspent end result left before mid now g h fine r a)
+
+      told_stopped : (input : Option (List ℕ)) (stop : Stop) → result ≡ Err stop → now ≡ mid
+          → IfSome input (λ b. Runs machine n state b end new unspent left before mid)
+          → IfSome input (λ b. Gave (Says b) result left before now)
+      told_stopped None stop e same r = tt
+      told_stopped (Some b) stop e same r = rw (e, same) (given _ (is b) (gives_fault stop b new unspent end left before mid r))
+
+      fine_of : is_fault end ≡ false → Answers (says new ++ end_line end) (status_of end) result mid now g h ⊎ Stopped Memory result mid now g h
+          → Yields Says unfit (streams input i before f) (streams left j now h) result
+      fine_of fine (inl a) =
+          let text = says new ++ end_line end in
+          let status = status_of end in
+          record {
+            told = told_fine input fine a runs;
+            why = of_status (λ s. SaysWhy s ⊥ unfit) text status result mid now g h (says_end end unfit fine fit) a;
+            read = λ e. absurd (not_read Read refl (only_write text status result Read mid now g h a e).0);
+            write = λ e. let rose = (only_write text status result Write mid now g h a e).1 in omega arith;
+            memory = λ e. absurd (not_memory Memory refl (only_write text status result Memory mid now g h a e).0);
+            status = of_status IsOfCommand text status result mid now g h (IsOfRun.reported (end_of_run end fine)) a;
+          }
+      fine_of fine (inr s) = record {
+        told = told_stopped input Memory s.is s.same runs;
+        why = rw s.is tt;
+        read = λ e. absurd (let w = same_stop result Memory Read s.is e in cc);
+        write = λ e. absurd (let w = same_stop result Memory Write s.is e in cc);
+        memory = λ _. record { input = read_kept (not_fault_read end fine); output = s.calm ∙ write_kept (not_fault_write end fine) };
+        status = rw s.is tt;
+      }
+
+      go : (b : Bool) → is_fault end ≡ b → Yields Says unfit (streams input i before f) (streams left j now h) result
+      go false fine = fine_of fine (at_false (is_fault end) _ fine answers.fine)
+      go true fault =
+          let s = at_true (is_fault end) _ fault answers.fault in
+          record {
+            told = told_stopped input (stop_of_fault end) s.is s.same runs;
+            why = rw s.is tt;
+            read = λ e. read (fault_read end fault (same_stop result (stop_of_fault end) Read s.is e));
+            write = λ e. rw s.calm (write (fault_write end fault (same_stop result (stop_of_fault end) Write s.is e)));
+            memory = λ e. absurd (fault_memory end (same_stop result (stop_of_fault end) Memory s.is e));
+            status = rw s.is tt;
+          }
+
 -- ---- runs, whatever they had to spare
 
 pub flat_some : (budget : ℕ) (old : State) (end : End) (new : State) (told left before now : Option (List ℕ))
@@ -207,9 +268,3 @@ pub flat_some : (budget : ℕ) (old : State) (end : End) (new : State) (told lef
     → IfSome told (λ b. (new : State) × ((unspent : ℕ) × Runs flat_machine budget old b end new unspent left before now))
 flat_some budget old end new None left before now r = tt
 flat_some budget old end new (Some b) left before now r = (new, r)
-
-pub image_some : (functions : List Function) (budget : ℕ) (old : State) (end : End) (regs : Regs) (told left before now : Option (List ℕ))
-    → IfSome told (λ b. ImageRuns functions budget old b end regs left before now)
-    → IfSome told (λ b. (new : State) × ((unspent : ℕ) × Runs (image_machine functions) budget old b end new unspent left before now))
-image_some functions budget old end regs None left before now r = tt
-image_some functions budget old end regs (Some b) left before now r = (record { regs = regs; memory = r.0 }, r.1)

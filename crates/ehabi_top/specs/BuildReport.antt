@@ -1,9 +1,8 @@
--- The reports of `build FILE..` and of `run FILE.. N` of sources.
+-- The report of `build FILE..`.
 use Rattle.std.specs.Prelude.{ℕ, List}
 use Rattle.ehabi_top.specs.Building.{image_bytes}
 use Rattle.ehabi_top.specs.Finding.{found_report}
 use Rattle.ehabi_top.specs.Loading.{Report}
-use Rattle.ehabi_top.specs.RunReport.{bytes_report}
 use Rattle.ehabi_top.specs.declared.status.TheConstants.{DONE}
 
 -- bytes that are written, and nothing else
@@ -12,10 +11,6 @@ plain_report bytes input = record { text = bytes; status = DONE; left = input }
 
 unfoldable pub build_report : List (List ℕ) → List (List ℕ × List ℕ) → List ℕ → Report
 build_report names files input = found_report plain_report (image_bytes names files) input
-
--- the image is read from the bytes that `build` writes, and run as one that a file holds
-unfoldable pub run_sources_report : List (List ℕ) → ℕ → List (List ℕ × List ℕ) → List ℕ → Report
-run_sources_report names budget files input = found_report (bytes_report budget) (image_bytes names files) input
 
 -- bytes that are only written are all fit
 abbrev pub IsUnwritten : List ℕ → Type 0

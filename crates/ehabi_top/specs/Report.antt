@@ -11,11 +11,11 @@ use Rattle.ehabi_top.specs.declared.status.TheConstants.{USAGE, REFUSED, LACKING
 use Rattle.ehabi_top.specs.declared.stop.Stop.{Stop}
 use Rattle.ehabi_top.specs.declared.stop.Stop.TheVariants.{Read, Write, Memory}
 use Rattle.ehabi_top.specs.Loading.{Report, IsLacking, IsReported}
-use Rattle.ehabi_top.specs.BuildReport.{build_report, run_sources_report, IsUnwritten}
+use Rattle.ehabi_top.specs.BuildReport.{build_report, IsUnwritten}
 use Rattle.ehabi_top.specs.Building.{files_of}
 use Rattle.ehabi_top.specs.CheckReport.{CheckReports, CheckSourcesReports, IsUnaccepted}
 use Rattle.ehabi_top.specs.FlatReport.{flat_report, IsTooLarge}
-use Rattle.ehabi_top.specs.RunReport.{run_report, IsNoImage}
+use Rattle.ehabi_top.specs.RunReport.{RunReports, RunSourcesReports}
 use Rattle.ehabi_top.specs.Text.{usage}
 use Rattle.ehabi_top.specs.Unfit.{HoldsUnfit, BuildsUnfit}
 use Rattle.ehabi_top.specs.Words.{Command, FlatFile, BuildSources, CheckFile, CheckSources, RunFile, RunSources}
@@ -30,8 +30,8 @@ Reports (Some (FlatFile name budget)) files input r = r ≡ flat_report name bud
 Reports (Some (BuildSources names)) files input r = r ≡ build_report names files input
 Reports (Some (CheckFile name)) files input r = CheckReports name files input r
 Reports (Some (CheckSources names)) files input r = CheckSourcesReports names files input r
-Reports (Some (RunFile name budget)) files input r = r ≡ run_report name budget files input
-Reports (Some (RunSources names budget)) files input r = r ≡ run_sources_report names budget files input
+Reports (Some (RunFile name budget)) files input r = RunReports name budget files input r
+Reports (Some (RunSources names budget)) files input r = RunSourcesReports names budget files input r
 
 -- a file that the command names is missing or too long
 abbrev pub LacksFile : Option Command → List (List ℕ × List ℕ) → Type 0
@@ -51,8 +51,8 @@ Refuses (Some (FlatFile name budget)) files input status = (status ≡ REFUSED) 
 Refuses (Some (BuildSources names)) files input status = (status ≡ REFUSED) ↔ BuildsUnfit IsUnwritten (files_of files names)
 Refuses (Some (CheckFile name)) files input status = (status ≡ REFUSED) ↔ HoldsUnfit IsUnaccepted (answer_of files name FILE_LIMIT)
 Refuses (Some (CheckSources names)) files input status = (status ≡ REFUSED) ↔ BuildsUnfit IsUnaccepted (files_of files names)
-Refuses (Some (RunFile name budget)) files input status = (status ≡ REFUSED) ↔ HoldsUnfit IsNoImage (answer_of files name FILE_LIMIT)
-Refuses (Some (RunSources names budget)) files input status = (status ≡ REFUSED) ↔ BuildsUnfit IsNoImage (files_of files names)
+Refuses (Some (RunFile name budget)) files input status = (status ≡ REFUSED) ↔ HoldsUnfit IsUnaccepted (answer_of files name FILE_LIMIT)
+Refuses (Some (RunSources names budget)) files input status = (status ≡ REFUSED) ↔ BuildsUnfit IsUnaccepted (files_of files names)
 
 -- Where what the command reads is told, with the files, the input, and what is left of the input. Words that are no command
 -- read nothing, and a command that runs nothing leaves the input as it was, whatever it is.

@@ -1,33 +1,50 @@
--- The report of `run FILE N`: one image, run without unwinding.
-use Rattle.std.specs.Prelude.{ℕ, List, Result, Ok, Err}
+-- The reports of `run FILE N` of one image and of `run FILE.. N` of sources: what is accepted runs on the machine that unwinds.
+use Rattle.std.specs.Prelude.{ℕ, ◌≡◌, ◌⊎◌, ◌++◌, List, Result, Ok, Err}
 use Rattle.elf_image.specs.Image.{Image, image_of}
 use Rattle.elf_image.specs.declared.fault.ImageFault.{ImageFault}
-use Rattle.image_memory.specs.Start.{State, image_start}
-use Rattle.plain_run.specs.Machine.{image_ran}
-use Rattle.ehabi_top.specs.Finding.{file_bytes, found_report}
+use Rattle.event_runs.specs.Runs.{ran_of}
+use Rattle.eh_gates.specs.State.{State}
+use Rattle.eh_machine.specs.Checked.{program_of}
+use Rattle.eh_machine.specs.Machine.{machine_of}
+use Rattle.eh_machine.specs.Start.{start_of}
+use Rattle.eh_trace.specs.Text.{trace_text}
+use Rattle.eh_types.specs.Graph.{name_of}
+use Rattle.frame_check.specs.Accepts.{Accepted, IsSound}
+use Rattle.ehabi_top.specs.Building.{image_bytes}
+use Rattle.ehabi_top.specs.CheckReport.{NamesFault}
+use Rattle.ehabi_top.specs.Finding.{file_bytes, FoundReports}
 use Rattle.ehabi_top.specs.Loading.{Report, ran_report}
 use Rattle.ehabi_top.specs.Text.{trace_head, image_fault_line}
 use Rattle.ehabi_top.specs.declared.status.TheConstants.{REFUSED}
 
--- what the last state says behind the guest's bytes: the trace, in which nothing stands without unwinding
-abbrev pub trace : State → List ℕ
-trace state = trace_head
+-- what the last state says behind the guest's bytes: the trace of its events
+abbrev pub trace : Accepted → State → List ℕ
+trace a s = trace_head ++ trace_text a.image (name_of a.types) s.events
 
--- the run of an image, or the line of why there is none
-abbrev pub image_report : ℕ → Result Image ImageFault → List ℕ → Report
-image_report budget (Ok image) input = ran_report trace (image_ran image.functions budget (image_start image) input)
-image_report budget (Err fault) input = record { text = image_fault_line fault; status = REFUSED; left = input }
+-- the report of a run of an accepted image, from the start
+unfoldable pub accepted_report : ℕ → Accepted → List ℕ → Report
+accepted_report budget a input = ran_report (trace a) (ran_of (machine_of (program_of a)) budget (start_of (program_of a)) input)
 
-unfoldable pub bytes_report : ℕ → List ℕ → List ℕ → Report
-bytes_report budget bytes input = image_report budget (image_of bytes) input
+-- the image is accepted, and r is the report of its run
+pub record RunsImage (budget : ℕ) (image : Image) (input : List ℕ) (r : Report) : Type 0 where
+  pub accepted : Accepted
+  pub sound : IsSound accepted
+  pub same : accepted.image ≡ image
+  pub is : r ≡ accepted_report budget accepted input
 
-unfoldable pub run_report : List ℕ → ℕ → List (List ℕ × List ℕ) → List ℕ → Report
-run_report name budget files input = found_report (bytes_report budget) (file_bytes name files) input
+-- of an image that isn't accepted the report is that of its check
+abbrev pub RunReportsOf : ℕ → Result Image ImageFault → List ℕ → Report → Type 0
+RunReportsOf budget (Ok image) input r = RunsImage budget image input r ⊎ NamesFault image input r
+RunReportsOf budget (Err fault) input r = r ≡ record { text = image_fault_line fault; status = REFUSED; left = input }
 
-abbrev pub IsRefusedImage : Result Image ImageFault → Type 0
-IsRefusedImage (Ok image) = ⊥
-IsRefusedImage (Err fault) = Unit {0}
+-- of bytes
+unfoldable pub RunBytesReports : ℕ → List ℕ → List ℕ → Report → Type 0
+RunBytesReports budget bytes input r = RunReportsOf budget (image_of bytes) input r
 
--- the bytes stand for no image
-abbrev pub IsNoImage : List ℕ → Type 0
-IsNoImage bytes = IsRefusedImage (image_of bytes)
+-- of the image in a file
+abbrev pub RunReports : List ℕ → ℕ → List (List ℕ × List ℕ) → List ℕ → Report → Type 0
+RunReports name budget files input r = FoundReports (RunBytesReports budget) (file_bytes name files) input r
+
+-- of the image that `build` writes of sources
+abbrev pub RunSourcesReports : List (List ℕ) → ℕ → List (List ℕ × List ℕ) → List ℕ → Report → Type 0
+RunSourcesReports names budget files input r = FoundReports (RunBytesReports budget) (image_bytes names files) input r

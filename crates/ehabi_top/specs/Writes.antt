@@ -42,6 +42,12 @@ pub record AnswersEnd (head : List ℕ) (end : End) (result : Result ℕ Stop) (
   pub fine : OnFalse (is_fault end) (Answers (head ++ end_line end) (status_of end) result before now faults_before faults_now)
   pub fault : OnTrue (is_fault end) (Stopped (stop_of_fault end) result before now faults_before faults_now)
 
+-- a call that ends a run with what it says behind the guest's bytes and the line of the end, or found no memory for it; at a fault it
+-- writes nothing
+pub record AnswersRun (said : List ℕ) (end : End) (result : Result ℕ Stop) (before now : Option (List ℕ)) (faults_before faults_now : ℕ) : Type 0 where
+  pub fine : OnFalse (is_fault end) (Answers (said ++ end_line end) (status_of end) result before now faults_before faults_now ⊎ Stopped Memory result before now faults_before faults_now)
+  pub fault : OnTrue (is_fault end) (Stopped (stop_of_fault end) result before now faults_before faults_now)
+
 -- a call that ends with a report that may be made, whatever the input, which it leaves whole
 pub record AnswersOne (Says : List ℕ → Report → Type 0) (unfit : Type 0) (result : Result ℕ Stop) (before now : Option (List ℕ)) (faults_before faults_now : ℕ) : Type 0 where
   pub text : List ℕ

@@ -1,5 +1,5 @@
 -- What a call does that makes a report of its input, with no files.
-use Rattle.std.specs.Prelude.{ℕ, ◌≡◌, List, Option, Some, IfOk, IfSome, IsErrOf, Result}
+use Rattle.std.specs.Prelude.{ℕ, ◌≡◌, List, Option, Some, IfOk, IfSome, IsErrOf, Result, Err}
 use Rattle.std.specs.Io.KnownBytes.{Appends}
 use Rattle.eh_port.specs.Causes.{Rose}
 use Rattle.eh_port.specs.Writing.{AppendsPart}
@@ -37,10 +37,19 @@ pub record Gives (r : Report) (result : Result ℕ Stop) (left before now : Opti
   pub leaves : IfOk result (λ _. left ≡ Some r.left)
   pub wrote : IfOk result (λ _. Appends before now r.text)
 
--- A call that does the report of its input, where that is told. Its status is REFUSED exactly where what it was given is
+-- a call that does one of these reports, or stopped and wrote nothing
+pub data Gave (Says : Report → Type 0) (result : Result ℕ Stop) (left before now : Option (List ℕ)) : Type 0 where
+  given : (r : Report) → Says r → Gives r result left before now → Gave Says result left before now
+  nothing : (stop : Stop) → result ≡ Err stop → now ≡ before → Gave Says result left before now
+
+-- the only report of an input
+abbrev pub Only : (List ℕ → Report) → List ℕ → Report → Type 0
+Only report input r = r ≡ report input
+
+-- A call that does a report that may be made of its input, where that is told. Its status is REFUSED exactly where what it was given is
 -- unfit, whatever is told; a stop has a cause, and want of memory comes only where nothing has failed.
-pub record Yields (report : List ℕ → Report) (unfit : Type 0) (old new : Streams) (result : Result ℕ Stop) : Type 0 where
-  pub told : IfSome old.input (λ bytes. Gives (report bytes) result new.input old.output new.output)
+pub record Yields (Says : List ℕ → Report → Type 0) (unfit : Type 0) (old new : Streams) (result : Result ℕ Stop) : Type 0 where
+  pub told : IfSome old.input (λ bytes. Gave (Says bytes) result new.input old.output new.output)
   pub why : IfOk result (λ status. SaysWhy status ⊥ unfit)
   pub read : IsErrOf result Read → Rose old.input_faults new.input_faults
   pub write : IsErrOf result Write → Rose old.output_faults new.output_faults

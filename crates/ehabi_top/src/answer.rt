@@ -1,8 +1,10 @@
 //! What the program says last.
 ghost use Rattle.std.specs.Prelude.{◌≡◌, ◌≢◌, ◌++◌, IfOk, IfErr, Ok, Err, true, false};
 ghost use Rattle.ehabi_top.specs.Loading.{status_of, stop_of_fault};
-ghost use Rattle.ehabi_top.specs.Writes.{Answers, AnswersEnd};
-ghost use Rattle.ehabi_top.specs.Text.{missing_line, too_long_line};
+ghost use Rattle.ehabi_top.specs.Writes.{Answers, AnswersEnd, AnswersRun};
+ghost use Rattle.ehabi_top.specs.Text.{missing_line, too_long_line, trace_head};
+ghost use Rattle.eh_trace.specs.Text.{trace_text};
+ghost use Rattle.eh_types.specs.Graph.{name_of};
 ghost use Rattle.ehabi_top.specs.declared.status.TheConstants.{LACKING};
 ghost use Rattle.guest_gates.specs.Ends.{is_fault};
 
@@ -10,6 +12,9 @@ use crate::line::end_line;
 use crate::status::{DONE, EXITS, LACKING, SPENT, TERMINATED, TRAPPED};
 use crate::stop::Stop;
 use eh_port::{Sink, put_all};
+use eh_trace::{Events, trace_lines};
+use frame_check::Accepted;
+use std::alloc::Global;
 use thumb_core::ends::End;
 
 /// Ends with this text and this status.
@@ -89,5 +94,31 @@ pub(crate) fn answer_end<O: Sink>(out: &mut O, head: &[u8], end: End) -> Result<
     match status_of(end) {
         Ok(status) => answer_both(out, head, end_line(end).as_slice(), status),
         Err(stop) => Err(stop),
+    }
+}
+
+/// Ends a run of an accepted image: with its trace behind the guest's bytes, and the line of its end; or with the stop of a fault.
+pub(crate) fn answer_run<O: Sink>(
+    alloc: Global,
+    out: &mut O,
+    accepted: &Accepted,
+    events: &Events,
+    end: End,
+) -> Result<u8, Stop>
+    ensures { AnswersRun (trace_head ++ trace_text accepted.now.image (name_of accepted.now.types) events.now) end result (O.written out.old) (O.written out.new) (O.faults out.old) (O.faults out.new) }
+{
+    let status = match status_of(end) {
+        Ok(status) => status,
+        Err(stop) => return Err(stop),
+    };
+    match trace_lines(alloc, accepted.image(), accepted.types(), events) {
+        Ok(lines) => answer_three(
+            out,
+            b"\n-- trace\n",
+            lines.as_slice(),
+            end_line(end).as_slice(),
+            status,
+        ),
+        Err(_) => Err(Stop::Memory),
     }
 }

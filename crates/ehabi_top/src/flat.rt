@@ -3,7 +3,7 @@ ghost use Rattle.std.specs.Prelude.{Some};
 ghost use Rattle.ehabi_top.specs.FlatReport.{IsTooLarge, code_report};
 ghost use Rattle.ehabi_top.specs.Report.{Does};
 ghost use Rattle.ehabi_top.specs.Words.{FlatFile};
-ghost use Rattle.ehabi_top.specs.Yields.{Yields, shelf, streams};
+ghost use Rattle.ehabi_top.specs.Yields.{Only, Yields, shelf, streams};
 
 use crate::answer::{answer_end, answer_text};
 use crate::line::image_fault_line;
@@ -26,7 +26,7 @@ fn run_code<I: Source, O: Sink>(
     input: &mut I,
     out: &mut O,
 ) -> Result<u8, Stop>
-    ensures { Yields (code_report budget code.now) (IsTooLarge code.now)
+    ensures { Yields (Only (code_report budget code.now)) (IsTooLarge code.now)
         (streams (I.left input.old) (I.faults input.old) (O.written out.old) (O.faults out.old))
         (streams (I.left input.new) (I.faults input.new) (O.written out.new) (O.faults out.new)) result }
 {

@@ -1,44 +1,68 @@
-//! `run FILE N` and `run FILE.. N`: runs an image, or the one that sources are built to.
+//! `run FILE N` and `run FILE.. N`: checks an image, or the one that sources are built to, and runs it where it is accepted
+//! (docs/command-line.md).
 ghost use Rattle.std.specs.Prelude.{Ok, Some};
+ghost use Rattle.frame_check.specs.Accepts.{IsAccepted};
+ghost use Rattle.ehabi_top.specs.CheckReport.{IsUnaccepted};
 ghost use Rattle.ehabi_top.specs.Report.{Does};
-ghost use Rattle.ehabi_top.specs.RunReport.{IsNoImage, image_report, bytes_report};
+ghost use Rattle.ehabi_top.specs.RunReport.{RunReportsOf, RunBytesReports, accepted_report};
 ghost use Rattle.ehabi_top.specs.Words.{RunFile, RunSources, texts};
-ghost use Rattle.ehabi_top.specs.Yields.{Yields, shelf, streams};
+ghost use Rattle.ehabi_top.specs.Yields.{Only, Yields, shelf, streams};
 
-use crate::answer::{answer_end, answer_text};
+use crate::answer::{answer_run, answer_text};
 use crate::build::built_files;
+use crate::check::answer_fault;
 use crate::line::image_fault_line;
 use crate::refusal::answer_files_fault;
 use crate::sources::read_file;
 use crate::status::REFUSED;
 use crate::stop::Stop;
+use eh_machine::Machine;
 use eh_port::{Files, Sink, Source};
 use elf_image::ImageFault;
 use elf_image::image::Image;
 use elf_image::read::read_image;
-use image_memory::{image_memory, start_regs};
-use plain_run::image_run;
+use frame_check::{Accepted, check};
 use std::alloc::Global;
 
-// Runs an image.
-fn run_image<I: Source, O: Sink>(
+// Runs an accepted image.
+fn run_accepted<I: Source, O: Sink>(
     alloc: Global,
-    image: &Image,
+    accepted: &Accepted,
     budget: u64,
     input: &mut I,
     out: &mut O,
 ) -> Result<u8, Stop>
-    ensures { Yields (image_report budget (Ok image.now)) ⊥
+    ensures { Yields (Only (accepted_report budget accepted.now)) ⊥
         (streams (I.left input.old) (I.faults input.old) (O.written out.old) (O.faults out.old))
         (streams (I.left input.new) (I.faults input.new) (O.written out.new) (O.faults out.new)) result }
 {
-    let mut bus = match image_memory(alloc, image) {
-        Ok(bus) => bus,
+    let mut machine = match Machine::start(alloc, accepted, budget) {
+        Ok(machine) => machine,
         Err(_) => return Err(Stop::Memory),
     };
-    let mut regs = start_regs(image.entry());
-    let end = image_run(image, &mut regs, &mut bus, budget, input, out);
-    answer_end(out, b"\n-- trace\n", end)
+    let end = machine.run(input, out);
+    answer_run(alloc, out, accepted, machine.events(), end)
+}
+
+// Checks an image, and runs it where it is accepted.
+fn run_image<I: Source, O: Sink>(
+    alloc: Global,
+    image: Image,
+    budget: u64,
+    input: &mut I,
+    out: &mut O,
+) -> Result<u8, Stop>
+    ensures { Yields (RunReportsOf budget (Ok image.entry)) (¬ (IsAccepted image.entry))
+        (streams (I.left input.old) (I.faults input.old) (O.written out.old) (O.faults out.old))
+        (streams (I.left input.new) (I.faults input.new) (O.written out.new) (O.faults out.new)) result }
+{
+    match check(alloc, image) {
+        Ok(accepted) => {
+            accepted.holds();
+            run_accepted(alloc, &accepted, budget, input, out)
+        }
+        Err(fault) => answer_fault(alloc, out, &fault),
+    }
 }
 
 // Runs the image that these bytes stand for.
@@ -49,12 +73,12 @@ fn run_bytes<I: Source, O: Sink>(
     input: &mut I,
     out: &mut O,
 ) -> Result<u8, Stop>
-    ensures { Yields (bytes_report budget bytes.now) (IsNoImage bytes.now)
+    ensures { Yields (RunBytesReports budget bytes.now) (IsUnaccepted bytes.now)
         (streams (I.left input.old) (I.faults input.old) (O.written out.old) (O.faults out.old))
         (streams (I.left input.new) (I.faults input.new) (O.written out.new) (O.faults out.new)) result }
 {
     match read_image(alloc, bytes) {
-        Ok(image) => run_image(alloc, &image, budget, input, out),
+        Ok(image) => run_image(alloc, image, budget, input, out),
         Err(fault) => {
             if fault == ImageFault::OutOfMemory {
                 return Err(Stop::Memory);

@@ -8,3 +8,4 @@ pub mod Naming
 pub mod Judging
 pub mod Walking
 pub mod Saving
+pub mod Entries

@@ -1,21 +1,25 @@
 -- The roots are what descriptors name, and the type symbols.
-use Rattle.std.proofs.Common.{◌≡◌, ◌≢◌, ℕ, zero, suc, ◌==◌, ◌<◌, ◌⊎◌, inl, inr, Bool, true, false, if◌then◌else◌, nat_le, List, [], ◌∷◌, ◌++◌, Option, Some, None, Ok, Err, refl, sym, ap, ◌∙◌, subst, arith}
+use Rattle.std.proofs.Common.{◌≡◌, ◌≢◌, ℕ, zero, suc, ◌+◌, ◌==◌, ◌<◌, ◌≤◌, ◌⊎◌, inl, inr, Bool, true, false, if◌then◌else◌, nat_le, List, [], ◌∷◌, ◌++◌, length, get_or, drop, drop-cons, add-one, append_assoc, Option, Some, None, Ok, Err, refl, sym, ap, ◌∙◌, subst, arith}
 use Rattle.std.specs.Prelude.{Contains}
 use Rattle.std.specs.List.{flat_map, range_with_len}
-use Rattle.std.proofs.lemmas.Bool.{eqb-false, ne_eqb, leb-false}
+use Rattle.std.proofs.lemmas.Bool.{and_parts, eqb-true, eqb-false, ne_eqb, leb-false}
+use Rattle.std.proofs.lemmas.List.{append-nil, drop_all}
 use Rattle.std.proofs.lemmas.List.FromFn.{get_or-range_with_len, length-range_with_len}
 use Rattle.std.proofs.lemmas.List.Elements.{Contains-append_left, Contains-append_right, Contains-append_cases}
 use Rattle.elf_image.specs.Segments.{Segment}
 use Rattle.elf_image.specs.Functions.{Function}
-use Rattle.elf_image.specs.Image.{type_symbols_of}
+use Rattle.elf_image.specs.Image.{Image, type_symbols_of}
 use Rattle.eh_desc.specs.declared.descriptor.CatchType.{CatchType}
 use Rattle.eh_desc.specs.declared.descriptor.CatchType.TheVariants.{All, AllFails, One}
 use Rattle.eh_desc.specs.declared.descriptor.Desc.{Desc}
 use Rattle.eh_desc.specs.declared.descriptor.DescKind.{DescKind}
 use Rattle.eh_desc.specs.declared.descriptor.DescKind.TheVariants.{Cleanup, Catch, Spec}
 use Rattle.eh_desc.specs.Grammar.{type_in}
-use Rattle.frame_scene.specs.Sites.{Item, items_at}
-use Rattle.frame_check.specs.Roots.{scene_of, type_at, listed, catch_types, kind_types, item_types, function_types, roots_of}
+use Rattle.unwind_codes.specs.declared.row.Entry.{Entry}
+use Rattle.unwind_codes.specs.declared.row.EntryBody.{EntryBody}
+use Rattle.unwind_codes.specs.declared.row.EntryBody.TheVariants.{CantUnwind, Inline, Table}
+use Rattle.frame_scene.specs.Sites.{Item, items_by, items_at}
+use Rattle.frame_check.specs.Roots.{scene_of, type_at, listed, catch_types, kind_types, item_types, entry_of, entry_types, same_body, same_entry, types_from, roots_of}
 use Rattle.frame_check.specs.Laws.{Names, RootsAreNamed}
 
 -- ---- joined lists
@@ -89,10 +93,101 @@ naming segments (Spec types count pad) t ne (inr (i, e)) =
     below true q f = absurd (let g : type_in segments (Spec types count pad) i ≡ None = rw q refl in cc)
     below false q f = leb-false count i q
 
+-- ---- entries
+
+same_bodies : (a b : EntryBody) → same_body a b ≡ true → a ≡ b
+same_bodies CantUnwind CantUnwind e = refl
+same_bodies (Inline a) (Inline b) e = ap Inline (eqb-true a b e)
+same_bodies (Table a) (Table b) e = ap Table (eqb-true a b e)
+same_bodies CantUnwind (Inline b) e = absurd (cc)
+same_bodies CantUnwind (Table b) e = absurd (cc)
+same_bodies (Inline a) CantUnwind e = absurd (cc)
+same_bodies (Inline a) (Table b) e = absurd (cc)
+same_bodies (Table a) CantUnwind e = absurd (cc)
+same_bodies (Table a) (Inline b) e = absurd (cc)
+
+same_entries : (a b : Option Entry) → same_entry a b ≡ true → a ≡ b
+same_entries None None e = refl
+same_entries None (Some b) e = absurd (cc)
+same_entries (Some a) None e = absurd (cc)
+same_entries (Some a) (Some b) e =
+    let two = and_parts (a.start == b.start) (same_body a.body b.body) e in
+    ap Some
+    (ap (λ (n : ℕ). let x : Entry = record { start = n; body = a.body } in x) (eqb-true a.start b.start two.0)
+    ∙ ap (λ (y : EntryBody). let x : Entry = record { start = b.start; body = y } in x) (same_bodies a.body b.body two.1))
+
+-- what is told of functions is told of their entries
+from_types : (image : Image) (before : Option Entry) (fs : List Function) (t : ℕ) → Contains (types_from image before fs) t
+    → (f : Function) × Contains fs f × Contains (entry_types image (entry_of image f)) t
+unfolding types_from
+from_types image before [] t c = absurd (omega (arith, c.1))
+from_types image before (f ∷ more) t c =
+    go (Contains-append_cases (if same_entry before (entry_of image f) then [] else entry_types image (entry_of image f)) (types_from image (entry_of image f) more) t c)
+    (λ d. from_types image (entry_of image f) more t d)
+  where
+    here : (b : Bool) → Contains (if b then [] else entry_types image (entry_of image f)) t → Contains (entry_types image (entry_of image f)) t
+    here true d = absurd (omega (arith, d.1))
+    here false d = d
+
+    go : Contains (if same_entry before (entry_of image f) then [] else entry_types image (entry_of image f)) t ⊎ Contains (types_from image (entry_of image f) more) t
+        → (Contains (types_from image (entry_of image f) more) t → (g : Function) × Contains more g × Contains (entry_types image (entry_of image g)) t)
+        → (g : Function) × Contains (f ∷ more) g × Contains (entry_types image (entry_of image g)) t
+    go (inl d) rec = (f, first f more, here (same_entry before (entry_of image f)) d)
+    go (inr d) rec = let r = rec d in (r.0, further f more r.0 r.1, r.2)
+
+to_types : (image : Image) (before : Option Entry) (fs : List Function) (f : Function) (t : ℕ) → Contains fs f → Contains (entry_types image (entry_of image f)) t
+    → Contains (types_from image before fs) t ⊎ Contains (entry_types image before) t
+unfolding types_from
+to_types image before [] f t c d = absurd (omega (arith, c.1))
+to_types image before (g ∷ more) f t c d = by c (λ k. to_types image (entry_of image g) more f t k d)
+  where
+    head : Contains (entry_types image (entry_of image g)) t → (b : Bool) → same_entry before (entry_of image g) ≡ b
+        → Contains ((if b then [] else entry_types image (entry_of image g)) ++ types_from image (entry_of image g) more) t ⊎ Contains (entry_types image before) t
+    head h true q = inr (subst (λ o. Contains (entry_types image o) t) (sym (same_entries before (entry_of image g) q)) h)
+    head h false q = inl (Contains-append_left (entry_types image (entry_of image g)) (types_from image (entry_of image g) more) t h)
+
+    later : Contains (types_from image (entry_of image g) more) t ⊎ Contains (entry_types image (entry_of image g)) t
+        → Contains (types_from image before (g ∷ more)) t ⊎ Contains (entry_types image before) t
+    later (inl h) = inl (Contains-append_right (if same_entry before (entry_of image g) then [] else entry_types image (entry_of image g)) (types_from image (entry_of image g) more) t h)
+    later (inr h) = head h (same_entry before (entry_of image g)) refl
+
+    by : Contains (g ∷ more) f → (Contains more f → Contains (types_from image (entry_of image g) more) t ⊎ Contains (entry_types image (entry_of image g)) t)
+        → Contains (types_from image before (g ∷ more)) t ⊎ Contains (entry_types image before) t
+    by (zero, l, e) rec = head (subst (λ x. Contains (entry_types image (entry_of image x)) t) (sym e) d) (same_entry before (entry_of image g)) refl
+    by (suc k, l, e) rec = later (rec (k, omega (arith, l), e))
+
+entry_items : (image : Image) (f : Function) → entry_types image (entry_of image f) ≡ flat_map (item_types image.segments) (items_at (scene_of image f) f.start)
+unfolding items_at
+entry_items image f = go (entry_of image f)
+  where
+    go : (o : Option Entry) → entry_types image o ≡ flat_map (item_types image.segments) (items_by (scene_of image f) o)
+    go None = refl
+    go (Some e) = refl
+
+-- ---- a walk over functions, one more
+
+pub types_next : (image : Image) (before e : Option Entry) (fs : List Function) (i : ℕ) (f : Function) (ys new all : List ℕ) → i < length fs → f ≡ get_or fs i f → e ≡ entry_of image f
+    → new ≡ ys ++ (if same_entry before e then [] else entry_types image e) → ys ++ types_from image before (drop i fs) ≡ all → new ++ types_from image e (drop (i + 1) fs) ≡ all
+unfolding types_from
+types_next image before e fs i f ys new all l is at n w =
+    let cut : drop i fs ≡ f ∷ drop (i + 1) fs = (rw add-one (drop-cons fs i f l)) ∙ ap (λ (g : Function). g ∷ drop (i + 1) fs) (sym is) in
+    let step : types_from image before (drop i fs) ≡ (if same_entry before e then [] else entry_types image e) ++ types_from image e (drop (i + 1) fs) =
+    ap (types_from image before) cut
+    ∙ ap (λ (o : Option Entry). (if same_entry before o then [] else entry_types image o) ++ types_from image o (drop (i + 1) fs)) (sym at) in
+    ap (λ l. l ++ types_from image e (drop (i + 1) fs)) n ∙ assoc ys (if same_entry before e then [] else entry_types image e) (types_from image e (drop (i + 1) fs))
+    ∙ ap (λ l. ys ++ l) (sym step) ∙ w
+  where
+    assoc : (xs zs ws : List ℕ) → (xs ++ zs) ++ ws ≡ xs ++ (zs ++ ws)
+    assoc xs zs ws = rw append_assoc refl
+
+pub types_end : (image : Image) (before : Option Entry) (fs : List Function) (i : ℕ) (ys all : List ℕ) → length fs ≤ i → ys ++ types_from image before (drop i fs) ≡ all → ys ≡ all
+unfolding types_from
+types_end image before fs i ys all l w = sym (append-nil ys) ∙ ap (λ gs. ys ++ types_from image before gs) (sym (drop_all i fs l)) ∙ w
+
 -- ---- descriptors, functions, the image
 
 pub roots_named : RootsAreNamed
-unfolding roots_of function_types
+unfolding roots_of
 roots_named image t = (there, back)
   where
     item : (f : Function) → Contains image.functions f → (x : Item) → Contains (items_at (scene_of image f) f.start) x → Contains (item_types image.segments x) t
@@ -100,22 +195,25 @@ roots_named image t = (there, back)
     item f c (Ok d) i k = let r = named image.segments d.kind t k in (f, d, c, i, r.0, r.1)
     item f c (Err fault) i k = absurd (omega (arith, k.1))
 
-    there : Contains (flat_map (λ f. flat_map (item_types image.segments) (items_at (scene_of image f) f.start)) image.functions ++ type_symbols_of image.symbols) t
+    there : Contains (types_from image None image.functions ++ type_symbols_of image.symbols) t
         → ((f : Function) × (d : Desc) × Contains image.functions f × Contains (items_at (scene_of image f) f.start) (Ok d) × Names image d t × (t ≢ 0)) ⊎ Contains (type_symbols_of image.symbols) t
-    there c = go (Contains-append_cases (flat_map (λ f. flat_map (item_types image.segments) (items_at (scene_of image f) f.start)) image.functions) (type_symbols_of image.symbols) t c)
+    there c = go (Contains-append_cases (types_from image None image.functions) (type_symbols_of image.symbols) t c)
       where
-        go : Contains (flat_map (λ f. flat_map (item_types image.segments) (items_at (scene_of image f) f.start)) image.functions) t ⊎ Contains (type_symbols_of image.symbols) t
+        go : Contains (types_from image None image.functions) t ⊎ Contains (type_symbols_of image.symbols) t
             → ((f : Function) × (d : Desc) × Contains image.functions f × Contains (items_at (scene_of image f) f.start) (Ok d) × Names image d t × (t ≢ 0)) ⊎ Contains (type_symbols_of image.symbols) t
         go (inl k) =
-            let r = from_joined (λ f. flat_map (item_types image.segments) (items_at (scene_of image f) f.start)) image.functions t k in
-            let q = from_joined (item_types image.segments) (items_at (scene_of image r.0) (r.0).start) t r.2 in
+            let r = from_types image None image.functions t k in
+            let q = from_joined (item_types image.segments) (items_at (scene_of image r.0) (r.0).start) t (subst (λ l. Contains l t) (entry_items image r.0) r.2) in
             inl (item r.0 r.1 q.0 q.1 q.2)
         go (inr k) = inr k
 
     back : (((f : Function) × (d : Desc) × Contains image.functions f × Contains (items_at (scene_of image f) f.start) (Ok d) × Names image d t × (t ≢ 0)) ⊎ Contains (type_symbols_of image.symbols) t)
-        → Contains (flat_map (λ f. flat_map (item_types image.segments) (items_at (scene_of image f) f.start)) image.functions ++ type_symbols_of image.symbols) t
+        → Contains (types_from image None image.functions ++ type_symbols_of image.symbols) t
     back (inl (f, d, c, i, n, ne)) =
-        Contains-append_left (flat_map (λ g. flat_map (item_types image.segments) (items_at (scene_of image g) g.start)) image.functions) (type_symbols_of image.symbols) t
-        (to_joined (λ g. flat_map (item_types image.segments) (items_at (scene_of image g) g.start)) image.functions f t c
-        (to_joined (item_types image.segments) (items_at (scene_of image f) f.start) (Ok d) t i (naming image.segments d.kind t ne n)))
-    back (inr k) = Contains-append_right (flat_map (λ f. flat_map (item_types image.segments) (items_at (scene_of image f) f.start)) image.functions) (type_symbols_of image.symbols) t k
+        told (to_types image None image.functions f t c
+        (subst (λ l. Contains l t) (sym (entry_items image f)) (to_joined (item_types image.segments) (items_at (scene_of image f) f.start) (Ok d) t i (naming image.segments d.kind t ne n))))
+      where
+        told : Contains (types_from image None image.functions) t ⊎ Contains (entry_types image None) t → Contains (types_from image None image.functions ++ type_symbols_of image.symbols) t
+        told (inl h) = Contains-append_left (types_from image None image.functions) (type_symbols_of image.symbols) t h
+        told (inr h) = absurd (omega (arith, h.1))
+    back (inr k) = Contains-append_right (types_from image None image.functions) (type_symbols_of image.symbols) t k

@@ -99,7 +99,7 @@ ends_before image i d x l =
 
 -- ---- a function of the loop
 
-same_item : {X : Type 0} (xs ys : List X) (i : ℕ) (x : X) → xs ≡ ys → x ≡ get_or xs i x → x ≡ get_or ys i x
+pub same_item : {X : Type 0} (xs ys : List X) (i : ℕ) (x : X) → xs ≡ ys → x ≡ get_or xs i x → x ≡ get_or ys i x
 same_item xs ys i x e f = f ∙ ap (λ l. get_or l i x) e
 
 pub placed_item : (image sound : Image) (fs : List Function) (i : ℕ) (f : Function) → IsSoundImage sound → sound ≡ image → fs ≡ image.functions → i < length fs → f ≡ get_or fs i f → IsPlaced f

@@ -1,5 +1,12 @@
 -- What holds of every function and every image: laws above the definitions.
-use Rattle.std.specs.Prelude.{ℕ, ◌≡◌, ◌≢◌, ◌<◌, ◌≤◌, ◌↔◌, ◌⊎◌, ◌+◌, ◌*◌, ◌%◌, ◌^◌, Bool, true, false, length, Some, Ok, Contains}
+use Rattle.std.specs.Prelude.{ℕ, ◌≡◌, ◌≢◌, ◌<◌, ◌≤◌, ◌↔◌, ◌⊎◌, ◌+◌, ◌*◌, ◌%◌, ◌^◌, Bool, true, false, List, length, Some, Ok, Err, Contains, nat_eq}
+use Rattle.std.specs.List.{IsDistinct}
+use Rattle.unwind_codes.specs.declared.row.Entry.{Entry}
+use Rattle.eh_bytecode.specs.declared.recipe.Recipe.{Recipe}
+use Rattle.eh_desc.specs.declared.descriptor.DescFault.{DescFault}
+use Rattle.frame_scene.specs.declared.unwinding.Unwinding.TheVariants.{Finds, Refused}
+use Rattle.frame_scene.specs.Reach.{IsReached}
+use Rattle.frame_reach.specs.declared.marks.TheConstants.{MOST_REACHED}
 use Rattle.std.specs.Int.{bit_at}
 use Rattle.thumb_core.specs.Words.{listed}
 use Rattle.thumb_isa.specs.declared.instr.Instr.TheVariants.{Push}
@@ -21,7 +28,7 @@ use Rattle.frame_reach.specs.Prologue.{is_led_to, prologue}
 use Rattle.frame_reach.specs.Laws.{IsRun}
 use Rattle.frame_check.specs.Pushes.{is_saved}
 use Rattle.frame_scene.specs.Scene.{Scene}
-use Rattle.frame_scene.specs.Sites.{items_at}
+use Rattle.frame_scene.specs.Sites.{items_at, unwinding_at, site_at, entry_at}
 use Rattle.frame_check.specs.declared.fault.CheckFault.{CheckFault}
 use Rattle.frame_check.specs.Roots.{scene_of, roots_of}
 use Rattle.frame_check.specs.Accepts.{CauseStands, IsWell, IsAccepted, Refuses, saves_at}
@@ -29,6 +36,15 @@ use Rattle.frame_check.specs.Accepts.{CauseStands, IsWell, IsAccepted, Refuses, 
 -- a function is well exactly where no cause stands at any of its places
 abbrev pub WellIsUnrefused : Type 0
 WellIsUnrefused = (s : Scene) → s.start < s.end → IsWell s ↔ ((p : ℕ) (c : FrameCause) → CauseStands s p c → ⊥)
+
+-- Of a function that is well the entry that covers its start has codes that give a recipe, or nothing unwinds through it; each descriptor
+-- of that entry can be read; the entry of each reached site begins at the function's start or below it; and the places that are reached
+-- are few.
+pub record WellFunctions : Type 0 where
+  pub codes : (s : Scene) → IsWell s → ((r : Recipe) × (unwinding_at s s.start ≡ Finds r)) ⊎ (unwinding_at s s.start ≡ Refused)
+  pub descriptors : (s : Scene) (fault : DescFault) → IsWell s → Contains (items_at s s.start) (Err fault) → ⊥
+  pub sites : (s : Scene) (p site : ℕ) (e : Entry) → IsWell s → IsReached s p → site_at s p ≡ Some site → entry_at s site ≡ Some e → e.start ≤ s.start
+  pub few : (s : Scene) (ps : List ℕ) → IsWell s → IsDistinct nat_eq ps → ((p : ℕ) → Contains ps p → IsReached s p) → length ps ≤ MOST_REACHED
 
 -- what may be refused of an image that isn't accepted, and of no other
 abbrev pub RefusalsAreRight : Type 0

@@ -1,5 +1,5 @@
 -- Which types an image's exceptions may have: those that its descriptors name, and its type symbols.
-use Rattle.std.specs.Prelude.{ℕ, ◌==◌, if◌then◌else◌, List, [], ◌∷◌, ◌++◌, Option, Some, None, Ok, Err}
+use Rattle.std.specs.Prelude.{ℕ, ◌==◌, ◌&&◌, Bool, true, false, if◌then◌else◌, List, [], ◌∷◌, ◌++◌, Option, Some, None, Ok, Err}
 use Rattle.std.specs.List.{flat_map, range_with_len}
 use Rattle.elf_image.specs.Segments.{Segment}
 use Rattle.elf_image.specs.Functions.{Function}
@@ -8,9 +8,13 @@ use Rattle.eh_desc.specs.declared.descriptor.CatchType.{CatchType}
 use Rattle.eh_desc.specs.declared.descriptor.CatchType.TheVariants.{All, AllFails, One}
 use Rattle.eh_desc.specs.declared.descriptor.DescKind.{DescKind}
 use Rattle.eh_desc.specs.declared.descriptor.DescKind.TheVariants.{Cleanup, Catch, Spec}
-use Rattle.eh_desc.specs.Grammar.{type_in}
+use Rattle.eh_desc.specs.Grammar.{type_in, items_of}
 use Rattle.frame_scene.specs.Scene.{Scene}
-use Rattle.frame_scene.specs.Sites.{Item, items_at}
+use Rattle.unwind_codes.specs.declared.row.Entry.{Entry}
+use Rattle.unwind_codes.specs.declared.row.EntryBody.{EntryBody}
+use Rattle.unwind_codes.specs.declared.row.EntryBody.TheVariants.{CantUnwind, Inline, Table}
+use Rattle.eh_index.specs.Places.{table_of}
+use Rattle.frame_scene.specs.Sites.{Item, entry_at}
 
 -- the function as a scene
 abbrev pub scene_of : Image → Function → Scene
@@ -39,10 +43,33 @@ abbrev pub item_types : List Segment → Item → List ℕ
 item_types segments (Ok d) = kind_types segments d.kind
 item_types segments (Err fault) = []
 
--- those of the descriptors of the entry that covers the function's start
-unfoldable pub function_types : Image → Function → List ℕ
-function_types image f = flat_map (item_types image.segments) (items_at (scene_of image f) f.start)
+-- ---- entries
+
+-- the entry that covers the function's start
+abbrev pub entry_of : Image → Function → Option Entry
+entry_of image f = entry_at (scene_of image f) f.start
+
+-- the types that its descriptors name
+abbrev pub entry_types : Image → Option Entry → List ℕ
+entry_types image None = []
+entry_types image (Some e) = flat_map (item_types image.segments) (items_of e (table_of image e))
+
+abbrev pub same_body : EntryBody → EntryBody → Bool
+same_body CantUnwind CantUnwind = true
+same_body (Inline a) (Inline b) = a == b
+same_body (Table a) (Table b) = a == b
+same_body a b = false
+
+abbrev pub same_entry : Option Entry → Option Entry → Bool
+same_entry None None = true
+same_entry (Some a) (Some b) = (a.start == b.start) && same_body a.body b.body
+same_entry a b = false
+
+-- those of the entries of functions, of which each is looked at where it isn't that of the function before
+unfoldable pub types_from : Image → Option Entry → List Function → List ℕ
+types_from image before [] = []
+types_from image before (f ∷ more) = (if same_entry before (entry_of image f) then [] else entry_types image (entry_of image f)) ++ types_from image (entry_of image f) more
 
 -- those of all functions, in rising order, and behind them the image's type symbols
 unfoldable pub roots_of : Image → List ℕ
-roots_of image = flat_map (function_types image) image.functions ++ type_symbols_of image.symbols
+roots_of image = types_from image None image.functions ++ type_symbols_of image.symbols

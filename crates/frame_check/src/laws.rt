@@ -1,9 +1,14 @@
 //! What holds of every function and every image. docs/checking.md.
-ghost use Rattle.frame_check.specs.Laws.{WellIsUnrefused, RefusalsAreRight, RootsAreNamed, SavesAreWords};
+ghost use Rattle.frame_check.specs.Laws.{WellIsUnrefused, WellFunctions, RefusalsAreRight, RootsAreNamed, SavesAreWords};
 
 /// A function is well exactly where no cause stands at any of its places.
 pub fn a_function_is_well_where_no_cause_stands()
     ensures { WellIsUnrefused }
+{}
+
+/// What the exception index says of a function that is well, and how many places it reaches.
+pub fn well_functions_have_well_entries()
+    ensures { WellFunctions }
 {}
 
 /// An image that has something to refuse isn't accepted.

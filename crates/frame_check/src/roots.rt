@@ -1,12 +1,11 @@
 //! The types that an image's exceptions may have. docs/checking.md, "Types".
-ghost use Rattle.std.specs.Prelude.{◌≡◌, ℕ, ◌<◌, ◌++◌, IfOk, OnOk};
+ghost use Rattle.std.specs.Prelude.{◌≡◌, ◌++◌, [], if◌then◌else◌, IfOk, OnOk};
 ghost use Rattle.std.specs.List.{flat_map, range_with_len};
 ghost use Rattle.eh_desc.specs.Grammar.{type_in};
-ghost use Rattle.frame_check.specs.Roots.{type_at, listed, catch_types, kind_types, item_types, function_types, roots_of};
+ghost use Rattle.frame_check.specs.Roots.{type_at, listed, catch_types, kind_types, item_types, entry_types, same_body, same_entry, roots_of};
 
 use eh_desc::{CatchType, Desc, DescFault, DescKind, Descs, spec_type};
-use eh_index::Index;
-use elf_image::function::Function;
+use eh_index::{Entry, EntryBody, Index};
 use std::alloc::{AllocError, Global};
 
 /// Adds a type; 0 is none.
@@ -87,26 +86,61 @@ fn add_items(roots: &mut Vec<u32>, index: &Index, descs: Descs) -> Result<(), Al
     Ok(())
 }
 
-/// Adds the types of the descriptors of the entry that covers a function's start.
-#[tactic(auto, unfolding(crate::specs::Roots::function_types, frame_scene::specs::Sites::items_at))]
-fn add_function(roots: &mut Vec<u32>, index: &Index, f: &Function) -> Result<(), AllocError>
-    ensures { OnOk result (roots.new.items ≡ roots.old.items ++ function_types index.now f.now) }
+/// Adds the types that the descriptors of an entry name.
+fn add_entry(roots: &mut Vec<u32>, index: &Index, e: Option<Entry>) -> Result<(), AllocError>
+    ensures { OnOk result (roots.new.items ≡ roots.old.items ++ entry_types index.now e) }
 {
-    match index.find(f.start()) {
+    match e {
         None => Ok(()),
         Some(e) => add_items(roots, index, Descs::of(index, &e)),
     }
 }
 
-/// The types that the descriptors of an image's functions name, function by function, and behind them its type symbols.
+fn is_same_body(a: EntryBody, b: EntryBody) -> bool
+    ensures { result ≡ same_body a b }
+{
+    a == b
+}
+
+fn is_same_entry(a: Option<Entry>, b: Option<Entry>) -> bool
+    ensures { result ≡ same_entry a b }
+{
+    match (a, b) {
+        (None, None) => true,
+        (Some(a), Some(b)) => a.start == b.start && is_same_body(a.body, b.body),
+        (None, Some(_)) | (Some(_), None) => false,
+    }
+}
+
+/// The same, where it isn't the entry before.
+fn add_other(
+    roots: &mut Vec<u32>,
+    index: &Index,
+    before: Option<Entry>,
+    e: Option<Entry>,
+) -> Result<(), AllocError>
+    ensures { OnOk result (roots.new.items ≡ roots.old.items ++ (if same_entry before e then [] else entry_types index.now e)) }
+{
+    if is_same_entry(before, e) {
+        Ok(())
+    } else {
+        add_entry(roots, index, e)
+    }
+}
+
+/// The types that the descriptors of an image's functions name, function by function, and behind them its type symbols. An entry that
+/// covers several functions is looked at once.
 #[tactic(auto, unfolding(crate::specs::Roots::roots_of))]
 pub fn roots_of(alloc: Global, index: &Index) -> Result<Vec<u32>, AllocError>
     ensures { IfOk result (λ roots. roots.items ≡ roots_of index.now) }
 {
     let image = index.image();
     let mut roots = Vec::new(alloc);
+    let mut before = None;
     for f in image.functions() {
-        add_function(&mut roots, index, f)?;
+        let entry = index.find(f.start());
+        add_other(&mut roots, index, before, entry)?;
+        before = entry;
     }
     roots.extend_from_slice(image.type_symbols())?;
     Ok(roots)

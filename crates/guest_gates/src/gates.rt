@@ -1,5 +1,5 @@
 //! The gates 0 to 2: exit, a byte of output, a byte of input.
-ghost use Rattle.std.specs.Prelude.{◌≡◌, ◌≤◌, Some, IfSome, OnErr, MatchOption, MatchResult};
+ghost use Rattle.std.specs.Prelude.{◌≡◌, ◌≢◌, ◌≤◌, Some, IfSome, OnOk, OnErr, MatchOption, MatchResult};
 ghost use Rattle.eh_port.specs.Causes.{Rose};
 ghost use Rattle.event_runs.specs.Runs.{GoesOn, EndsBy};
 ghost use Rattle.guest_gates.specs.Ends.{is_fault};
@@ -37,6 +37,7 @@ fn next_byte<I: Source>(input: &mut I) -> Result<Option<u8>, Failed>
     ensures told { IfSome (I.left input.old) (λ bytes. MatchResult result
         (λ byte. Takes bytes byte (I.left input.new)) (λ _. I.left input.new ≡ Some bytes)) }
     ensures fault { OnErr result (Rose (I.faults input.old) (I.faults input.new)) }
+    ensures kept { OnOk result (I.faults input.new ≡ I.faults input.old) }
     ensures later { I.faults input.old ≤ I.faults input.new }
 {
     let mut buf = [0];
@@ -64,6 +65,8 @@ pub fn gate<I: Source, O: Sink>(
     ensures write { result ≡ Some End.WriteFault → Rose (O.faults out.old) (O.faults out.new) }
     ensures input_later { I.faults input.old ≤ I.faults input.new }
     ensures out_later { O.faults out.old ≤ O.faults out.new }
+    ensures input_kept { result ≢ Some End.ReadFault → I.faults input.new ≡ I.faults input.old }
+    ensures out_kept { result ≢ Some End.WriteFault → O.faults out.new ≡ O.faults out.old }
 {
     let end = match number {
         EXIT_GATE => End::Exit(regs.r[0]),

@@ -5,6 +5,7 @@
 ghost use Rattle.link_laws.specs.BranchLaw.{BranchesLead, CondBranchesLead, CallsLead, AddressesLead, LoadsLead};
 ghost use Rattle.link_laws.specs.MeaningLaw.{NamesHaveMeanings};
 ghost use Rattle.link_laws.specs.LabelLaw.{LabelsAreSymbols, MeaningsAreOfLabels};
+ghost use Rattle.link_laws.specs.JoinedLaw.{WordsAreSums};
 
 /// A branch to a label in the text of its own source, an `adr` and a `ldr rt, name` lead to the label: the halfwords at the statement's
 /// place decode to the instruction, and the core, which counts from that place, comes to the label's.
@@ -26,4 +27,10 @@ pub fn names_have_meanings()
 pub fn labels_stand_in_their_parts()
     ensures symbols { LabelsAreSymbols }
     ensures meanings { MeaningsAreOfLabels }
+{}
+
+/// In the image that sources link to, the word at the address of a `.word name+n` is the address that the name means plus n, with bit 0
+/// set where the name means a function.
+pub fn words_are_sums()
+    ensures { WordsAreSums }
 {}

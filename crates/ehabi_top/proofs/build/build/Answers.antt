@@ -1,7 +1,8 @@
-use Rattle.std.proofs.Common.{◌≡◌, inl, refl}
+use Rattle.std.proofs.Common.{inl, refl}
 use Rattle.ehabi_top.specs.BuildReport.{IsUnwritten, plain_report}
 use Rattle.ehabi_top.specs.Building.{image_bytes, refusal_of}
 use Rattle.ehabi_top.specs.Words.{texts}
+use Rattle.ehabi_top.specs.Yields.{Only}
 use Rattle.ehabi_top.specs.declared.status.TheConstants.{DONE}
 use Rattle.ehabi_top.proofs.Doing.{keeps_bytes, keeps_fault}
 use Rattle.ehabi_top.proofs.Runners.{build_keeper}
@@ -14,7 +15,7 @@ returns-in-Ok-Ok g c = λ input faults.
     let bytes = c.in-Ok-Ok.bytes.items in
     let found = rw c.in-Ok-Ok.field-0-is at c.in-Ok-Ok.ensures in
     let answers = rw c.as_slice.ensures.value at c.answer_text.ensures in
-    keeps_bytes _ (image_bytes names) (λ bytes b r. r ≡ plain_report bytes b) IsUnwritten (build_keeper names) _ _ input _ _ faults _ _ _ bytes found.told found.kept
+    keeps_bytes _ (image_bytes names) (λ bytes. Only (plain_report bytes)) IsUnwritten (build_keeper names) _ _ input _ _ faults _ _ _ bytes found.told found.kept
     (inl (record { text = bytes; status = DONE; says = λ b. refl; why = done_says ⊥ (λ u. u); of = done_reported; answers = answers }))
 
 pub returns-in-Ok-Err : goal.returns-in-Ok-Err
@@ -22,5 +23,5 @@ returns-in-Ok-Err g c = λ input faults.
     let names = texts c.args.names.now in
     let refusal = refusal_of c.in-Ok-Err.fault in
     let found = rw c.in-Ok-Err.field-0-is at c.in-Ok-Err.ensures in
-    keeps_fault _ (image_bytes names) (λ bytes b r. r ≡ plain_report bytes b) IsUnwritten (build_keeper names) _ _ input _ _ faults _ _ _ refusal found.told
+    keeps_fault _ (image_bytes names) (λ bytes. Only (plain_report bytes)) IsUnwritten (build_keeper names) _ _ input _ _ faults _ _ _ refusal found.told
     c.answer_files_fault.ensures.status c.answer_files_fault.ensures.line

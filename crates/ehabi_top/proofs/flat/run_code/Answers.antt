@@ -1,30 +1,34 @@
 use Rattle.std.specs.Prelude.{codes}
-use Rattle.std.proofs.Common.{◌<◌, ◌∙◌, arith, length, refl}
+use Rattle.std.proofs.Common.{◌<◌, ◌∙◌, arith, length, refl, sym}
 use Rattle.image_memory.specs.Start.{State, code_start}
 use Rattle.eh_bus.specs.declared.map.TheConstants.{MAX_IMAGE_SIZE}
 use Rattle.elf_image.specs.declared.fault.ImageFault.TheVariants.{TooLarge}
 use Rattle.plain_run.specs.Machine.{flat_machine}
-use Rattle.ehabi_top.specs.FlatReport.{code_report, line_feed}
+use Rattle.ehabi_top.specs.FlatReport.{IsTooLarge, code_report, line_feed}
 use Rattle.ehabi_top.specs.Text.{image_fault_line}
 use Rattle.ehabi_top.specs.declared.status.TheConstants.{REFUSED}
+use Rattle.ehabi_top.specs.Yields.{Only}
 use Rattle.ehabi_top.proofs.FlatReports.{code_large, code_small}
 use Rattle.ehabi_top.proofs.Statuses.{says_unfit, refused_reported}
-use Rattle.ehabi_top.proofs.Yielding.{yields_answer, yields_run, flat_some}
+use Rattle.ehabi_top.proofs.Yielding.{yields_answer, yields_memory, yields_run, flat_some}
 use Rattle.ehabi_top.proofs.flat.run_code.Goals as goal
 
 pub returns-then-code : goal.returns-then-code
 returns-then-code g c =
     let code = c.args.code.now in
     let large = c.if-code.true in
-    yields_answer (code_report c.args.budget code) (MAX_IMAGE_SIZE < length code) (image_fault_line TooLarge) REFUSED _ _ _ _ _ _ _
-    (λ b. code_large c.args.budget code b large) (says_unfit ⊥ (MAX_IMAGE_SIZE < length code) (λ l. l) large) refused_reported (rw (c.as_slice.ensures.value ∙ c.image_fault_line.ensures) at c.answer_text.ensures)
+    yields_answer (Only (code_report c.args.budget code)) (MAX_IMAGE_SIZE < length code) (image_fault_line TooLarge) REFUSED _ _ _ _ _ _ _
+    (λ b. sym (code_large c.args.budget code b large)) (says_unfit ⊥ (MAX_IMAGE_SIZE < length code) (λ l. l) large) refused_reported (rw (c.as_slice.ensures.value ∙ c.image_fault_line.ensures) at c.answer_text.ensures)
 
 pub returns : goal.returns
 returns g c =
     let code = c.args.code.now in
     let small = c.if-code.false in
     let end = c.flat_run-end.result in
-    yields_run State flat_machine (λ _. refl) line_feed c.args.budget (code_start code) (code_report c.args.budget code) (MAX_IMAGE_SIZE < length code) (codes "\n") end _ _ _ _ _ _ _ _ _ _ _
-    (λ b. code_small c.args.budget code b small) (λ _. refl) (λ large. omega arith)
+    yields_run State flat_machine (λ _. refl) line_feed c.args.budget (code_start code) (Only (code_report c.args.budget code)) (MAX_IMAGE_SIZE < length code) (codes "\n") end _ _ _ _ _ _ _ _ _ _ _
+    (λ b. sym (code_small c.args.budget code b small)) (λ _. refl) (λ large. omega arith)
     (flat_some c.args.budget (code_start code) end _ _ _ _ _ (rw (c.start_regs-regs.ensures, c.in-Ok.ensures) at c.flat_run-end.ensures.told))
     c.flat_run-end.ensures.read c.flat_run-end.ensures.write c.flat_run-end.ensures.out_later c.answer_end.ensures
+
+pub returns-in-Err : goal.returns-in-Err
+returns-in-Err g c = yields_memory (Only (code_report c.args.budget c.args.code.now)) (IsTooLarge c.args.code.now) _ _ _ _

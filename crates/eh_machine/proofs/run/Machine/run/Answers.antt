@@ -9,8 +9,8 @@ use Rattle.eh_machine.proofs.run.Machine.run.Goals as goal
 pub loop-self-init : goal.loop-self-init
 loop-self-init g c = record {
   progress = starts State End (machine_of (g.C.Checked.program c.args.self.now.accepted.now)) _ _ _ _;
-  input_later = omega arith;
-  out_later = omega arith;
+  input_kept = refl;
+  out_kept = refl;
   same = refl;
 }
 
@@ -18,8 +18,8 @@ pub loop-self-preserved : goal.loop-self-preserved
 loop-self-preserved g c = record {
   progress = run_goes_on (g.C.Checked.program c.args.self.now.accepted.now) (g.C.Checked.program c.loop-self.self.accepted.now) (ap (λ a. g.C.Checked.program a.now) c.loop-self.invariant.same)
       _ _ _ _ _ _ _ _ _ _ _ (omega arith) c.loop-self.invariant.progress c.in-Went.ensures.told;
-  input_later = omega arith;
-  out_later = omega arith;
+  input_kept = c.in-Went.ensures.input_kept (λ e. cc) ∙ c.loop-self.invariant.input_kept;
+  out_kept = c.in-Went.ensures.out_kept (λ e. cc) ∙ c.loop-self.invariant.out_kept;
   same = c.loop-self.invariant.same;
 }
 
