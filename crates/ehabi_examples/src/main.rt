@@ -36,6 +36,21 @@ const EXAMPLES: [&str; 20] = [
     "check/split_entry.s",
 ];
 
+/// Those that throw, and one that would have spoilt what a throw needs.
+const THROWS: [&str; 11] = [
+    "throw.s",
+    "cleanups.s",
+    "rethrow.s",
+    "destructor.s",
+    "frame_pointer.s",
+    "classes.s",
+    "specification.s",
+    "specification_bare.s",
+    "uncaught.s",
+    "throw_in_cleanup.s",
+    "saved_slot.s",
+];
+
 /// What the head comment of an example says: the words of its command behind the program's name, its input, what it
 /// writes, and its status.
 #[derive(Drop)]
@@ -162,10 +177,15 @@ fn verdict(host: &HostRuntime, name: &str) -> Result<&'static str, Error> {
     Ok("as its head says")
 }
 
-fn main(host: HostRuntime) -> Result<(), Error> {
-    for name in EXAMPLES {
-        let verdict = verdict(&host, name)?;
+fn print_verdicts(host: &HostRuntime, names: &[&str]) -> Result<(), Error> {
+    for name in names {
+        let verdict = verdict(host, name)?;
         println!(host; "{name}: {verdict}")?;
     }
     Ok(())
+}
+
+fn main(host: HostRuntime) -> Result<(), Error> {
+    print_verdicts(&host, &EXAMPLES)?;
+    print_verdicts(&host, &THROWS)
 }
