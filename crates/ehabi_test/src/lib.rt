@@ -25,3 +25,9 @@ mod inputs;
 mod sources;
 #[cfg(test)]
 mod texts;
+#[cfg(test)]
+mod throw_chains;
+#[cfg(test)]
+mod throws;
+#[cfg(test)]
+mod traps;
