@@ -59,14 +59,13 @@ pub(crate) fn with_functions(alloc: Global, number: usize) -> Result<String, All
     Ok(text)
 }
 
-/// A program of that many lines, each of which is a statement.
+/// A program of that many lines, each of which is a statement: most stand behind main, where nothing comes to.
 pub(crate) fn with_lines(alloc: Global, number: usize) -> Result<String, AllocError> {
-    let mut text = String::from_str(alloc, OPENS_MAIN)?;
+    let mut text = plain_main(alloc)?;
     text.push_str(
         "nop\n"
             .repeat(alloc, number.saturating_sub(LINES_OF_MAIN))?
             .as_str(),
     )?;
-    text.push_str(RETURNS_7)?;
     Ok(text)
 }
