@@ -1,45 +1,14 @@
-//! The run of at most so many events.
-ghost use Rattle.std.specs.Prelude.{◌≡◌, ◌≤◌, Some, IfSome, MatchOption};
+//! The run of at most so many events (docs/runs.md, "An event").
+ghost use Rattle.std.specs.Prelude.{◌≡◌, ◌≤◌, IfSome};
 ghost use Rattle.eh_port.specs.Causes.{Rose};
 ghost use Rattle.image_memory.specs.Start.{State};
-ghost use Rattle.plain_run.specs.Machine.{FlatRuns, ImageRuns, WatchedRuns};
+ghost use Rattle.plain_run.specs.Machine.{FlatRuns};
 
 use crate::event::turn;
-use crate::watch::{Tests, Watch};
 use eh_bus::bus::Bus;
 use eh_port::{Sink, Source};
-use elf_image::image::Image;
 use thumb_core::ends::End;
 use thumb_core::regs::Regs;
-
-// Runs at most `budget` instructions under these tests.
-fn watched_run<W: Watch, B: Bus, I: Source, O: Sink>(
-    watch: &W,
-    regs: &mut Regs,
-    bus: &mut B,
-    budget: u64,
-    input: &mut I,
-    out: &mut O,
-) -> End
-    ensures told { IfSome (I.left input.old) (λ bytes.
-        let old : State = record { regs = regs.old; memory = B.memory bus.old } in
-        let new : State = record { regs = regs.new; memory = B.memory bus.new } in
-        WatchedRuns (W.refuses watch.now) budget old bytes result new (I.left input.new) (O.written out.old) (O.written out.new)) }
-    ensures read { result ≡ End.ReadFault → Rose (I.faults input.old) (I.faults input.new) }
-    ensures write { result ≡ End.WriteFault → Rose (O.faults out.old) (O.faults out.new) }
-    ensures input_later { I.faults input.old ≤ I.faults input.new }
-    ensures out_later { O.faults out.old ≤ O.faults out.new }
-{
-    let mut left = budget;
-    while left > 0 {
-        left -= 1;
-        match turn(watch, regs, bus, input, out) {
-            None => {}
-            Some(end) => return end,
-        }
-    }
-    End::Budget
-}
 
 /// Runs at most `budget` instructions of raw code from these registers and this memory.
 ///
@@ -61,29 +30,13 @@ pub fn flat_run<B: Bus, I: Source, O: Sink>(
     ensures input_later { I.faults input.old ≤ I.faults input.new }
     ensures out_later { O.faults out.old ≤ O.faults out.new }
 {
-    watched_run(&Tests { image: None }, regs, bus, budget, input, out)
-}
-
-/// Runs at most `budget` instructions of an image from these registers and this memory. A call goes to a function, and sp
-/// stays at or above the start of the running stack.
-///
-/// An end leaves the registers as before its instruction. What the trap StackLimit leaves of the memory is not said.
-pub fn image_run<B: Bus, I: Source, O: Sink>(
-    image: &Image,
-    regs: &mut Regs,
-    bus: &mut B,
-    budget: u64,
-    input: &mut I,
-    out: &mut O,
-) -> End
-    ensures told { IfSome (I.left input.old) (λ bytes.
-        let old : State = record { regs = regs.old; memory = B.memory bus.old } in
-        ImageRuns image.now.functions budget old bytes result regs.new (I.left input.new) (O.written out.old) (O.written out.new)) }
-    ensures read { result ≡ End.ReadFault → Rose (I.faults input.old) (I.faults input.new) }
-    ensures write { result ≡ End.WriteFault → Rose (O.faults out.old) (O.faults out.new) }
-    ensures input_later { I.faults input.old ≤ I.faults input.new }
-    ensures out_later { O.faults out.old ≤ O.faults out.new }
-{
-    let tests = Tests { image: Some(image) };
-    watched_run(&tests, regs, bus, budget, input, out)
+    let mut left = budget;
+    while left > 0 {
+        left -= 1;
+        match turn(regs, bus, input, out) {
+            None => {}
+            Some(end) => return end,
+        }
+    }
+    End::Budget
 }

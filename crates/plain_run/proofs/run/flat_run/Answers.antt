@@ -1,5 +1,25 @@
-use Rattle.plain_run.proofs.Watched.{flat_of}
+use Rattle.std.proofs.Common.{arith, refl}
+use Rattle.event_runs.proofs.Progress.{starts, goes_on, ends, spent}
+use Rattle.image_memory.specs.Start.{State}
+use Rattle.plain_run.specs.Machine.{flat_machine}
+use Rattle.plain_run.proofs.Turns.{some_unspent}
+use Rattle.thumb_core.specs.declared.ends.End.{End}
 use Rattle.plain_run.proofs.run.flat_run.Goals as goal
 
+pub loop-left-init : goal.loop-left-init
+loop-left-init g c = record { progress = starts State End flat_machine _ _ _ _; input_later = omega arith; out_later = omega arith }
+
+pub loop-left-preserved : goal.loop-left-preserved
+loop-left-preserved g c = record {
+  progress = goes_on State End flat_machine _ _ _ _ _ _ _ _ _ _ _ (omega arith) c.loop-left.invariant.progress c.in-None.ensures.told;
+  input_later = omega arith;
+  out_later = omega arith;
+}
+
+pub returns-in-Some-clause-told : goal.returns-in-Some-clause-told
+returns-in-Some-clause-told g c =
+    some_unspent _ _ _ _ _ _ _ _ _ (ends State End flat_machine _ _ _ _ _ _ _ _ _ _ _ _ (omega arith) c.loop-left.invariant.progress c.in-Some.ensures.told)
+
 pub returns-clause-told : goal.returns-clause-told
-returns-clause-told g c = flat_of _ _ _ _ _ _ _ _ c.watched_run.ensures.told
+returns-clause-told g c =
+    some_unspent _ _ _ _ _ _ _ _ _ (spent State End flat_machine _ _ _ _ _ _ _ _ (omega arith) refl c.loop-left.invariant.progress)

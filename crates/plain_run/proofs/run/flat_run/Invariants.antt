@@ -1,14 +1,14 @@
 use Rattle.std.proofs.Common.{◌≤◌, IfSome}
 use Rattle.event_runs.proofs.Progress.{Progress}
 use Rattle.image_memory.specs.Start.{State}
-use Rattle.plain_run.specs.Machine.{machine_of}
+use Rattle.plain_run.specs.Machine.{flat_machine}
 use Rattle.thumb_core.specs.declared.ends.End.{End}
-use Rattle.plain_run.proofs.run.watched_run.Given as goal
+use Rattle.plain_run.proofs.run.flat_run.Given as goal
 
 -- what was done and what is left are the whole run, and no count has fallen
 abbrev pub invariant-loop-left : goal.invariant-loop-left
 invariant-loop-left g l = record {
-  progress : IfSome (g.I.Source.left l.initial.input) (λ bytes. Progress State End (machine_of (g.W.Watch.refuses l.watch)) l.budget
+  progress : IfSome (g.I.Source.left l.initial.input) (λ bytes. Progress State End flat_machine l.budget
       (record { regs = l.initial.regs; memory = g.B.Bus.memory l.initial.bus }) bytes
       l.left (record { regs = l.regs; memory = g.B.Bus.memory l.bus }) (g.I.Source.left l.input) (g.O.Sink.written l.initial.out) (g.O.Sink.written l.out));
   input_later : g.I.Source.faults l.initial.input ≤ g.I.Source.faults l.input;
