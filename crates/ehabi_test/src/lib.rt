@@ -4,8 +4,6 @@
 #[cfg(test)]
 mod cases;
 #[cfg(test)]
-mod checks;
-#[cfg(test)]
 mod check_bounds;
 #[cfg(test)]
 mod check_code;
@@ -15,6 +13,8 @@ mod check_images;
 mod check_rows;
 #[cfg(test)]
 mod check_sites;
+#[cfg(test)]
+mod checks;
 #[cfg(test)]
 mod faults;
 #[cfg(test)]

@@ -39,7 +39,11 @@ fn answer_rejected<O: Sink>(alloc: Global, out: &mut O, rejected: &Rejected) -> 
 }
 
 /// Ends with the line of an image that isn't accepted.
-pub(crate) fn answer_fault<O: Sink>(alloc: Global, out: &mut O, fault: &CheckFault) -> Result<u8, Stop>
+pub(crate) fn answer_fault<O: Sink>(
+    alloc: Global,
+    out: &mut O,
+    fault: &CheckFault,
+) -> Result<u8, Stop>
     ensures { ((fault.now ≢ OutOfMemory) × Answers (check_fault_line fault.now) REFUSED result (O.written out.old) (O.written out.new) (O.faults out.old) (O.faults out.new))
         ⊎ Stopped Memory result (O.written out.old) (O.written out.new) (O.faults out.old) (O.faults out.new) }
 {
