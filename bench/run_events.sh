@@ -7,7 +7,7 @@ work=$(mktemp -d)
 trap 'rm -rf "$work"' EXIT
 "$top/ehabi_run" >/dev/null || true
 
-# source NAME PAD BODY: main, which does BODY in a loop of r4 rounds, with PAD bytes of its own on the stack
+# source_text ROUNDS BODY: main, which does BODY so many times and has eight bytes of its own on the stack
 source_text() {
     printf '.global main\n.type main, %%function\nmain: .fnstart\n.save {r4, lr}\n.pad #8\npush {r4, lr}\nsub sp, #8\nldr r4, =%s\n' "$1"
     printf '.Lround:\n%s\nsubs r4, #1\nbne .Lround\nadd sp, #8\nmovs r0, #0\npop {r4, pc}\n.fnend\n' "$2"
