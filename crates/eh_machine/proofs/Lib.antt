@@ -4,3 +4,6 @@ pub mod Passing
 pub mod Running
 pub mod Leaving
 pub mod Released
+pub mod SameSlots
+pub mod Matching
+pub mod GivesBack

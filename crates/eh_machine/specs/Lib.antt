@@ -5,3 +5,6 @@ pub mod Start
 pub mod Guarded
 pub mod Turns
 pub mod Laws
+pub mod Activations
+pub mod ActivationMachine
+pub mod ActivationLaws

@@ -3,6 +3,7 @@
 #![tactic(auto)]
 
 mod accepted;
+pub mod activation_laws;
 pub mod checked;
 mod event;
 mod guards;

@@ -1,0 +1,103 @@
+-- How the machine with recorded activations and the one over bytes fit, in the words of their users (docs/machine.md, "Laws").
+use Rattle.std.specs.Prelude.{◌≡◌, ℕ, ◌≤◌, List, [], ◌∷◌, length, map, take, slice_index, Option}
+use Rattle.event_runs.specs.Runs.{Event, Goes, Ends}
+use Rattle.elf_image.specs.Image.{Image}
+use Rattle.guest_gates.specs.declared.gates.TheConstants.{INPUT_GATE}
+use Rattle.eh_bus.specs.Memory.{Memory}
+use Rattle.eh_cxa.specs.Words.{word}
+use Rattle.eh_cxa.specs.Cleanup.{innermost_of}
+use Rattle.eh_cxa.specs.ListCalls.{innermost_in}
+use Rattle.eh_phase.specs.Frames.{site_of}
+use Rattle.eh_phase.specs.Phases.{Frame}
+use Rattle.thumb_core.specs.Registers.{even}
+use Rattle.thumb_core.specs.Step.{step_of}
+use Rattle.thumb_core.specs.declared.regs.TheConstants.{SP}
+use Rattle.thumb_core.specs.declared.regs.Regs.{Regs}
+use Rattle.thumb_core.specs.declared.regs.Stepped.{Stepped}
+use Rattle.thumb_core.specs.declared.regs.Stepped.TheVariants.{Done, Call, Return, Gate, Trap}
+use Rattle.thumb_core.specs.declared.ends.End.{End}
+use Rattle.eh_gates.specs.State.{State}
+use Rattle.eh_machine.specs.Program.{Program}
+use Rattle.eh_machine.specs.Machine.{machine_event}
+use Rattle.eh_machine.specs.Start.{start_of}
+use Rattle.eh_machine.specs.Activations.{Caller, Activation, Recorded, memory_of, heads, bytes_of, callee, registers_of, frames_at, recorded_start}
+use Rattle.eh_machine.specs.ActivationMachine.{recorded_event}
+
+-- ---- the same event
+
+-- both go on or both end, alike, and the states are the same but for what stands in place of what
+abbrev pub Matches : Event State End → Event Recorded End → Type 0
+Matches (Goes b text left) (Goes s said rest) = (b ≡ bytes_of s) × (text ≡ said) × (left ≡ rest)
+Matches (Ends end b) (Ends why s) = (end ≡ why) × (b ≡ bytes_of s)
+Matches (Goes b text left) (Ends why s) = ⊥
+Matches (Ends end b) (Goes s said rest) = ⊥
+
+-- all that instructions do but a return and the gates of exceptions
+abbrev pub IsPlain : Stepped → Type 0
+IsPlain Done = Unit {0}
+IsPlain (Call target ret) = Unit {0}
+IsPlain (Return to) = ⊥
+IsPlain (Gate number) = number ≤ INPUT_GATE
+IsPlain (Trap trap) = Unit {0}
+
+-- the landing sp of the innermost cleanup stands in the pool as in the list
+abbrev pub KnowsLanding : Recorded → Type 0
+KnowsLanding s = innermost_of (word (memory_of s)) (heads s.lists) ≡ innermost_in s.lists.cleanups
+
+-- an instruction that is no return and no gate of exceptions does the same in both machines
+abbrev pub PlainEventsMatch : Type 0
+PlainEventsMatch =
+    (p : Program) (s : Recorded) (input : List ℕ) → KnowsLanding s → IsPlain (step_of s.regs (memory_of s)).0
+    → Matches (machine_event p (bytes_of s) input) (recorded_event p s input)
+
+-- ---- the start
+
+-- both start in the same state, and with an instruction that is no return and no gate of exceptions both do the same first event
+pub record StartsAlike (p : Program) : Type 0 where
+  pub same : bytes_of (recorded_start p) ≡ start_of p
+  pub first : (input : List ℕ) → IsPlain (step_of (start_of p).regs (start_of p).memory).0
+      → Matches (machine_event p (start_of p) input) (recorded_event p (recorded_start p) input)
+
+abbrev pub MachinesStartAlike : Type 0
+MachinesStartAlike = (p : Program) → StartsAlike p
+
+-- ---- a return
+
+-- r4 to r11 are eight
+abbrev pub IsWhole : Activation → Type 0
+IsWhole a = length a.caller.saved ≡ 8
+
+abbrev pub AreWhole : List Activation → Type 0
+AreWhole [] = Unit {0}
+AreWhole (a ∷ more) = IsWhole a × AreWhole more
+
+-- the registers that the first activation recorded at its call
+pub record IsBack (c : Caller) (t : Recorded) : Type 0 where
+  pub pc : t.regs.pc ≡ even c.back
+  pub sp : slice_index t.regs.r SP ≡ c.sp
+  pub saved : callee t.regs.r ≡ c.saved
+
+-- a return that goes on gives back what was recorded, whatever the stack holds
+abbrev pub ReturnsGiveBack : Type 0
+ReturnsGiveBack =
+    (p : Program) (s t : Recorded) (input text left : List ℕ) (to : ℕ) (regs : Regs) (m : Memory)
+    → step_of s.regs (memory_of s) ≡ (Return to, regs, m) → recorded_event p s input ≡ Goes t text left
+    → IsWhole s.first → IsBack s.first.caller t
+
+-- ---- the frames of a throw
+
+-- where an activation stands, and its sp
+abbrev pub place_of : Frame → ℕ × ℕ
+place_of f = (f.site, f.sp)
+
+-- of each activation, by what the one inside it recorded
+abbrev pub recorded_places : Caller → List Activation → List (ℕ × ℕ)
+recorded_places c [] = []
+recorded_places c (a ∷ more) = (site_of (registers_of c), c.sp) ∷ recorded_places a.caller more
+
+-- the frames of a throw are one for each activation, from the first up to where they end
+abbrev pub FramesAreActivations : Type 0
+FramesAreActivations =
+    (image : Image) (place : Option ℕ) (site : ℕ) (r : List ℕ) (a : Activation) (outer : List Activation) → AreWhole (a ∷ outer)
+    → map place_of (frames_at image place site r a outer).frames
+    ≡ take (length (frames_at image place site r a outer).frames) ((site, slice_index r SP) ∷ recorded_places a.caller outer)
