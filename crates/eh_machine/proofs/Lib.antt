@@ -7,3 +7,6 @@ pub mod Released
 pub mod SameSlots
 pub mod Matching
 pub mod GivesBack
+pub mod Passed
+pub mod FirstEvent
+pub mod Calling

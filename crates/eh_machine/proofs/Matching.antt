@@ -24,7 +24,7 @@ use Rattle.eh_machine.specs.Start.{start_of}
 use Rattle.eh_machine.specs.Machine as bytes
 use Rattle.eh_machine.specs.Activations.{Recorded, memory_of, bytes_of, recorded_start}
 use Rattle.eh_machine.specs.ActivationMachine as acts
-use Rattle.eh_machine.specs.ActivationLaws.{Matches, IsPlain, KnowsLanding, StartsAlike}
+use Rattle.eh_machine.specs.ActivationLaws.{Matches, IsPlain, KnowsLanding}
 use Rattle.eh_machine.proofs.SameSlots.{same_slots}
 
 -- a gate, which must do the same in both, or what is no return
@@ -104,7 +104,7 @@ module _ (p : Program) (s : Recorded) (knows : KnowsLanding s) where
   either P true x y u v a c = a
   either P false x y u v a c = c
 
-  in_state_alike : (e : Event Regs End) → Matches (bytes.in_state (bytes_of s) e) (acts.in_state s e)
+  pub in_state_alike : (e : Event Regs End) → Matches (bytes.in_state (bytes_of s) e) (acts.in_state s e)
   in_state_alike (Goes regs text left) = (refl, refl, refl)
   in_state_alike (Ends end regs) = (refl, refl)
 
@@ -146,12 +146,9 @@ pub plain_match : (p : Program) (s : Recorded) (input : List ℕ) → KnowsLandi
     → Matches (bytes.machine_event p (bytes_of s) input) (acts.recorded_event p s input)
 plain_match p s input knows h = events_match p s input knows (plain_can p s knows (step_of s.regs (memory_of s)).0 h)
 
-same_start : (p : Program) → bytes_of (recorded_start p) ≡ start_of p
+pub same_start : (p : Program) → bytes_of (recorded_start p) ≡ start_of p
 same_start p = refl
 
 pub start_knows : (p : Program) → KnowsLanding (recorded_start p)
 unfolding block_slot
 start_knows p = refl
-
-pub start_alike : (p : Program) → StartsAlike p
-start_alike p = record { same = same_start p; first = λ input h. plain_match p (recorded_start p) input (start_knows p) h }

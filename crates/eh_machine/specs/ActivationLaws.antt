@@ -1,5 +1,5 @@
 -- How the machine with recorded activations and the one over bytes fit, in the words of their users (docs/machine.md, "Laws").
-use Rattle.std.specs.Prelude.{◌≡◌, ℕ, ◌≤◌, List, [], ◌∷◌, length, map, take, slice_index, Option}
+use Rattle.std.specs.Prelude.{◌≡◌, ℕ, ◌≤◌, List, [], ◌∷◌, length, map, take, drop, slice_index, Option}
 use Rattle.event_runs.specs.Runs.{Event, Goes, Ends}
 use Rattle.elf_image.specs.Image.{Image}
 use Rattle.guest_gates.specs.declared.gates.TheConstants.{INPUT_GATE}
@@ -8,7 +8,10 @@ use Rattle.eh_cxa.specs.Words.{word}
 use Rattle.eh_cxa.specs.Cleanup.{innermost_of}
 use Rattle.eh_cxa.specs.ListCalls.{innermost_in}
 use Rattle.eh_phase.specs.Frames.{site_of}
-use Rattle.eh_phase.specs.Phases.{Frame}
+use Rattle.eh_phase.specs.Phases.{Frame, Frames, vrs_of, phase2}
+use Rattle.eh_phase.specs.declared.phase2.Entered.{Entered}
+use Rattle.eh_phase.specs.declared.phase2.Entered.TheVariants as enters
+use Rattle.eh_phase.specs.declared.phase2.Goal.{Goal}
 use Rattle.thumb_core.specs.Registers.{even}
 use Rattle.thumb_core.specs.Step.{step_of}
 use Rattle.thumb_core.specs.declared.regs.TheConstants.{SP}
@@ -21,7 +24,7 @@ use Rattle.eh_machine.specs.Program.{Program}
 use Rattle.eh_machine.specs.Machine.{machine_event}
 use Rattle.eh_machine.specs.Start.{start_of}
 use Rattle.eh_machine.specs.Activations.{Caller, Activation, Recorded, memory_of, heads, bytes_of, callee, registers_of, frames_at, recorded_start}
-use Rattle.eh_machine.specs.ActivationMachine.{recorded_event}
+use Rattle.eh_machine.specs.ActivationMachine.{recorded_event, passed_by}
 
 -- ---- the same event
 
@@ -52,10 +55,17 @@ PlainEventsMatch =
 
 -- ---- the start
 
--- both start in the same state, and with an instruction that is no return and no gate of exceptions both do the same first event
+abbrev pub IsNoReturn : Stepped → Type 0
+IsNoReturn Done = Unit {0}
+IsNoReturn (Call target ret) = Unit {0}
+IsNoReturn (Return to) = ⊥
+IsNoReturn (Gate number) = Unit {0}
+IsNoReturn (Trap trap) = Unit {0}
+
+-- both start in the same state, and with an instruction that is no return both do the same first event
 pub record StartsAlike (p : Program) : Type 0 where
   pub same : bytes_of (recorded_start p) ≡ start_of p
-  pub first : (input : List ℕ) → IsPlain (step_of (start_of p).regs (start_of p).memory).0
+  pub first : (input : List ℕ) → IsNoReturn (step_of (start_of p).regs (start_of p).memory).0
       → Matches (machine_event p (start_of p) input) (recorded_event p (recorded_start p) input)
 
 abbrev pub MachinesStartAlike : Type 0
@@ -84,6 +94,29 @@ ReturnsGiveBack =
     → step_of s.regs (memory_of s) ≡ (Return to, regs, m) → recorded_event p s input ≡ Goes t text left
     → IsWhole s.first → IsBack s.first.caller t
 
+-- ---- a call
+
+-- an activation without slots, of the function that was called, records where it returns to, and sp and r4 to r11 as they are
+pub record IsRecorded (target ret : ℕ) (t : Recorded) : Type 0 where
+  pub function : t.first.function ≡ target
+  pub back : t.first.caller.back ≡ ret
+  pub sp : t.first.caller.sp ≡ slice_index t.regs.r SP
+  pub saved : t.first.caller.saved ≡ callee t.regs.r
+  pub slots : t.first.slots ≡ []
+
+abbrev pub callers : List Activation → List Caller
+callers acts = map (λ (a : Activation). a.caller) acts
+
+-- a call that goes on puts it in front of those that were there
+pub record IsCalled (target ret : ℕ) (s t : Recorded) : Type 0 where
+  pub recorded : IsRecorded target ret t
+  pub outer : callers t.outer ≡ callers (s.first ∷ s.outer)
+
+abbrev pub CallsRecord : Type 0
+CallsRecord =
+    (p : Program) (s t : Recorded) (input text left : List ℕ) (target ret : ℕ) (regs : Regs) (m : Memory)
+    → step_of s.regs (memory_of s) ≡ (Call target ret, regs, m) → recorded_event p s input ≡ Goes t text left → IsCalled target ret s t
+
 -- ---- the frames of a throw
 
 -- where an activation stands, and its sp
@@ -101,3 +134,21 @@ FramesAreActivations =
     (image : Image) (place : Option ℕ) (site : ℕ) (r : List ℕ) (a : Activation) (outer : List Activation) → AreWhole (a ∷ outer)
     → map place_of (frames_at image place site r a outer).frames
     ≡ take (length (frames_at image place site r a outer).frames) ((site, slice_index r SP) ∷ recorded_places a.caller outer)
+
+-- ---- a landing
+
+-- what phase 2 enters is entered in this frame
+abbrev pub StandsIn : Frame → Entered → Type 0
+StandsIn f (enters.Cleanup vrs pad next site) = (vrs ≡ vrs_of f) × (site ≡ f.site)
+StandsIn f (enters.Catch vrs pad) = vrs ≡ vrs_of f
+StandsIn f (enters.Spec vrs pad) = vrs ≡ vrs_of f
+StandsIn f enters.Unexpected = Unit {0}
+StandsIn f (enters.Terminate why) = Unit {0}
+
+-- behind the frames that are passed stands the one that phase 2 enters; where all are passed it ends by the cause by which they end
+pub record IsPassed (g : Goal) (from : ℕ) (fs : Frames) : Type 0 where
+  pub lands : (f : Frame) (rest : List Frame) → drop (passed_by g from fs.frames) fs.frames ≡ f ∷ rest → StandsIn f (phase2 g from fs)
+  pub ends : drop (passed_by g from fs.frames) fs.frames ≡ [] → phase2 g from fs ≡ enters.Terminate fs.last
+
+abbrev pub LandingsStandInTheirFrames : Type 0
+LandingsStandInTheirFrames = (g : Goal) (from : ℕ) (fs : Frames) → IsPassed g from fs

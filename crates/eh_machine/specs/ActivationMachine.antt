@@ -1,6 +1,6 @@
 -- One event of the machine with recorded activations, and its runs (docs/machine.md, "The same with recorded activations"): returns, throws
 -- and the ends of cleanups go by what was recorded at the calls, and no saved word is read.
-use Rattle.std.specs.Prelude.{ℕ, ◌+◌, ◌==◌, ◌&&◌, nat_lt, Bool, true, false, List, [], ◌∷◌, length, map, drop, slice_index, Option, Some, None, is_some, Result, Ok, Err, if◌then◌else◌}
+use Rattle.std.specs.Prelude.{ℕ, suc, ◌==◌, ◌&&◌, nat_lt, Bool, true, false, List, [], ◌∷◌, length, map, drop, slice_index, Option, Some, None, is_some, Result, Ok, Err, if◌then◌else◌}
 use Rattle.std.specs.Option.{option_or}
 use Rattle.event_runs.specs.Runs.{Event, Goes, Ends, Machine}
 use Rattle.eh_bus.specs.Memory.{Memory}
@@ -151,7 +151,7 @@ is_entered g from f = is_some (first_some (entered_at g) (placed f (from_address
 -- how many frames are passed before the one that is entered
 unfoldable pub passed_by : Goal → ℕ → List Frame → ℕ
 passed_by g from [] = 0
-passed_by g from (f ∷ more) = if is_entered g from f then 0 else passed_by g 0 more + 1
+passed_by g from (f ∷ more) = if is_entered g from f then 0 else suc (passed_by g 0 more)
 
 -- The activation that is entered is the first now, those inside it have gone, and sp and r4 to r11 are those of its frame. Slots below sp
 -- leave
