@@ -111,9 +111,9 @@ module _ (p : Program) (next : ℕ) where
   unfolding gate_of acts.gate_of
   gates_match number =
       both (number == ALLOCATE_GATE) _ _ _ _ allocate_matches (both (number == FREE_GATE) _ _ _ _ free_matches (both (number == THROW_GATE) _ _ _ _ throw_matches (
-        both (number == BEGIN_CATCH_GATE) _ _ _ _ begin_matches (both (number == END_CATCH_GATE) _ _ _ _ end_matches (both (number == RETHROW_GATE) _ _ _ _ rethrow_matches (
-          both (number == END_CLEANUP_GATE) _ _ _ _ resume_matches (both (number == UNEXPECTED_GATE) _ _ _ _ (refl, refl) (both (number == TERMINATE_GATE) _ _ _ _ (refl, refl) (
-            both (number == UNCAUGHT_GATE) _ _ _ _ uncaught_matches (refl, refl))))))))))
+      both (number == BEGIN_CATCH_GATE) _ _ _ _ begin_matches (both (number == END_CATCH_GATE) _ _ _ _ end_matches (both (number == RETHROW_GATE) _ _ _ _ rethrow_matches (
+      both (number == END_CLEANUP_GATE) _ _ _ _ resume_matches (both (number == UNEXPECTED_GATE) _ _ _ _ (refl, refl) (both (number == TERMINATE_GATE) _ _ _ _ (refl, refl) (
+      both (number == UNCAUGHT_GATE) _ _ _ _ uncaught_matches (refl, refl))))))))))
 
 module _ (p : Program) where
   outcome_event : (o : Outcome) (q : acts.Outcome) (input : List ℕ) → OutcomesMatch o q → Matches (bytes.event_of o input) (acts.event_of q input)
