@@ -1,7 +1,10 @@
 -- What is built is a map.
-use Rattle.std.proofs.Common.{◌≡◌, ℕ, zero, suc, ◌+◌, ◌-◌, ◌<◌, ◌≤◌, List, [], ◌∷◌, length, get_or, map, take, refl, arith}
+use Rattle.std.proofs.Common.{◌≡◌, ℕ, zero, suc, ◌+◌, ◌-◌, ◌*◌, ◌<◌, ◌≤◌, ◌⊎◌, inl, inr, List, [], ◌∷◌, length, get_or, map, take, refl, arith}
 use Rattle.std.specs.Prelude.{IsTrue, All}
-use Rattle.std.proofs.lemmas.List.{length-append, take_more}
+use Rattle.std.proofs.lemmas.Nat.{mul-le}
+use Rattle.std.proofs.lemmas.Bool.{cases_lt}
+use Rattle.std.proofs.lemmas.List.{length-append, length-map, get_or-map, take_more}
+use Rattle.std.proofs.lemmas.List.Sums.{sum_by-le}
 use Rattle.std.proofs.lemmas.List.Elements.{All-append, All-push}
 use Rattle.eh_bus.specs.Segment.{Segment, AreBytes, holds}
 use Rattle.eh_bus.specs.Map.{AreSegments, AreApart, IsData}
@@ -9,7 +12,7 @@ use Rattle.eh_bus.specs.Built.{CanBuild, Fits, built, segment_of, zeros_at}
 use Rattle.eh_list.specs.Bytes.{zeros, length-zeros}
 use Rattle.eh_bus.specs.declared.segment.SegmentSpec.{SegmentSpec}
 use Rattle.eh_bus.proofs.Kept.{inside}
-use Rattle.eh_bus.specs.declared.map.TheConstants.{IMAGE_END, POOL_SIZE, POOL_START, STACK_SIZE, STACK_START}
+use Rattle.eh_bus.specs.declared.map.TheConstants.{IMAGE_END, MAX_IMAGE_SIZE, POOL_SIZE, POOL_START, STACK_SIZE, STACK_START}
 
 abbrev pub Ends : Segment → Type 0
 Ends s = s.start + length s.bytes ≤ IMAGE_END
@@ -95,3 +98,45 @@ built_segments specs p b = record {
 pub more_bytes : (specs : List SegmentSpec) (i : ℕ) (spec : SegmentSpec) → i < length specs → All (λ (s : SegmentSpec). AreBytes s.bytes.now) (take i specs)
     → AreBytes (get_or specs i spec).bytes.now → All (λ (s : SegmentSpec). AreBytes s.bytes.now) (take (i + 1) specs)
 more_bytes specs i spec h b n = rw (take_more specs i spec h) (All-push (λ (s : SegmentSpec). AreBytes s.bytes.now) (take i specs) (get_or specs i spec) b n)
+
+-- ---- segments that begin a step apart
+
+-- the segment of each number begins so many steps behind the first, and has at most a step's bytes
+pub record Spaced (specs : List SegmentSpec) (first step : ℕ) : Type 0 where
+  pub start : (i : ℕ) (d : SegmentSpec) → i < length specs → (get_or specs i d).start ≡ first + i * step
+  pub size : (i : ℕ) (d : SegmentSpec) → i < length specs → (get_or specs i d).size ≤ step
+  pub given : (i : ℕ) (d : SegmentSpec) → i < length specs → length (get_or specs i d).bytes.now ≤ (get_or specs i d).size
+
+next_step : (i n step : ℕ) → i < n → i * step + step ≤ n * step
+next_step i n step h = let m : (i + 1) * step ≤ n * step = mul-le (i + 1) step n step (omega arith) (omega arith) in omega (arith, m)
+
+spaced_apart : (e : SegmentSpec) (specs : List SegmentSpec) (first step : ℕ) → Spaced specs first step → AreApart (map segment_of specs)
+spaced_apart e specs first step s a i j d h k x y = go (cases_lt i j) (cases_lt j i)
+  where
+    l : i < length specs
+    l = omega (arith, length-map specs segment_of)
+
+    m : j < length specs
+    m = omega (arith, length-map specs segment_of)
+
+    place : (n : ℕ) → n < length specs → IsTrue (holds (get_or (map segment_of specs) n d) a 1) → (first + n * step ≤ a) × (a < first + n * step + step)
+    place n o z =
+        let p = inside (segment_of (get_or specs n e)) a 1 (rw (get_or-map segment_of specs n e d o) at z) in
+        let q = length-segment_of (get_or specs n e) (s.given n e o) in
+        (omega (arith, p.low, s.start n e o), omega (arith, p.low, p.high, q, s.start n e o, s.size n e o))
+
+    go : ((i < j) ⊎ (j ≤ i)) → ((j < i) ⊎ (i ≤ j)) → i ≡ j
+    go (inl o) q = let x = place i l x in let y = place j m y in absurd (omega (arith, x.1, y.0, next_step i j step o))
+    go (inr o) (inl q) = let x = place i l x in let y = place j m y in absurd (omega (arith, x.0, y.1, next_step j i step q))
+    go (inr o) (inr q) = omega arith
+
+pub spaced : (specs : List SegmentSpec) (first step : ℕ) → Spaced specs first step → first + length specs * step ≤ IMAGE_END → length specs * step ≤ MAX_IMAGE_SIZE → CanBuild specs
+spaced specs first step s end few = record {
+  fit = λ i d h. (s.given i d h, omega (arith, s.start i d h, s.size i d h, next_step i (length specs) step h));
+  apart = apart specs s;
+  few = omega (arith, sum_by-le (λ (spec : SegmentSpec). spec.size) step specs (λ i d h. s.size i d h));
+}
+  where
+    apart : (specs : List SegmentSpec) → Spaced specs first step → AreApart (map segment_of specs)
+    apart [] s a i j d h k x y = absurd (omega arith)
+    apart (e ∷ more) s a i j d h k x y = spaced_apart e (e ∷ more) first step s a i j d h k x y

@@ -1,41 +1,106 @@
--- Guarded words as flags.
-use Rattle.std.proofs.Common.{◌≡◌, ℕ, zero, suc, ◌+◌, ◌-◌, ◌*◌, ◌/◌, ◌%◌, ◌<◌, ◌≤◌, Bool, true, false, ◌==◌, ◌&&◌, nat_lt, min, max, ◌≢◌, cond, List, [], ◌∷◌, length, get_or, set, filter, Some, None, refl, sym, ◌∙◌, arith, ap}
-use Rattle.std.proofs.lemmas.List.{length-replicate, length-set, get_or-set_other}
-use Rattle.std.proofs.lemmas.Bool.{ltb-true, ltb-false, eqb-true, eqb-false, le-ltb, le-leb, lt-leb}
-use Rattle.eh_bus.specs.Guards.{inserted, RiseFrom, AreGuards}
+-- Guarded words as flags, and the flags as bits of numbers.
+use Rattle.std.proofs.Common.{◌≡◌, ℕ, zero, suc, ◌+◌, ◌-◌, ◌*◌, ◌/◌, ◌%◌, ◌^◌, ◌<◌, ◌≤◌, ◌⊎◌, inl, inr, Bool, true, false, ◌==◌, ◌&&◌, nat_lt, min, max, cond, List, [], ◌∷◌, length, get_or, set, filter, Some, None, refl, sym, ◌∙◌, arith, ap, w64}
+use Rattle.std.proofs.lemmas.List.{length-set, get_or-set_same, get_or-set_other, get_or_past, ext_get_or}
+use Rattle.std.proofs.lemmas.List.FromFn.{length-map-range_with_len, get_or-map-range_with_len}
+use Rattle.std.proofs.lemmas.Nat.Bits.{bit_at-zero, bit_at-lt, bit_at_set_same, bit_at_set_other, bit_at_and, bit_at_mask_inside, bit_at_mask_below, ones_shl}
+use Rattle.std.proofs.lemmas.Bool.{cases_lt, cases_eq, ltb-true, ltb-false, eqb-true, eqb-false, lt-ltb, le-ltb, le-leb, lt-leb}
+use Rattle.std.specs.Prelude.{bit_and, bit_or}
+use Rattle.std.specs.Int.{bit_at}
+use Rattle.eh_list.specs.Bytes.{zeros, length-zeros}
+use Rattle.eh_bus.specs.Guards.{inserted, RiseFrom}
 use Rattle.eh_bus.specs.Memory.{guard_hit, stays_guarded}
-use Rattle.eh_bus.specs.Flags.{flagged, AreFlags, clear_flags}
+use Rattle.eh_bus.specs.Flags.{flagged, flag_in, flags_of, AreFlags, Cleared}
+use Rattle.eh_bus.specs.declared.guards.TheConstants.{NUMBERS, NUMBER_BITS}
 use Rattle.eh_bus.specs.declared.map.TheConstants.{STACK_END, STACK_START, STACK_WORDS}
 
 lower : (low high : ℕ) (guards : List ℕ) → low ≤ high → RiseFrom high guards → RiseFrom low guards
 lower low high [] h r = omega arith
 lower low high (g ∷ more) h r = (omega (arith, r.0), r.1)
 
-pub flagged_rises : (low : ℕ) (flags : List Bool) → low % 4 ≡ 0 → low + 4 * length flags ≤ STACK_END → RiseFrom low (flagged low flags)
-flagged_rises low [] e h = omega arith
-flagged_rises low (true ∷ flags) e h = (omega arith, (e, flagged_rises (low + 4) flags (omega arith) (omega arith)))
-flagged_rises low (false ∷ flags) e h = lower low (low + 4) (flagged (low + 4) flags) (omega arith) (flagged_rises (low + 4) flags (omega arith) (omega arith))
+-- ---- flags as bits
 
-pub flags_rise : (flags : List Bool) → length flags ≡ STACK_WORDS → AreGuards (flagged STACK_START flags)
-flags_rise flags h = flagged_rises STACK_START flags refl (omega arith)
+pub flags_length : (numbers : List ℕ) → length (flags_of numbers) ≡ NUMBER_BITS * length numbers
+unfolding flags_of
+flags_length numbers = length-map-range_with_len (flag_in numbers) 0 (NUMBER_BITS * length numbers)
 
-pub flagged_none : (low n : ℕ) → flagged low (clear_flags n) ≡ []
-unfolding clear_flags
-flagged_none low zero = refl
-flagged_none low (suc n) = flagged_none (low + 4) n
+pub flag_inside : (numbers : List ℕ) (i : ℕ) → i / NUMBER_BITS < length numbers → get_or (flags_of numbers) i false ≡ flag_in numbers i
+unfolding flags_of
+flag_inside numbers i h = get_or-map-range_with_len (flag_in numbers) 0 (NUMBER_BITS * length numbers) i i false (omega arith) (omega arith)
 
-get_or-clear : (n i : ℕ) → get_or (clear_flags n) i false ≡ false
-unfolding clear_flags
-get_or-clear zero i = refl
-get_or-clear (suc n) zero = refl
-get_or-clear (suc n) (suc i) = get_or-clear n i
+pub flag_outside : (numbers : List ℕ) (i : ℕ) → length numbers ≤ i / NUMBER_BITS → get_or (flags_of numbers) i false ≡ false
+flag_outside numbers i h = get_or_past (flags_of numbers) i false (omega (arith, flags_length numbers))
 
-length-clear : (n : ℕ) → length (clear_flags n) ≡ n
-unfolding clear_flags
-length-clear n = length-replicate n false
+-- behind the numbers every bit is 0
+flag_at : (numbers : List ℕ) (i : ℕ) → get_or (flags_of numbers) i false ≡ flag_in numbers i
+flag_at numbers i = go (cases_lt (i / NUMBER_BITS) (length numbers))
+  where
+    go : ((i / NUMBER_BITS < length numbers) ⊎ (length numbers ≤ i / NUMBER_BITS)) → get_or (flags_of numbers) i false ≡ flag_in numbers i
+    go (inl h) = flag_inside numbers i h
+    go (inr h) = flag_outside numbers i h ∙ sym (rw (get_or_past numbers (i / NUMBER_BITS) 0 h, bit_at-zero (i % NUMBER_BITS)) refl)
 
-pub clear_are : AreFlags (clear_flags STACK_WORDS) STACK_WORDS
-clear_are = record { whole = length-clear STACK_WORDS; within = omega arith; clear = λ i h. get_or-clear STACK_WORDS i }
+get_or-zeros : (n k : ℕ) → get_or (zeros n) k 0 ≡ 0
+unfolding zeros
+get_or-zeros zero k = refl
+get_or-zeros (suc n) zero = refl
+get_or-zeros (suc n) (suc k) = get_or-zeros n k
+
+none_set : (low : ℕ) (flags : List Bool) → ((i : ℕ) → get_or flags i false ≡ false) → flagged low flags ≡ []
+none_set low [] h = refl
+none_set low (true ∷ flags) h = absurd (let e : true ≡ false = h 0 in cc)
+none_set low (false ∷ flags) h = none_set (low + 4) flags (λ i. h (suc i))
+
+pub none_flagged : (low n : ℕ) → flagged low (flags_of (zeros n)) ≡ []
+none_flagged low n = none_set low (flags_of (zeros n)) clear
+  where
+    clear : (i : ℕ) → get_or (flags_of (zeros n)) i false ≡ false
+    clear i = flag_at (zeros n) i ∙ rw (get_or-zeros n (i / NUMBER_BITS), bit_at-zero (i % NUMBER_BITS)) refl
+
+pub clear_are : AreFlags (zeros NUMBERS) NUMBERS
+clear_are = record { whole = length-zeros NUMBERS; within = omega arith; clear = λ k h. get_or-zeros NUMBERS k }
+
+-- the number that `n | 1 << k` is
+abbrev with_bit : ℕ → ℕ → ℕ
+with_bit n k = bit_or n (1 * 2 ^ k % 2 ^ 64)
+
+-- a bit that is set in its number sets its flag alone
+pub set_flags : (numbers : List ℕ) (i : ℕ) → i / NUMBER_BITS < length numbers
+    → flags_of (set numbers (i / NUMBER_BITS) (with_bit (get_or numbers (i / NUMBER_BITS) 0) (i % NUMBER_BITS))) ≡ set (flags_of numbers) i true
+set_flags numbers i h = ext_get_or false (flags_of new) (set (flags_of numbers) i true) size (λ j _. each j)
+  where
+    at : ℕ
+    at = i / NUMBER_BITS
+
+    new : List ℕ
+    new = set numbers at (with_bit (get_or numbers at 0) (i % NUMBER_BITS))
+
+    size : length (flags_of new) ≡ length (set (flags_of numbers) i true)
+    size = omega (arith, flags_length new, flags_length numbers, length-set numbers at (with_bit (get_or numbers at 0) (i % NUMBER_BITS)), length-set (flags_of numbers) i true)
+
+    here : get_or (flags_of new) i false ≡ get_or (set (flags_of numbers) i true) i false
+    here = flag_at new i ∙ rw (get_or-set_same numbers at (with_bit (get_or numbers at 0) (i % NUMBER_BITS)) 0 h, bit_at_set_same w64 (get_or numbers at 0) (i % NUMBER_BITS) (omega arith))
+        (sym (get_or-set_same (flags_of numbers) i true false (omega (arith, flags_length numbers))))
+
+    beside : (j : ℕ) → (j ≡ i → ⊥) → j / NUMBER_BITS ≡ at → flag_in new j ≡ flag_in numbers j
+    beside j n e = rw (e, get_or-set_same numbers at (with_bit (get_or numbers at 0) (i % NUMBER_BITS)) 0 h, bit_at_set_other w64 (get_or numbers at 0) (i % NUMBER_BITS) (omega arith) (j % NUMBER_BITS) (omega (arith, n))) refl
+
+    apart : (j : ℕ) → (j / NUMBER_BITS ≡ at → ⊥) → flag_in new j ≡ flag_in numbers j
+    apart j n = rw (get_or-set_other numbers at (j / NUMBER_BITS) (with_bit (get_or numbers at 0) (i % NUMBER_BITS)) 0 n) refl
+
+    each : (j : ℕ) → get_or (flags_of new) j false ≡ get_or (set (flags_of numbers) i true) j false
+    each j = go (cases_eq j i) (cases_eq (j / NUMBER_BITS) at)
+      where
+        go : ((j ≡ i) ⊎ (j ≡ i → ⊥)) → ((j / NUMBER_BITS ≡ at) ⊎ (j / NUMBER_BITS ≡ at → ⊥)) → get_or (flags_of new) j false ≡ get_or (set (flags_of numbers) i true) j false
+        go (inl e) f = rw e here
+        go (inr n) (inl e) = flag_at new j ∙ beside j n e ∙ sym (flag_at numbers j) ∙ sym (get_or-set_other (flags_of numbers) i j true false n)
+        go (inr n) (inr m) = flag_at new j ∙ apart j m ∙ sym (flag_at numbers j) ∙ sym (get_or-set_other (flags_of numbers) i j true false n)
+
+-- the number that `n & MAX << k` is
+pub masked : (n k j : ℕ) → k < NUMBER_BITS → j < NUMBER_BITS → bit_at (bit_and n ((2 ^ 64 - 1) * 2 ^ k % 2 ^ 64)) j ≡ cond (nat_lt j k) 0 (bit_at n j)
+masked n k j h l = rw (ones_shl 64 k (omega arith)) (bit_at_and n (2 ^ 64 - 2 ^ k) j ∙ go (cases_lt j k))
+  where
+    go : ((j < k) ⊎ (k ≤ j)) → min (bit_at n j) (bit_at (2 ^ 64 - 2 ^ k) j) ≡ cond (nat_lt j k) 0 (bit_at n j)
+    go (inl b) = rw (bit_at_mask_below k 64 j b, lt-ltb j k b) (omega arith)
+    go (inr b) = rw (bit_at_mask_inside k 64 j b l, le-ltb j k b) (omega (arith, bit_at-lt n j))
 
 -- a filter of the flagged words clears their flags
 pub flagged_filter : (p : ℕ → Bool) (low : ℕ) (old new : List Bool) → length new ≡ length old
@@ -152,33 +217,21 @@ stack_hit a n flags p h k =
     rw e at hit
 
 -- setting the flag of the word at a puts it in
-pub stack_set : (a : ℕ) (flags : List Bool) → STACK_START ≤ a → a % 4 ≡ 0 → (a - STACK_START) / 4 < length flags
-    → flagged STACK_START (set flags ((a - STACK_START) / 4) true) ≡ inserted a (flagged STACK_START flags)
-stack_set a flags h e l =
+pub stack_set : (a : ℕ) (old new : List ℕ) → STACK_START ≤ a → a % 4 ≡ 0 → a < STACK_END → length old ≡ NUMBERS
+    → flags_of new ≡ set (flags_of old) ((a - STACK_START) / 4) true
+    → flagged STACK_START (flags_of new) ≡ inserted a (flagged STACK_START (flags_of old))
+stack_set a old new h e t w f =
     let same : STACK_START + 4 * ((a - STACK_START) / 4) ≡ a = omega arith in
-    let s = flagged_set STACK_START ((a - STACK_START) / 4) flags l in
-    rw same at s
+    let s = flagged_set STACK_START ((a - STACK_START) / 4) (flags_of old) (omega (arith, flags_length old)) in
+    rw f (rw same at s)
 
-pub set_are : (i lowest : ℕ) (flags : List Bool) → AreFlags flags lowest → AreFlags (set flags i true) (min lowest i)
-set_are i lowest flags f = record {
-  whole = length-set flags i true ∙ f.whole;
-  within = omega (arith, f.within);
-  clear = λ k h. let ne : k ≢ i = omega arith in let l : k < lowest = omega arith in rw get_or-set_other (f.clear k l);
-}
-
-pub release_are : (lowest end : ℕ) (old new : List Bool) → AreFlags old lowest → length new ≡ length old → end ≤ STACK_WORDS
-    → ((i : ℕ) → i < end → get_or new i false ≡ false)
-    → ((i : ℕ) → end ≤ i → get_or new i false ≡ get_or old i false)
-    → AreFlags new (max lowest end)
-release_are lowest end old new f l w c r = record {
+pub set_are : (i lowest : ℕ) (old new : List ℕ) → AreFlags old lowest → length new ≡ length old
+    → ((k : ℕ) → k < i → get_or new k 0 ≡ get_or old k 0) → AreFlags new (min lowest i)
+set_are i lowest old new f l t = record {
   whole = l ∙ f.whole;
   within = omega (arith, f.within);
-  clear = λ i h. go i h (nat_lt i end) refl;
+  clear = λ k h. t k (omega arith) ∙ f.clear k (omega arith);
 }
-  where
-    go : (i : ℕ) → i < max lowest end → (t : Bool) → nat_lt i end ≡ t → get_or new i false ≡ false
-    go i h true t = c i (ltb-true _ _ t)
-    go i h false t = let b = ltb-false _ _ t in let s : i < lowest = omega arith in r i b ∙ f.clear i s
 
 stays : (a g : ℕ) → a ≤ g → stays_guarded (STACK_START, STACK_END) a g ≡ true
 stays a g h = rw (le-leb a g h)
@@ -194,25 +247,57 @@ and_true : (b : Bool) → (b && true) ≡ b
 and_true true = refl
 and_true false = refl
 
-pub stack_release : (a lowest end : ℕ) (old new : List Bool) → AreFlags old lowest → length new ≡ length old
+-- the flags of cleared numbers
+module _ (old new : List ℕ) (end : ℕ) (d : Cleared old new end) where
+  part_clear : (i : ℕ) → i / NUMBER_BITS ≡ end / NUMBER_BITS → i < end → bit_at (get_or new (i / NUMBER_BITS) 0) (i % NUMBER_BITS) ≡ 0
+  part_clear i e h = rw e (d.part (i % NUMBER_BITS) (omega arith) ∙ rw (lt-ltb (i % NUMBER_BITS) (end % NUMBER_BITS) (omega (arith, e))) refl)
+
+  part_kept : (i : ℕ) → i / NUMBER_BITS ≡ end / NUMBER_BITS → end ≤ i → bit_at (get_or new (i / NUMBER_BITS) 0) (i % NUMBER_BITS) ≡ bit_at (get_or old (i / NUMBER_BITS) 0) (i % NUMBER_BITS)
+  part_kept i e h = rw e (d.part (i % NUMBER_BITS) (omega arith) ∙ rw (le-ltb (i % NUMBER_BITS) (end % NUMBER_BITS) (omega (arith, e))) refl)
+
+  pub cleared_flag : (i : ℕ) → i < end → get_or (flags_of new) i false ≡ false
+  cleared_flag i h = flag_at new i ∙ go (cases_eq (i / NUMBER_BITS) (end / NUMBER_BITS))
+    where
+      go : ((i / NUMBER_BITS ≡ end / NUMBER_BITS) ⊎ (i / NUMBER_BITS ≡ end / NUMBER_BITS → ⊥)) → flag_in new i ≡ false
+      go (inl e) = rw (part_clear i e h) refl
+      go (inr n) = rw (d.clear (i / NUMBER_BITS) (omega (arith, n)), bit_at-zero (i % NUMBER_BITS)) refl
+
+  pub kept_flag : (i : ℕ) → end ≤ i → get_or (flags_of new) i false ≡ get_or (flags_of old) i false
+  kept_flag i h = flag_at new i ∙ go (cases_eq (i / NUMBER_BITS) (end / NUMBER_BITS)) ∙ sym (flag_at old i)
+    where
+      go : ((i / NUMBER_BITS ≡ end / NUMBER_BITS) ⊎ (i / NUMBER_BITS ≡ end / NUMBER_BITS → ⊥)) → flag_in new i ≡ flag_in old i
+      go (inl e) = rw (part_kept i e h) refl
+      go (inr n) = rw (d.rest (i / NUMBER_BITS) (omega (arith, n))) refl
+
+pub release_are : (lowest end : ℕ) (old new : List ℕ) → AreFlags old lowest → length new ≡ length old → end ≤ STACK_WORDS
+    → Cleared old new end → AreFlags new (max lowest (end / NUMBER_BITS))
+release_are lowest end old new f l w d = record {
+  whole = l ∙ f.whole;
+  within = omega (arith, f.within);
+  clear = λ k h. go k h (cases_lt k (end / NUMBER_BITS)) (cases_eq k (end / NUMBER_BITS));
+}
+  where
+    go : (k : ℕ) → k < max lowest (end / NUMBER_BITS) → ((k < end / NUMBER_BITS) ⊎ (end / NUMBER_BITS ≤ k)) → ((k ≡ end / NUMBER_BITS) ⊎ (k ≡ end / NUMBER_BITS → ⊥)) → get_or new k 0 ≡ 0
+    go k h (inl b) c = d.clear k b
+    go k h (inr b) (inl e) = let z : get_or old (end / NUMBER_BITS) 0 ≡ 0 = f.clear (end / NUMBER_BITS) (omega (arith, e)) in rw e (omega (arith, z, d.less))
+    go k h (inr b) (inr n) = d.rest k (omega (arith, n)) ∙ f.clear k (omega arith)
+
+pub stack_release : (a lowest end : ℕ) (old new : List ℕ) → AreFlags old lowest → length new ≡ length old
     → ((i : ℕ) → i < end → STACK_START + 4 * i < a)
     → ((i : ℕ) → end ≤ i → i < STACK_WORDS → a ≤ STACK_START + 4 * i)
-    → ((i : ℕ) → i < end → get_or new i false ≡ false)
-    → ((i : ℕ) → end ≤ i → get_or new i false ≡ get_or old i false)
-    → flagged STACK_START new ≡ filter (stays_guarded (STACK_START, STACK_END) a) (flagged STACK_START old)
-stack_release a lowest end old new f l below rest c r =
-    flagged_filter (stays_guarded (STACK_START, STACK_END) a) STACK_START old new l (λ i h. go i h (nat_lt i end) refl)
+    → Cleared old new end
+    → flagged STACK_START (flags_of new) ≡ filter (stays_guarded (STACK_START, STACK_END) a) (flagged STACK_START (flags_of old))
+stack_release a lowest end old new f l below rest d =
+    flagged_filter (stays_guarded (STACK_START, STACK_END) a) STACK_START (flags_of old) (flags_of new) (omega (arith, flags_length old, flags_length new, l)) (λ i h. go i h (cases_lt i end))
   where
-    go : (i : ℕ) → i < length old → (t : Bool) → nat_lt i end ≡ t
-        → get_or new i false ≡ (get_or old i false && stays_guarded (STACK_START, STACK_END) a (STACK_START + 4 * i))
-    go i h true t =
-        let b = ltb-true _ _ t in
+    go : (i : ℕ) → i < length (flags_of old) → ((i < end) ⊎ (end ≤ i))
+        → get_or (flags_of new) i false ≡ (get_or (flags_of old) i false && stays_guarded (STACK_START, STACK_END) a (STACK_START + 4 * i))
+    go i h (inl b) =
         let o = below i b in
-        rw (c i b, stays_not a (STACK_START + 4 * i) o (omega arith)) (sym (and_false (get_or old i false)))
-    go i h false t =
-        let b = ltb-false _ _ t in
-        let o = rest i b (let w = f.whole in omega arith) in
-        rw (r i b, stays a (STACK_START + 4 * i) o) (sym (and_true (get_or old i false)))
+        rw (cleared_flag old new end d i b, stays_not a (STACK_START + 4 * i) o (omega arith)) (sym (and_false (get_or (flags_of old) i false)))
+    go i h (inr b) =
+        let o = rest i b (omega (arith, flags_length old, f.whole)) in
+        rw (kept_flag old new end d i b, stays a (STACK_START + 4 * i) o) (sym (and_true (get_or (flags_of old) i false)))
 
 pub inserted_rises : (low a : ℕ) (guards : List ℕ) → low ≤ a → a % 4 ≡ 0 → a < STACK_END → RiseFrom low guards → RiseFrom low (inserted a guards)
 inserted_rises low a [] h e b r = (h, (e, omega arith))

@@ -1,7 +1,7 @@
-use Rattle.std.proofs.Common.{◌≡◌, ℕ, ◌<◌, ◌≤◌, false, get_or}
+use Rattle.std.proofs.Common.{◌≡◌, ℕ, ◌<◌, ◌≤◌, get_or}
 use Rattle.eh_bus.proofs.guards.clear_below.Given as goal
 
-abbrev pub invariant-loop-i : goal.invariant-loop-i
-invariant-loop-i l =
-    ((k : ℕ) → k < l.i → get_or l.flags k false ≡ false)
-    × ((k : ℕ) → l.end ≤ k → get_or l.flags k false ≡ get_or l.initial.flags k false)
+abbrev pub invariant-loop-k : goal.invariant-loop-k
+invariant-loop-k l =
+    ((n : ℕ) → n < l.k → get_or l.numbers n 0 ≡ 0)
+    × ((n : ℕ) → l.part ≤ n → get_or l.numbers n 0 ≡ get_or l.initial.numbers n 0)
