@@ -190,7 +190,7 @@ pop_acts mask size regs m count (Ok r) e = go (bit_at mask PC == 1) refl
 
 -- ---- a step
 
-effect_acts : (i : Instr) (size : ℕ) (regs : Regs) (m : Memory) → AreRegisters regs → Acts (Some (i, size)) (stores_of i regs) regs m (effect i size regs m)
+pub effect_acts : (i : Instr) (size : ℕ) (regs : Regs) (m : Memory) → AreRegisters regs → Acts (Some (i, size)) (stores_of i regs) regs m (effect i size regs m)
 effect_acts (LdrLit t off) size regs m small = load_acts _ _ t size regs m
 effect_acts (MemReg op t n k) size regs m small = mem_reg_acts _ op t n k size regs m
 effect_acts (MemImm op t n off) size regs m small = mem_imm_acts _ op t n off size regs m

@@ -297,7 +297,7 @@ pop_follows mask a size regs m (Err fault) e = trap_follows _ regs m
 
 -- ---- a step
 
-effect_follows : (i : Instr) (size : ℕ) (regs : Regs) (m : Memory) → Follows regs m (effect i size regs m)
+pub effect_follows : (i : Instr) (size : ℕ) (regs : Regs) (m : Memory) → Follows regs m (effect i size regs m)
 effect_follows (LdrLit t off) size regs m = load_reg_follows 4 t (forward (base regs) off) size regs m
 effect_follows (MemReg op t n k) size regs m = mem_reg_follows op t n k size regs m
 effect_follows (MemImm op t n off) size regs m = mem_imm_follows op t n off size regs m

@@ -1,3 +1,4 @@
+pub mod EndNames
 pub mod Arith
 pub mod Registers
 pub mod Shift

@@ -8,6 +8,7 @@ use Rattle.thumb_isa.specs.Rows.{decoded_of}
 use Rattle.eh_bus.specs.Memory.{Memory, fetch}
 use Rattle.eh_bus.specs.declared.fault.BusFault.{BusFault}
 use Rattle.thumb_core.specs.declared.regs.Regs.{Regs}
+use Rattle.thumb_core.specs.declared.regs.CoreTrap.{CoreTrap}
 use Rattle.thumb_core.specs.declared.regs.CoreTrap.TheVariants as trap
 use Rattle.thumb_core.specs.declared.regs.Stepped.TheVariants.{Trap}
 use Rattle.thumb_core.specs.Outcome.{Outcome, fault_outcome, with_memory}
@@ -69,3 +70,14 @@ instr_of_first (Err fault) m a = None
 
 abbrev pub instr_at : Memory → ℕ → Option (Instr × ℕ)
 instr_at m a = instr_of_first (fetch m a) m a
+
+-- ---- what a fetch answers: the instruction at pc with its size, or the trap of a step there
+
+abbrev pub found : Result (Instr × ℕ) CoreTrap → Option (Instr × ℕ)
+found (Ok (i, size)) = Some (i, size)
+found (Err trap) = None
+
+-- that instruction acts; a trap changes nothing
+abbrev pub outcome_from : Result (Instr × ℕ) CoreTrap → Regs → Memory → Outcome
+outcome_from (Ok (i, size)) regs m = effect i size regs m
+outcome_from (Err trap) regs m = (Trap trap, regs, m)

@@ -36,7 +36,7 @@ pub const GT: u8 = 12;
 pub const LE: u8 = 13;
 
 /// Whether a condition holds.
-fn passes(cond: u8, regs: &Regs) -> bool
+pub fn passes(cond: u8, regs: &Regs) -> bool
     ensures { result ≡ passes cond regs.now }
 {
     match cond {

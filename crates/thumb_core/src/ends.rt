@@ -1,4 +1,7 @@
 //! How a run ends: causes, traps and ends, which the machines above share (docs/core.md, "Ends").
+ghost use Rattle.std.specs.Prelude.{◌≡◌, ◌≤◌, length};
+ghost use Rattle.thumb_core.specs.EndNames.{cause_name, kind_name};
+
 /// Why a run terminates: the C++ runtime would call `std::terminate`.
 #[derive(Clone, Copy, PartialEq, Eq, Debug)]
 pub enum Cause {
@@ -18,6 +21,25 @@ pub enum Cause {
     PoolFull,
     /// The program asked for it.
     Called,
+}
+
+impl Cause {
+    /// The name of the cause, as a report writes it.
+    pub fn name(self) -> &'static [u8]
+        ensures name { result.now ≡ cause_name self }
+        ensures short { length result.now ≤ 16 }
+    {
+        match self {
+            Cause::NoHandler => b"NoHandler",
+            Cause::CannotUnwind => b"CannotUnwind",
+            Cause::NoThrow => b"NoThrow",
+            Cause::LeavesCleanup => b"LeavesCleanup",
+            Cause::Unexpected => b"Unexpected",
+            Cause::NothingCaught => b"NothingCaught",
+            Cause::PoolFull => b"PoolFull",
+            Cause::Called => b"Called",
+        }
+    }
 }
 
 /// What kind of trap ends a run. The value beside it, in `End::Trap`, is named here.
@@ -71,6 +93,41 @@ pub enum TrapKind {
     CleanupElsewhere,
     /// The address.
     ObjectRead,
+}
+
+impl TrapKind {
+    /// The name of the kind, as a report writes it.
+    pub fn name(self) -> &'static [u8]
+        ensures name { result.now ≡ kind_name self }
+        ensures short { length result.now ≤ 16 }
+    {
+        match self {
+            TrapKind::Undefined => b"Undefined",
+            TrapKind::Unpredictable => b"Unpredictable",
+            TrapKind::NotInProfile => b"NotInProfile",
+            TrapKind::EvenTarget => b"EvenTarget",
+            TrapKind::Unmapped => b"Unmapped",
+            TrapKind::Unaligned => b"Unaligned",
+            TrapKind::ReadOnly => b"ReadOnly",
+            TrapKind::SavedSlot => b"SavedSlot",
+            TrapKind::Protected => b"Protected",
+            TrapKind::NotExecutable => b"NotExecutable",
+            TrapKind::FellOff => b"FellOff",
+            TrapKind::SpInCleanup => b"SpInCleanup",
+            TrapKind::StackLimit => b"StackLimit",
+            TrapKind::BadCallTarget => b"BadCallTarget",
+            TrapKind::UnknownGate => b"UnknownGate",
+            TrapKind::BadObject => b"BadObject",
+            TrapKind::BadUcb => b"BadUcb",
+            TrapKind::TooBig => b"TooBig",
+            TrapKind::BadType => b"BadType",
+            TrapKind::CaughtOrder => b"CaughtOrder",
+            TrapKind::NoCaught => b"NoCaught",
+            TrapKind::NoCleanup => b"NoCleanup",
+            TrapKind::CleanupElsewhere => b"CleanupElsewhere",
+            TrapKind::ObjectRead => b"ObjectRead",
+        }
+    }
 }
 
 /// How a run ends.

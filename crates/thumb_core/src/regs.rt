@@ -1,5 +1,5 @@
 //! Registers, flags, and what a step answers (docs/core.md, "Registers" and "What a step answers").
-ghost use Rattle.std.specs.Prelude.{◌≡◌, ◌+◌, ◌%◌, ◌^◌, ◌<◌};
+ghost use Rattle.std.specs.Prelude.{◌≡◌, ℕ, ◌+◌, ◌%◌, ◌^◌, ◌<◌, slice_index};
 ghost use Rattle.thumb_core.specs.Data.{forward};
 ghost use Rattle.thumb_core.specs.Registers.{word_in, even, with_reg, with_pc, with_nz, with_flags, with_next, reg, pc_read, operand, base};
 
@@ -27,6 +27,11 @@ pub struct Regs {
     pub c: bool,
     pub v: bool,
 }
+
+/// Each number in the registers is a word. This costs nothing: it is for proofs.
+pub fn are_words(r: &[u32])
+    ensures { (k : ℕ) → slice_index r.now k < 2 ^ 32 }
+{}
 
 /// Why an instruction is not done.
 #[derive(Clone, Copy, PartialEq, Eq, Debug)]

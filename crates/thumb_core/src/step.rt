@@ -1,9 +1,9 @@
 //! A step: fetches, decodes and does the instruction at pc (docs/core.md, "One step, in order").
-ghost use Rattle.std.specs.Prelude.{◌≡◌, ℕ, ◌^◌, ◌<◌, slice_index};
+ghost use Rattle.std.specs.Prelude.{◌≡◌, IfOk, Some};
 ghost use Rattle.thumb_isa.specs.Range.{InRange};
 ghost use Rattle.thumb_core.specs.Laws.{AreSound, KeepsMap, Leaves, LeavesMemory, OnTrap, Stands};
-ghost use Rattle.thumb_core.specs.Step.{step_of, effect, instr_at};
-ghost use Rattle.thumb_core.specs.Stores.{KeepsApart, stores_at};
+ghost use Rattle.thumb_core.specs.Step.{step_of, effect, instr_at, found, outcome_from};
+ghost use Rattle.thumb_core.specs.Stores.{KeepsApart, stores_at, stores_of};
 
 use crate::access::{load_word, mem_imm, mem_reg, mem_sp};
 use crate::alu::alu;
@@ -13,7 +13,7 @@ use crate::data::{
     shift_imm,
 };
 use crate::lists::{ldm, pop, push, stm};
-use crate::regs::{CoreTrap, Regs, SP, Stepped};
+use crate::regs::{CoreTrap, Regs, SP, Stepped, are_words};
 use eh_bus::bus::Bus;
 use thumb_isa::decode::{decode, is_wide};
 use thumb_isa::instr::{Decoded, Instr};
@@ -23,6 +23,7 @@ use thumb_isa::instr::{Decoded, Instr};
 /// A first halfword that begins a wide encoding makes the second one be fetched, at pc + 2, before anything is decoded.
 /// So the traps are, in this order: the fault of the first fetch, that of the second; what the halfwords are where they
 /// are no instruction; and the instruction's own, an even target or the first fault of its loads and stores.
+#[inline(always)]
 pub fn step<B: Bus>(regs: &mut Regs, bus: &mut B) -> Stepped
     ensures effect { (result, regs.new, B.memory bus.new) ≡ step_of regs.old (B.memory bus.old) }
 
@@ -39,37 +40,65 @@ pub fn step<B: Bus>(regs: &mut Regs, bus: &mut B) -> Stepped
     perform(regs, bus)
 }
 
-/// Each number in the registers is a word: so the addresses of an STM are.
-fn are_words(r: &[u32])
-    ensures { (k : ℕ) → slice_index r.now k < 2 ^ 32 }
-{}
-
-/// Fetches, decodes and executes.
+/// Fetches and executes.
+#[inline(always)]
 fn perform<B: Bus>(regs: &mut Regs, bus: &mut B) -> Stepped
     ensures { (result, regs.new, B.memory bus.new) ≡ step_of regs.old (B.memory bus.old) }
 {
+    match fetch(regs, bus) {
+        Ok((i, size)) => execute(i, size, regs, bus),
+        Err(trap) => Stepped::Trap(trap),
+    }
+}
+
+/// The instruction at `regs.pc` with its size, fetched and decoded once; or the trap of a step there, where none stands. A step is this and
+/// then `execute`.
+#[inline(always)]
+pub fn fetch<B: Bus>(regs: &Regs, bus: &B) -> Result<(Instr, u32), CoreTrap>
+    ensures there { instr_at (B.memory bus.now) regs.now.pc ≡ found result }
+    ensures range { IfOk result (λ at. InRange at.0) }
+    ensures does { step_of regs.now (B.memory bus.now) ≡ outcome_from result regs.now (B.memory bus.now) }
+{
     let first = match bus.fetch16(regs.pc) {
         Ok(half) => half,
-        Err(fault) => return Stepped::Trap(CoreTrap::Memory(fault)),
+        Err(fault) => return Err(CoreTrap::Memory(fault)),
     };
     let second = if is_wide(first) {
         match bus.fetch16(regs.pc.wrapping_add(2)) {
             Ok(half) => half,
-            Err(fault) => return Stepped::Trap(CoreTrap::Memory(fault)),
+            Err(fault) => return Err(CoreTrap::Memory(fault)),
         }
     } else {
         0
     };
     match decode(first, second) {
-        Decoded::Is(i, size) => execute(i, size, regs, bus),
-        Decoded::Undefined => Stepped::Trap(CoreTrap::Undefined(u32::from(first))),
-        Decoded::Unpredictable => Stepped::Trap(CoreTrap::Unpredictable(u32::from(first))),
-        Decoded::NotInProfile => Stepped::Trap(CoreTrap::NotInProfile(u32::from(first))),
+        Decoded::Is(i, size) => Ok((i, size)),
+        Decoded::Undefined => Err(CoreTrap::Undefined(u32::from(first))),
+        Decoded::Unpredictable => Err(CoreTrap::Unpredictable(u32::from(first))),
+        Decoded::NotInProfile => Err(CoreTrap::NotInProfile(u32::from(first))),
     }
 }
 
-/// Does an instruction: the one match by instruction. What the arms of data leave goes on behind the instruction.
-fn execute<B: Bus>(i: Instr, size: u32, regs: &mut Regs, bus: &mut B) -> Stepped
+/// Does an instruction of `size` bytes, as it stands at `regs.pc`.
+#[inline(always)]
+pub fn execute<B: Bus>(i: Instr, size: u32, regs: &mut Regs, bus: &mut B) -> Stepped
+    requires { InRange i }
+    ensures effect { (result, regs.new, B.memory bus.new) ≡ effect i size regs.old (B.memory bus.old) }
+    ensures trap { OnTrap result ((regs.new ≡ regs.old) × (B.memory bus.new ≡ B.memory bus.old)) }
+    ensures stands { Stands result regs.new }
+    ensures sound { AreSound regs.old.r regs.old.pc → AreSound regs.new.r regs.new.pc }
+    ensures memory { KeepsMap (B.memory bus.old) (B.memory bus.new) }
+    ensures apart { KeepsApart (stores_of i regs.old) (B.memory bus.old) (B.memory bus.new) }
+    ensures leaves { Leaves (Some (i, size)) result regs.old (B.memory bus.old) regs.new }
+    ensures leaves_memory { LeavesMemory result (B.memory bus.old) (B.memory bus.new) }
+{
+    are_words(&regs.r);
+    act(i, size, regs, bus)
+}
+
+/// The one match by instruction. What the arms of data leave goes on behind the instruction.
+#[inline(always)]
+fn act<B: Bus>(i: Instr, size: u32, regs: &mut Regs, bus: &mut B) -> Stepped
     requires { InRange i }
     ensures { (result, regs.new, B.memory bus.new) ≡ effect i size regs.old (B.memory bus.old) }
 {
