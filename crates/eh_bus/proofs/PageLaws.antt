@@ -10,8 +10,9 @@ use Rattle.eh_bus.specs.Segment.{Segment, holds, number_at, with_number_at}
 use Rattle.eh_bus.specs.Memory.{Memory, fault_in, number_in, written, store, run_fault, first_fault, load_fault, fetch_fault, store_fault, is_closed, is_open_word}
 use Rattle.eh_bus.specs.Map.{AreApart, AreSegments}
 use Rattle.eh_bus.specs.Place.{IsPlace, IsWidth}
-use Rattle.eh_bus.specs.Pages.{Pages, ArePages, AreOwned, AreUsed, CanStore, PagesMake, HasPage, ArePageNumbers, spot_in, spot_of, byte_at_spot, owner_at_spot, byte_of, owner_of, bytes_from, segment_at, segments_at, covers}
+use Rattle.eh_bus.specs.Pages.{Pages, ArePages, AreOwned, AreUsed, CanStore, PagesMake, HasPage, ArePageNumbers, spot_in, spot_of, byte_at_spot, owner_at_spot, byte_of, owner_of, bytes_from, segment_at, segments_at, covers, spans, IsSpan, spot_at}
 use Rattle.eh_bus.specs.declared.part.Part.{Part}
+use Rattle.eh_bus.specs.declared.part.Span.{Span}
 use Rattle.eh_bus.specs.declared.paged.Found.{Found}
 use Rattle.eh_bus.specs.declared.fault.BusFault.{BusFault}
 use Rattle.eh_bus.specs.declared.fault.BusFault.TheVariants.{Unmapped, Unaligned, Protected, NotExecutable}
@@ -152,6 +153,43 @@ misowned f has parts d a n i o z e h fault = uncovered f parts a n fault (λ j c
         let g : Some i ≡ Some j = sym e ∙ owned_part has parts c a j n o z l t in
         let s : i ≡ j = cc in
         absurd (let u : covers (get_or parts i d) a n ≡ true = rw (s, get_or_default parts j d c l) t in let v : true ≡ false = sym u ∙ h in cc)
+
+-- ---- spans
+
+record InSpan (s : Span) (a n : ℕ) : Type 0 where
+  low : s.start ≤ a
+  high : a - s.start + n ≤ s.size
+
+in_span : (s : Span) (a n : ℕ) → spans s a n ≡ true → InSpan s a n
+in_span s a n h = let p = and_parts _ _ h in record { low = leb-true _ _ p.0; high = leb-true _ _ p.1 }
+
+pub span_covers : (places : List (Option ℕ)) (parts : List Part) (s : Span) (d : Part) (a n : ℕ) → IsSpan places parts s → spans s a n ≡ true → covers (get_or parts s.part d) a n ≡ true
+span_covers places parts s d a n x h = let i = in_span s a n h in covering (get_or parts s.part d) a n (omega (arith, i.low, x.low d)) (omega (arith, i.low, i.high, x.low d, x.high d))
+
+pub span_spot : (places : List (Option ℕ)) (parts : List Part) (s : Span) (a n : ℕ) → IsSpan places parts s → 0 < n → spans s a n ≡ true → spot_at places a ≡ Some (s.at + (a - s.start))
+span_spot places parts s a n x z h =
+    let i = in_span s a n h in
+    let to : s.start + (a - s.start) ≡ a = omega (arith, i.low) in
+    rw to at (x.spot (a - s.start) (omega (arith, i.high)))
+
+pub span_place : (f : ℕ → ℕ) (has : ℕ → Option ℕ) (places : List (Option ℕ)) (parts : List Part) (s : Span) (a n : ℕ) → AreOwned has parts → IsSpan places parts s → 0 < n → spans s a n ≡ true
+    → IsPlace n (segments_at f parts) a s.part
+span_place f has places parts s a n own x z h =
+    let c = span_covers places parts s no_part a n x h in
+    owned_place f has parts no_part a n s.part own z (owned_part has parts no_part a s.part n own z x.inside c) c
+
+-- the bytes up to the end of a page stand one after the other
+pub span_more : (p : Pages) (start at size more : ℕ) → ((k : ℕ) → k < size → spot_of p (start + k) ≡ Some (at + k)) → spot_of p (start + size) ≡ Some (at + size)
+    → more ≤ PAGE_SIZE - (start + size) % PAGE_SIZE → (k : ℕ) → k < size + more → spot_of p (start + k) ≡ Some (at + k)
+span_more p start at size more old e h k l = go (nat_lt k size) refl
+  where
+    go : (t : Bool) → nat_lt k size ≡ t → spot_of p (start + k) ≡ Some (at + k)
+    go true t = old k (ltb-true k size t)
+    go false t =
+        let b = ltb-false k size t in
+        let to : start + size + (k - size) ≡ start + k = omega arith in
+        let at_to : at + size + (k - size) ≡ at + k = omega arith in
+        rw (to, at_to) at (spot_next p (start + size) (at + size) (k - size) e (omega arith))
 
 -- ---- numbers
 

@@ -7,6 +7,7 @@ use Rattle.eh_bus.specs.declared.map.TheConstants.{PAGE_COUNT, PAGE_SIZE}
 use Rattle.eh_bus.specs.Map.{AreSegments}
 use Rattle.eh_bus.specs.Place.{IsPlace}
 use Rattle.eh_bus.specs.declared.part.Part.{Part}
+use Rattle.eh_bus.specs.declared.part.Span.{Span}
 
 -- the pages one after the other: the place of each page number, an address in the page of each place, and for each byte
 -- of the pages its value and the number of the segment that has it
@@ -33,9 +34,12 @@ abbrev pub spot_in : Option ℕ → ℕ → Option ℕ
 spot_in None a = None
 spot_in (Some q) a = Some (q * PAGE_SIZE + a % PAGE_SIZE)
 
--- where the byte at a stands among the bytes of the pages
+-- where the byte at a stands among the bytes of the pages, by the places of the page numbers
+abbrev pub spot_at : List (Option ℕ) → ℕ → Option ℕ
+spot_at places a = spot_in (slice_index_or places (a / PAGE_SIZE) None) a
+
 abbrev pub spot_of : Pages → ℕ → Option ℕ
-spot_of p a = spot_in (slice_index_or p.places (a / PAGE_SIZE) None) a
+spot_of p a = spot_at p.places a
 
 abbrev pub byte_at_spot : List ℕ → Option ℕ → ℕ
 byte_at_spot bytes None = 0
@@ -65,6 +69,17 @@ segments_at byte parts = map (segment_at byte) parts
 -- all of the n bytes from a on lie in the part
 abbrev pub covers : Part → ℕ → ℕ → Bool
 covers part a n = nat_le part.start a && nat_le (a - part.start + n) part.size
+
+-- all of the n bytes from a on lie in the span
+abbrev pub spans : Span → ℕ → ℕ → Bool
+spans s a n = nat_le s.start a && nat_le (a - s.start + n) s.size
+
+-- the addresses of a span lie in its part, and their bytes stand one after the other
+pub record IsSpan (places : List (Option ℕ)) (parts : List Part) (s : Span) : Type 0 where
+  pub inside : s.part < length parts
+  pub low : (d : Part) → (slice_index_or parts s.part d).start ≤ s.start
+  pub high : (d : Part) → s.start + s.size ≤ (slice_index_or parts s.part d).start + (slice_index_or parts s.part d).size
+  pub spot : (k : ℕ) → k < s.size → spot_at places (s.start + k) ≡ Some (s.at + k)
 
 -- the owner of an address is the part that has it
 pub record AreOwned (has : ℕ → Option ℕ) (parts : List Part) : Type 0 where

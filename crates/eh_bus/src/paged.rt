@@ -1,5 +1,5 @@
 //! The memory that is kept in pages, found by their number in constant time. docs/memory-map.md states its rules.
-ghost use Rattle.std.specs.Prelude.{◌≡◌, ℕ, List, ◌+◌, ◌*◌, ◌%◌, ◌^◌, ◌<◌, ◌≤◌, length, drop, Option, Some, None, IfOk, IfErr, OnOk, All, ◌==◌, ◌++◌, ◌∷◌, [], IfSome, IfNone, slice_index_or, true};
+ghost use Rattle.std.specs.Prelude.{◌≡◌, ℕ, List, ◌+◌, ◌-◌, ◌*◌, ◌%◌, ◌^◌, ◌<◌, ◌≤◌, length, drop, Option, Some, None, IfOk, IfErr, OnOk, All, ◌==◌, ◌++◌, ◌∷◌, [], IfSome, IfNone, slice_index_or, true};
 ghost use Rattle.byteorder.specs.Endian.{little_number};
 ghost use Rattle.eh_bus.specs.Segment.{Segment, AreBytes};
 ghost use Rattle.eh_bus.specs.Built.{CanBuild, GivesImage, built, segment_of, zeros_at};
@@ -8,7 +8,7 @@ ghost use Rattle.eh_bus.specs.Place.{IsPlace, IsWidth};
 ghost use Rattle.eh_bus.specs.Memory.{fault_in, number_in, load_fault, store_fault, fetch_fault, store, store_run, run_fault, run_written, written, host_store};
 ghost use Rattle.eh_bus.specs.Map.{AreApart, AreSegments, flat_home};
 ghost use Rattle.eh_bus.specs.Guards.{AreGuards, AreGuards-prop};
-ghost use Rattle.eh_bus.specs.Pages.{ArePages, AreOwned, AreUsed, spot_of, byte_of, owner_of, CanStore, Lays, PagesMake, segments_at, covers, HasPage, IsPage, ArePageNumbers};
+ghost use Rattle.eh_bus.specs.Pages.{ArePages, AreOwned, AreUsed, spot_of, byte_of, owner_of, CanStore, Lays, PagesMake, segments_at, covers, IsSpan, HasPage, IsPage, ArePageNumbers};
 ghost use Rattle.eh_bus.specs.declared.fault.BusFault.{BusFault as Fault};
 ghost use Rattle.eh_bus.specs.declared.fault.BusFault.TheVariants.{Unmapped};
 
@@ -16,9 +16,9 @@ use crate::access::{fetch_fault, load_fault, store_fault};
 use crate::bus::Bus;
 use crate::fault::{BusFault, BusMemory};
 use crate::guards::Guards;
-use crate::map::{POOL_SIZE, POOL_START, STACK_END, STACK_SIZE, STACK_START};
+use crate::map::{PAGE_SIZE, POOL_SIZE, POOL_START, STACK_END, STACK_SIZE, STACK_START};
 use crate::pages::Pages;
-use crate::part::Part;
+use crate::part::{Part, Span};
 use crate::segment::SegmentSpec;
 use std::alloc::{AllocError, Global};
 
@@ -30,7 +30,7 @@ pub(crate) struct Found {
 }
 
 /// The segment that holds the `n` bytes from `a` on, by the owner of the first.
-pub(crate) fn find(pages: &Pages, parts: &[Part], a: u32, n: u32) -> Option<Found>
+fn look_up(pages: &Pages, parts: &[Part], a: u32, n: u32) -> Option<Found>
     requires some { 0 < n }
     requires sound { ArePages pages.now }
     requires owned { AreOwned (owner_of pages.now) parts.now }
@@ -54,17 +54,45 @@ pub(crate) fn find(pages: &Pages, parts: &[Part], a: u32, n: u32) -> Option<Foun
     }
 }
 
+/// The segment that holds the `n` bytes from `a` on. Where they lie in the span that is near, no page is looked for.
+pub(crate) fn find(pages: &Pages, parts: &[Part], near: &Span, a: u32, n: u32) -> Option<Found>
+    requires some { 0 < n }
+    requires sound { ArePages pages.now }
+    requires owned { AreOwned (owner_of pages.now) parts.now }
+    requires near { IsSpan pages.now.places parts.now near.now }
+    ensures place { IfSome result (λ found. IsPlace n (segments_at (byte_of pages.now) parts.now) a found.part) }
+    ensures covers { IfSome result (λ found. (d : Part) → covers (slice_index_or parts.now found.part d) a n ≡ true) }
+    ensures inside { IfSome result (λ found. found.part < length parts.now) }
+    ensures spot { IfSome result (λ found. spot_of pages.now a ≡ Some found.at) }
+    ensures unmapped { IfNone result ((f : Segment → Option Fault) → fault_in f n (segments_at (byte_of pages.now) parts.now) a ≡ Some (Unmapped a)) }
+{
+    if near.covers(a, n) {
+        return Some(Found {
+            part: near.part,
+            at: near.at as usize + (a - near.start) as usize,
+        });
+    }
+    look_up(pages, parts, a, n)
+}
+
 /// The spot of a load of `n` bytes.
-pub(crate) fn load_spot(pages: &Pages, parts: &[Part], a: u32, n: u32) -> Result<usize, BusFault>
+pub(crate) fn load_spot(
+    pages: &Pages,
+    parts: &[Part],
+    near: &Span,
+    a: u32,
+    n: u32,
+) -> Result<usize, BusFault>
     requires width { IsWidth n }
     requires sound { ArePages pages.now }
     requires owned { AreOwned (owner_of pages.now) parts.now }
+    requires near { IsSpan pages.now.places parts.now near.now }
     ensures room { IfOk result (λ at. at + n ≤ length pages.now.bytes) }
     ensures number { IfOk result (λ at. number_in n (segments_at (byte_of pages.now) parts.now) a ≡ little_number n (drop at pages.now.bytes)) }
     ensures ok { IfOk result (λ at. fault_in (λ s. load_fault n a) n (segments_at (byte_of pages.now) parts.now) a ≡ None) }
     ensures fault { IfErr result (λ fault. fault_in (λ s. load_fault n a) n (segments_at (byte_of pages.now) parts.now) a ≡ Some fault) }
 {
-    let Some(found) = find(pages, parts, a, n) else {
+    let Some(found) = find(pages, parts, near, a, n) else {
         return Err(BusFault::Unmapped(a));
     };
     match load_fault(n, a) {
@@ -74,15 +102,21 @@ pub(crate) fn load_spot(pages: &Pages, parts: &[Part], a: u32, n: u32) -> Result
 }
 
 /// The spot of a fetch.
-pub(crate) fn fetch_spot(pages: &Pages, parts: &[Part], a: u32) -> Result<usize, BusFault>
+pub(crate) fn fetch_spot(
+    pages: &Pages,
+    parts: &[Part],
+    near: &Span,
+    a: u32,
+) -> Result<usize, BusFault>
     requires sound { ArePages pages.now }
     requires owned { AreOwned (owner_of pages.now) parts.now }
+    requires near { IsSpan pages.now.places parts.now near.now }
     ensures room { IfOk result (λ at. at + 2 ≤ length pages.now.bytes) }
     ensures number { IfOk result (λ at. number_in 2 (segments_at (byte_of pages.now) parts.now) a ≡ little_number 2 (drop at pages.now.bytes)) }
     ensures ok { IfOk result (λ at. fault_in (λ s. fetch_fault s a) 2 (segments_at (byte_of pages.now) parts.now) a ≡ None) }
     ensures fault { IfErr result (λ fault. fault_in (λ s. fetch_fault s a) 2 (segments_at (byte_of pages.now) parts.now) a ≡ Some fault) }
 {
-    let Some(found) = find(pages, parts, a, 2) else {
+    let Some(found) = find(pages, parts, near, a, 2) else {
         return Err(BusFault::Unmapped(a));
     };
     match fetch_fault(parts[found.part].exec, a) {
@@ -95,6 +129,7 @@ pub(crate) fn fetch_spot(pages: &Pages, parts: &[Part], a: u32) -> Result<usize,
 pub(crate) fn store_spot(
     pages: &Pages,
     parts: &[Part],
+    near: &Span,
     guards: &Guards,
     a: u32,
     n: u32,
@@ -102,11 +137,12 @@ pub(crate) fn store_spot(
     requires width { IsWidth n }
     requires sound { ArePages pages.now }
     requires owned { AreOwned (owner_of pages.now) parts.now }
+    requires near { IsSpan pages.now.places parts.now near.now }
     ensures spot { IfOk result (λ found. CanStore n pages.now parts.now a found.part found.at) }
     ensures ok { IfOk result (λ found. fault_in (λ s. store_fault n guards.now s a) n (segments_at (byte_of pages.now) parts.now) a ≡ None) }
     ensures fault { IfErr result (λ fault. fault_in (λ s. store_fault n guards.now s a) n (segments_at (byte_of pages.now) parts.now) a ≡ Some fault) }
 {
-    let Some(found) = find(pages, parts, a, n) else {
+    let Some(found) = find(pages, parts, near, a, n) else {
         return Err(BusFault::Unmapped(a));
     };
     match store_fault(n, guards, parts[found.part].write, a) {
@@ -116,36 +152,45 @@ pub(crate) fn store_spot(
 }
 
 /// Where a word that begins at a multiple of 4 stands.
-pub(crate) fn word_spot(pages: &Pages, parts: &[Part], a: u32) -> Option<Found>
+pub(crate) fn word_spot(pages: &Pages, parts: &[Part], near: &Span, a: u32) -> Option<Found>
     requires aligned { a % 4 ≡ 0 }
     requires sound { ArePages pages.now }
     requires owned { AreOwned (owner_of pages.now) parts.now }
+    requires near { IsSpan pages.now.places parts.now near.now }
     ensures some { IfSome result (λ found. CanStore 4 pages.now parts.now a found.part found.at) }
     ensures none { IfNone result ((f : Segment → Option Fault) → fault_in f 4 (segments_at (byte_of pages.now) parts.now) a ≡ Some (Unmapped a)) }
 {
-    find(pages, parts, a, 4)
+    find(pages, parts, near, a, 4)
 }
 
 /// The word at a multiple of 4, or 0 where no segment holds it.
-pub(crate) fn read_word(pages: &Pages, parts: &[Part], a: u32) -> u32
+pub(crate) fn read_word(pages: &Pages, parts: &[Part], near: &Span, a: u32) -> u32
     requires aligned { a % 4 ≡ 0 }
     requires sound { ArePages pages.now }
     requires owned { AreOwned (owner_of pages.now) parts.now }
+    requires near { IsSpan pages.now.places parts.now near.now }
     ensures { result ≡ number_in 4 (segments_at (byte_of pages.now) parts.now) a }
 {
-    match word_spot(pages, parts, a) {
+    match word_spot(pages, parts, near, a) {
         Some(found) => pages.load32(found.at),
         None => 0,
     }
 }
 
 /// Why a word may not be stored.
-fn word_fault(pages: &Pages, parts: &[Part], guards: &Guards, a: u32) -> Option<BusFault>
+fn word_fault(
+    pages: &Pages,
+    parts: &[Part],
+    near: &Span,
+    guards: &Guards,
+    a: u32,
+) -> Option<BusFault>
     requires sound { ArePages pages.now }
     requires owned { AreOwned (owner_of pages.now) parts.now }
+    requires near { IsSpan pages.now.places parts.now near.now }
     ensures { result ≡ fault_in (λ s. store_fault 4 guards.now s a) 4 (segments_at (byte_of pages.now) parts.now) a }
 {
-    match store_spot(pages, parts, guards, a, 4) {
+    match store_spot(pages, parts, near, guards, a, 4) {
         Ok(_) => None,
         Err(fault) => Some(fault),
     }
@@ -156,17 +201,19 @@ fn word_fault(pages: &Pages, parts: &[Part], guards: &Guards, a: u32) -> Option<
 fn run_fault(
     pages: &Pages,
     parts: &[Part],
+    near: &Span,
     guards: &Guards,
     a: u32,
     words: &[u32],
 ) -> Option<BusFault>
     requires sound { ArePages pages.now }
     requires owned { AreOwned (owner_of pages.now) parts.now }
+    requires near { IsSpan pages.now.places parts.now near.now }
     ensures { result ≡ run_fault guards.now (segments_at (byte_of pages.now) parts.now) a words.now }
 {
     let mut at = a;
     for _word in words {
-        if let Some(fault) = word_fault(pages, parts, guards, at) {
+        if let Some(fault) = word_fault(pages, parts, near, guards, at) {
             return Some(fault);
         }
         at = at.wrapping_add(4);
@@ -175,26 +222,30 @@ fn run_fault(
 }
 
 /// Stores a word at a multiple of 4, where a segment holds it.
-fn write_word(pages: &mut Pages, parts: &[Part], a: u32, v: u32)
+fn write_word(pages: &mut Pages, parts: &[Part], near: &Span, a: u32, v: u32)
     requires aligned { a % 4 ≡ 0 }
     requires stand { PagesMake pages.old parts.now (segments_at (byte_of pages.old) parts.now) }
-    ensures { PagesMake pages.new parts.now (written 4 (segments_at (byte_of pages.old) parts.now) a v) }
+    requires near { IsSpan pages.old.places parts.now near.now }
+    ensures made { PagesMake pages.new parts.now (written 4 (segments_at (byte_of pages.old) parts.now) a v) }
+    ensures places { pages.new.places ≡ pages.old.places }
 {
-    match word_spot(pages, parts, a) {
+    match word_spot(pages, parts, near, a) {
         Some(found) => pages.store32(found.at, v),
         None => {}
     }
 }
 
 /// Stores the words of a run.
-fn run_write(pages: &mut Pages, parts: &[Part], a: u32, words: &[u32])
+fn run_write(pages: &mut Pages, parts: &[Part], near: &Span, a: u32, words: &[u32])
     requires aligned { 0 < length words.now → a % 4 ≡ 0 }
     requires stand { PagesMake pages.old parts.now (segments_at (byte_of pages.old) parts.now) }
-    ensures { PagesMake pages.new parts.now (run_written (segments_at (byte_of pages.old) parts.now) a words.now) }
+    requires near { IsSpan pages.old.places parts.now near.now }
+    ensures made { PagesMake pages.new parts.now (run_written (segments_at (byte_of pages.old) parts.now) a words.now) }
+    ensures places { pages.new.places ≡ pages.old.places }
 {
     let mut at = a;
     for word in words {
-        write_word(pages, parts, at, *word);
+        write_word(pages, parts, near, at, *word);
         at = at.wrapping_add(4);
     }
 }
@@ -260,15 +311,84 @@ fn lay_all(alloc: Global, specs: &[SegmentSpec]) -> Result<Laid, AllocError>
     Ok(Laid { pages, parts })
 }
 
+/// Whether the byte at so many behind `start` stands as many behind a spot.
+fn stands(pages: &Pages, start: u32, at: u32, k: u32) -> bool
+    ensures { result ≡ true → spot_of pages.now (start + k) ≡ Some (at + k) }
+{
+    let Some(a) = start.checked_add(k) else {
+        return false;
+    };
+    match pages.spot(a) {
+        Some(spot) => spot == at as usize + k as usize,
+        None => false,
+    }
+}
+
+/// The spot of an address, or 0 where it has none.
+fn spot_or_zero(pages: &Pages, a: u32) -> u32 {
+    match pages.spot(a) {
+        Some(at) => u32::try_from(at).unwrap_or(0),
+        None => 0,
+    }
+}
+
+/// How many bytes lie between the byte at so many behind `start` and the end of its page.
+fn left_of_page(start: u32, k: u32) -> u32
+    ensures { result ≡ PAGE_SIZE - (start + k) % PAGE_SIZE }
+{
+    PAGE_SIZE - (start % PAGE_SIZE + k % PAGE_SIZE) % PAGE_SIZE
+}
+
+/// The addresses of a segment, from its first on, whose bytes stand one after the other.
+fn span_of(pages: &Pages, parts: &[Part], number: usize) -> Span
+    requires { number < length parts.now }
+    ensures { IsSpan pages.now.places parts.now result }
+{
+    let part = parts[number];
+    let at = spot_or_zero(pages, part.start);
+    let mut size = 0;
+    'pages: while size < part.size && stands(pages, part.start, at, size) {
+        size += left_of_page(part.start, size).min(part.size - size);
+    }
+    Span {
+        part: number,
+        start: part.start,
+        size,
+        at,
+    }
+}
+
+/// The first segment that may be executed, or the first of all where none may.
+fn first_code(parts: &[Part]) -> usize
+    requires { 0 < length parts.now }
+    ensures { result < length parts.now }
+{
+    for i in 0..parts.len() {
+        if parts[i].exec {
+            return i;
+        }
+    }
+    0
+}
+
 /// A memory that keeps its segments in pages of 4,096 bytes, found by their number in constant time.
+///
+/// Where the bytes of a segment stand one after the other, as they mostly do, an access needs no page: it is looked for in the
+/// span of the stack first, a fetch in that of the first segment that may be executed, and the host's in that of the pool.
 #[derive(Drop)]
 pub struct PagedBus {
     pages: Pages,
     parts: Vec<Part>,
+    stack: Span,
+    pool: Span,
+    code: Span,
     guards: Guards,
     ghost sound: { ArePages pages },
     ghost used: { AreUsed pages },
     ghost owned: { AreOwned (owner_of pages) parts.items },
+    ghost stack_span: { IsSpan pages.places parts.items stack },
+    ghost pool_span: { IsSpan pages.places parts.items pool },
+    ghost code_span: { IsSpan pages.places parts.items code },
     ghost mapped: { AreSegments (segments_at (byte_of pages) parts.items) },
     ghost rising: { AreGuards guards } by { AreGuards-prop guards },
 }
@@ -285,9 +405,15 @@ impl PagedBus {
     {
         let guards = Guards::new(alloc)?;
         let laid = lay_all(alloc, segments)?;
+        let stack = span_of(&laid.pages, &laid.parts, 0);
+        let pool = span_of(&laid.pages, &laid.parts, 1);
+        let code = span_of(&laid.pages, &laid.parts, first_code(&laid.parts));
         Ok(PagedBus {
             pages: laid.pages,
             parts: laid.parts,
+            stack,
+            pool,
+            code,
             guards,
         })
     }
@@ -296,7 +422,7 @@ impl PagedBus {
     fn put8(&mut self, a: u32, v: u8) -> Result<(), BusFault>
         ensures { (result, memory_of self.new) ≡ store 1 (memory_of self.old) a v }
     {
-        let found = store_spot(&self.pages, &self.parts, &self.guards, a, 1)?;
+        let found = store_spot(&self.pages, &self.parts, &self.stack, &self.guards, a, 1)?;
         self.pages.store8(found.at, v);
         Ok(())
     }
@@ -305,7 +431,7 @@ impl PagedBus {
     fn put16(&mut self, a: u32, v: u16) -> Result<(), BusFault>
         ensures { (result, memory_of self.new) ≡ store 2 (memory_of self.old) a v }
     {
-        let found = store_spot(&self.pages, &self.parts, &self.guards, a, 2)?;
+        let found = store_spot(&self.pages, &self.parts, &self.stack, &self.guards, a, 2)?;
         self.pages.store16(found.at, v);
         Ok(())
     }
@@ -314,7 +440,7 @@ impl PagedBus {
     fn put32(&mut self, a: u32, v: u32) -> Result<(), BusFault>
         ensures { (result, memory_of self.new) ≡ store 4 (memory_of self.old) a v }
     {
-        let found = store_spot(&self.pages, &self.parts, &self.guards, a, 4)?;
+        let found = store_spot(&self.pages, &self.parts, &self.stack, &self.guards, a, 4)?;
         self.pages.store32(found.at, v);
         Ok(())
     }
@@ -323,10 +449,17 @@ impl PagedBus {
     fn put_run(&mut self, a: u32, words: &[u32]) -> Result<(), BusFault>
         ensures { (result, memory_of self.new) ≡ store_run (memory_of self.old) a words.now }
     {
-        if let Some(fault) = run_fault(&self.pages, &self.parts, &self.guards, a, words) {
+        if let Some(fault) = run_fault(
+            &self.pages,
+            &self.parts,
+            &self.stack,
+            &self.guards,
+            a,
+            words,
+        ) {
             return Err(fault);
         }
-        run_write(&mut self.pages, &self.parts, a, words);
+        run_write(&mut self.pages, &self.parts, &self.stack, a, words);
         Ok(())
     }
 
@@ -335,7 +468,7 @@ impl PagedBus {
         requires { a % 4 ≡ 0 }
         ensures { memory_of self.new ≡ host_store (memory_of self.old) a v }
     {
-        write_word(&mut self.pages, &self.parts, a, v);
+        write_word(&mut self.pages, &self.parts, &self.pool, a, v);
     }
 
     /// The numbers of the pages that hold a byte of a segment, each counted once.
@@ -364,20 +497,23 @@ impl Bus for PagedBus {
     ghost memory = { memory_of };
 
     fn load8(&self, a: u32) -> Result<u8, BusFault> {
-        Ok(self.pages.load8(load_spot(&self.pages, &self.parts, a, 1)?))
+        Ok(
+            self.pages
+                .load8(load_spot(&self.pages, &self.parts, &self.stack, a, 1)?),
+        )
     }
 
     fn load16(&self, a: u32) -> Result<u16, BusFault> {
         Ok(
             self.pages
-                .load16(load_spot(&self.pages, &self.parts, a, 2)?),
+                .load16(load_spot(&self.pages, &self.parts, &self.stack, a, 2)?),
         )
     }
 
     fn load32(&self, a: u32) -> Result<u32, BusFault> {
         Ok(
             self.pages
-                .load32(load_spot(&self.pages, &self.parts, a, 4)?),
+                .load32(load_spot(&self.pages, &self.parts, &self.stack, a, 4)?),
         )
     }
 
@@ -398,7 +534,10 @@ impl Bus for PagedBus {
     }
 
     fn fetch16(&self, a: u32) -> Result<u16, BusFault> {
-        Ok(self.pages.load16(fetch_spot(&self.pages, &self.parts, a)?))
+        Ok(
+            self.pages
+                .load16(fetch_spot(&self.pages, &self.parts, &self.code, a)?),
+        )
     }
 
     fn guard(&mut self, a: u32) {
@@ -410,7 +549,7 @@ impl Bus for PagedBus {
     }
 
     fn host_load32(&self, a: u32) -> u32 {
-        read_word(&self.pages, &self.parts, a)
+        read_word(&self.pages, &self.parts, &self.pool, a)
     }
 
     fn host_store32(&mut self, a: u32, v: u32) {

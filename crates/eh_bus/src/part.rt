@@ -1,6 +1,6 @@
 //! A segment of a memory in pages: where it lies and its rights. Its bytes stand in the pages.
 ghost use Rattle.std.specs.Prelude.{◌≡◌};
-ghost use Rattle.eh_bus.specs.Pages.{covers};
+ghost use Rattle.eh_bus.specs.Pages.{covers, spans};
 
 /// A segment without its bytes.
 #[derive(Clone, Copy)]
@@ -15,6 +15,26 @@ impl Part {
     /// Whether all of the `n` bytes from `a` on lie here.
     pub(crate) fn covers(&self, a: u32, n: u32) -> bool
         ensures { result ≡ covers self.now a n }
+    {
+        self.start <= a && u64::from(a - self.start) + u64::from(n) <= u64::from(self.size)
+    }
+}
+
+/// Addresses of one segment whose bytes stand one after the other among those of the pages.
+#[derive(Clone, Copy)]
+pub(crate) struct Span {
+    /// The number of the segment.
+    pub(crate) part: usize,
+    pub(crate) start: u32,
+    pub(crate) size: u32,
+    /// The spot of the first byte.
+    pub(crate) at: u32,
+}
+
+impl Span {
+    /// Whether all of the `n` bytes from `a` on lie here.
+    pub(crate) fn covers(&self, a: u32, n: u32) -> bool
+        ensures { result ≡ spans self.now a n }
     {
         self.start <= a && u64::from(a - self.start) + u64::from(n) <= u64::from(self.size)
     }

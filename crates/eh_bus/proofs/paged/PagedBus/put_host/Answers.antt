@@ -2,5 +2,14 @@ use Rattle.eh_bus.proofs.paged.PagedBus.put_host.Goals as goal
 
 pub invariant_of-self : goal.invariant_of-self
 invariant_of-self c =
-    let k = rw c.deref.ensures.value at c.write_word.ensures in
-    record { sound = k.sound; used = k.used; owned = k.owned; mapped = rw k.made k.mapped; rising = c.args.self.now.rising }
+    let k = rw c.deref.ensures.value at c.write_word.ensures.made in
+    record {
+      sound = k.sound;
+      used = k.used;
+      owned = k.owned;
+      stack_span = rw c.write_word.ensures.places c.args.self.now.stack_span;
+      pool_span = rw c.write_word.ensures.places c.args.self.now.pool_span;
+      code_span = rw c.write_word.ensures.places c.args.self.now.code_span;
+      mapped = rw k.made k.mapped;
+      rising = c.args.self.now.rising;
+    }

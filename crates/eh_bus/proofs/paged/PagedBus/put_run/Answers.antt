@@ -7,5 +7,14 @@ run_write-requires-clause-aligned c = run_aligned _ _ c.args.a c.args.words.now 
 
 pub invariant_of-self-2 : goal.invariant_of-self-2
 invariant_of-self-2 c =
-    let k = rw c.deref-2.ensures.value at c.run_write.ensures in
-    record { sound = k.sound; used = k.used; owned = k.owned; mapped = rw k.made k.mapped; rising = c.args.self.now.rising }
+    let k = rw c.deref-2.ensures.value at c.run_write.ensures.made in
+    record {
+      sound = k.sound;
+      used = k.used;
+      owned = k.owned;
+      stack_span = rw c.run_write.ensures.places c.args.self.now.stack_span;
+      pool_span = rw c.run_write.ensures.places c.args.self.now.pool_span;
+      code_span = rw c.run_write.ensures.places c.args.self.now.code_span;
+      mapped = rw k.made k.mapped;
+      rising = c.args.self.now.rising;
+    }
