@@ -87,7 +87,7 @@ has_room objects placed one =
       apart = room.apart;
     }
 
-mid : {A : Type 0} (P : A → Type 0) (front : List A) (x : A) (back : List A) → All P (front ++ x ∷ back) → P x
+pub mid : {A : Type 0} (P : A → Type 0) (front : List A) (x : A) (back : List A) → All P (front ++ x ∷ back) → P x
 mid P [] x back h = All-head P x back h
 mid P (y ∷ front) x back h = mid P front x back (All-tail P y (front ++ x ∷ back) h)
 
@@ -149,7 +149,7 @@ image_is objects entry image e =
     let made : Ok (parts_of objects entry) ≡ Ok image = none_there (lowest_unreachable (placed_of objects) (placed_of objects)) RelocationRange _ image laid in
     cc
 
-made_symbols : (objects : List Object) (entry : List ℕ) → (parts_of objects entry).symbols ≡ symbols_of (layout_of objects) (placed_of objects)
+pub made_symbols : (objects : List Object) (entry : List ℕ) → (parts_of objects entry).symbols ≡ symbols_of (layout_of objects) (placed_of objects)
 unfolding parts_of
 made_symbols objects entry = refl
 
@@ -185,9 +185,9 @@ law_of_symbols objects entry image placed one symbol e there public =
 
 -- ---- what names mean
 
-record FoundIn {A : Type 0} (p : A → Bool) (xs : List A) (x : A) : Type 0 where
-  there : Has xs x
-  fits : p x ≡ true
+pub record FoundIn {A : Type 0} (p : A → Bool) (xs : List A) (x : A) : Type 0 where
+  pub there : Has xs x
+  pub fits : p x ≡ true
 
 found_in : {A : Type 0} (p : A → Bool) (xs : List A) (x : A) → find p xs ≡ Some x → FoundIn p xs x
 found_in p [] x e = absurd cc
@@ -210,14 +210,14 @@ none_in p (y ∷ xs) e = by (p y) e (none_in p xs)
     by false e rest = rest e
 
 -- the first label of some sort in some objects
-record FirstIn (wanted : ObjSymbol → Bool) (all : List Placed) (means : Meaning) : Type 0 where
-  home : Placed
-  at : Has all home
-  symbol : ObjSymbol
-  own : FoundIn wanted home.object.symbols symbol
-  is : means ≡ meaning home.at symbol
+pub record FirstIn (wanted : ObjSymbol → Bool) (all : List Placed) (means : Meaning) : Type 0 where
+  pub home : Placed
+  pub at : Has all home
+  pub symbol : ObjSymbol
+  pub own : FoundIn wanted home.object.symbols symbol
+  pub is : means ≡ meaning home.at symbol
 
-first_there : (wanted : ObjSymbol → Bool) (all : List Placed) (means : Meaning) → first_in wanted all ≡ Some means → FirstIn wanted all means
+pub first_there : (wanted : ObjSymbol → Bool) (all : List Placed) (means : Meaning) → first_in wanted all ≡ Some means → FirstIn wanted all means
 first_there wanted [] means e = absurd cc
 first_there wanted (placed ∷ more) means e = by (find wanted placed.object.symbols) refl e (first_there wanted more means)
   where

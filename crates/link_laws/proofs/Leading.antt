@@ -60,7 +60,7 @@ found_or name labels (statement.Label other) place q rest e = by (is_among other
 found_or name labels _ place q rest e = inr e
 
 -- a label stands within what a section may have
-found_small : (entries : List (Option EntryWords)) (given labels : List Named) (walk : Walk) (stmts : List Stmt) (name : List ℕ) (q : Place) → Fewer entries
+pub found_small : (entries : List (Option EntryWords)) (given labels : List Named) (walk : Walk) (stmts : List Stmt) (name : List ℕ) (q : Place) → Fewer entries
     → refusals_from entries given walk stmts ≡ [] → is_too_large (sizes_with_pool (walk_behind entries walk stmts)) ≡ false
     → find name (labels_from entries labels walk stmts) ≡ Some q → q.offset ≤ MOST_BYTES
 unfolding labels_from find refusals_from walk_behind
@@ -122,7 +122,7 @@ joined_text : (stmts : List Stmt) → (joined stmts).text ≡ bytes_in Text (pie
 unfolding joined
 joined_text stmts = refl
 
-joined_symbols : (stmts : List Stmt) → (joined stmts).symbols ≡ map (λ label. symbol_of (labelled (entries_of stmts) stmts label)) (labels_of (entries_of stmts) stmts)
+pub joined_symbols : (stmts : List Stmt) → (joined stmts).symbols ≡ map (λ label. symbol_of (labelled (entries_of stmts) stmts label)) (labels_of (entries_of stmts) stmts)
 unfolding joined
 joined_symbols stmts = refl
 
@@ -234,7 +234,7 @@ named_there stmts name object to few t e =
 minus_small : (to from : ℕ) → to ≤ MOST_BYTES + 8 → from ≤ MOST_BYTES + 8 → between to from ≡ pos to -ℤ pos from
 minus_small to from h k = grind (arith, ints, nat_tests)
 
-goes : (place to : ℕ) → place ≤ MOST_BYTES → to ≤ MOST_BYTES → GoesTo place to (between to (pc place))
+pub goes : (place to : ℕ) → place ≤ MOST_BYTES → to ≤ MOST_BYTES → GoesTo place to (between to (pc place))
 goes place to h k regs text fits at =
     let from : pc place ≡ place + 4 = omega (arith, h) in
     let way : between to (pc place) ≡ pos to -ℤ pos (place + 4) = ap (between to) from ∙ minus_small to (place + 4) (omega (arith, k)) (omega (arith, h)) in
@@ -245,7 +245,7 @@ goes place to h k regs text fits at =
     comes : (text place to : ℕ) → place ≤ MOST_BYTES → to ≤ MOST_BYTES → text + to < 2 ^ 32 → forward ((text + place + 4) % 2 ^ 32) (pos to -ℤ pos (place + 4)) ≡ text + to
     comes text place to h k fits = grind (arith, ints, nat_tests)
 
-reaches : (place to : ℕ) → place ≤ MOST_BYTES → to ≤ MOST_BYTES → ReachesFromItsBase place to (literal to place)
+pub reaches : (place to : ℕ) → place ≤ MOST_BYTES → to ≤ MOST_BYTES → ReachesFromItsBase place to (literal to place)
 reaches place to h k regs text fourth fits at =
     let from : base place ≡ (place + 4) / 4 * 4 = omega (arith, h) in
     let way : literal to place ≡ pos to -ℤ pos ((place + 4) / 4 * 4) = ap (between to) from ∙ minus_small to ((place + 4) / 4 * 4) (omega (arith, k)) (omega (arith, h)) in
@@ -259,11 +259,11 @@ reaches place to h k regs text fourth fits at =
 
 -- ---- the laws
 
-record Coded (r : Result Code EncodeFault) : Type 0 where
-  code : Code
-  is : r ≡ Ok code
+pub record Coded (r : Result Code EncodeFault) : Type 0 where
+  pub code : Code
+  pub is : r ≡ Ok code
 
-coded : (r : Result Code EncodeFault) → result_err r ≡ None → Coded r
+pub coded : (r : Result Code EncodeFault) → result_err r ≡ None → Coded r
 coded (Ok c) e = record { code = c; is = refl }
 coded (Err fault) e = absurd (cc)
 

@@ -4,3 +4,8 @@ pub mod Meanings
 pub mod Labels
 pub mod Numbers
 pub mod Joined
+pub mod Filled
+pub mod Given
+pub mod Said
+pub mod Ways
+pub mod Entries

@@ -19,7 +19,7 @@ use Rattle.link_laws.specs.MeaningLaw.{HasMeaning, NamesHaveMeanings}
 
 -- ---- what is past when there is an image
 
-none_there : {A : Type 0} (value : Option A) (fault : A → LinkFault) (later : Result ImageParts LinkFault) (image : ImageParts)
+pub none_there : {A : Type 0} (value : Option A) (fault : A → LinkFault) (later : Result ImageParts LinkFault) (image : ImageParts)
     → unless value fault later ≡ Ok image → (value ≡ None) × (later ≡ Ok image)
 none_there None fault later image e = (refl, e)
 none_there (Some value) fault later image e = absurd cc
@@ -82,7 +82,7 @@ placed_defined all at (object ∷ more) (x ∷ front) back placed before after r
 
 -- ---- its meaning
 
-some_symbol : (p : ObjSymbol → Bool) (at : Addresses) (symbols : List ObjSymbol) → list_any p symbols ≡ true → HasMeaning (option_map (meaning at) (find p symbols))
+pub some_symbol : (p : ObjSymbol → Bool) (at : Addresses) (symbols : List ObjSymbol) → list_any p symbols ≡ true → HasMeaning (option_map (meaning at) (find p symbols))
 some_symbol p at [] e = absurd (true≢false (sym e))
 some_symbol p at (x ∷ more) e = by (p x) e (some_symbol p at more)
   where
@@ -91,14 +91,14 @@ some_symbol p at (x ∷ more) e = by (p x) e (some_symbol p at more)
     by true e rest = record { means = meaning at x; is = refl }
     by false e rest = rest e
 
-first_or : (a b : Option Meaning) → HasMeaning a → HasMeaning (option_or a b)
+pub first_or : (a b : Option Meaning) → HasMeaning a → HasMeaning (option_or a b)
 first_or None b h = absurd (none h.means h.is)
   where
     none : (m : Meaning) → None ≡ Some m → ⊥
     none m e = cc
 first_or (Some m) b h = record { means = m; is = refl }
 
-second_or : (a b : Option Meaning) → HasMeaning b → HasMeaning (option_or a b)
+pub second_or : (a b : Option Meaning) → HasMeaning b → HasMeaning (option_or a b)
 second_or None b h = h
 second_or (Some m) b h = record { means = m; is = refl }
 

@@ -6,6 +6,10 @@ ghost use Rattle.link_laws.specs.BranchLaw.{BranchesLead, CondBranchesLead, Call
 ghost use Rattle.link_laws.specs.MeaningLaw.{NamesHaveMeanings};
 ghost use Rattle.link_laws.specs.LabelLaw.{LabelsAreSymbols, MeaningsAreOfLabels};
 ghost use Rattle.link_laws.specs.JoinedLaw.{WordsAreSums};
+ghost use Rattle.link_laws.specs.FilledLaw.{FieldsAreFilled};
+ghost use Rattle.link_laws.specs.SaidLaw.{WordsSay, HalvesSay, BytesSay};
+ghost use Rattle.link_laws.specs.EntryLaw.{MarksAreMapped, EntriesAreFunctions};
+ghost use Rattle.link_laws.specs.WayLaw.{JumpsLeadTo, CondJumpsLeadTo, CallsLeadTo, AddressesLeadTo, LoadsLeadTo};
 
 /// A branch to a label in the text of its own source, an `adr` and a `ldr rt, name` lead to the label: the halfwords at the statement's
 /// place decode to the instruction, and the core, which counts from that place, comes to the label's.
@@ -33,4 +37,38 @@ pub fn labels_stand_in_their_parts()
 /// set where the name means a function.
 pub fn words_are_sums()
     ensures { WordsAreSums }
+{}
+
+/// In the image that sources link to, each field that the assembler left to the linker has a kind, its name means a label, and what
+/// stands at the field's address is what the kind says of that: a word that is, or makes with its own address, the label's address, or
+/// a branch that decodes to the way there.
+pub fn fields_are_filled()
+    ensures { FieldsAreFilled }
+{}
+
+/// In the image that sources link to, the word at the address of each expression of a `.word` is what the expression says, and so are the
+/// halfwords and bytes of a `.half` and a `.byte`: a number, how far one label stands behind another, or what the name means, in the
+/// relation to the word's own address that the source asks for.
+pub fn numbers_are_as_given()
+    ensures words { WordsSay }
+    ensures halves { HalvesSay }
+    ensures bytes { BytesSay }
+{}
+
+/// In the image that sources link to, each branch, `adr` and `ldr rt, name` leads to what its name means there, whether the assembler or the
+/// linker gave it its offset: the halfwords at its address decode to the instruction, and the core, which counts from that address, comes
+/// to the label's.
+pub fn names_lead_to_what_they_mean()
+    ensures calls { CallsLeadTo }
+    ensures jumps { JumpsLeadTo }
+    ensures conditions { CondJumpsLeadTo }
+    ensures addresses { AddressesLeadTo }
+    ensures loads { LoadsLeadTo }
+{}
+
+/// Each mark of an object is a mapping symbol of the image that it links to, `$t` where code begins and `$d` where data does, and the
+/// image's entry is where a global function of the entry's name begins.
+pub fn marks_and_entry_are_of_objects()
+    ensures marks { MarksAreMapped }
+    ensures entry { EntriesAreFunctions }
 {}

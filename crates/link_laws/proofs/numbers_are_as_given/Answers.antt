@@ -1,0 +1,5 @@
+use Rattle.link_laws.proofs.Said.{law_of_words, law_of_halves, law_of_bytes}
+use Rattle.link_laws.proofs.numbers_are_as_given.Goals as goal
+
+pub returns : goal.returns
+returns c = record { words = law_of_words; halves = law_of_halves; bytes = law_of_bytes }

@@ -1,0 +1,96 @@
+-- What the image that sources link to has for what they give: at the address of each expression of a `.word`, `.half` or `.byte` the value
+-- that it says (docs/objects.md, "Names"; docs/linking.md, "Relocations").
+use Rattle.std.specs.Prelude.{◌≡◌, ℕ, ℤ, pos, ◌+◌, ◌*◌, ◌%◌, ◌^◌, ◌<◌, ◌+ℤ◌, ◌-ℤ◌, List, ◌∷◌, ◌++◌, length, Some, Ok}
+use Rattle.asm_read.specs.declared.statement.Expr.{Expr}
+use Rattle.asm_read.specs.declared.statement.Expr.TheVariants as expr
+use Rattle.asm_read.specs.declared.statement.Stmt.{Stmt}
+use Rattle.asm_read.specs.declared.statement.StmtKind.{StmtKind}
+use Rattle.asm_read.specs.declared.statement.StmtKind.TheVariants as statement
+use Rattle.asm_layout.specs.declared.place.Place.{Place}
+use Rattle.asm_layout.specs.Walks.{here}
+use Rattle.asm_layout.specs.Words.{low_word}
+use Rattle.asm_object.specs.declared.object.Object.{Object}
+use Rattle.asm_object.specs.Objects.{object_of}
+use Rattle.asm_object.specs.ObjectLaw.{symbol_place}
+use Rattle.asm_object.specs.Values.{signed}
+use Rattle.elf_write.specs.declared.parts.ImageParts.{ImageParts}
+use Rattle.eh_link.specs.declared.names.Meaning.{Meaning}
+use Rattle.eh_link.specs.Placed.{Placed}
+use Rattle.eh_link.specs.Layout.{placed_of}
+use Rattle.eh_link.specs.Symbols.{meaning_of}
+use Rattle.eh_link.specs.EquationLaw.{target_of}
+use Rattle.eh_link.specs.Linked.{linked}
+use Rattle.source_laws.specs.RowLaw.{behind}
+use Rattle.link_laws.specs.MeaningLaw.{IsOneOf}
+use Rattle.link_laws.specs.LabelLaw.{PartBegins}
+use Rattle.link_laws.specs.JoinedLaw.{NumberAt}
+use Rattle.link_laws.specs.FilledLaw.{RelativeAt, Prel31At}
+
+-- ---- what expressions say
+
+-- a name of an object means something, of which this holds
+pub record MeansSo (objects : List Object) (placed : Placed) (name : List ℕ) (Says : Meaning → Type 0) : Type 0 where
+  pub meaning : Meaning
+  pub means : meaning_of (placed_of objects) placed name ≡ Some meaning
+  pub says : Says meaning
+
+-- one label of an object stands so far behind another one of its section
+pub record StandsBehind (object : Object) (a b : List ℕ) (way : ℤ) : Type 0 where
+  pub first : Place
+  pub first_is : symbol_place a object.symbols ≡ Some first
+  pub second : Place
+  pub second_is : symbol_place b object.symbols ≡ Some second
+  pub together : first.section ≡ second.section
+  pub way_is : way ≡ pos first.offset -ℤ pos second.offset
+
+-- a number of so many bytes is how far one label stands behind another, and n more, without what goes beyond these bytes
+pub record DifferenceAt (size : ℕ) (object : Object) (a b : List ℕ) (n : ℤ) (image : ImageParts) (address : ℕ) : Type 0 where
+  pub way : ℤ
+  pub apart : StandsBehind object a b way
+  pub there : NumberAt size image address (low_word (way +ℤ n) % 256 ^ size)
+
+-- the word at an address is what an expression says
+abbrev pub WordSays : List Object → Placed → ImageParts → Expr → ℕ → Type 0
+WordSays objects placed image (expr.Num n) address = NumberAt 4 image address (low_word n)
+WordSays objects placed image (expr.Diff a b n) address = DifferenceAt 4 placed.object a b n image address
+WordSays objects placed image (expr.Of name n) address = MeansSo objects placed name (λ meaning. NumberAt 4 image address (target_of meaning (signed (low_word n))))
+WordSays objects placed image (expr.Rel name) address = MeansSo objects placed name (λ meaning. RelativeAt (target_of meaning (pos 0)) image address)
+WordSays objects placed image (expr.Target2 name) address = MeansSo objects placed name (λ meaning. RelativeAt (target_of meaning (pos 0)) image address)
+WordSays objects placed image (expr.Prel31 name) address = MeansSo objects placed name (λ meaning. Prel31At 0 (target_of meaning (pos 0)) image address)
+WordSays objects placed image (expr.Prel31Ref name) address = MeansSo objects placed name (λ meaning. Prel31At 1 (target_of meaning (pos 0)) image address)
+
+-- the number of fewer bytes: a number or a difference, and nothing else is taken
+abbrev pub NumberSays : ℕ → List Object → Placed → ImageParts → Expr → ℕ → Type 0
+NumberSays size objects placed image (expr.Num n) address = NumberAt size image address (low_word n % 256 ^ size)
+NumberSays size objects placed image (expr.Diff a b n) address = DifferenceAt size placed.object a b n image address
+NumberSays size objects placed image (expr.Of name n) address = ⊥
+NumberSays size objects placed image (expr.Rel name) address = ⊥
+NumberSays size objects placed image (expr.Target2 name) address = ⊥
+NumberSays size objects placed image (expr.Prel31 name) address = ⊥
+NumberSays size objects placed image (expr.Prel31Ref name) address = ⊥
+
+-- ---- where they stand
+
+-- something holds of an address: so many bytes behind the place of the statement behind some others, in the object's part of its section
+pub record SaysThere (objects : List Object) (placed : Placed) (one : IsOneOf objects placed) (stmts before : List Stmt) (offset : ℕ) (Says : ℕ → Type 0) : Type 0 where
+  pub part : ℕ
+  pub begins : PartBegins (behind stmts before).at.section objects placed one part
+  pub says : Says (part + ((here (behind stmts before).at).offset + offset))
+
+-- each expression of a statement of a kind, whose values take so many bytes each
+abbrev pub EachSays : (List Expr → StmtKind) → ℕ → (List Object → Placed → ImageParts → Expr → ℕ → Type 0) → Type 0
+EachSays kind size Says =
+    (objects : List Object) (entry : List ℕ) (image : ImageParts) (placed : Placed) (one : IsOneOf objects placed)
+    (before more : List Stmt) (line : ℕ) (front back : List Expr) (value : Expr)
+    → let stmts = before ++ record { line = line; kind = kind (front ++ value ∷ back) } ∷ more in
+    length stmts < 2 ^ 64 → object_of stmts ≡ Ok placed.object → linked objects entry ≡ Ok image
+    → SaysThere objects placed one stmts before (size * length front) (Says objects placed image value)
+
+abbrev pub WordsSay : Type 0
+WordsSay = EachSays statement.Words 4 WordSays
+
+abbrev pub HalvesSay : Type 0
+HalvesSay = EachSays statement.Halves 2 (NumberSays 2)
+
+abbrev pub BytesSay : Type 0
+BytesSay = EachSays statement.Bytes 1 (NumberSays 1)
