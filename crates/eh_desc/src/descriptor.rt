@@ -257,13 +257,8 @@ impl<'a> Table<'a> {
         if count > MOST_TYPES {
             return Found::Fault(DescFault::Count);
         }
-        self.types(
-            place,
-            scope,
-            scope.place + 4,
-            count,
-            word >= LANDING_PAD_MARK,
-        )
+        let padded = word >= LANDING_PAD_MARK;
+        self.types(place, scope, scope.place + 4, count, padded)
     }
 
     /// What the marks of a scope say stands behind it.

@@ -1,5 +1,5 @@
 -- What is found among rows: the first refusal, and the entry that covers an address.
-use Rattle.eh_index.specs.Laws.{IsEntry, EntriesStand, RangesCover}
+use Rattle.eh_index.specs.Laws.{IsEntry, EntriesStand, FirstWordsAreClear, RangesCover}
 use Rattle.std.proofs.Common.{◌≡◌, ℕ, zero, suc, ◌+◌, ◌-◌, ◌%◌, ◌<◌, ◌≤◌, Bool, true, false, not, ◌&&◌, ◌||◌, cond, nat_eq, nat_le, nat_lt, List, [], ◌∷◌, ◌++◌, length, map, fold, Option, Some, None, refl, sym, ◌∙◌, ap, subst, append_assoc, append-nil, arith}
 use Rattle.std.proofs.lemmas.Bool.Decides.{nat_tests}
 use Rattle.std.proofs.lemmas.Bool.{false≢true}
@@ -233,6 +233,18 @@ entry_stands image h k inside =
     let p =
     neither (nat_le PREL31_LIMIT (first_word image k)) (is_code_bound image.segments (entry_at image k).start) (is_table_place image.segments (entry_at image k).body) (tests_passed image h k inside).0 in
     record { code = p.0; table = p.1 }
+
+first_clear : (a b c : Bool) → ((a || not b) || not c) ≡ false → a ≡ false
+first_clear true b c h = absurd cc
+first_clear false b c h = refl
+
+below_limit : (word : ℕ) → nat_le PREL31_LIMIT word ≡ false → word < PREL31_LIMIT
+below_limit word h = grind (arith, nat_tests)
+
+pub first_words_clear : FirstWordsAreClear
+first_words_clear image k h inside =
+    below_limit (first_word image k)
+    (first_clear (nat_le PREL31_LIMIT (first_word image k)) (is_code_bound image.segments (entry_at image k).start) (is_table_place image.segments (entry_at image k).body) (tests_passed image h k inside).0)
 
 pub entries_stand : EntriesStand
 unfolding entries_of

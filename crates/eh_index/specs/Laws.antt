@@ -1,5 +1,5 @@
 -- What an index that is read tells, in the words of the standard: laws above the list of its rows (docs/unwind-index.md).
-use Rattle.unwind_codes.specs.declared.row.TheConstants.{ROW_SIZE}
+use Rattle.unwind_codes.specs.declared.row.TheConstants.{ROW_SIZE, PREL31_LIMIT}
 use Rattle.unwind_codes.specs.Laws.{IsTold, IsLow}
 use Rattle.unwind_codes.specs.Rows.{rows_bytes}
 use Rattle.std.specs.Prelude.{◌*◌, ◌%◌, ◌^◌, ◌≡◌, ℕ, ◌+◌, ◌<◌, ◌≤◌, true, List, length, All, Some, None}
@@ -7,7 +7,7 @@ use Rattle.elf_image.specs.Segments.{Segment}
 use Rattle.elf_image.specs.Image.{Image}
 use Rattle.unwind_codes.specs.declared.row.Entry.{Entry}
 use Rattle.unwind_codes.specs.declared.row.EntryBody.TheVariants.{Table}
-use Rattle.eh_index.specs.Rows.{entry_at, entry_count, entries_of}
+use Rattle.eh_index.specs.Rows.{first_word, entry_at, entry_count, entries_of}
 use Rattle.eh_index.specs.Places.{is_code_bound, is_table_place, bytes_at}
 use Rattle.eh_index.specs.Refusal.{index_refusal}
 use Rattle.eh_index.specs.Covering.{covering}
@@ -20,6 +20,10 @@ pub record IsEntry (image : Image) (e : Entry) : Type 0 where
 -- every entry of an index that is read is one
 abbrev pub EntriesStand : Type 0
 EntriesStand = (image : Image) → index_refusal image ≡ None → All (IsEntry image) (entries_of image)
+
+-- and bit 31 of its row's first word is clear
+abbrev pub FirstWordsAreClear : Type 0
+FirstWordsAreClear = (image : Image) (k : ℕ) → index_refusal image ≡ None → k < entry_count image → first_word image k < PREL31_LIMIT
 
 -- an entry covers the addresses from its start to below the next one's
 abbrev pub RangesCover : Type 0
