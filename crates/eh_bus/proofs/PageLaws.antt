@@ -2,22 +2,22 @@
 use Rattle.std.proofs.Common.{◌≡◌, ℕ, zero, suc, ◌+◌, ◌-◌, ◌*◌, ◌/◌, ◌%◌, ◌^◌, ◌<◌, ◌≤◌, ◌⊎◌, inl, inr, Bool, true, false, not, cond, if◌then◌else◌, ◌==◌, ◌&&◌, nat_lt, List, [], ◌∷◌, ◌++◌, length, get_or, map, take, drop, set, Option, Some, None, Ok, Err, refl, sym, ap, ◌∙◌, arith, le-leb}
 use Rattle.std.proofs.lemmas.List.{get_or-map, length-map, get_or_default, length-set, get_or-set_same, get_or-set_other, same_lists, get_or-drop}
 use Rattle.std.proofs.lemmas.Grind.{same_number_lists}
-use Rattle.std.proofs.lemmas.Bool.{and_parts, leb-true, ltb-true, ltb-false, eqb-true, eqb-false}
+use Rattle.std.proofs.lemmas.Bool.{and_parts, le-ltb, leb-true, ltb-true, ltb-false, eqb-true, eqb-false}
 use Rattle.std.specs.Prelude.{IsTrue, IfSome}
 use Rattle.byteorder.specs.Endian.{little_number, little_bytes}
 use Rattle.byteorder.specs.Numbers.{length-bytes_low_first}
 use Rattle.eh_bus.specs.Segment.{Segment, holds, number_at, with_number_at}
-use Rattle.eh_bus.specs.Memory.{Memory, fault_in, number_in, written, store, run_fault, first_fault, load_fault, fetch_fault, store_fault, is_closed, is_open_word}
+use Rattle.eh_bus.specs.Memory.{Memory, fault_in, number_in, written, store, run_fault, first_fault, load_fault, fetch_fault, store_fault, is_closed, is_open_word, guard_hit}
 use Rattle.eh_bus.specs.Map.{AreApart, AreSegments}
 use Rattle.eh_bus.specs.Place.{IsPlace, IsWidth}
-use Rattle.eh_bus.specs.Pages.{Pages, ArePages, AreOwned, AreUsed, CanStore, PagesMake, HasPage, ArePageNumbers, spot_in, spot_of, byte_at_spot, owner_at_spot, byte_of, owner_of, bytes_from, segment_at, segments_at, covers, spans, IsSpan, spot_at}
+use Rattle.eh_bus.specs.Pages.{Pages, ArePages, AreOwned, AreUsed, CanStore, PagesMake, HasPage, ArePageNumbers, spot_in, spot_of, byte_at_spot, owner_at_spot, byte_of, owner_of, bytes_from, segment_at, segments_at, covers, spans, IsSpan, IsOpen, IsCode, spot_at}
 use Rattle.eh_bus.specs.declared.part.Part.{Part}
 use Rattle.eh_bus.specs.declared.part.Span.{Span}
 use Rattle.eh_bus.specs.declared.paged.Found.{Found}
 use Rattle.eh_bus.specs.declared.fault.BusFault.{BusFault}
-use Rattle.eh_bus.specs.declared.fault.BusFault.TheVariants.{Unmapped, Unaligned, Protected, NotExecutable}
-use Rattle.eh_bus.specs.declared.map.TheConstants.{PAGE_SIZE}
-use Rattle.eh_bus.proofs.AccessLaws.{passes, fault_some}
+use Rattle.eh_bus.specs.declared.fault.BusFault.TheVariants.{Unmapped, Unaligned, SavedSlot, Protected, NotExecutable}
+use Rattle.eh_bus.specs.declared.map.TheConstants.{PAGE_SIZE, POOL_END, POOL_START, STACK_START}
+use Rattle.eh_bus.proofs.AccessLaws.{passes, fault_some, load_fault_none}
 use Rattle.eh_bus.proofs.Kept.{kept}
 use Rattle.eh_bus.proofs.Places.{by_holding, unread, unwritten}
 use Rattle.eh_bus.proofs.WordLaws.{little_same, other_byte}
@@ -409,6 +409,69 @@ write_of parts i d e h = ap (λ (part : Part). part.write) (get_or_default parts
 
 pub store_aligned : (n : ℕ) (guards : List ℕ) (s : Segment) (a : ℕ) → store_fault n guards s a ≡ None → (a % n == 0) ≡ true
 store_aligned n guards s a e = (passes n guards s a e).aligned
+
+-- ---- accesses in a span
+
+pub near_can : (n : ℕ) (p : Pages) (parts : List Part) (s : Span) (a : ℕ) → IsWidth n → ArePages p → AreOwned (owner_of p) parts → IsSpan p.places parts s → spans s a n ≡ true → (a % n == 0) ≡ true
+    → CanStore n p parts a s.part (s.at + (a - s.start))
+near_can n p parts s a w x own near h e =
+    let z = positive n w in
+    spotted n p parts a s.part (s.at + (a - s.start)) w e x near.inside (λ d. span_covers p.places parts s d a n near h) (span_place (byte_of p) (owner_of p) p.places parts s a n own near z h) (span_spot p.places parts s a n near z h)
+  where
+    positive : (n : ℕ) → IsWidth n → 0 < n
+    positive n (inl e) = omega arith
+    positive n (inr (inl e)) = omega arith
+    positive n (inr (inr e)) = omega arith
+
+near_fault : (n : ℕ) (p : Pages) (parts : List Part) (s : Span) (a at : ℕ) (f : Segment → Option BusFault) → CanStore n p parts a s.part at
+    → fault_in f n (segments_at (byte_of p) parts) a ≡ f (segment_at (byte_of p) (get_or parts s.part no_part))
+near_fault n p parts s a at f can = spot_fault n p parts no_part a s.part f can.inside can.place
+
+open_above : (a : ℕ) → POOL_END ≤ a → is_closed a ≡ false
+open_above a h = rw (le-leb POOL_START a (omega arith), le-ltb a POOL_END h) refl
+
+opened : (parts : List Part) (s : Span) (a n : ℕ) → IsOpen parts s → spans s a n ≡ true → is_closed a ≡ false
+opened parts s a n o h = let i = in_span s a n h in open_above a (omega (arith, o.above, i.low))
+
+-- the span of the stack is open
+pub stack_opens : (f : ℕ → ℕ) (places : List (Option ℕ)) (parts : List Part) (ss : List Segment) (s : Span) → segments_at f parts ≡ ss → AreSegments ss → IsSpan places parts s → s.part ≡ 0 → IsOpen parts s
+stack_opens f places parts ss s made given x e = record { above = omega (arith, rw e at (x.low no_part), starts); writes = λ d. rw e (write_of parts 0 d no_part some ∙ writes) }
+  where
+    m : AreSegments (segments_at f parts)
+    m = rw made given
+
+    some : 0 < length parts
+    some = omega (arith, m.two, length-map parts (segment_at f))
+
+    is : get_or (segments_at f parts) 0 (segment_at f no_part) ≡ segment_at f (get_or parts 0 no_part)
+    is = at_part f parts 0 (segment_at f no_part) no_part some
+
+    starts : (get_or parts 0 no_part).start ≡ STACK_START
+    starts = rw is at (m.stack (segment_at f no_part)).starts
+
+    writes : (get_or parts 0 no_part).write ≡ true
+    writes = rw is at (m.stack (segment_at f no_part)).writes
+
+pub near_load : (n : ℕ) (p : Pages) (parts : List Part) (s : Span) (a at : ℕ) → CanStore n p parts a s.part at → IsOpen parts s → spans s a n ≡ true → (a % n == 0) ≡ true
+    → fault_in (λ t. load_fault n a) n (segments_at (byte_of p) parts) a ≡ None
+near_load n p parts s a at can o h e = near_fault n p parts s a at (λ t. load_fault n a) can ∙ load_fault_none n a e (opened parts s a n o h)
+
+pub near_fetch : (p : Pages) (parts : List Part) (s : Span) (a at : ℕ) → CanStore 2 p parts a s.part at → IsCode parts s → spans s a 2 ≡ true → (a % 2 == 0) ≡ true
+    → fault_in (λ t. fetch_fault t a) 2 (segments_at (byte_of p) parts) a ≡ None
+near_fetch p parts s a at can code h e =
+    let i = in_span s a 2 h in
+    let x = code.runs no_part (omega (arith, i.high)) in
+    near_fault 2 p parts s a at (λ t. fetch_fault t a) can ∙ rw (e, x) refl
+
+pub near_store : (n : ℕ) (guards : List ℕ) (p : Pages) (parts : List Part) (s : Span) (a at : ℕ) → CanStore n p parts a s.part at → IsOpen parts s → spans s a n ≡ true → (a % n == 0) ≡ true
+    → guard_hit guards a n ≡ None → fault_in (λ t. store_fault n guards t a) n (segments_at (byte_of p) parts) a ≡ None
+near_store n guards p parts s a at can o h e g =
+    near_fault n p parts s a at (λ t. store_fault n guards t a) can ∙ rw (e, o.writes no_part, g, opened parts s a n o h) refl
+
+pub near_guarded : (n : ℕ) (guards : List ℕ) (p : Pages) (parts : List Part) (s : Span) (a at g : ℕ) → CanStore n p parts a s.part at → IsOpen parts s → spans s a n ≡ true → (a % n == 0) ≡ true
+    → guard_hit guards a n ≡ Some g → fault_in (λ t. store_fault n guards t a) n (segments_at (byte_of p) parts) a ≡ Some (SavedSlot g)
+near_guarded n guards p parts s a at g can o h e hit =
+    near_fault n p parts s a at (λ t. store_fault n guards t a) can ∙ rw (e, o.writes no_part, hit) refl
 
 -- ---- a store at its spot, whole
 

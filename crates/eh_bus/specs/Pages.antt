@@ -3,7 +3,7 @@ use Rattle.std.specs.Prelude.{◌≡◌, ℕ, zero, suc, ◌+◌, ◌-◌, ◌*�
 use Rattle.eh_list.specs.Bytes.{zeros}
 use Rattle.eh_bus.specs.Segment.{Segment, holds}
 use Rattle.eh_bus.specs.Memory.{Memory, number_in}
-use Rattle.eh_bus.specs.declared.map.TheConstants.{PAGE_COUNT, PAGE_SIZE}
+use Rattle.eh_bus.specs.declared.map.TheConstants.{PAGE_COUNT, PAGE_SIZE, POOL_END}
 use Rattle.eh_bus.specs.Map.{AreSegments}
 use Rattle.eh_bus.specs.Place.{IsPlace}
 use Rattle.eh_bus.specs.declared.part.Part.{Part}
@@ -80,6 +80,15 @@ pub record IsSpan (places : List (Option ℕ)) (parts : List Part) (s : Span) : 
   pub low : (d : Part) → (slice_index_or parts s.part d).start ≤ s.start
   pub high : (d : Part) → s.start + s.size ≤ (slice_index_or parts s.part d).start + (slice_index_or parts s.part d).size
   pub spot : (k : ℕ) → k < s.size → spot_at places (s.start + k) ≡ Some (s.at + k)
+
+-- a span that no closed byte is in, of a part that may be written
+pub record IsOpen (parts : List Part) (s : Span) : Type 0 where
+  pub above : POOL_END ≤ s.start
+  pub writes : (d : Part) → (slice_index_or parts s.part d).write ≡ true
+
+-- a span of a part that may be executed, or of no byte
+pub record IsCode (parts : List Part) (s : Span) : Type 0 where
+  pub runs : (d : Part) → 0 < s.size → (slice_index_or parts s.part d).exec ≡ true
 
 -- the owner of an address is the part that has it
 pub record AreOwned (has : ℕ → Option ℕ) (parts : List Part) : Type 0 where

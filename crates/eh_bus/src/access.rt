@@ -27,7 +27,7 @@ fn is_open_word(n: u32, a: u32) -> bool
 }
 
 /// Whether `a` is a multiple of the access's size.
-fn is_aligned(a: u32, n: u32) -> bool
+pub(crate) fn is_aligned(a: u32, n: u32) -> bool
     requires { IsWidth n }
     ensures { result ≡ (a % n == 0) }
 {

@@ -8,11 +8,11 @@ ghost use Rattle.eh_bus.specs.Place.{IsPlace, IsWidth};
 ghost use Rattle.eh_bus.specs.Memory.{fault_in, number_in, load_fault, store_fault, fetch_fault, store, store_run, run_fault, run_written, written, host_store};
 ghost use Rattle.eh_bus.specs.Map.{AreApart, AreSegments, flat_home};
 ghost use Rattle.eh_bus.specs.Guards.{AreGuards, AreGuards-prop};
-ghost use Rattle.eh_bus.specs.Pages.{ArePages, AreOwned, AreUsed, spot_of, byte_of, owner_of, CanStore, Lays, PagesMake, segments_at, covers, IsSpan, HasPage, IsPage, ArePageNumbers};
+ghost use Rattle.eh_bus.specs.Pages.{ArePages, AreOwned, AreUsed, spot_of, byte_of, owner_of, CanStore, Lays, PagesMake, segments_at, covers, IsSpan, IsOpen, IsCode, HasPage, IsPage, ArePageNumbers};
 ghost use Rattle.eh_bus.specs.declared.fault.BusFault.{BusFault as Fault};
 ghost use Rattle.eh_bus.specs.declared.fault.BusFault.TheVariants.{Unmapped};
 
-use crate::access::{fetch_fault, load_fault, store_fault};
+use crate::access::{fetch_fault, is_aligned, load_fault, store_fault};
 use crate::bus::Bus;
 use crate::fault::{BusFault, BusMemory};
 use crate::guards::Guards;
@@ -30,6 +30,7 @@ pub(crate) struct Found {
 }
 
 /// The segment that holds the `n` bytes from `a` on, by the owner of the first.
+#[inline(always)]
 fn look_up(pages: &Pages, parts: &[Part], a: u32, n: u32) -> Option<Found>
     requires some { 0 < n }
     requires sound { ArePages pages.now }
@@ -55,6 +56,7 @@ fn look_up(pages: &Pages, parts: &[Part], a: u32, n: u32) -> Option<Found>
 }
 
 /// The segment that holds the `n` bytes from `a` on. Where they lie in the span that is near, no page is looked for.
+#[inline(always)]
 pub(crate) fn find(pages: &Pages, parts: &[Part], near: &Span, a: u32, n: u32) -> Option<Found>
     requires some { 0 < n }
     requires sound { ArePages pages.now }
@@ -69,13 +71,34 @@ pub(crate) fn find(pages: &Pages, parts: &[Part], near: &Span, a: u32, n: u32) -
     if near.covers(a, n) {
         return Some(Found {
             part: near.part,
-            at: near.at as usize + (a - near.start) as usize,
+            at: near.spot(a),
         });
     }
     look_up(pages, parts, a, n)
 }
 
+/// The spot of a load of `n` bytes, by the page of the first.
+#[inline(never)]
+fn load_by_page(pages: &Pages, parts: &[Part], a: u32, n: u32) -> Result<usize, BusFault>
+    requires width { IsWidth n }
+    requires sound { ArePages pages.now }
+    requires owned { AreOwned (owner_of pages.now) parts.now }
+    ensures room { IfOk result (λ at. at + n ≤ length pages.now.bytes) }
+    ensures number { IfOk result (λ at. number_in n (segments_at (byte_of pages.now) parts.now) a ≡ little_number n (drop at pages.now.bytes)) }
+    ensures ok { IfOk result (λ at. fault_in (λ s. load_fault n a) n (segments_at (byte_of pages.now) parts.now) a ≡ None) }
+    ensures fault { IfErr result (λ fault. fault_in (λ s. load_fault n a) n (segments_at (byte_of pages.now) parts.now) a ≡ Some fault) }
+{
+    let Some(found) = look_up(pages, parts, a, n) else {
+        return Err(BusFault::Unmapped(a));
+    };
+    match load_fault(n, a) {
+        Some(fault) => Err(fault),
+        None => Ok(found.at),
+    }
+}
+
 /// The spot of a load of `n` bytes.
+#[inline(always)]
 pub(crate) fn load_spot(
     pages: &Pages,
     parts: &[Part],
@@ -87,21 +110,39 @@ pub(crate) fn load_spot(
     requires sound { ArePages pages.now }
     requires owned { AreOwned (owner_of pages.now) parts.now }
     requires near { IsSpan pages.now.places parts.now near.now }
+    requires open { IsOpen parts.now near.now }
     ensures room { IfOk result (λ at. at + n ≤ length pages.now.bytes) }
     ensures number { IfOk result (λ at. number_in n (segments_at (byte_of pages.now) parts.now) a ≡ little_number n (drop at pages.now.bytes)) }
     ensures ok { IfOk result (λ at. fault_in (λ s. load_fault n a) n (segments_at (byte_of pages.now) parts.now) a ≡ None) }
     ensures fault { IfErr result (λ fault. fault_in (λ s. load_fault n a) n (segments_at (byte_of pages.now) parts.now) a ≡ Some fault) }
 {
-    let Some(found) = find(pages, parts, near, a, n) else {
+    if near.covers(a, n) && is_aligned(a, n) {
+        return Ok(near.spot(a));
+    }
+    load_by_page(pages, parts, a, n)
+}
+
+/// The spot of a fetch, by the page of its first byte.
+#[inline(never)]
+fn fetch_by_page(pages: &Pages, parts: &[Part], a: u32) -> Result<usize, BusFault>
+    requires sound { ArePages pages.now }
+    requires owned { AreOwned (owner_of pages.now) parts.now }
+    ensures room { IfOk result (λ at. at + 2 ≤ length pages.now.bytes) }
+    ensures number { IfOk result (λ at. number_in 2 (segments_at (byte_of pages.now) parts.now) a ≡ little_number 2 (drop at pages.now.bytes)) }
+    ensures ok { IfOk result (λ at. fault_in (λ s. fetch_fault s a) 2 (segments_at (byte_of pages.now) parts.now) a ≡ None) }
+    ensures fault { IfErr result (λ fault. fault_in (λ s. fetch_fault s a) 2 (segments_at (byte_of pages.now) parts.now) a ≡ Some fault) }
+{
+    let Some(found) = look_up(pages, parts, a, 2) else {
         return Err(BusFault::Unmapped(a));
     };
-    match load_fault(n, a) {
+    match fetch_fault(parts[found.part].exec, a) {
         Some(fault) => Err(fault),
         None => Ok(found.at),
     }
 }
 
 /// The spot of a fetch.
+#[inline(always)]
 pub(crate) fn fetch_spot(
     pages: &Pages,
     parts: &[Part],
@@ -111,21 +152,45 @@ pub(crate) fn fetch_spot(
     requires sound { ArePages pages.now }
     requires owned { AreOwned (owner_of pages.now) parts.now }
     requires near { IsSpan pages.now.places parts.now near.now }
+    requires code { IsCode parts.now near.now }
     ensures room { IfOk result (λ at. at + 2 ≤ length pages.now.bytes) }
     ensures number { IfOk result (λ at. number_in 2 (segments_at (byte_of pages.now) parts.now) a ≡ little_number 2 (drop at pages.now.bytes)) }
     ensures ok { IfOk result (λ at. fault_in (λ s. fetch_fault s a) 2 (segments_at (byte_of pages.now) parts.now) a ≡ None) }
     ensures fault { IfErr result (λ fault. fault_in (λ s. fetch_fault s a) 2 (segments_at (byte_of pages.now) parts.now) a ≡ Some fault) }
 {
-    let Some(found) = find(pages, parts, near, a, 2) else {
+    if near.covers(a, 2) && is_aligned(a, 2) {
+        return Ok(near.spot(a));
+    }
+    fetch_by_page(pages, parts, a)
+}
+
+/// Where a store of `n` bytes goes, by the page of the first.
+#[inline(never)]
+fn store_by_page(
+    pages: &Pages,
+    parts: &[Part],
+    guards: &Guards,
+    a: u32,
+    n: u32,
+) -> Result<Found, BusFault>
+    requires width { IsWidth n }
+    requires sound { ArePages pages.now }
+    requires owned { AreOwned (owner_of pages.now) parts.now }
+    ensures spot { IfOk result (λ found. CanStore n pages.now parts.now a found.part found.at) }
+    ensures ok { IfOk result (λ found. fault_in (λ s. store_fault n guards.now s a) n (segments_at (byte_of pages.now) parts.now) a ≡ None) }
+    ensures fault { IfErr result (λ fault. fault_in (λ s. store_fault n guards.now s a) n (segments_at (byte_of pages.now) parts.now) a ≡ Some fault) }
+{
+    let Some(found) = look_up(pages, parts, a, n) else {
         return Err(BusFault::Unmapped(a));
     };
-    match fetch_fault(parts[found.part].exec, a) {
+    match store_fault(n, guards, parts[found.part].write, a) {
         Some(fault) => Err(fault),
-        None => Ok(found.at),
+        None => Ok(found),
     }
 }
 
 /// Where a store of `n` bytes goes.
+#[inline(always)]
 pub(crate) fn store_spot(
     pages: &Pages,
     parts: &[Part],
@@ -138,20 +203,25 @@ pub(crate) fn store_spot(
     requires sound { ArePages pages.now }
     requires owned { AreOwned (owner_of pages.now) parts.now }
     requires near { IsSpan pages.now.places parts.now near.now }
+    requires open { IsOpen parts.now near.now }
     ensures spot { IfOk result (λ found. CanStore n pages.now parts.now a found.part found.at) }
     ensures ok { IfOk result (λ found. fault_in (λ s. store_fault n guards.now s a) n (segments_at (byte_of pages.now) parts.now) a ≡ None) }
     ensures fault { IfErr result (λ fault. fault_in (λ s. store_fault n guards.now s a) n (segments_at (byte_of pages.now) parts.now) a ≡ Some fault) }
 {
-    let Some(found) = find(pages, parts, near, a, n) else {
-        return Err(BusFault::Unmapped(a));
-    };
-    match store_fault(n, guards, parts[found.part].write, a) {
-        Some(fault) => Err(fault),
-        None => Ok(found),
+    if near.covers(a, n) && is_aligned(a, n) {
+        if let Some(g) = guards.hit(a, n) {
+            return Err(BusFault::SavedSlot(g));
+        }
+        return Ok(Found {
+            part: near.part,
+            at: near.spot(a),
+        });
     }
+    store_by_page(pages, parts, guards, a, n)
 }
 
 /// Where a word that begins at a multiple of 4 stands.
+#[inline(always)]
 pub(crate) fn word_spot(pages: &Pages, parts: &[Part], near: &Span, a: u32) -> Option<Found>
     requires aligned { a % 4 ≡ 0 }
     requires sound { ArePages pages.now }
@@ -164,6 +234,7 @@ pub(crate) fn word_spot(pages: &Pages, parts: &[Part], near: &Span, a: u32) -> O
 }
 
 /// The word at a multiple of 4, or 0 where no segment holds it.
+#[inline(always)]
 pub(crate) fn read_word(pages: &Pages, parts: &[Part], near: &Span, a: u32) -> u32
     requires aligned { a % 4 ≡ 0 }
     requires sound { ArePages pages.now }
@@ -178,6 +249,7 @@ pub(crate) fn read_word(pages: &Pages, parts: &[Part], near: &Span, a: u32) -> u
 }
 
 /// Why a word may not be stored.
+#[inline(always)]
 fn word_fault(
     pages: &Pages,
     parts: &[Part],
@@ -188,6 +260,7 @@ fn word_fault(
     requires sound { ArePages pages.now }
     requires owned { AreOwned (owner_of pages.now) parts.now }
     requires near { IsSpan pages.now.places parts.now near.now }
+    requires open { IsOpen parts.now near.now }
     ensures { result ≡ fault_in (λ s. store_fault 4 guards.now s a) 4 (segments_at (byte_of pages.now) parts.now) a }
 {
     match store_spot(pages, parts, near, guards, a, 4) {
@@ -209,6 +282,7 @@ fn run_fault(
     requires sound { ArePages pages.now }
     requires owned { AreOwned (owner_of pages.now) parts.now }
     requires near { IsSpan pages.now.places parts.now near.now }
+    requires open { IsOpen parts.now near.now }
     ensures { result ≡ run_fault guards.now (segments_at (byte_of pages.now) parts.now) a words.now }
 {
     let mut at = a;
@@ -342,7 +416,8 @@ fn left_of_page(start: u32, k: u32) -> u32
 /// The addresses of a segment, from its first on, whose bytes stand one after the other.
 fn span_of(pages: &Pages, parts: &[Part], number: usize) -> Span
     requires { number < length parts.now }
-    ensures { IsSpan pages.now.places parts.now result }
+    ensures span { IsSpan pages.now.places parts.now result }
+    ensures part { result.part ≡ number }
 {
     let part = parts[number];
     let at = spot_or_zero(pages, part.start);
@@ -358,17 +433,23 @@ fn span_of(pages: &Pages, parts: &[Part], number: usize) -> Span
     }
 }
 
-/// The first segment that may be executed, or the first of all where none may.
-fn first_code(parts: &[Part]) -> usize
+/// The span of the first segment that may be executed, or one of no byte where none may.
+fn code_span(pages: &Pages, parts: &[Part]) -> Span
     requires { 0 < length parts.now }
-    ensures { result < length parts.now }
+    ensures span { IsSpan pages.now.places parts.now result }
+    ensures code { IsCode parts.now result }
 {
     for i in 0..parts.len() {
         if parts[i].exec {
-            return i;
+            return span_of(pages, parts, i);
         }
     }
-    0
+    Span {
+        part: 0,
+        start: parts[0].start,
+        size: 0,
+        at: 0,
+    }
 }
 
 /// A memory that keeps its segments in pages of 4,096 bytes, found by their number in constant time.
@@ -389,6 +470,8 @@ pub struct PagedBus {
     ghost stack_span: { IsSpan pages.places parts.items stack },
     ghost pool_span: { IsSpan pages.places parts.items pool },
     ghost code_span: { IsSpan pages.places parts.items code },
+    ghost stack_open: { IsOpen parts.items stack },
+    ghost code_runs: { IsCode parts.items code },
     ghost mapped: { AreSegments (segments_at (byte_of pages) parts.items) },
     ghost rising: { AreGuards guards } by { AreGuards-prop guards },
 }
@@ -407,7 +490,7 @@ impl PagedBus {
         let laid = lay_all(alloc, segments)?;
         let stack = span_of(&laid.pages, &laid.parts, 0);
         let pool = span_of(&laid.pages, &laid.parts, 1);
-        let code = span_of(&laid.pages, &laid.parts, first_code(&laid.parts));
+        let code = code_span(&laid.pages, &laid.parts);
         Ok(PagedBus {
             pages: laid.pages,
             parts: laid.parts,

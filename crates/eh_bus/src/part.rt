@@ -1,5 +1,5 @@
 //! A segment of a memory in pages: where it lies and its rights. Its bytes stand in the pages.
-ghost use Rattle.std.specs.Prelude.{◌≡◌};
+ghost use Rattle.std.specs.Prelude.{◌≡◌, ◌+◌, ◌-◌, ◌≤◌};
 ghost use Rattle.eh_bus.specs.Pages.{covers, spans};
 
 /// A segment without its bytes.
@@ -37,5 +37,13 @@ impl Span {
         ensures { result ≡ spans self.now a n }
     {
         self.start <= a && u64::from(a - self.start) + u64::from(n) <= u64::from(self.size)
+    }
+
+    /// The spot of the byte at `a`.
+    pub(crate) fn spot(&self, a: u32) -> usize
+        requires { self.now.start ≤ a }
+        ensures { result ≡ self.now.at + (a - self.now.start) }
+    {
+        self.at as usize + (a - self.start) as usize
     }
 }

@@ -1,28 +1,24 @@
-use Rattle.std.proofs.Common.{sym, ◌∙◌, ◌≡◌, refl, None, inl, inr, slice_index_or}
-use Rattle.eh_bus.specs.Pages.{CanStore, segment_at, byte_of}
-use Rattle.eh_bus.specs.Memory.{fetch_fault}
-use Rattle.eh_bus.proofs.PageLaws.{no_part, fetch_aligned, spotted, spot_number, spot_fault, exec_of}
+use Rattle.std.proofs.Common.{sym, ◌∙◌, refl, inl, inr}
+use Rattle.eh_bus.proofs.PageLaws.{near_can, near_fetch, spot_number}
 use Rattle.eh_bus.proofs.paged.fetch_spot.Goals as goal
 
-passed : (c : goal.In-None) → fetch_fault (segment_at (byte_of c.args.pages.now) (slice_index_or c.args.parts.now c.in-Some.found.part no_part)) c.args.a ≡ None
-passed c = sym (c.fetch_fault.ensures (segment_at (byte_of c.args.pages.now) (slice_index_or c.args.parts.now c.in-Some.found.part no_part)) (exec_of c.args.parts.now c.in-Some.found.part no_part _ c.in-Some.ensures.inside)) ∙ c.in-None.is
+pub returns-then-is_aligned-clause-room : goal.returns-then-is_aligned-clause-room
+returns-then-is_aligned-clause-room c =
+    let can =
+    near_can 2 c.args.pages.now c.args.parts.now c.args.near.now c.args.a (inr (inl refl)) c.requires.sound c.requires.owned c.requires.near (sym c.covers.ensures ∙ c.if-covers.true)
+    (sym c.is_aligned.ensures ∙ c.if-is_aligned.true) in
+    rw c.spot.ensures can.room
 
-can : (c : goal.In-None) → CanStore 2 c.args.pages.now c.args.parts.now c.args.a c.in-Some.found.part c.in-Some.found.at
-can c =
-    spotted 2 c.args.pages.now c.args.parts.now c.args.a _ _ (inr (inl refl)) (fetch_aligned (segment_at (byte_of c.args.pages.now) (slice_index_or c.args.parts.now c.in-Some.found.part no_part)) c.args.a (passed c)) c.requires.sound
-    c.in-Some.ensures.inside c.in-Some.ensures.covers c.in-Some.ensures.place c.in-Some.ensures.spot
+pub returns-then-is_aligned-clause-number : goal.returns-then-is_aligned-clause-number
+returns-then-is_aligned-clause-number c =
+    let can =
+    near_can 2 c.args.pages.now c.args.parts.now c.args.near.now c.args.a (inr (inl refl)) c.requires.sound c.requires.owned c.requires.near (sym c.covers.ensures ∙ c.if-covers.true)
+    (sym c.is_aligned.ensures ∙ c.if-is_aligned.true) in
+    rw c.spot.ensures (spot_number 2 c.args.pages.now c.args.parts.now c.args.a _ _ c.requires.sound can)
 
-pub returns-in-None-clause-room : goal.returns-in-None-clause-room
-returns-in-None-clause-room c = (can c).room
-
-pub returns-in-None-clause-number : goal.returns-in-None-clause-number
-returns-in-None-clause-number c = spot_number 2 c.args.pages.now c.args.parts.now c.args.a _ _ c.requires.sound (can c)
-
-pub returns-in-None-clause-ok : goal.returns-in-None-clause-ok
-returns-in-None-clause-ok c =
-    spot_fault 2 c.args.pages.now c.args.parts.now no_part c.args.a _ (λ s. fetch_fault s c.args.a) c.in-Some.ensures.inside c.in-Some.ensures.place ∙ passed c
-
-pub returns-in-Some-fetch_fault-clause-fault : goal.returns-in-Some-fetch_fault-clause-fault
-returns-in-Some-fetch_fault-clause-fault c =
-    spot_fault 2 c.args.pages.now c.args.parts.now no_part c.args.a _ (λ s. fetch_fault s c.args.a) c.in-Some.ensures.inside c.in-Some.ensures.place
-    ∙ (sym (c.fetch_fault.ensures (segment_at (byte_of c.args.pages.now) (slice_index_or c.args.parts.now c.in-Some.found.part no_part)) (exec_of c.args.parts.now c.in-Some.found.part no_part _ c.in-Some.ensures.inside)) ∙ c.in-Some-fetch_fault.is)
+pub returns-then-is_aligned-clause-ok : goal.returns-then-is_aligned-clause-ok
+returns-then-is_aligned-clause-ok c =
+    near_fetch c.args.pages.now c.args.parts.now c.args.near.now c.args.a _
+    (near_can 2 c.args.pages.now c.args.parts.now c.args.near.now c.args.a (inr (inl refl)) c.requires.sound c.requires.owned c.requires.near (sym c.covers.ensures ∙ c.if-covers.true)
+    (sym c.is_aligned.ensures ∙ c.if-is_aligned.true))
+    c.requires.code (sym c.covers.ensures ∙ c.if-covers.true) (sym c.is_aligned.ensures ∙ c.if-is_aligned.true)

@@ -14,4 +14,4 @@ pub returns-then-covers-clause-inside : goal.returns-then-covers-clause-inside
 returns-then-covers-clause-inside c = c.requires.near.inside
 
 pub returns-then-covers-clause-spot : goal.returns-then-covers-clause-spot
-returns-then-covers-clause-spot c = span_spot _ _ _ c.args.a c.args.n c.requires.near c.requires.some (sym c.covers.ensures ∙ c.if-covers.true)
+returns-then-covers-clause-spot c = rw c.spot.ensures (span_spot c.args.pages.now.places c.args.parts.now c.args.near.now c.args.a c.args.n c.requires.near c.requires.some (sym c.covers.ensures ∙ c.if-covers.true))

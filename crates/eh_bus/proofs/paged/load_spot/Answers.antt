@@ -1,26 +1,24 @@
 use Rattle.std.proofs.Common.{sym, ◌∙◌}
-use Rattle.eh_bus.specs.Pages.{CanStore}
-use Rattle.eh_bus.specs.Memory.{load_fault}
-use Rattle.eh_bus.proofs.PageLaws.{no_part, load_aligned, spotted, spot_number, spot_fault}
+use Rattle.eh_bus.proofs.PageLaws.{near_can, near_load, spot_number}
 use Rattle.eh_bus.proofs.paged.load_spot.Goals as goal
 
-can : (c : goal.In-None) → CanStore c.args.n c.args.pages.now c.args.parts.now c.args.a c.in-Some.found.part c.in-Some.found.at
-can c =
-    spotted c.args.n c.args.pages.now c.args.parts.now c.args.a _ _ c.requires.width (load_aligned c.args.n c.args.a (sym c.load_fault.ensures ∙ c.in-None.is)) c.requires.sound
-    c.in-Some.ensures.inside c.in-Some.ensures.covers c.in-Some.ensures.place c.in-Some.ensures.spot
+pub returns-then-is_aligned-clause-room : goal.returns-then-is_aligned-clause-room
+returns-then-is_aligned-clause-room c =
+    let can =
+    near_can c.args.n c.args.pages.now c.args.parts.now c.args.near.now c.args.a c.requires.width c.requires.sound c.requires.owned c.requires.near (sym c.covers.ensures ∙ c.if-covers.true)
+    (sym c.is_aligned.ensures ∙ c.if-is_aligned.true) in
+    rw c.spot.ensures can.room
 
-pub returns-in-None-clause-room : goal.returns-in-None-clause-room
-returns-in-None-clause-room c = (can c).room
+pub returns-then-is_aligned-clause-number : goal.returns-then-is_aligned-clause-number
+returns-then-is_aligned-clause-number c =
+    let can =
+    near_can c.args.n c.args.pages.now c.args.parts.now c.args.near.now c.args.a c.requires.width c.requires.sound c.requires.owned c.requires.near (sym c.covers.ensures ∙ c.if-covers.true)
+    (sym c.is_aligned.ensures ∙ c.if-is_aligned.true) in
+    rw c.spot.ensures (spot_number c.args.n c.args.pages.now c.args.parts.now c.args.a _ _ c.requires.sound can)
 
-pub returns-in-None-clause-number : goal.returns-in-None-clause-number
-returns-in-None-clause-number c = spot_number c.args.n c.args.pages.now c.args.parts.now c.args.a _ _ c.requires.sound (can c)
-
-pub returns-in-None-clause-ok : goal.returns-in-None-clause-ok
-returns-in-None-clause-ok c =
-    spot_fault c.args.n c.args.pages.now c.args.parts.now no_part c.args.a _ (λ s. load_fault c.args.n c.args.a) c.in-Some.ensures.inside c.in-Some.ensures.place
-    ∙ (sym c.load_fault.ensures ∙ c.in-None.is)
-
-pub returns-in-Some-load_fault-clause-fault : goal.returns-in-Some-load_fault-clause-fault
-returns-in-Some-load_fault-clause-fault c =
-    spot_fault c.args.n c.args.pages.now c.args.parts.now no_part c.args.a _ (λ s. load_fault c.args.n c.args.a) c.in-Some.ensures.inside c.in-Some.ensures.place
-    ∙ (sym c.load_fault.ensures ∙ c.in-Some-load_fault.is)
+pub returns-then-is_aligned-clause-ok : goal.returns-then-is_aligned-clause-ok
+returns-then-is_aligned-clause-ok c =
+    near_load c.args.n c.args.pages.now c.args.parts.now c.args.near.now c.args.a _
+    (near_can c.args.n c.args.pages.now c.args.parts.now c.args.near.now c.args.a c.requires.width c.requires.sound c.requires.owned c.requires.near (sym c.covers.ensures ∙ c.if-covers.true)
+    (sym c.is_aligned.ensures ∙ c.if-is_aligned.true))
+    c.requires.open (sym c.covers.ensures ∙ c.if-covers.true) (sym c.is_aligned.ensures ∙ c.if-is_aligned.true)

@@ -1,23 +1,23 @@
-use Rattle.std.proofs.Common.{sym, ◌∙◌, ◌≡◌, None, slice_index_or}
-use Rattle.eh_bus.specs.Pages.{segment_at, byte_of}
-use Rattle.eh_bus.specs.Memory.{store_fault}
-use Rattle.eh_bus.proofs.PageLaws.{no_part, store_aligned, spotted, spot_fault, write_of}
+use Rattle.std.proofs.Common.{sym, ◌∙◌}
+use Rattle.eh_bus.proofs.PageLaws.{near_can, near_store, near_guarded}
 use Rattle.eh_bus.proofs.paged.store_spot.Goals as goal
 
-passed : (c : goal.In-None) → store_fault c.args.n c.args.guards.now (segment_at (byte_of c.args.pages.now) (slice_index_or c.args.parts.now c.in-Some.found.part no_part)) c.args.a ≡ None
-passed c = sym (c.store_fault.ensures (segment_at (byte_of c.args.pages.now) (slice_index_or c.args.parts.now c.in-Some.found.part no_part)) (write_of c.args.parts.now c.in-Some.found.part no_part _ c.in-Some.ensures.inside)) ∙ c.in-None.is
+pub returns-then-is_aligned-clause-spot : goal.returns-then-is_aligned-clause-spot
+returns-then-is_aligned-clause-spot c =
+    rw c.spot.ensures
+    (near_can c.args.n c.args.pages.now c.args.parts.now c.args.near.now c.args.a c.requires.width c.requires.sound c.requires.owned c.requires.near (sym c.covers.ensures ∙ c.if-covers.true)
+    (sym c.is_aligned.ensures ∙ c.if-is_aligned.true))
 
-pub returns-in-None-clause-spot : goal.returns-in-None-clause-spot
-returns-in-None-clause-spot c =
-    spotted c.args.n c.args.pages.now c.args.parts.now c.args.a _ _ c.requires.width (store_aligned c.args.n c.args.guards.now (segment_at (byte_of c.args.pages.now) (slice_index_or c.args.parts.now c.in-Some.found.part no_part)) c.args.a (passed c)) c.requires.sound
-    c.in-Some.ensures.inside c.in-Some.ensures.covers c.in-Some.ensures.place c.in-Some.ensures.spot
+pub returns-then-is_aligned-clause-ok : goal.returns-then-is_aligned-clause-ok
+returns-then-is_aligned-clause-ok c =
+    near_store c.args.n c.args.guards.now c.args.pages.now c.args.parts.now c.args.near.now c.args.a _
+    (near_can c.args.n c.args.pages.now c.args.parts.now c.args.near.now c.args.a c.requires.width c.requires.sound c.requires.owned c.requires.near (sym c.covers.ensures ∙ c.if-covers.true)
+    (sym c.is_aligned.ensures ∙ c.if-is_aligned.true))
+    c.requires.open (sym c.covers.ensures ∙ c.if-covers.true) (sym c.is_aligned.ensures ∙ c.if-is_aligned.true) (sym c.hit.ensures ∙ c.in_default.is)
 
-pub returns-in-None-clause-ok : goal.returns-in-None-clause-ok
-returns-in-None-clause-ok c =
-    spot_fault c.args.n c.args.pages.now c.args.parts.now no_part c.args.a _ (λ s. store_fault c.args.n c.args.guards.now s c.args.a) c.in-Some.ensures.inside c.in-Some.ensures.place
-    ∙ passed c
-
-pub returns-in-Some-store_fault-clause-fault : goal.returns-in-Some-store_fault-clause-fault
-returns-in-Some-store_fault-clause-fault c =
-    spot_fault c.args.n c.args.pages.now c.args.parts.now no_part c.args.a _ (λ s. store_fault c.args.n c.args.guards.now s c.args.a) c.in-Some.ensures.inside c.in-Some.ensures.place
-    ∙ (sym (c.store_fault.ensures (segment_at (byte_of c.args.pages.now) (slice_index_or c.args.parts.now c.in-Some.found.part no_part)) (write_of c.args.parts.now c.in-Some.found.part no_part _ c.in-Some.ensures.inside)) ∙ c.in-Some-store_fault.is)
+pub returns-in-Some-clause-fault : goal.returns-in-Some-clause-fault
+returns-in-Some-clause-fault c =
+    near_guarded c.args.n c.args.guards.now c.args.pages.now c.args.parts.now c.args.near.now c.args.a _ _
+    (near_can c.args.n c.args.pages.now c.args.parts.now c.args.near.now c.args.a c.requires.width c.requires.sound c.requires.owned c.requires.near (sym c.covers.ensures ∙ c.if-covers.true)
+    (sym c.is_aligned.ensures ∙ c.if-is_aligned.true))
+    c.requires.open (sym c.covers.ensures ∙ c.if-covers.true) (sym c.is_aligned.ensures ∙ c.if-is_aligned.true) (sym c.hit.ensures ∙ c.in-Some.is)

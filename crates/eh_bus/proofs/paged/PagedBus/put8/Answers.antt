@@ -13,6 +13,8 @@ invariant_of-self-2 c =
       stack_span = rw c.store8.ensures c.args.self.now.stack_span;
       pool_span = rw c.store8.ensures c.args.self.now.pool_span;
       code_span = rw c.store8.ensures c.args.self.now.code_span;
+      stack_open = c.args.self.now.stack_open;
+      code_runs = c.args.self.now.code_runs;
       mapped = rw k.made k.mapped;
       rising = c.args.self.now.rising;
     }
