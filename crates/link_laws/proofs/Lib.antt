@@ -9,3 +9,4 @@ pub mod Given
 pub mod Said
 pub mod Ways
 pub mod Entries
+pub mod Pools

@@ -9,6 +9,7 @@ ghost use Rattle.link_laws.specs.JoinedLaw.{WordsAreSums};
 ghost use Rattle.link_laws.specs.FilledLaw.{FieldsAreFilled};
 ghost use Rattle.link_laws.specs.SaidLaw.{WordsSay, HalvesSay, BytesSay};
 ghost use Rattle.link_laws.specs.EntryLaw.{MarksAreMapped, EntriesAreFunctions};
+ghost use Rattle.link_laws.specs.PoolLaw.{LoadsReadValues};
 ghost use Rattle.link_laws.specs.WayLaw.{JumpsLeadTo, CondJumpsLeadTo, CallsLeadTo, AddressesLeadTo, LoadsLeadTo};
 
 /// A branch to a label in the text of its own source, an `adr` and a `ldr rt, name` lead to the label: the halfwords at the statement's
@@ -71,4 +72,10 @@ pub fn names_lead_to_what_they_mean()
 pub fn marks_and_entry_are_of_objects()
     ensures marks { MarksAreMapped }
     ensures entry { EntriesAreFunctions }
+{}
+
+/// In the image that sources link to, `ldr rt, =value` loads what the value says: the word at the address to which the core comes from
+/// the instruction is the number, how far one label stands behind another, or what the name means.
+pub fn loads_read_their_values()
+    ensures { LoadsReadValues }
 {}
