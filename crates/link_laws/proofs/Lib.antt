@@ -10,3 +10,4 @@ pub mod Said
 pub mod Ways
 pub mod Entries
 pub mod Pools
+pub mod Texts

@@ -298,7 +298,7 @@ some_fields front x back = not_none (length (front ++ x ∷ back)) (omega (arith
     not_none : (count : ℕ) → 0 < count → not (count == 0) ≡ true
     not_none count h = grind (arith, nat_tests)
 
-not_there : (a b : Bool) → a ≡ true → (a && b) ≡ false → b ≡ false
+pub not_there : (a b : Bool) → a ≡ true → (a && b) ≡ false → b ≡ false
 not_there true b e f = f
 not_there false b e f = absurd (true≢false (sym e))
 
