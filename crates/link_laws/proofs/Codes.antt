@@ -27,7 +27,7 @@ pub record IsLiteral (opcode register n : ℕ) (c : Code) : Type 0 where
   pub fourth : n % 4 ≡ 0
   pub is : c ≡ code.Half (opcode + register * 2 ^ 8 + n / 4)
 
-literal_is : (opcode register n : ℕ) (c : Code)
+pub literal_is : (opcode register n : ℕ) (c : Code)
     → refused_if (nat_lt 7 register) RegisterRange
     (with_field (refused_if (nat_lt 1020 n) ImmediateRange (refused_if (not (n % 4 == 0)) ImmediateAlign (Ok (n / 4)))) (λ words. code.Half (opcode + register * 2 ^ 8 + words))) ≡ Ok c
     → IsLiteral opcode register n c
@@ -69,7 +69,7 @@ load_half t n low near fourth = record {
     number : field (0x4800 + t * 2 ^ 8 + n / 4) 0 8 * 4 ≡ n
     number = omega (arith, low, near, fourth)
 
-no_literal : (high : Bool) (f : ℕ → Code) (c : Code) → refused_if high RegisterRange (with_field (Err ImmediateRange) f) ≡ Ok c → ⊥
+pub no_literal : (high : Bool) (f : ℕ → Code) (c : Code) → refused_if high RegisterRange (with_field (Err ImmediateRange) f) ≡ Ok c → ⊥
 no_literal true f c e = cc
 no_literal false f c e = cc
 

@@ -39,7 +39,7 @@ use Rattle.link_laws.proofs.Labels.{has_left, has_right}
 
 -- ---- relocations are of their pieces' sections
 
-abbrev Of : Section → List Reloc → Type 0
+abbrev pub Of : Section → List Reloc → Type 0
 Of section [] = Unit {0}
 Of section (reloc ∷ more) = (reloc.section ≡ section) × Of section more
 
@@ -57,7 +57,7 @@ of_words section offset [] = tt
 of_words section offset (word ∷ more) =
     of_both section (relocs_of (place_at section offset) (link_of word)) (word_relocs section (sum_64 offset 4) more) (of_link (place_at section offset) (link_of word)) (of_words section (sum_64 offset 4) more)
 
-abbrev AllOwn : List Piece → Type 0
+abbrev pub AllOwn : List Piece → Type 0
 AllOwn [] = Unit {0}
 AllOwn (piece ∷ more) = Of piece.place.section piece.relocs × AllOwn more
 
@@ -100,7 +100,7 @@ set_own entries labels walk statement.Pool = by (is_in_text walk.at)
 set_own entries labels walk statement.FnStart = table_own walk.at.inside walk.at.sizes.extab (entry_at entries walk.at.functions)
 set_own entries labels walk _ = tt
 
-all_own : (entries : List (Option EntryWords)) (labels : List Named) (walk : Walk) (stmts : List Stmt) → AllOwn (pieces_from entries labels walk stmts)
+pub all_own : (entries : List (Option EntryWords)) (labels : List Named) (walk : Walk) (stmts : List Stmt) → AllOwn (pieces_from entries labels walk stmts)
 unfolding pieces_from
 all_own entries labels walk [] = pool_own labels walk
 all_own entries labels walk (stmt ∷ more) =
@@ -132,7 +132,7 @@ none_elsewhere t s [] j h e = tt
 none_elsewhere t s (reloc ∷ more) j h e = ((λ f. true≢false (sym f.here ∙ ap (λ u. same_section u s) h.0 ∙ e)), none_elsewhere t s more j h.1 e)
 
 -- in none that stands behind it
-none_behind_it : (s : Section) (from : ℕ) (relocs : List Reloc) (end j : ℕ) → StandInOrder from relocs end → j < from → IsInNoField s j relocs
+pub none_behind_it : (s : Section) (from : ℕ) (relocs : List Reloc) (end j : ℕ) → StandInOrder from relocs end → j < from → IsInNoField s j relocs
 none_behind_it s from [] end j h lt = tt
 none_behind_it s from (reloc ∷ more) end j h lt =
     ((λ f. outside_before j from reloc.offset lt h.0 f.from), none_behind_it s (reloc.offset + field_size reloc) more end j h.1 (omega (arith, lt, h.0)))
@@ -142,7 +142,7 @@ order_ends from [] end s = s
 order_ends from (reloc ∷ more) end s = omega (arith, s.0, order_ends (reloc.offset + field_size reloc) more end s.1)
 
 -- in none that ends before it
-none_before_it : (s : Section) (from : ℕ) (relocs : List Reloc) (end j : ℕ) → StandInOrder from relocs end → end ≤ j → IsInNoField s j relocs
+pub none_before_it : (s : Section) (from : ℕ) (relocs : List Reloc) (end j : ℕ) → StandInOrder from relocs end → end ≤ j → IsInNoField s j relocs
 none_before_it s from [] end j h le = tt
 none_before_it s from (reloc ∷ more) end j h le = (
   (λ f. outside_behind j (reloc.offset + field_size reloc) end f.below (order_ends (reloc.offset + field_size reloc) more end h.1) le),
@@ -170,6 +170,7 @@ itself Bss = refl
 
 record There (entries : List (Option EntryWords)) (labels : List Named) (walk : Walk) (stmt : Stmt) (more : List Stmt) : Type 0 where
   word : ℕ
+  word_is : word ≡ word_place walk stmt.kind (coming_pool entries walk (stmt ∷ more))
   known : are_names_known labels stmt.kind ≡ true
   unfaulted : encode_fault labels stmt.kind (here walk.at).offset word ≡ None
   in_place : is_misplaced stmt.kind walk.at.section ≡ false
@@ -194,6 +195,7 @@ there entries labels walk stmt more none r =
     let parts = refusal_parts labels stmt.kind walk.at.section (here walk.at).offset word own.0 in
     record {
       word = word;
+      word_is = refl;
       known = names_known labels stmt.kind walk.at.section (here walk.at).offset word own.0;
       unfaulted = parts.0;
       in_place = parts.1.1;
@@ -269,7 +271,7 @@ joined_bytes Extab stmts e = refl
 joined_bytes Init stmts e = refl
 joined_bytes Bss stmts e = absurd (true≢false e)
 
-joined_relocs : (stmts : List Stmt)
+pub joined_relocs : (stmts : List Stmt)
     → (joined stmts).relocs
     ≡ relocs_in Text (pieces_from (entries_of stmts) (labels_of (entries_of stmts) stmts) start stmts)
     ++ relocs_in Rodata (pieces_from (entries_of stmts) (labels_of (entries_of stmts) stmts) start stmts)
@@ -294,7 +296,7 @@ has_of_section Init pieces reloc e h = has_right (relocs_in Text pieces ++ reloc
 has_of_section Bss pieces reloc e h = absurd (true≢false e)
 
 -- in no field of a section is in none of the object
-none_of_section : (s : Section) (pieces : List Piece) (j : ℕ) → AllOwn pieces → IsInNoField s j (relocs_in s pieces)
+pub none_of_section : (s : Section) (pieces : List Piece) (j : ℕ) → AllOwn pieces → IsInNoField s j (relocs_in s pieces)
     → IsInNoField s j (relocs_in Text pieces ++ relocs_in Rodata pieces ++ relocs_in Extab pieces ++ relocs_in Init pieces)
 none_of_section s pieces j own h =
     none_in_both s (relocs_in Text pieces ++ relocs_in Rodata pieces ++ relocs_in Extab pieces) (relocs_in Init pieces) j
@@ -313,6 +315,9 @@ pub record Given (stmts before : List Stmt) (kind : StmtKind) (object : Object) 
   pub in_place : is_misplaced kind (behind stmts before).at.section ≡ false
   pub has_bytes : same_section (behind stmts before).at.section Bss ≡ false
   pub word : ℕ
+  pub rest : List Stmt
+  pub rest_is : stmts ≡ before ++ rest
+  pub word_is : word ≡ word_place (behind stmts before) kind (coming_pool (entries_of stmts) (behind stmts before) rest)
   pub known : are_names_known (labels_of (entries_of stmts) stmts) kind ≡ true
   pub unfaulted : encode_fault (labels_of (entries_of stmts) stmts) kind (here (behind stmts before).at).offset word ≡ None
   pub after : List ℕ
@@ -362,6 +367,9 @@ given stmts before more line kind object same few t none has =
       in_place = own.in_place;
       has_bytes = bytes_there;
       word = own.word;
+      rest = rest;
+      rest_is = same;
+      word_is = own.word_is;
       known = own.known;
       unfaulted = own.unfaulted;
       after = bytes_in s (pieces_from entries labels (next entries walk kind) more);

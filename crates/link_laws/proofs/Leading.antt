@@ -231,7 +231,7 @@ named_there stmts name object to few t e =
 
 -- ---- offsets
 
-minus_small : (to from : ℕ) → to ≤ MOST_BYTES + 8 → from ≤ MOST_BYTES + 8 → between to from ≡ pos to -ℤ pos from
+pub minus_small : (to from : ℕ) → to ≤ MOST_BYTES + 8 → from ≤ MOST_BYTES + 8 → between to from ≡ pos to -ℤ pos from
 minus_small to from h k = grind (arith, ints, nat_tests)
 
 pub goes : (place to : ℕ) → place ≤ MOST_BYTES → to ≤ MOST_BYTES → GoesTo place to (between to (pc place))

@@ -9,3 +9,5 @@ pub mod Given
 pub mod Said
 pub mod Ways
 pub mod Entries
+pub mod Pools
+pub mod Texts

@@ -56,8 +56,8 @@ use Rattle.link_laws.specs.MeaningLaw.{IsOneOf}
 use Rattle.link_laws.specs.LabelLaw.{Has}
 use Rattle.link_laws.specs.JoinedLaw.{NumberAt}
 use Rattle.link_laws.specs.FilledLaw.{FieldSays}
-use Rattle.link_laws.specs.SaidLaw.{StandsBehind, WordSays, NumberSays, SaysThere, WordsSay, HalvesSay, BytesSay}
-use Rattle.link_laws.proofs.Filled.{FilledAt, filled_at, part_is}
+use Rattle.link_laws.specs.SaidLaw.{MeansSo, StandsBehind, WordSays, NumberSays, SaysThere, WordsSay, HalvesSay, BytesSay}
+use Rattle.link_laws.proofs.Filled.{filled_at, part_is}
 use Rattle.link_laws.proofs.Given.{Given, given, none_in_both}
 use Rattle.link_laws.proofs.Labels.{begins_at, has_right}
 use Rattle.link_laws.proofs.Leading.{found_small, joined_symbols}
@@ -122,7 +122,7 @@ words_count (x ∷ exprs) = ap suc (words_count exprs)
 
 -- ---- the fields of a `.word`
 
-abbrev field_at : Section → ℕ → Linked → Reloc
+abbrev pub field_at : Section → ℕ → Linked → Reloc
 field_at section offset link = record { section = section; offset = offset; kind = link.kind; name = link.name; addend = link.addend }
 
 next_low : (offset count : ℕ) → offset + 4 * suc count ≤ MOST_BYTES → sum_64 offset 4 + 4 * count ≤ MOST_BYTES
@@ -298,7 +298,7 @@ some_fields front x back = not_none (length (front ++ x ∷ back)) (omega (arith
     not_none : (count : ℕ) → 0 < count → not (count == 0) ≡ true
     not_none count h = grind (arith, nat_tests)
 
-not_there : (a b : Bool) → a ≡ true → (a && b) ≡ false → b ≡ false
+pub not_there : (a b : Bool) → a ≡ true → (a && b) ≡ false → b ≡ false
 not_there true b e f = f
 not_there false b e f = absurd (true≢false (sym e))
 
@@ -325,26 +325,21 @@ word_reads w x e =
     ∙ ap (λ n. first ++ (word_bytes n ++ last)) e))
     (bytes_count labels w.front)
 
--- a word that the linker doesn't fill stands in the image
-plain_word : (w : Wording) (x : ℕ) → link_of (word_of w.value) ≡ None → held (labels_in w) (word_of w.value) ≡ x
-    → NumberAt 4 w.image (address_in (section_of w) w.placed.at + place_of w) (x % 256 ^ 4)
-plain_word w x none e =
+word_clears : (w : Wording) → link_of (word_of w.value) ≡ None → (j : ℕ) → place_of w ≤ j → j < place_of w + 4 → IsInNoField (section_of w) j w.placed.object.relocs
+word_clears w none j from below =
     let own = word_given w in
     let offset = (here (behind (source w) w.before).at).offset in
     let count : length (own_piece (labels_in w) (statement.Words (values w)) (here (behind (source w) w.before).at) own.word).bytes ≡ 4 * length (values w) = bytes_count (labels_in w) (values w) in
     let split = words_split w.front w.back w.value in
-    number_stays (section_of w) w.objects w.entry w.image w.placed w.one 4 (place_of w) (x % 256 ^ 4) w.made (omega arith) own.has_bytes (word_reads w x e)
-    (λ j from below.
+    let P : List Word → Type 0 = λ l. IsInNoField (section_of w) j (word_relocs (section_of w) offset l) in
     own.others j (omega (arith, from)) (omega (arith, below, count, length-append w.front (w.value ∷ w.back)))
-    (let P : List Word → Type 0 = λ l. IsInNoField (section_of w) j (word_relocs (section_of w) offset l) in
-    subst P (sym split)
+    (subst P (sym split)
     (word_clear (section_of w) offset j (map word_of w.front) (word_of w.value) (map word_of w.back) none
     (omega (arith, own.small, count, ap length split, words_count (values w)))
-    (omega (arith, from, words_count w.front)) (omega (arith, below, words_count w.front)))))
+    (omega (arith, from, words_count w.front)) (omega (arith, below, words_count w.front))))
 
--- the field of a word that the linker fills
-linked_word : (w : Wording) (link : Linked) → link_of (word_of w.value) ≡ Some link → FilledAt w.objects w.image w.placed (field_at (section_of w) (place_of w) link)
-linked_word w link e =
+word_field : (w : Wording) (link : Linked) → link_of (word_of w.value) ≡ Some link → Has w.placed.object.relocs (field_at (section_of w) (place_of w) link)
+word_field w link e =
     let own = word_given w in
     let offset = (here (behind (source w) w.before).at).offset in
     let count : length (own_piece (labels_in w) (statement.Words (values w)) (here (behind (source w) w.before).at) own.word).bytes ≡ 4 * length (values w) = bytes_count (labels_in w) (values w) in
@@ -353,8 +348,7 @@ linked_word w link e =
     let there = words_have (section_of w) offset (map word_of w.front) (word_of w.value) (map word_of w.back) link low e in
     let P : List Word → Type 0 = λ l. Has (word_relocs (section_of w) offset l) (field_at (section_of w) (offset + 4 * length (map word_of w.front)) link) in
     let Q : ℕ → Type 0 = λ n. Has (word_relocs (section_of w) offset (map word_of (values w))) (field_at (section_of w) (offset + 4 * n) link) in
-    let has = own.fields (field_at (section_of w) (place_of w) link) (subst Q (words_count w.front) (subst P (sym (words_split w.front w.back w.value)) there)) in
-    filled_at w.objects w.entry w.image w.placed w.one (source w) has.before has.after (field_at (section_of w) (place_of w) link) w.few w.accepted w.made has.split
+    own.fields (field_at (section_of w) (place_of w) link) (subst Q (words_count w.front) (subst P (sym (words_split w.front w.back w.value)) there))
 
 known_in : {A : Type 0} (p : A → Bool) (front : List A) (x : A) (back : List A) → list_all p (front ++ x ∷ back) ≡ true → p x ≡ true
 known_in p [] x back h = first (p x) _ h
@@ -379,12 +373,35 @@ known_some None e = absurd (true≢false (sym e))
 kind_is : (a b : FieldKind) → Some a ≡ Some b → b ≡ a
 kind_is a b e = cc
 
+-- ---- what a word of a source is in the image
+
+-- the word of an expression at a place of a section of an object: what the bytes hold there, and its field, or that it lies in none
+pub record WordHere (objects : List Object) (entry : List ℕ) (image : ImageParts) (placed : Placed) (one : IsOneOf objects placed) (stmts : List Stmt) (s : Section) (k : ℕ) (value : Expr) : Type 0 where
+  pub few : length stmts < 2 ^ 64
+  pub accepted : object_of stmts ≡ Ok placed.object
+  pub made : linked objects entry ≡ Ok image
+  pub has_bytes : same_section s Bss ≡ false
+  pub known : is_word_known (labels_of (entries_of stmts) stmts) value ≡ true
+  pub reads : (x : ℕ) → held (labels_of (entries_of stmts) stmts) (word_of value) ≡ x → Reads 4 (bytes_at s placed.object) k (x % 256 ^ 4)
+  pub field : (link : Linked) → link_of (word_of value) ≡ Some link → Has placed.object.relocs (field_at s k link)
+  pub clear : link_of (word_of value) ≡ None → (j : ℕ) → k ≤ j → j < k + 4 → IsInNoField s j placed.object.relocs
+
+-- a word that the linker doesn't fill
+plain_word : (objects : List Object) (entry : List ℕ) (image : ImageParts) (placed : Placed) (one : IsOneOf objects placed) (stmts : List Stmt) (s : Section) (k : ℕ) (value : Expr)
+    → WordHere objects entry image placed one stmts s k value → (x : ℕ) → link_of (word_of value) ≡ None → held (labels_of (entries_of stmts) stmts) (word_of value) ≡ x
+    → NumberAt 4 image (address_in s placed.at + k) (x % 256 ^ 4)
+plain_word objects entry image placed one stmts s k value w x none e =
+    number_stays s objects entry image placed one 4 k (x % 256 ^ 4) w.made (omega arith) w.has_bytes (w.reads x e) (w.clear none)
+
 -- what the field of a word says, by its kind
-filled_says : (w : Wording) (link : Linked) (kind : FieldKind) (f : FilledAt w.objects w.image w.placed (field_at (section_of w) (place_of w) link)) → kind_of link.kind ≡ Some kind
-    → FieldSays kind f.meaning link.addend (bytes_at (section_of w) w.placed.object) (place_of w) w.image (address_in (section_of w) w.placed.at + place_of w)
-filled_says w link kind f e =
-    let P : FieldKind → Type 0 = λ k. FieldSays k f.meaning link.addend (bytes_at (section_of w) w.placed.object) (place_of w) w.image (address_in (section_of w) w.placed.at + place_of w) in
-    subst P (kind_is kind f.kind (sym e ∙ f.number)) f.says
+filled_word : (objects : List Object) (entry : List ℕ) (image : ImageParts) (placed : Placed) (one : IsOneOf objects placed) (stmts : List Stmt) (s : Section) (k : ℕ) (value : Expr) (kind : FieldKind) (link : Linked)
+    → WordHere objects entry image placed one stmts s k value → link_of (word_of value) ≡ Some link → kind_of link.kind ≡ Some kind
+    → MeansSo objects placed link.name (λ meaning. FieldSays kind meaning link.addend (bytes_at s placed.object) k image (address_in s placed.at + k))
+filled_word objects entry image placed one stmts s k value kind link w e is =
+    let has = w.field link e in
+    let f = filled_at objects entry image placed one stmts has.before has.after (field_at s k link) w.few w.accepted w.made has.split in
+    let P : FieldKind → Type 0 = λ c. FieldSays c f.meaning link.addend (bytes_at s placed.object) k image (address_in s placed.at + k) in
+    record { meaning = f.meaning; means = f.means; says = subst P (kind_is kind f.kind (sym is ∙ f.number)) f.says }
 
 low_is : (n : ℤ) → low_word n % 256 ^ 4 ≡ low_word n
 low_is n = omega (arith, low_small n)
@@ -392,50 +409,35 @@ low_is n = omega (arith, low_small n)
 difference_is : (labels : List Named) (a b : List ℕ) (n way : ℤ) → distance labels a b ≡ Some way → low_or_zero (plus (distance labels a b) (pos (low_word n))) ≡ low_word (way +ℤ n)
 difference_is labels a b n way e = ap (λ d. low_or_zero (plus d (pos (low_word n)))) e ∙ low_low way n
 
-word_says : (w : Wording) (value : Expr) → w.value ≡ value → SaysThere w.objects w.placed w.one (source w) w.before (4 * length w.front) (WordSays w.objects w.placed w.image value)
-word_says w (expr.Num n) e = record {
-  part = address_in (section_of w) w.placed.at;
-  begins = begins_at (section_of w) w.objects w.placed w.one;
-  says =
-      let P : ℕ → Type 0 = NumberAt 4 w.image (address_in (section_of w) w.placed.at + place_of w) in
-      subst P (low_is n) (plain_word w (low_word n) (ap (λ v. link_of (word_of v)) e) (ap (λ v. held (labels_in w) (word_of v)) e));
-}
-word_says w (expr.Diff a b n) e =
-    let own = word_given w in
-    let known = known_some (distance (labels_in w) a b) (ap (is_word_known (labels_in w)) (sym e) ∙ known_in (is_word_known (labels_in w)) w.front w.value w.back own.known) in
+pub word_says : (objects : List Object) (entry : List ℕ) (image : ImageParts) (placed : Placed) (one : IsOneOf objects placed) (stmts : List Stmt) (s : Section) (k : ℕ) (value : Expr)
+    → WordHere objects entry image placed one stmts s k value → WordSays objects placed image value (address_in s placed.at + k)
+word_says objects entry image placed one stmts s k (expr.Num n) w =
+    let P : ℕ → Type 0 = NumberAt 4 image (address_in s placed.at + k) in
+    subst P (low_is n) (plain_word objects entry image placed one stmts s k (expr.Num n) w (low_word n) refl refl)
+word_says objects entry image placed one stmts s k (expr.Diff a b n) w =
+    let labels = labels_of (entries_of stmts) stmts in
+    let known = known_some (distance labels a b) w.known in
     record {
-      part = address_in (section_of w) w.placed.at;
-      begins = begins_at (section_of w) w.objects w.placed w.one;
-      says = record {
-        way = known.value;
-        apart = stands_behind (source w) w.placed.object a b known.value w.few (taken (source w) w.placed.object w.accepted) known.is;
-        there =
-            plain_word w (low_word (known.value +ℤ n)) (ap (λ v. link_of (word_of v)) e)
-            (ap (λ v. held (labels_in w) (word_of v)) e ∙ difference_is (labels_in w) a b n known.value known.is);
-      };
+      way = known.value;
+      apart = stands_behind stmts placed.object a b known.value w.few (taken stmts placed.object w.accepted) known.is;
+      there = plain_word objects entry image placed one stmts s k (expr.Diff a b n) w (low_word (known.value +ℤ n)) refl (difference_is labels a b n known.value known.is);
     }
-word_says w (expr.Of name n) e =
-    let link : Linked = record { kind = R_ARM_ABS32; name = name; addend = signed (low_word n) } in
-    let f = linked_word w link (ap (λ v. link_of (word_of v)) e) in
-    record { part = address_in (section_of w) w.placed.at; begins = begins_at (section_of w) w.objects w.placed w.one; says = record { meaning = f.meaning; means = f.means; says = filled_says w link Absolute f refl } }
-word_says w (expr.Rel name) e =
-    let link : Linked = record { kind = R_ARM_REL32; name = name; addend = pos 0 } in
-    let f = linked_word w link (ap (λ v. link_of (word_of v)) e) in
-    record { part = address_in (section_of w) w.placed.at; begins = begins_at (section_of w) w.objects w.placed w.one; says = record { meaning = f.meaning; means = f.means; says = filled_says w link Relative f refl } }
-word_says w (expr.Target2 name) e =
-    let link : Linked = record { kind = R_ARM_TARGET2; name = name; addend = pos 0 } in
-    let f = linked_word w link (ap (λ v. link_of (word_of v)) e) in
-    record { part = address_in (section_of w) w.placed.at; begins = begins_at (section_of w) w.objects w.placed w.one; says = record { meaning = f.meaning; means = f.means; says = filled_says w link Relative f refl } }
-word_says w (expr.Prel31 name) e =
-    let link : Linked = record { kind = R_ARM_PREL31; name = name; addend = pos 0 } in
-    let f = linked_word w link (ap (λ v. link_of (word_of v)) e) in
-    let old = number_is 4 (bytes_at (section_of w) w.placed.object) (place_of w) (0 % 256 ^ 4) (word_reads w 0 (ap (λ v. held (labels_in w) (word_of v)) e)) in
-    record { part = address_in (section_of w) w.placed.at; begins = begins_at (section_of w) w.objects w.placed w.one; says = record { meaning = f.meaning; means = f.means; says = filled_says w link Prel31 f refl (0 % 256 ^ 4) old (omega arith) } }
-word_says w (expr.Prel31Ref name) e =
-    let link : Linked = record { kind = R_ARM_PREL31; name = name; addend = pos 0 } in
-    let f = linked_word w link (ap (λ v. link_of (word_of v)) e) in
-    let old = number_is 4 (bytes_at (section_of w) w.placed.object) (place_of w) (0x80000000 % 256 ^ 4) (word_reads w 0x80000000 (ap (λ v. held (labels_in w) (word_of v)) e)) in
-    record { part = address_in (section_of w) w.placed.at; begins = begins_at (section_of w) w.objects w.placed w.one; says = record { meaning = f.meaning; means = f.means; says = filled_says w link Prel31 f refl (0x80000000 % 256 ^ 4) old (omega arith) } }
+word_says objects entry image placed one stmts s k (expr.Of name n) w =
+    filled_word objects entry image placed one stmts s k (expr.Of name n) Absolute (record { kind = R_ARM_ABS32; name = name; addend = signed (low_word n) }) w refl refl
+word_says objects entry image placed one stmts s k (expr.Rel name) w =
+    filled_word objects entry image placed one stmts s k (expr.Rel name) Relative (record { kind = R_ARM_REL32; name = name; addend = pos 0 }) w refl refl
+word_says objects entry image placed one stmts s k (expr.Target2 name) w =
+    filled_word objects entry image placed one stmts s k (expr.Target2 name) Relative (record { kind = R_ARM_TARGET2; name = name; addend = pos 0 }) w refl refl
+word_says objects entry image placed one stmts s k (expr.Prel31 name) w =
+    let f = filled_word objects entry image placed one stmts s k (expr.Prel31 name) Prel31 (record { kind = R_ARM_PREL31; name = name; addend = pos 0 }) w refl refl in
+    let old = number_is 4 (bytes_at s placed.object) k (0 % 256 ^ 4) (w.reads 0 refl) in
+    record { meaning = f.meaning; means = f.means; says = f.says (0 % 256 ^ 4) old (omega arith) }
+word_says objects entry image placed one stmts s k (expr.Prel31Ref name) w =
+    let f = filled_word objects entry image placed one stmts s k (expr.Prel31Ref name) Prel31 (record { kind = R_ARM_PREL31; name = name; addend = pos 0 }) w refl refl in
+    let old = number_is 4 (bytes_at s placed.object) k (0x80000000 % 256 ^ 4) (w.reads 0x80000000 refl) in
+    record { meaning = f.meaning; means = f.means; says = f.says (0x80000000 % 256 ^ 4) old (omega arith) }
+
+-- ---- `.word`
 
 pub law_of_words : WordsSay
 law_of_words objects entry image placed one before more line front back value few accepted made =
@@ -455,7 +457,22 @@ law_of_words objects entry image placed one before more line front back value fe
       accepted = accepted;
       made = made;
     } in
-    word_says w value refl
+    record {
+      part = address_in (section_of w) placed.at;
+      begins = begins_at (section_of w) objects placed one;
+      says =
+          word_says objects entry image placed one (source w) (section_of w) (place_of w) value
+          (record {
+            few = few;
+            accepted = accepted;
+            made = made;
+            has_bytes = (word_given w).has_bytes;
+            known = known_in (is_word_known (labels_in w)) front value back (word_given w).known;
+            reads = word_reads w;
+            field = word_field w;
+            clear = word_clears w;
+          });
+    }
 
 -- ---- `.half` and `.byte`
 

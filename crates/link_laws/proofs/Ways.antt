@@ -96,18 +96,18 @@ code_stays (code.Pair first second) s objects entry image placed one k e given t
 -- ---- an instruction of a source
 
 -- an instruction with a name, in objects that link to an image
-record Naming (kind : StmtKind) (name : List ℕ) (objects : List Object) (entry : List ℕ) (image : ImageParts) (placed : Placed) (one : IsOneOf objects placed) (stmts before : List Stmt) : Type 0 where
-  few : length stmts < 2 ^ 64
-  accepted : object_of stmts ≡ Ok placed.object
-  made : linked objects entry ≡ Ok image
-  own : Given stmts before kind placed.object
-  text : (behind stmts before).at.section ≡ Text
+pub record Naming (kind : StmtKind) (name : List ℕ) (objects : List Object) (entry : List ℕ) (image : ImageParts) (placed : Placed) (one : IsOneOf objects placed) (stmts before : List Stmt) : Type 0 where
+  pub few : length stmts < 2 ^ 64
+  pub accepted : object_of stmts ≡ Ok placed.object
+  pub made : linked objects entry ≡ Ok image
+  pub own : Given stmts before kind placed.object
+  pub text : (behind stmts before).at.section ≡ Text
 
-abbrev place_in : List Stmt → List Stmt → ℕ
+abbrev pub place_in : List Stmt → List Stmt → ℕ
 place_in stmts before = (here (behind stmts before).at).offset
 
 -- an instruction that the assembler gave its offset
-own_decodes : (kind : StmtKind) (name : List ℕ) (objects : List Object) (entry : List ℕ) (image : ImageParts) (placed : Placed) (one : IsOneOf objects placed) (stmts before : List Stmt) (i : Instr)
+pub own_decodes : (kind : StmtKind) (name : List ℕ) (objects : List Object) (entry : List ℕ) (image : ImageParts) (placed : Placed) (one : IsOneOf objects placed) (stmts before : List Stmt) (i : Instr)
     → (n : Naming kind name objects entry image placed one stmts before)
     → (own_piece (labels_of (entries_of stmts) stmts) kind (here (behind stmts before).at) n.own.word).relocs ≡ []
     → (own_piece (labels_of (entries_of stmts) stmts) kind (here (behind stmts before).at) n.own.word).bytes ≡ bytes_of_code (encoded_of i)
@@ -219,19 +219,19 @@ aligned_from at (object ∷ more) (x ∷ front) back placed e =
     let rest : placed_from (ends (all_aligned at) object) more ≡ front ++ placed ∷ back = cc in
     aligned_from (ends (all_aligned at) object) more front back placed rest
 
-text_aligned : (objects : List Object) (placed : Placed) → IsOneOf objects placed → placed.at.text % 4 ≡ 0
+pub text_aligned : (objects : List Object) (placed : Placed) → IsOneOf objects placed → placed.at.text % 4 ≡ 0
 text_aligned objects placed one = aligned_from (firsts (layout_of objects)) objects one.front one.back placed one.split
 
 -- ---- a named instruction
 
-text_begins : (s : Section) (objects : List Object) (placed : Placed) (one : IsOneOf objects placed) → s ≡ Text → address_in s placed.at ≡ placed.at.text
+pub text_begins : (s : Section) (objects : List Object) (placed : Placed) (one : IsOneOf objects placed) → s ≡ Text → address_in s placed.at ≡ placed.at.text
 text_begins s objects placed one e = ap (λ t. address_in t placed.at) e
 
-text_small : (objects : List Object) (entry : List ℕ) (image : ImageParts) (placed : Placed) (one : IsOneOf objects placed) → linked objects entry ≡ Ok image → placed.at.text ≤ 0x400000
+pub text_small : (objects : List Object) (entry : List ℕ) (image : ImageParts) (placed : Placed) (one : IsOneOf objects placed) → linked objects entry ≡ Ok image → placed.at.text ≤ 0x400000
 text_small objects entry image placed one e = omega (arith, address_small Text objects entry image placed one e)
 
 -- where the text has come to is where the statement stands
-place_is : (kind : StmtKind) (name : List ℕ) (objects : List Object) (entry : List ℕ) (image : ImageParts) (placed : Placed) (one : IsOneOf objects placed) (stmts before : List Stmt)
+pub place_is : (kind : StmtKind) (name : List ℕ) (objects : List Object) (entry : List ℕ) (image : ImageParts) (placed : Placed) (one : IsOneOf objects placed) (stmts before : List Stmt)
     → Naming kind name objects entry image placed one stmts before → place_in stmts before ≡ text_behind stmts before
 place_is kind name objects entry image placed one stmts before n =
     text_here (behind stmts before).at.sizes (behind stmts before).at.section (ap (λ s. same_section s Text) n.text)
@@ -338,7 +338,7 @@ linked_leads kind name objects entry image placed one stmts before instruction n
 -- ---- the laws
 
 -- an instruction stands in the text
-given_in_text : (stmts before more : List Stmt) (line : ℕ) (kind : StmtKind) (name : List ℕ) (objects : List Object) (entry : List ℕ) (image : ImageParts) (placed : Placed) (one : IsOneOf objects placed)
+pub given_in_text : (stmts before more : List Stmt) (line : ℕ) (kind : StmtKind) (name : List ℕ) (objects : List Object) (entry : List ℕ) (image : ImageParts) (placed : Placed) (one : IsOneOf objects placed)
     → stmts ≡ before ++ record { line = line; kind = kind } ∷ more → length stmts < 2 ^ 64 → object_of stmts ≡ Ok placed.object → linked objects entry ≡ Ok image
     → set_pieces (entries_of stmts) (labels_of (entries_of stmts) stmts) (behind stmts before) kind ≡ [] → ((s : Section) → is_misplaced kind s ≡ not (same_section s Text))
     → Naming kind name objects entry image placed one stmts before

@@ -6,3 +6,4 @@ pub mod FilledLaw
 pub mod SaidLaw
 pub mod WayLaw
 pub mod EntryLaw
+pub mod PoolLaw

@@ -1,6 +1,6 @@
 -- What the image that sources link to has for what they give: at the address of each expression of a `.word`, `.half` or `.byte` the value
--- that it says (docs/objects.md, "Names"; docs/linking.md, "Relocations").
-use Rattle.std.specs.Prelude.{◌≡◌, ℕ, ℤ, pos, ◌+◌, ◌*◌, ◌%◌, ◌^◌, ◌<◌, ◌+ℤ◌, ◌-ℤ◌, List, ◌∷◌, ◌++◌, length, Some, Ok}
+-- that it says, and of a text its bytes (docs/objects.md, "Names"; docs/linking.md, "Relocations").
+use Rattle.std.specs.Prelude.{◌≡◌, ℕ, ℤ, pos, ◌+◌, ◌*◌, ◌%◌, ◌^◌, ◌<◌, ◌+ℤ◌, ◌-ℤ◌, List, [], ◌∷◌, ◌++◌, length, Some, Ok}
 use Rattle.asm_read.specs.declared.statement.Expr.{Expr}
 use Rattle.asm_read.specs.declared.statement.Expr.TheVariants as expr
 use Rattle.asm_read.specs.declared.statement.Stmt.{Stmt}
@@ -94,3 +94,19 @@ HalvesSay = EachSays statement.Halves 2 (NumberSays 2)
 
 abbrev pub BytesSay : Type 0
 BytesSay = EachSays statement.Bytes 1 (NumberSays 1)
+
+-- each byte of a text's statement, where its kind gives these bytes for the text
+abbrev pub EachByteSays : (List ℕ → StmtKind) → (List ℕ → List ℕ) → Type 0
+EachByteSays kind given =
+    (objects : List Object) (entry : List ℕ) (image : ImageParts) (placed : Placed) (one : IsOneOf objects placed)
+    (before more : List Stmt) (line : ℕ) (text front back : List ℕ) (byte : ℕ)
+    → let stmts = before ++ record { line = line; kind = kind text } ∷ more in
+    given text ≡ front ++ byte ∷ back → length stmts < 2 ^ 64 → object_of stmts ≡ Ok placed.object → linked objects entry ≡ Ok image
+    → SaysThere objects placed one stmts before (length front) (λ address. NumberAt 1 image address byte)
+
+abbrev pub TextsSay : Type 0
+TextsSay = EachByteSays statement.Ascii (λ text. text)
+
+-- behind the text of an `.asciz` a zero byte
+abbrev pub ZeroedTextsSay : Type 0
+ZeroedTextsSay = EachByteSays statement.Asciz (λ text. text ++ 0 ∷ [])

@@ -7,8 +7,9 @@ ghost use Rattle.link_laws.specs.MeaningLaw.{NamesHaveMeanings};
 ghost use Rattle.link_laws.specs.LabelLaw.{LabelsAreSymbols, MeaningsAreOfLabels};
 ghost use Rattle.link_laws.specs.JoinedLaw.{WordsAreSums};
 ghost use Rattle.link_laws.specs.FilledLaw.{FieldsAreFilled};
-ghost use Rattle.link_laws.specs.SaidLaw.{WordsSay, HalvesSay, BytesSay};
+ghost use Rattle.link_laws.specs.SaidLaw.{WordsSay, HalvesSay, BytesSay, TextsSay, ZeroedTextsSay};
 ghost use Rattle.link_laws.specs.EntryLaw.{MarksAreMapped, EntriesAreFunctions};
+ghost use Rattle.link_laws.specs.PoolLaw.{LoadsReadValues};
 ghost use Rattle.link_laws.specs.WayLaw.{JumpsLeadTo, CondJumpsLeadTo, CallsLeadTo, AddressesLeadTo, LoadsLeadTo};
 
 /// A branch to a label in the text of its own source, an `adr` and a `ldr rt, name` lead to the label: the halfwords at the statement's
@@ -48,11 +49,13 @@ pub fn fields_are_filled()
 
 /// In the image that sources link to, the word at the address of each expression of a `.word` is what the expression says, and so are the
 /// halfwords and bytes of a `.half` and a `.byte`: a number, how far one label stands behind another, or what the name means, in the
-/// relation to the word's own address that the source asks for.
+/// relation to the word's own address that the source asks for. The bytes of a text are there, and behind an `.asciz` a zero byte.
 pub fn numbers_are_as_given()
     ensures words { WordsSay }
     ensures halves { HalvesSay }
     ensures bytes { BytesSay }
+    ensures texts { TextsSay }
+    ensures zeroed { ZeroedTextsSay }
 {}
 
 /// In the image that sources link to, each branch, `adr` and `ldr rt, name` leads to what its name means there, whether the assembler or the
@@ -71,4 +74,10 @@ pub fn names_lead_to_what_they_mean()
 pub fn marks_and_entry_are_of_objects()
     ensures marks { MarksAreMapped }
     ensures entry { EntriesAreFunctions }
+{}
+
+/// In the image that sources link to, `ldr rt, =value` loads what the value says: the word at the address to which the core comes from
+/// the instruction is the number, how far one label stands behind another, or what the name means.
+pub fn loads_read_their_values()
+    ensures { LoadsReadValues }
 {}
