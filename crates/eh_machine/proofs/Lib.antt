@@ -19,3 +19,4 @@ pub mod InStep
 pub mod CallGates
 pub mod CallEvents
 pub mod Landed
+pub mod Entered

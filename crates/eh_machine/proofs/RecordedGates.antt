@@ -70,7 +70,7 @@ searches_fail g next s why = record {
 
 -- ---- the end of a cleanup
 
-callers_left : (home : ℕ × ℕ) (sp : ℕ) (acts : List Activation) → callers (map (λ (b : Activation). released_in home sp b) acts) ≡ callers acts
+pub callers_left : (home : ℕ × ℕ) (sp : ℕ) (acts : List Activation) → callers (map (λ (b : Activation). released_in home sp b) acts) ≡ callers acts
 callers_left home sp [] = refl
 callers_left home sp (a ∷ more) = ap (λ (cs : List Caller). a.caller ∷ cs) (callers_left home sp more)
 
@@ -113,7 +113,7 @@ some_left {A} n xs e = let l : length (drop n xs) ≡ 0 = ap (λ (ys : List A). 
 
 -- ---- what is entered, of a state without its innermost cleanup
 
-land_keeps : (l : Lists) (s : ℕ) → (land_list l s).cleanups ≡ l.cleanups
+pub land_keeps : (l : Lists) (s : ℕ) → (land_list l s).cleanups ≡ l.cleanups
 land_keeps l s = by_entry (entry l s)
   where
     by_state : (b : Bool) (r : Record) → (land_record b l s r).cleanups ≡ l.cleanups

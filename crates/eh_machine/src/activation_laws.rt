@@ -2,7 +2,7 @@
 ghost use Rattle.eh_machine.specs.ActivationLaws.{PlainEventsMatch, MachinesStartAlike, ReturnsGiveBack, FramesAreActivations, LandingsStandInTheirFrames, CallsRecord};
 ghost use Rattle.eh_machine.specs.Corresponds.{CallsMatch};
 ghost use Rattle.eh_machine.specs.FrameEnds.{FramesEndAsTold};
-ghost use Rattle.eh_machine.specs.Landings.{LandingsMatch};
+ghost use Rattle.eh_machine.specs.Landings.{LandingsMatch, LandingsAreInTheirActivation};
 ghost use Rattle.eh_machine.specs.RecordedGates.{FailedSearchesAddTheirEvent, CleanupsEndInTheirOwn};
 ghost use Rattle.eh_machine.specs.RecordedSlots.{SlotsAreGuarded, SavesBecomeSlots, ReturnsMatch, FirstEventsMatch};
 
@@ -81,4 +81,9 @@ pub fn calls_match()
 /// What phase 2 enters in an activation is entered alike in both machines, and what it leaves stands for each other again.
 pub fn landings_match()
     ensures { LandingsMatch }
+{}
+
+/// A landing is in the activation that is entered, with those outside it as they were; a cleanup names it by how many these are.
+pub fn landings_are_in_their_activation()
+    ensures { LandingsAreInTheirActivation }
 {}
