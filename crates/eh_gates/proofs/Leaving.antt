@@ -40,7 +40,7 @@ use Rattle.eh_gates.specs.Landing.{entered}
 use Rattle.eh_gates.specs.Throwing.{frames_from, barrier_words, with_barrier, handed, throw_to, throw_event, size_of, barrier_in, searched, sought, from_barrier, flies_to, flies, first_flight, throws, throw_gate, thrown_first, rethrow_end, thrown_of_block, second_flight, rethrows, rethrow_gate}
 use Rattle.eh_gates.specs.Resuming.{goes_on, ends_cleanup, resumes_in, resumes}
 use Rattle.eh_gates.specs.Gates.{gate_of}
-use Rattle.eh_gates.specs.Laws.{is_terminate, IsLeft, OnlyThrown}
+use Rattle.eh_gates.specs.Laws.{is_terminate, IsLeft, OnlyThrown, OnlyRethrown}
 
 -- of an outcome: where it ends the run it leaves these of a state
 abbrev pub Leaves : State → Outcome → Type 0
@@ -218,3 +218,27 @@ thrown_only g s t end why may holds none e =
   where
     is_ended : ◌≡◌ {A = Outcome} (throw_gate g s) (Ended why, logged s (throw_event kind.Throw s.memory (thrown_first s) (size_of s (thrown_first s))))
     is_ended = ap (throws g s) may ∙ ap (from_barrier (λ b u. flies g u (reg s 0) (first_flight u) b)) (found_none g s why holds none)
+
+-- ---- a rethrow without a barrier
+
+rethrown_none : (g : Guide) (s : State) (why : End) (thrown : Thrown) → is_some (row_of g.types thrown.ty) ≡ true → barrier_in s.regs.pc (searched g s thrown) ≡ Err why
+    → ◌≡◌ {A = Result Barrier End × State} (sought g s kind.Rethrow thrown) (Err why, logged s (throw_event kind.Rethrow s.memory thrown (size_of s thrown)))
+unfolding sought
+rethrown_none g s why thrown holds none =
+    let after = logged s (throw_event kind.Rethrow s.memory thrown (size_of s thrown)) in
+    let one : Result Barrier End → Result Barrier End × State = λ r. (r, after) in
+    rw holds (ap one none)
+
+pub rethrown_only : (g : Guide) (s t : State) (end why : End) (block : ℕ) → (second_flight s).answer ≡ Ok block → is_some (row_of g.types (thrown_of_block s block).ty) ≡ true
+    → barrier_in s.regs.pc (searched g s (thrown_of_block s block)) ≡ Err why → ◌≡◌ {A = Outcome} (rethrow_gate g s) (Ended end, t) → (end ≡ why) × OnlyRethrown s t
+rethrown_only g s t end why block may holds none e =
+    let after = logged s (throw_event kind.Rethrow s.memory (thrown_of_block s block) (size_of s (thrown_of_block s block))) in
+    let is : ◌≡◌ {A = Outcome} (rethrow_gate g s) (Ended why, after) =
+    ap (rethrows g s) may ∙ ap (from_barrier (λ b u. flies g u block (second_flight u) b)) (rethrown_none g s why (thrown_of_block s block) holds none) in
+    let both : ◌≡◌ {A = Outcome} (Ended why, after) (Ended end, t) = sym is ∙ e in
+    let one : Ended why ≡ Ended end = ap (λ (p : Outcome). p.0) both in
+    let two : after ≡ t = ap (λ (p : Outcome). p.1) both in (
+      cc,
+      subst (λ (v : State). OnlyRethrown s v) two
+          (record { rethrows = refl; cleanups = refl; catches = refl; unexpected = refl; regs = refl; globals = refl; memory = refl }),
+    )

@@ -10,7 +10,7 @@ use Rattle.thumb_core.specs.declared.ends.End.{End}
 use Rattle.thumb_core.specs.declared.ends.End.TheVariants as the_end
 use Rattle.eh_gates.specs.declared.state.Turned.TheVariants.{Ended}
 use Rattle.eh_gates.specs.State.{State, Guide, Outcome, reg}
-use Rattle.eh_gates.specs.Throwing.{throw_gate, barrier_in, searched, thrown_first}
+use Rattle.eh_gates.specs.Throwing.{throw_gate, rethrow_gate, barrier_in, searched, thrown_first, thrown_of_block, second_flight}
 use Rattle.eh_gates.specs.Gates.{gate_of}
 
 abbrev pub is_terminate : End → Bool
@@ -45,6 +45,22 @@ abbrev pub FailedSearchesEnterNothing : Type 0
 FailedSearchesEnterNothing =
     (g : Guide) (s t : State) (end why : End) → throw_fault (word s.memory) (object_slot (reg s 0)) ≡ Ok tt → is_some (row_of g.types (reg s 1)) ≡ true
     → barrier_in s.regs.pc (searched g s (thrown_first s)) ≡ Err why → throw_gate g s ≡ (Ended end, t) → (end ≡ why) × OnlyThrown s t
+
+-- the same of a rethrow of what is on top of the caught stack
+pub record OnlyRethrown (s t : State) : Type 0 where
+  pub rethrows : total_of kind.Rethrow t.events ≡ one_event (total_of kind.Rethrow s.events)
+  pub cleanups : total_of kind.Cleanup t.events ≡ total_of kind.Cleanup s.events
+  pub catches : total_of kind.Catch t.events ≡ total_of kind.Catch s.events
+  pub unexpected : total_of kind.Unexpected t.events ≡ total_of kind.Unexpected s.events
+  pub regs : t.regs ≡ s.regs
+  pub globals : t.globals ≡ s.globals
+  pub memory : t.memory ≡ s.memory
+
+abbrev pub FailedRethrowsEnterNothing : Type 0
+FailedRethrowsEnterNothing =
+    (g : Guide) (s t : State) (end why : End) (block : ℕ) → (second_flight s).answer ≡ Ok block
+    → is_some (row_of g.types (thrown_of_block s block).ty) ≡ true → barrier_in s.regs.pc (searched g s (thrown_of_block s block)) ≡ Err why
+    → rethrow_gate g s ≡ (Ended end, t) → (end ≡ why) × OnlyRethrown s t
 
 -- a head of a chain: none, or the control block of a slot
 abbrev pub IsHead : ℕ → Type 0

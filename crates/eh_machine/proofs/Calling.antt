@@ -11,7 +11,7 @@ use Rattle.eh_machine.specs.Activations.{Caller, Activation, Recorded, memory_of
 use Rattle.eh_machine.specs.ActivationMachine.{tested, tests, moved, checked, passed, stepped, onward, recorded_event}
 use Rattle.eh_machine.specs.ActivationLaws.{IsCalled, CallsRecord, callers}
 
-callers_stay : (home : ℕ × ℕ) (old new : ℕ) (acts : List Activation) → callers (map (λ (a : Activation). freed_in home old new a) acts) ≡ callers acts
+pub callers_stay : (home : ℕ × ℕ) (old new : ℕ) (acts : List Activation) → callers (map (λ (a : Activation). freed_in home old new a) acts) ≡ callers acts
 callers_stay home old new [] = refl
 callers_stay home old new (a ∷ more) = ap (λ (cs : List Caller). a.caller ∷ cs) (callers_stay home old new more)
 

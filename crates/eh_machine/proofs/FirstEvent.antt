@@ -29,23 +29,18 @@ use Rattle.eh_gates.specs.Gates.{gate_of}
 use Rattle.eh_machine.specs.Program.{Program, guide}
 use Rattle.eh_machine.specs.Start.{start_of}
 use Rattle.eh_machine.specs.Machine as bytes
-use Rattle.eh_machine.specs.Activations.{words_in, with_lists, bytes_of, recorded_start}
+use Rattle.eh_machine.specs.Activations.{words_in, with_lists, recorded_start}
 use Rattle.eh_machine.specs.ActivationMachine as acts
 use Rattle.eh_machine.specs.ActivationLaws.{Matches, IsNoReturn, StartsAlike}
+use Rattle.eh_machine.specs.Corresponds.{OutcomesMatch}
 use Rattle.eh_machine.proofs.Matching.{CanMatch, events_match, same_start, start_knows, in_state_alike}
-
-abbrev OutcomesMatch : Outcome → acts.Outcome → Type 0
-OutcomesMatch (Went, b) (Went, s) = b ≡ bytes_of s
-OutcomesMatch (Ended end, b) (Ended why, s) = (end ≡ why) × (b ≡ bytes_of s)
-OutcomesMatch (Went, b) (Ended why, s) = ⊥
-OutcomesMatch (Ended end, b) (Went, s) = ⊥
 
 both : (c : Bool) (x y : Outcome) (u v : acts.Outcome) → OutcomesMatch x u → OutcomesMatch y v → OutcomesMatch (cond c x y) (cond c u v)
 both true x y u v h k = h
 both false x y u v h k = k
 
 -- words written into the pool change segments alone
-segments_alone : (ws : List Write) (m : Memory) → put_all ws m ≡ record m { segments = (put_all ws m).segments }
+pub segments_alone : (ws : List Write) (m : Memory) → put_all ws m ≡ record m { segments = (put_all ws m).segments }
 unfolding put
 segments_alone [] m = refl
 segments_alone (x ∷ more) m = segments_alone more (put m x.slot x.place x.value)
@@ -54,7 +49,7 @@ first_is : (p : ℕ → Bool) → p 0 ≡ true → first_slot p ≡ Some 0
 unfolding first_slot first_from
 first_is p e = rw e refl
 
-at_pool : (image : List Segment) (a : ℕ) → POOL_START ≤ a → a + 4 ≤ POOL_END
+pub at_pool : (image : List Segment) (a : ℕ) → POOL_START ≤ a → a + 4 ≤ POOL_END
     → number_in 4 (zeros_at STACK_START STACK_SIZE ∷ zeros_at POOL_START POOL_SIZE ∷ image) a ≡ 0
 at_pool image a l h =
     rw (
@@ -115,13 +110,13 @@ module _ (p : Program) (next : ℕ) where
       both (number == END_CLEANUP_GATE) _ _ _ _ resume_matches (both (number == UNEXPECTED_GATE) _ _ _ _ (refl, refl) (both (number == TERMINATE_GATE) _ _ _ _ (refl, refl) (
       both (number == UNCAUGHT_GATE) _ _ _ _ uncaught_matches (refl, refl))))))))))
 
-module _ (p : Program) where
-  outcome_event : (o : Outcome) (q : acts.Outcome) (input : List ℕ) → OutcomesMatch o q → Matches (bytes.event_of o input) (acts.event_of q input)
-  outcome_event (Went, b) (Went, s) input h = (h, refl, refl)
-  outcome_event (Ended end, b) (Ended why, s) input h = h
-  outcome_event (Went, b) (Ended why, s) input h = absurd h
-  outcome_event (Ended end, b) (Went, s) input h = absurd h
+pub outcome_event : (o : Outcome) (q : acts.Outcome) (input : List ℕ) → OutcomesMatch o q → Matches (bytes.event_of o input) (acts.event_of q input)
+outcome_event (Went, b) (Went, s) input h = (h, refl, refl)
+outcome_event (Ended end, b) (Ended why, s) input h = h
+outcome_event (Went, b) (Ended why, s) input h = absurd h
+outcome_event (Ended end, b) (Went, s) input h = absurd h
 
+module _ (p : Program) where
   at_gate : (number : ℕ) → CanMatch p (recorded_start p) (Gate number)
   at_gate number regs input = go (nat_lt INPUT_GATE number)
     where

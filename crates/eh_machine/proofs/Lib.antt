@@ -10,3 +10,13 @@ pub mod GivesBack
 pub mod Passed
 pub mod FirstEvent
 pub mod Calling
+pub mod FramesEnd
+pub mod RecordedGates
+pub mod Saving
+pub mod Returning
+pub mod FirstReturn
+pub mod InStep
+pub mod CallGates
+pub mod CallEvents
+pub mod Landed
+pub mod Entered

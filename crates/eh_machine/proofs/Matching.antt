@@ -50,7 +50,7 @@ same_memory s m k =
     ap one k.guards ∙ ap two k.home
 
 module _ (p : Program) (s : Recorded) (knows : KnowsLanding s) where
-  settles : (regs : Regs) (m : Memory) → KeepsMap (memory_of s) m
+  pub settles : (regs : Regs) (m : Memory) → KeepsMap (memory_of s) m
       → record (bytes_of s) { regs = regs; memory = bytes.settled_at p (bytes_of s) regs m } ≡ bytes_of (acts.settled_at p s regs (record s { regs = regs; segments = m.segments }))
   settles regs m k =
       let saves = (p.look s.regs.pc).saves in

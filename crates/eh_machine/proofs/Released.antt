@@ -15,7 +15,7 @@ rose_is saves old new m h = rw (lt-ltb old new h) refl
 fell_is : (saves old new : ℕ) (m : Memory) → new ≤ old → settled saves 0 old new m ≡ m
 fell_is saves old new m h = rw (le-ltb old new h) refl
 
-where_it_stays : (low a g : ℕ) → (nat_le a g || nat_lt g low) ≡ true → (a ≤ g) ⊎ (g < low)
+pub where_it_stays : (low a g : ℕ) → (nat_le a g || nat_lt g low) ≡ true → (a ≤ g) ⊎ (g < low)
 where_it_stays low a g e = go (nat_le a g) (nat_lt g low) refl refl e
   where
     go : (x y : Bool) → nat_le a g ≡ x → nat_lt g low ≡ y → (x || y) ≡ true → (a ≤ g) ⊎ (g < low)
@@ -23,7 +23,7 @@ where_it_stays low a g e = go (nat_le a g) (nat_lt g low) refl refl e
     go false true ex ey h = inr (ltb-true _ _ ey)
     go false false ex ey h = absurd (cc)
 
-it_stays : (low a g : ℕ) → (a ≤ g) ⊎ (g < low) → (nat_le a g || nat_lt g low) ≡ true
+pub it_stays : (low a g : ℕ) → (a ≤ g) ⊎ (g < low) → (nat_le a g || nat_lt g low) ≡ true
 it_stays low a g (inl h) = rw (le-leb a g h) refl
 it_stays low a g (inr h) = go (nat_le a g)
   where

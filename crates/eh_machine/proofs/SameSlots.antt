@@ -13,7 +13,7 @@ all_rise [] = tt
 all_rise (x ∷ xs) = inserted_rising 0 x (insert_all xs []) (omega arith) (all_rise xs)
 
 -- a test passes through the insertions
-filter_all : (p : ℕ → Bool) (xs : List ℕ) → filter p (insert_all xs []) ≡ insert_all (filter p xs) []
+pub filter_all : (p : ℕ → Bool) (xs : List ℕ) → filter p (insert_all xs []) ≡ insert_all (filter p xs) []
 filter_all p [] = refl
 filter_all p (x ∷ xs) = filter_inserted p x 0 (insert_all xs []) (all_rise xs) ∙ go (p x) (filter_all p xs)
   where

@@ -8,3 +8,8 @@ pub mod Laws
 pub mod Activations
 pub mod ActivationMachine
 pub mod ActivationLaws
+pub mod FrameEnds
+pub mod RecordedGates
+pub mod RecordedSlots
+pub mod Corresponds
+pub mod Landings

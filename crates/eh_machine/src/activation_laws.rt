@@ -1,5 +1,10 @@
 //! How the machine with recorded activations fits the one over bytes (docs/machine.md, "Laws").
 ghost use Rattle.eh_machine.specs.ActivationLaws.{PlainEventsMatch, MachinesStartAlike, ReturnsGiveBack, FramesAreActivations, LandingsStandInTheirFrames, CallsRecord};
+ghost use Rattle.eh_machine.specs.Corresponds.{CallsMatch};
+ghost use Rattle.eh_machine.specs.FrameEnds.{FramesEndAsTold};
+ghost use Rattle.eh_machine.specs.Landings.{LandingsMatch, LandingsAreInTheirActivation};
+ghost use Rattle.eh_machine.specs.RecordedGates.{FailedSearchesAddTheirEvent, CleanupsEndInTheirOwn};
+ghost use Rattle.eh_machine.specs.RecordedSlots.{SlotsAreGuarded, SavesBecomeSlots, ReturnsMatch, FirstEventsMatch};
 
 /// An instruction that is no return and no gate of exceptions does the same in both machines.
 pub fn plain_events_match()
@@ -29,4 +34,56 @@ pub fn landings_stand_in_their_frames()
 /// A call puts an activation in front that records where it returns to, and sp and r4 to r11 as they are.
 pub fn calls_record()
     ensures { CallsRecord }
+{}
+
+/// The frames of a throw end behind the activation of the innermost cleanup in progress, or behind the outermost where none is, or at the first
+/// that can't be unwound.
+pub fn frames_end_as_told()
+    ensures { FramesEndAsTold }
+{}
+
+/// A throw or a rethrow that finds no barrier adds its own event and nothing else.
+pub fn failed_searches_add_their_event()
+    ensures { FailedSearchesAddTheirEvent }
+{}
+
+/// A cleanup ends only in the activation that was called from its own with its landing sp; then its exception's phase 2 goes on there.
+pub fn cleanups_end_in_their_own()
+    ensures { CleanupsEndInTheirOwn }
+{}
+
+/// The guarded words are the slots of all activations, and a store that reaches one is refused with its address.
+pub fn slots_are_guarded()
+    ensures { SlotsAreGuarded }
+{}
+
+/// The words that an instruction saves become slots of the running activation, and of no other; where sp rises those below it leave.
+pub fn saves_become_slots()
+    ensures { SavesBecomeSlots }
+{}
+
+/// A return that finds on the stack what was recorded does the same in both machines.
+pub fn returns_match()
+    ensures { ReturnsMatch }
+{}
+
+/// The first event of a run is the same in both machines, a return too.
+pub fn first_events_match()
+    ensures { FirstEventsMatch }
+{}
+
+/// Where words and lists of exceptions stand for each other, the gates that walk no frames do the same in both machines, and what they leave
+/// stands for each other again.
+pub fn calls_match()
+    ensures { CallsMatch }
+{}
+
+/// What phase 2 enters in an activation is entered alike in both machines, and what it leaves stands for each other again.
+pub fn landings_match()
+    ensures { LandingsMatch }
+{}
+
+/// A landing is in the activation that is entered, with those outside it as they were; a cleanup names it by how many these are.
+pub fn landings_are_in_their_activation()
+    ensures { LandingsAreInTheirActivation }
 {}
