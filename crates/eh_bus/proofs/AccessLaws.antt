@@ -1,6 +1,9 @@
 -- The laws of load, store and store_run that a simulation uses.
-use Rattle.std.proofs.Common.{◌≡◌, ℕ, zero, suc, ◌+◌, ◌*◌, ◌%◌, ◌^◌, ◌<◌, ◌≤◌, ◌⊎◌, inl, inr, Bool, true, false, not, ◌&&◌, ◌==◌, nat_lt, cond, List, [], ◌∷◌, length, get_or, Option, Some, None, Result, Ok, Err, refl, sym, ap, ◌∙◌, arith}
+use Rattle.std.proofs.Common.{◌≡◌, ℕ, zero, suc, ◌+◌, ◌-◌, ◌*◌, ◌%◌, ◌^◌, ◌<◌, ◌≤◌, ◌⊎◌, inl, inr, Bool, true, false, not, ◌&&◌, ◌==◌, nat_lt, cond, List, [], ◌∷◌, length, get_or, Option, Some, None, Result, Ok, Err, refl, sym, ap, ◌∙◌, arith}
 use Rattle.std.proofs.lemmas.Bool.{ltb-false}
+use Rattle.std.proofs.lemmas.Nat.{and_mask}
+use Rattle.std.specs.Prelude.{bit_and}
+use Rattle.eh_bus.specs.Place.{IsWidth}
 use Rattle.eh_bus.specs.Segment.{Segment, Apart, holds}
 use Rattle.eh_bus.specs.Lists.{Has}
 use Rattle.eh_bus.specs.Memory.{Memory, fault_in, number_in, written, loads, load, store, store_run, run_fault, run_written, first_fault, load_fault, store_fault, slot_fault, guard_hit, is_closed, or_fault, unless_fault}
@@ -27,6 +30,12 @@ fault_some n a f (s ∷ more) P k e = by_cases (holds s a n) refl (fault_some n 
     by_cases : (t : Bool) → holds s a n ≡ t → (fault_in f n more a ≡ None → P) → P
     by_cases true h next = k s (rw h at e)
     by_cases false h next = next (rw h at e)
+
+-- the remainder by the size of an access is a mask's
+pub width_mask : (a n : ℕ) → IsWidth n → bit_and a (n - 1) ≡ a % n
+width_mask a n (inl e) = rw e (and_mask a 0)
+width_mask a n (inr (inl e)) = rw e (and_mask a 1)
+width_mask a n (inr (inr e)) = rw e (and_mask a 2)
 
 -- what a store that is done has passed
 pub record Passes (n : ℕ) (guards : List ℕ) (s : Segment) (a : ℕ) : Type 0 where

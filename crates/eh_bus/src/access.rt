@@ -27,11 +27,13 @@ fn is_open_word(n: u32, a: u32) -> bool
 }
 
 /// Whether `a` is a multiple of the access's size.
+#[tactic(auto, using(crate::proofs::AccessLaws::width_mask))]
 pub(crate) fn is_aligned(a: u32, n: u32) -> bool
     requires { IsWidth n }
     ensures { result ≡ (a % n == 0) }
 {
-    a % n == 0
+    // n may be no constant here, and a division takes long
+    (a & (n - 1)) == 0
 }
 
 /// Why `n` bytes that a segment holds may not be loaded.

@@ -398,11 +398,11 @@ fn stands(pages: &Pages, start: u32, at: u32, k: u32) -> bool
     }
 }
 
-/// The spot of an address, or 0 where it has none.
-fn spot_or_zero(pages: &Pages, a: u32) -> u32 {
+/// The spot of an address, where it has one and a word can tell it.
+fn small_spot(pages: &Pages, a: u32) -> Option<u32> {
     match pages.spot(a) {
-        Some(at) => u32::try_from(at).unwrap_or(0),
-        None => 0,
+        Some(at) => u32::try_from(at).ok(),
+        None => None,
     }
 }
 
@@ -420,7 +420,14 @@ fn span_of(pages: &Pages, parts: &[Part], number: usize) -> Span
     ensures part { result.part ≡ number }
 {
     let part = parts[number];
-    let at = spot_or_zero(pages, part.start);
+    let Some(at) = small_spot(pages, part.start) else {
+        return Span {
+            part: number,
+            start: part.start,
+            size: 0,
+            at: 0,
+        };
+    };
     let mut size = 0;
     'pages: while size < part.size && stands(pages, part.start, at, size) {
         size += left_of_page(part.start, size).min(part.size - size);
