@@ -1,6 +1,6 @@
 //! The state that a run starts in (docs/machine.md, "The start").
 ghost use Rattle.std.specs.Prelude.{◌≡◌, IfOk, IsSome};
-ghost use Rattle.eh_bus.specs.Flat.{memory_of};
+ghost use Rattle.eh_bus.specs.Paged.{memory_of};
 ghost use Rattle.eh_cxa.specs.Words.{block_slot};
 ghost use Rattle.eh_gates.specs.State.{state_of};
 ghost use Rattle.eh_gates.specs.Throwing.{throw_to};
@@ -13,7 +13,7 @@ use crate::event::Shared;
 use crate::memory::MachineMemory;
 use crate::run::Machine;
 use eh_bus::bus::Bus;
-use eh_bus::flat::FlatBus;
+use eh_bus::paged::PagedBus;
 use eh_cxa::Globals;
 use eh_gates::{Core, Turned};
 use eh_phase::Barrier;
@@ -26,7 +26,7 @@ use std::alloc::Global;
 pub fn start_parts<C: Checked>(
     alloc: Global,
     a: &C,
-) -> Result<(Core, Shared<FlatBus>, Events), MachineMemory>
+) -> Result<(Core, Shared<PagedBus>, Events), MachineMemory>
     ensures { IfOk result (λ parts. state_of parts.0 (memory_of parts.1.bus) parts.2 ≡ start_of (C.program a.now)) }
 {
     let tables = a.tables();
@@ -40,7 +40,7 @@ pub fn start_parts<C: Checked>(
     Ok((core, Shared { bus }, events))
 }
 
-impl<'a, C: Checked> Machine<'a, C, FlatBus> {
+impl<'a, C: Checked> Machine<'a, C, PagedBus> {
     /// A run from the start, of at most `budget` events.
     pub fn start(alloc: Global, a: &'a C, budget: u64) -> Result<Self, MachineMemory>
         ensures state { IfOk result (λ m. state_of m.core (memory_of m.shared.bus) m.events ≡ start_of (C.program a.now)) }

@@ -1,12 +1,14 @@
 //! The memory of an image, and of raw code.
 ghost use Rattle.std.specs.Prelude.{◌≡◌, ◌≤◌, length, map, IfOk};
 ghost use Rattle.eh_bus.specs.Flat.{memory_of};
+ghost use Rattle.eh_bus.specs.Paged.{memory_of as paged_memory_of};
 ghost use Rattle.image_memory.specs.Placing.{placed};
 ghost use Rattle.image_memory.specs.Start.{image_start, code_start};
 
 use eh_bus::fault::BusMemory;
 use eh_bus::flat::FlatBus;
 use eh_bus::map::MAX_IMAGE_SIZE;
+use eh_bus::paged::PagedBus;
 use eh_bus::segment::SegmentSpec;
 use elf_image::image::Image;
 use elf_image::segment::Segment;
@@ -39,12 +41,13 @@ fn places<'a>(alloc: Global, segments: &[Segment<'a>]) -> Result<Vec<SegmentSpec
     Ok(all)
 }
 
-/// The memory of an image: its segments, each with zeros behind its bytes of the file, the stack and the pool.
-pub fn image_memory(alloc: Global, image: &Image) -> Result<FlatBus, BusMemory>
-    ensures { IfOk result (λ bus. memory_of bus ≡ (image_start image.now).memory) }
+/// The memory of an image: its segments, each with zeros behind its bytes of the file, the stack and the pool. It is kept in pages,
+/// since an image may have a thousand segments.
+pub fn image_memory(alloc: Global, image: &Image) -> Result<PagedBus, BusMemory>
+    ensures { IfOk result (λ bus. paged_memory_of bus ≡ (image_start image.now).memory) }
 {
     match places(alloc, image.segments()) {
-        Ok(places) => FlatBus::build(alloc, &places),
+        Ok(places) => PagedBus::build(alloc, &places),
         Err(_) => Err(BusMemory::OutOfMemory),
     }
 }
