@@ -1,14 +1,19 @@
 -- One instruction up to its gate, from what its step and its tests have done.
-use Rattle.std.proofs.Common.{◌≡◌, ℕ, ◌+◌, ◌*◌, ◌<◌, ◌≤◌, nat_lt, Bool, true, false, List, Option, Some, None, Result, Ok, Err, slice_index, refl, sym, ap, subst, ◌∙◌, cond, arith}
-use Rattle.std.proofs.lemmas.Bool.{ltb-false}
+use Rattle.std.proofs.Common.{◌≡◌, ℕ, ◌+◌, ◌*◌, ◌%◌, ◌^◌, ◌<◌, ◌≤◌, nat_lt, Bool, true, false, ◌&&◌, List, Option, Some, None, Result, Ok, Err, slice_index, length, refl, sym, ap, subst, ◌∙◌, cond, arith}
+use Rattle.std.proofs.lemmas.Bool.{ltb-false, le-ltb}
+use Rattle.std.proofs.Math.Nat.{le_trans}
 use Rattle.std.specs.Option.{option_or}
 use Rattle.eh_bus.specs.Memory.{Memory, guard_all, released}
+use Rattle.eh_bus.specs.Map.{IsMap}
 use Rattle.eh_cxa.specs.Words.{word}
 use Rattle.eh_cxa.specs.Cleanup.{innermost_of}
 use Rattle.guest_gates.specs.Ends.{trap_end}
+use Rattle.thumb_isa.specs.Range.{InRange}
+use Rattle.thumb_isa.specs.declared.instr.Instr.{Instr}
 use Rattle.thumb_core.specs.Outcome.{Outcome as Stepping}
-use Rattle.thumb_core.specs.Registers.{with_next}
-use Rattle.thumb_core.specs.Step.{step_of, instr_at}
+use Rattle.thumb_core.specs.Registers.{with_next, even, reg as reg_of}
+use Rattle.thumb_core.specs.Step.{step_of, instr_at, effect}
+use Rattle.thumb_core.specs.Stores.{stores_of, stores_of_some}
 use Rattle.thumb_core.specs.Laws.{Leaves, LeavesMemory}
 use Rattle.thumb_core.specs.declared.regs.TheConstants.{SP}
 use Rattle.thumb_core.specs.declared.regs.CoreTrap.{CoreTrap}
@@ -19,8 +24,11 @@ use Rattle.thumb_core.specs.declared.ends.TrapKind.TheVariants as kind
 use Rattle.thumb_core.specs.declared.ends.End.{End}
 use Rattle.thumb_core.specs.declared.ends.End.TheVariants as the_end
 use Rattle.step_ahead.specs.declared.kept.Kept.{Kept}
-use Rattle.step_ahead.specs.Ahead.{branches_some, pushes_some}
-use Rattle.step_ahead.specs.Kept.{put_back, TakesBack}
+use Rattle.step_ahead.specs.declared.kept.Kept.TheVariants.{Nothing}
+use Rattle.step_ahead.specs.Ahead.{branches, branches_some, pushed, pushes_some, MayStore}
+use Rattle.step_ahead.specs.Kept.{put_back, TakesBack, InStack, PushesInStack, lowest}
+use Rattle.step_ahead.proofs.Stored.{AreWords, OnGo, on_go, step_is, step_pushed, nothing_back}
+use Rattle.step_ahead.proofs.Straight.{GoesOn, effect_goes}
 use Rattle.eh_gates.specs.State.{State, reg}
 use Rattle.eh_machine.specs.Program.{Program}
 use Rattle.eh_machine.specs.Machine.{Passed, leaves_cleanup, way_end, refusal, tests, settled, settled_at, freed_below, saved_words, tested, stepped, checked, passed, with_pc_of}
@@ -151,3 +159,73 @@ above_low p landing low at branches what regs e = go (leaves_cleanup landing at.
     go true b f e = absurd (cc)
     go false true f e = absurd (cc)
     go false false f e = ltb-false _ _ f
+
+-- ---- an instruction `at` pc
+
+module _ (regs : Regs) (m : Memory) (at : Instr × ℕ) where
+  -- its effect is a step
+  pub at_step : (o : Stepping) → instr_at m regs.pc ≡ Some at → o ≡ effect at.0 at.1 regs m → o ≡ step_of regs m
+  at_step o there e = e ∙ sym (step_is regs m at.0 at.1 there)
+
+  pub branches_there : (is_taken : Bool) → instr_at m regs.pc ≡ Some at → is_taken ≡ branches at.0 regs → is_taken ≡ branches_some (instr_at m regs.pc) regs
+  branches_there is_taken there e = e ∙ sym (ap (λ (o : Option (Instr × ℕ)). branches_some o regs) there)
+
+  pub pushes_there : (n : ℕ) → instr_at m regs.pc ≡ Some at → n ≡ length (pushed at.0) → n ≡ pushes_some (instr_at m regs.pc)
+  pushes_there n there e = e ∙ sym (ap (λ (o : Option (Instr × ℕ)). pushes_some o) there)
+
+  pub leaves_there : (what : Stepped) (after : Regs) → instr_at m regs.pc ≡ Some at → Leaves (Some at) what regs m after → Leaves (instr_at m regs.pc) what regs m after
+  leaves_there what after there l = subst (λ (o : Option (Instr × ℕ)). Leaves o what regs m after) (sym there) l
+
+  pub in_stack : (n : ℕ) (what : Stepped) (after : Regs) (new : Memory) → IsMap m → length regs.r ≡ 15 → instr_at m regs.pc ≡ Some at → n ≡ length (pushed at.0)
+      → (what, after, new) ≡ step_of regs m → Goes what → 0 < n → InStack n after
+  in_stack n what after new x count there e did h =
+      subst (λ (k : ℕ). PushesInStack k regs m) (sym (pushes_there n there e)) (step_pushed regs m x count) what after new (sym did) h
+
+  -- one that stores nothing
+  pub none_stored : AreWords regs → instr_at m regs.pc ≡ Some at → stores_of at.0 regs ≡ None → TakesBack Nothing regs m
+  none_stored small there e = nothing_back regs m small (ap (λ (o : Option (Instr × ℕ)). stores_of_some o regs) there ∙ e)
+
+-- what may store goes straight on
+pub straight : (regs : Regs) (m : Memory) (at : Instr × ℕ) (n : ℕ) (what : Stepped) (after : Regs) (new : Memory) → MayStore at.0 regs n → InRange at.0 → length regs.r ≡ 15 → AreWords regs
+    → 4 * n ≤ reg_of regs SP → (what, after, new) ≡ effect at.0 at.1 regs m → Goes what → GoesOn n at.1 regs what after
+straight regs m at n what after new told range count small room e h =
+    let k = length (pushed at.0) in
+    let room_k : 4 * k ≤ reg_of regs SP = subst (λ (j : ℕ). 4 * j ≤ reg_of regs SP) told.count room in
+    let on = subst (λ (o : Stepping). OnGo o.0 (GoesOn k at.1 regs o.0 o.1)) (sym e) (effect_goes at.0 at.1 regs m told.stores range count small room_k) in
+    subst (λ (j : ℕ). GoesOn j at.1 regs what after) (sym told.count) (on_go what (GoesOn k at.1 regs what after) h on)
+
+-- no test ends a run where sp stays in the running stack and doesn't rise, and no function begins behind the instruction
+not_left : (landing : Option ℕ) (old new : ℕ) → new ≤ old → leaves_cleanup landing old new ≡ false
+not_left None old new h = refl
+not_left (Some landing) old new h = go (nat_lt old new) (le-ltb old new h)
+  where
+    go : (b : Bool) → b ≡ false → (b && nat_lt landing new) ≡ false
+    go true e = absurd (cc)
+    go false e = refl
+
+none_refused : (p : Program) (landing : Option ℕ) (low pc old : ℕ) (regs : Regs) → slice_index regs.r SP ≤ old → low ≤ slice_index regs.r SP → (p.look regs.pc).is_function ≡ false
+    → refusal p (landing, low) (pc, old) false Done regs ≡ None
+none_refused p landing low pc old regs high above next =
+    go (leaves_cleanup landing old (slice_index regs.r SP)) (nat_lt (slice_index regs.r SP) low) ((p.look regs.pc).is_function)
+    (not_left landing old (slice_index regs.r SP) high) (le-ltb (slice_index regs.r SP) low above) next
+  where
+    go : (a b f : Bool) → a ≡ false → b ≡ false → f ≡ false
+        → option_or (cond a (Some (the_end.Trap kind.SpInCleanup (slice_index regs.r SP) pc)) (cond b (Some (the_end.Trap kind.StackLimit (slice_index regs.r SP) pc)) None))
+        (cond f (Some (the_end.Trap kind.FellOff regs.pc pc)) None) ≡ None
+    go true b f ea eb ef = absurd (cc)
+    go false true f ea eb ef = absurd (cc)
+    go false false true ea eb ef = absurd (cc)
+    go false false false ea eb ef = refl
+
+pub no_test : (p : Program) (s : State) (at : Instr × ℕ) (n low : ℕ) (what : Stepped) (after : Regs) → instr_at s.memory s.regs.pc ≡ Some at → MayStore at.0 s.regs n → low ≡ s.memory.home.0
+    → GoesOn n at.1 s.regs what after → low ≤ lowest (reg_of s.regs SP) n → (p.look (even ((s.regs.pc + at.1) % 2 ^ 32))).is_function ≡ false → tests p s what after ≡ None
+no_test p s at n low what after there told home on room next =
+    let landing = innermost_of (word s.memory) s.globals in
+    let taken : branches_some (instr_at s.memory s.regs.pc) s.regs ≡ false = ap (λ (o : Option (Instr × ℕ)). branches_some o s.regs) there ∙ told.taken in
+    let above : s.memory.home.0 ≤ slice_index after.r SP = subst (λ (k : ℕ). k ≤ slice_index after.r SP) home (le_trans room on.low) in
+    let none = none_refused p landing s.memory.home.0 s.regs.pc (reg s SP) after on.high above (subst (λ (a : ℕ). (p.look a).is_function ≡ false) (sym on.pc) next) in
+    ap (λ (w : Stepped). tests p s w after) on.done
+    ∙ ap (λ (b : Bool). refusal p (landing, s.memory.home.0) (s.regs.pc, reg s SP) b Done after) taken ∙ none
+
+pub no_gate : (what : Stepped) (number : ℕ) (P : Type 0) → what ≡ Done → ◌≡◌ {A = Result Stepped End} (Ok what) (Ok (Gate number)) → P
+no_gate what number P done e = absurd (cc)

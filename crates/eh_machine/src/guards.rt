@@ -24,6 +24,7 @@ fn guard_saves<B: Bus>(saves: u16, count: u32, sp: u32, bus: &mut B)
 }
 
 /// Guards the saves among the words that were pushed, and where sp rose releases what is guarded below it.
+#[inline(always)]
 pub(crate) fn settle<B: Bus>(saves: u16, count: u32, old: u32, sp: u32, bus: &mut B)
     requires few { count ≤ 16 }
     requires aligned { 0 < count → sp % 4 ≡ 0 }

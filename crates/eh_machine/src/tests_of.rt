@@ -1,6 +1,8 @@
 //! The tests between an instruction and what it goes on to (docs/machine.md, "An event").
-ghost use Rattle.std.specs.Prelude.{◌≡◌, false, IfSome};
+ghost use Rattle.std.specs.Prelude.{◌≡◌, ◌≤◌, ◌+◌, ◌*◌, ◌%◌, ◌^◌, true, false, IfSome};
 ghost use Rattle.guest_gates.specs.Ends.{is_fault};
+ghost use Rattle.step_ahead.specs.Kept.{lowest};
+ghost use Rattle.thumb_core.specs.Registers.{even, reg};
 ghost use Rattle.eh_machine.specs.Machine.{leaves_cleanup, sp_end, fell_off, goes_behind, way_end, refusal};
 
 use crate::checked::Checked;
@@ -10,6 +12,7 @@ use thumb_core::ends::{End, TrapKind};
 use thumb_core::regs::{Regs, SP, Stepped};
 
 /// Whether sp rises above the landing sp of the innermost cleanup in progress.
+#[inline(always)]
 fn leaves_cleanup(landing: Option<u32>, old: u32, new: u32) -> bool
     ensures { result ≡ leaves_cleanup landing old new }
 {
@@ -20,6 +23,7 @@ fn leaves_cleanup(landing: Option<u32>, old: u32, new: u32) -> bool
 }
 
 /// The end by sp: it rises out of a cleanup, or stands below the running stack, which begins at `low`.
+#[inline(always)]
 fn sp_end(landing: Option<u32>, low: u32, pc: u32, old: u32, new: u32) -> Option<End>
     ensures { result ≡ sp_end landing low pc old new }
 {
@@ -33,6 +37,7 @@ fn sp_end(landing: Option<u32>, low: u32, pc: u32, old: u32, new: u32) -> Option
 }
 
 /// The end of a run that goes on past the end of its function.
+#[inline(always)]
 fn fell_off<C: Checked>(a: &C, pc: u32, to: u32) -> Option<End>
     ensures { result ≡ fell_off (C.program a.now) pc to }
 {
@@ -57,6 +62,7 @@ fn goes_behind(number: u8) -> bool
 }
 
 /// The end by where the run would go on. The registers are those behind the instruction; `branches` says whether it took a branch.
+#[inline(always)]
 fn way_end<C: Checked>(a: &C, branches: bool, pc: u32, what: Stepped, regs: &Regs) -> Option<End>
     ensures { result ≡ way_end (C.program a.now) branches pc what regs.now }
 {
@@ -95,6 +101,7 @@ fn way_end<C: Checked>(a: &C, branches: bool, pc: u32, what: Stepped, regs: &Reg
 
 /// The end by a test: first of sp, then of where the run would go on. `stack` has the landing sp of the innermost cleanup and the start of the
 /// running stack, `at` pc and sp before the instruction.
+#[inline(always)]
 pub(crate) fn refusal<C: Checked>(
     a: &C,
     stack: (Option<u32>, u32),
@@ -113,4 +120,29 @@ pub(crate) fn refusal<C: Checked>(
         return end;
     }
     way_end(a, branches, pc, what, regs)
+}
+
+/// Whether sp stays at or above the start of the running stack where so many words are pushed.
+#[inline(always)]
+fn has_room(sp: u32, pushes: u32, low: u32) -> bool
+    requires { pushes ≤ 16 }
+    ensures room { result ≡ true → 4 * pushes ≤ sp }
+    ensures low { result ≡ true → low ≤ lowest sp pushes }
+{
+    match sp.checked_sub(4 * pushes) {
+        Some(behind) => low <= behind - behind % 4,
+        None => false,
+    }
+}
+
+/// Whether the tests let an instruction of `size` bytes pass that pushes so many words and goes on to the next one, told before it is done.
+#[inline(always)]
+pub(crate) fn passes_tests<C: Checked>(a: &C, low: u32, size: u32, pushes: u32, regs: &Regs) -> bool
+    requires { pushes ≤ 16 }
+    ensures room { result ≡ true → 4 * pushes ≤ reg regs.now SP }
+    ensures low { result ≡ true → low ≤ lowest (reg regs.now SP) pushes }
+    ensures next { result ≡ true → ((C.program a.now).look (even ((regs.now.pc + size) % 2 ^ 32))).is_function ≡ false }
+{
+    let behind = regs.pc.wrapping_add(size);
+    has_room(regs.r[SP as usize], pushes, low) && !a.is_function(behind - behind % 2)
 }

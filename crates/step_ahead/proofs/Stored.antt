@@ -1,15 +1,12 @@
 -- What an instruction that is done has stored, and what it takes to take it back.
-use Rattle.std.proofs.Common.{◌≡◌, ℕ, ℤ, zero, suc, ◌+◌, ◌-◌, ◌*◌, ◌%◌, ◌^◌, ◌<◌, ◌≤◌, ◌≢◌, ◌/◌, ◌==◌, nat_le, Bool, true, false, List, length, [], ◌∷◌, cond, refl, sym, subst, ap, ◌∙◌, arith, Err, Ok, Result, Option, Some, None, slice_index, slice_set, get_or, take, min, ◌⊎◌, inl, inr}
-use Rattle.eh_bus.specs.Segment.{Segment}
-use Rattle.eh_bus.specs.Memory.{Memory, load, store, store_run, fetch, fault_in, load_fault, store_fault, run_fault, written, run_written, unless_fault}
+use Rattle.std.proofs.Common.{◌≡◌, ℕ, ℤ, zero, suc, ◌+◌, ◌-◌, ◌*◌, ◌%◌, ◌^◌, ◌<◌, ◌≤◌, ◌≢◌, ◌/◌, ◌==◌, nat_le, Bool, true, false, List, length, [], ◌∷◌, cond, refl, sym, subst, ap, ◌∙◌, arith, Err, Ok, Result, Option, Some, None, unwrap_or, slice_index, slice_set, get_or, take, min, ◌⊎◌, inl, inr}
+use Rattle.eh_bus.specs.Memory.{Memory, load, store, store_run, fetch, fault_in, load_fault, store_fault, written, unless_fault}
 use Rattle.eh_bus.specs.Map.{IsMap}
-use Rattle.eh_bus.specs.Undo.{Undoable, RunUndoable}
 use Rattle.eh_bus.specs.declared.fault.BusFault.{BusFault}
-use Rattle.eh_bus.specs.declared.map.TheConstants.{STACK_END}
-use Rattle.eh_bus.proofs.AccessLaws.{splits, Splits, ran, fault_some, passes, Passes, stored, loads_done}
+use Rattle.eh_bus.proofs.AccessLaws.{splits, fault_some, passes, stored, loads_done}
 use Rattle.eh_bus.proofs.UndoLaws.{store_undoable, run_undoable, fault_top}
 use Rattle.thumb_isa.specs.declared.instr.Instr.{Instr}
-use Rattle.thumb_isa.specs.declared.instr.Instr.TheVariants.{Bx, Blx, LdrLit, MemReg, MemImm, MemSp, Push, Pop, Stm, Ldm, Svc, Bl}
+use Rattle.thumb_isa.specs.declared.instr.Instr.TheVariants.{LdrLit, MemReg, MemImm, MemSp, Push, Pop, Stm, Ldm}
 use Rattle.thumb_isa.specs.declared.instr.Decoded.{Decoded}
 use Rattle.thumb_isa.specs.declared.instr.Decoded.TheVariants.{Is, Undefined, Unpredictable, NotInProfile}
 use Rattle.thumb_isa.specs.Rows.{decoded_of}
@@ -18,7 +15,7 @@ use Rattle.thumb_core.specs.declared.regs.Regs.{Regs}
 use Rattle.thumb_core.specs.declared.regs.CoreTrap.{CoreTrap}
 use Rattle.thumb_core.specs.declared.regs.Stepped.{Stepped}
 use Rattle.thumb_core.specs.declared.regs.Stepped.TheVariants.{Done, Call, Return, Gate, Trap}
-use Rattle.thumb_core.specs.Registers.{put, reg, operand, with_all, with_reg, with_next, word_in}
+use Rattle.thumb_core.specs.Registers.{put, reg, with_all, with_reg, with_next, word_in}
 use Rattle.thumb_core.specs.Data.{forward}
 use Rattle.thumb_core.specs.Words.{numbers, listed, words_in}
 use Rattle.std.specs.Int.{bit_at}
@@ -28,12 +25,12 @@ use Rattle.std.proofs.lemmas.Bool.{cases_lt}
 use Rattle.std.specs.List.{filter}
 use Rattle.thumb_core.specs.Outcome.{Outcome, with_memory}
 use Rattle.thumb_core.specs.Access.{store_end, loaded, store_reg, mem_reg, mem_imm, mem_sp}
-use Rattle.thumb_core.specs.Branch.{register_effect, if_odd, call_to, return_to, target_of}
+use Rattle.thumb_core.specs.Branch.{register_effect}
 use Rattle.thumb_core.specs.Lists.{words_of, bytes_of, load_list, ldm_end, pop_to, pop_end}
 use Rattle.thumb_core.specs.Step.{effect, outcome_of, with_second, with_first, step_of, instr_of, instr_of_second, instr_of_first, instr_at}
 use Rattle.thumb_core.specs.Stores.{Span, span, stores_of, stores_of_some}
 use Rattle.step_ahead.specs.declared.kept.Kept.{Kept}
-use Rattle.step_ahead.specs.declared.kept.Kept.TheVariants.{Nothing, Byte, Half, Words}
+use Rattle.step_ahead.specs.declared.kept.Kept.TheVariants.{Nothing, Byte, Half}
 use Rattle.step_ahead.specs.declared.kept.TheConstants.{MOST}
 use Rattle.step_ahead.specs.Kept.{put_back, TakesBack, HoldsWords, Keeps, CanLoad, SoFar, spanned, InStack, PushesInStack}
 use Rattle.step_ahead.specs.Ahead.{pushes_some}
@@ -67,7 +64,7 @@ OnDone (Gate number) P = Unit {0}
 abbrev pub Did : Option Span → Memory → Outcome → Type 0
 Did stores m o = OnDone o.0 (Stored stores m o.2)
 
-either : {A : Type 0} (P : A → Type 0) (b : Bool) (x y : A) → P x → P y → P (cond b x y)
+pub either : {A : Type 0} (P : A → Type 0) (b : Bool) (x y : A) → P x → P y → P (cond b x y)
 either P true x y px py = px
 either P false x y px py = py
 
@@ -232,6 +229,12 @@ module _ (P : Option (Instr × ℕ) → Outcome → Type 0) (regs : Regs) (m : M
   pub step_at : P (instr_at m regs.pc) (step_of regs m)
   step_at = first_at (fetch m regs.pc)
 
+-- the step of the instruction that stands at pc is its effect
+pub step_is : (regs : Regs) (m : Memory) (i : Instr) (size : ℕ) → instr_at m regs.pc ≡ Some (i, size) → step_of regs m ≡ effect i size regs m
+step_is regs m i size e =
+    step_at (λ (at : Option (Instr × ℕ)) (o : Outcome). at ≡ Some (i, size) → o ≡ effect i size regs m) regs m
+    (λ j n f. ap (λ (at : Option (Instr × ℕ)). effect (unwrap_or at (i, size)).0 (unwrap_or at (i, size)).1 regs m) f) (λ trap f. absurd (cc)) e
+
 pub step_did : (regs : Regs) (m : Memory) → AreWords regs → Did (stores_of_some (instr_at m regs.pc) regs) m (step_of regs m)
 step_did regs m small = step_at (λ at o. Did (stores_of_some at regs) m o) regs m (λ i size. effect_did i size regs m small) (λ trap. tt)
 
@@ -290,14 +293,14 @@ nothing_back regs m small e after new done =
 -- ---- a push
 
 -- a fact for what is no trap
-abbrev OnGo : Stepped → Type 0 → Type 0
+abbrev pub OnGo : Stepped → Type 0 → Type 0
 OnGo (Trap trap) P = Unit {0}
 OnGo Done P = P
 OnGo (Call target ret) P = P
 OnGo (Return to) P = P
 OnGo (Gate number) P = P
 
-on_go : (what : Stepped) (P : Type 0) → ((trap : CoreTrap) → what ≡ Trap trap → ⊥) → OnGo what P → P
+pub on_go : (what : Stepped) (P : Type 0) → ((trap : CoreTrap) → what ≡ Trap trap → ⊥) → OnGo what P → P
 on_go Done P h p = p
 on_go (Call target ret) P h p = p
 on_go (Return to) P h p = p
@@ -429,6 +432,3 @@ back_from kept regs m i n start size x small at e k =
 
 pub back_of_none : (regs : Regs) (m : Memory) (i : Instr) (n : ℕ) → AreWords regs → Some (i, n) ≡ instr_at m regs.pc → spanned None ≡ stores_of i regs → TakesBack Nothing regs m
 back_of_none regs m i n small at e = nothing_back regs m small (ap (λ (o : Option (Instr × ℕ)). stores_of_some o regs) (sym at) ∙ sym e)
-
-pub back_nowhere : (regs : Regs) (m : Memory) → AreWords regs → None ≡ instr_at m regs.pc → TakesBack Nothing regs m
-back_nowhere regs m small at = nothing_back regs m small (ap (λ (o : Option (Instr × ℕ)). stores_of_some o regs) (sym at))

@@ -1,5 +1,5 @@
 -- What an instruction may store over, kept before it and put back (docs/machine.md, "An event").
-use Rattle.std.specs.Prelude.{◌≡◌, ℕ, ◌+◌, ◌*◌, ◌%◌, ◌^◌, ◌<◌, ◌≤◌, min, take, List, length, slice_index, Option, Some, None, Ok}
+use Rattle.std.specs.Prelude.{◌≡◌, ℕ, ◌+◌, ◌-◌, ◌*◌, ◌%◌, ◌^◌, ◌<◌, ◌≤◌, min, take, List, length, slice_index, Option, Some, None, Ok}
 use Rattle.eh_bus.specs.Memory.{Memory, load, store, store_run}
 use Rattle.eh_bus.specs.declared.map.TheConstants.{STACK_END}
 use Rattle.thumb_core.specs.Registers.{reg}
@@ -33,6 +33,10 @@ pub record InStack (count : ℕ) (after : Regs) : Type 0 where
 abbrev pub PushesInStack : ℕ → Regs → Memory → Type 0
 PushesInStack count regs m =
     (what : Stepped) (after : Regs) (new : Memory) → step_of regs m ≡ (what, after, new) → ((trap : CoreTrap) → what ≡ Trap trap → ⊥) → 0 < count → InStack count after
+
+-- below sp by n words, rounded down to a word: no push of n words leaves sp lower, where there is room for them
+abbrev pub lowest : ℕ → ℕ → ℕ
+lowest sp n = sp - 4 * n - (sp - 4 * n) % 4
 
 -- ---- the bytes of a span
 

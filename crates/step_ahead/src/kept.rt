@@ -1,11 +1,11 @@
 //! What stands where an instruction may store, kept before it and put back (docs/machine.md, "An event").
-ghost use Rattle.std.specs.Prelude.{◌≡◌, ◌+◌, ◌*◌, ◌^◌, ◌<◌, ◌≤◌, ℕ, slice_index};
+ghost use Rattle.std.specs.Prelude.{◌≡◌, ◌+◌, ◌*◌, ◌^◌, ◌<◌, ◌≤◌, Some};
 ghost use Rattle.thumb_core.specs.Step.{instr_at};
 ghost use Rattle.step_ahead.specs.Kept.{put_back, TakesBack, CanLoad, HoldsWords, Keeps};
 
 use crate::span::span_of;
 use eh_bus::bus::Bus;
-use thumb_core::regs::Regs;
+use thumb_core::regs::{Regs, are_words};
 use thumb_isa::instr::Instr;
 
 /// The most words that are kept: a list names no more registers.
@@ -68,22 +68,16 @@ fn keep_at<B: Bus>(bus: &B, at: u32, size: u32) -> Kept
     }
 }
 
-/// Each number in the registers is a word.
-fn are_words(r: &[u32])
-    ensures { (k : ℕ) → slice_index r.now k < 2 ^ 32 }
-{}
-
-/// Keeps what stands where an instruction may store.
-pub(crate) fn keep<B: Bus>(at: Option<(Instr, u32)>, regs: &Regs, bus: &B) -> Kept
-    ensures { at ≡ instr_at (B.memory bus.now) regs.now.pc → TakesBack result regs.now (B.memory bus.now) }
+/// Keeps what stands where the instruction at pc may store. Wherever it is then done, putting that back gives the memory before it. Takes no
+/// memory, and a constant time.
+pub fn keep<B: Bus>(i: Instr, size: u32, regs: &Regs, bus: &B) -> Kept
+    requires { instr_at (B.memory bus.now) regs.now.pc ≡ Some (i, size) }
+    ensures { TakesBack result regs.now (B.memory bus.now) }
 {
     are_words(&regs.r);
-    let Some((i, _)) = at else {
-        return Kept::Nothing;
-    };
     match span_of(i, regs) {
         None => Kept::Nothing,
-        Some((start, size)) => keep_at(bus, start, size),
+        Some((start, bytes)) => keep_at(bus, start, bytes),
     }
 }
 

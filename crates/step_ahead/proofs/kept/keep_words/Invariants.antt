@@ -1,5 +1,4 @@
-use Rattle.std.proofs.Common.{◌≡◌, ◌+◌, ◌*◌, ◌<◌, ℕ, length, slice_index, Ok}
-use Rattle.eh_bus.specs.Memory.{load}
+use Rattle.std.proofs.Common.{◌≡◌, length}
 use Rattle.step_ahead.specs.declared.kept.TheConstants.{MOST}
 use Rattle.step_ahead.specs.Kept.{SoFar}
 use Rattle.step_ahead.proofs.kept.keep_words.Given as goal
