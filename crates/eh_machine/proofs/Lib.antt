@@ -20,3 +20,4 @@ pub mod CallGates
 pub mod CallEvents
 pub mod Landed
 pub mod Entered
+pub mod KeepingLists

@@ -1,6 +1,6 @@
 //! How the machine with recorded activations fits the one over bytes (docs/machine.md, "Laws").
 ghost use Rattle.eh_machine.specs.ActivationLaws.{PlainEventsMatch, MachinesStartAlike, ReturnsGiveBack, FramesAreActivations, LandingsStandInTheirFrames, CallsRecord};
-ghost use Rattle.eh_machine.specs.Corresponds.{CallsMatch};
+ghost use Rattle.eh_machine.specs.Corresponds.{CallsMatch, ListsAreKept};
 ghost use Rattle.eh_machine.specs.FrameEnds.{FramesEndAsTold};
 ghost use Rattle.eh_machine.specs.Landings.{LandingsMatch, LandingsAreInTheirActivation};
 ghost use Rattle.eh_machine.specs.RecordedGates.{FailedSearchesAddTheirEvent, CleanupsEndInTheirOwn};
@@ -86,4 +86,9 @@ pub fn landings_match()
 /// A landing is in the activation that is entered, with those outside it as they were; a cleanup names it by how many these are.
 pub fn landings_are_in_their_activation()
     ensures { LandingsAreInTheirActivation }
+{}
+
+/// An instruction that is no gate of exceptions leaves the lists, and the words of the pool stand for them still.
+pub fn lists_are_kept()
+    ensures { ListsAreKept }
 {}
