@@ -21,3 +21,4 @@ pub mod CallEvents
 pub mod Landed
 pub mod Entered
 pub mod KeepingLists
+pub mod Agreeing

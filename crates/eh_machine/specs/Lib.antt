@@ -13,3 +13,4 @@ pub mod RecordedGates
 pub mod RecordedSlots
 pub mod Corresponds
 pub mod Landings
+pub mod Agreeing

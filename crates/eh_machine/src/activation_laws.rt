@@ -1,5 +1,6 @@
 //! How the machine with recorded activations fits the one over bytes (docs/machine.md, "Laws").
 ghost use Rattle.eh_machine.specs.ActivationLaws.{PlainEventsMatch, MachinesStartAlike, ReturnsGiveBack, FramesAreActivations, LandingsStandInTheirFrames, CallsRecord};
+ghost use Rattle.eh_machine.specs.Agreeing.{AgreeingFramesAreOne};
 ghost use Rattle.eh_machine.specs.Corresponds.{CallsMatch, ListsAreKept};
 ghost use Rattle.eh_machine.specs.FrameEnds.{FramesEndAsTold};
 ghost use Rattle.eh_machine.specs.Landings.{LandingsMatch, LandingsAreInTheirActivation};
@@ -91,4 +92,9 @@ pub fn landings_are_in_their_activation()
 /// An instruction that is no gate of exceptions leaves the lists, and the words of the pool stand for them still.
 pub fn lists_are_kept()
     ensures { ListsAreKept }
+{}
+
+/// Frames that agree in their sites, sp, descriptors, r4 to r11 and end are one to both phases, and to a landing in either machine.
+pub fn agreeing_frames_are_one()
+    ensures { AgreeingFramesAreOne }
 {}
