@@ -22,3 +22,4 @@ pub mod Landed
 pub mod Entered
 pub mod KeepingLists
 pub mod Agreeing
+pub mod Throwing

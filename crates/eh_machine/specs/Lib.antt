@@ -14,3 +14,4 @@ pub mod RecordedSlots
 pub mod Corresponds
 pub mod Landings
 pub mod Agreeing
+pub mod Throws
