@@ -20,3 +20,6 @@ pub mod CallGates
 pub mod CallEvents
 pub mod Landed
 pub mod Entered
+pub mod KeepingLists
+pub mod Agreeing
+pub mod Throwing

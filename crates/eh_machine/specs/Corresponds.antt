@@ -1,5 +1,7 @@
 -- Words and lists of exceptions that stand for each other, and the gates that walk no frames (docs/machine.md, "Laws").
-use Rattle.std.specs.Prelude.{◌≡◌, ℕ, ◌<◌, ◌^◌, List, length}
+use Rattle.std.specs.Prelude.{◌≡◌, ℕ, ◌<◌, ◌≤◌, ◌^◌, List, length}
+use Rattle.event_runs.specs.Runs.{Goes}
+use Rattle.guest_gates.specs.declared.gates.TheConstants.{INPUT_GATE}
 use Rattle.eh_bus.specs.Map.{IsMap}
 use Rattle.eh_cxa.specs.Stands.{Stands}
 use Rattle.eh_cxa.specs.Words.{word}
@@ -59,3 +61,22 @@ pub record CallsMatch : Type 0 where
   pub events :
       (p : Program) (s : Recorded) (input : List ℕ) → Corresponds s → reg_in s 0 < 2 ^ 32 → IsInPlace (step_of s.regs (memory_of s)).0
       → Matches (machine_event p (bytes_of s) input) (acts.recorded_event p s input)
+
+-- all but gates of exceptions
+abbrev pub IsNoCall : Stepped → Type 0
+IsNoCall Done = Unit {0}
+IsNoCall (Call target ret) = Unit {0}
+IsNoCall (Return to) = Unit {0}
+IsNoCall (Gate number) = number ≤ INPUT_GATE
+IsNoCall (Trap trap) = Unit {0}
+
+-- behind an instruction that is no gate of exceptions the lists are the same, and the words of the pool stand for them still
+pub record KeepLists (s t : Recorded) : Type 0 where
+  pub lists : t.lists ≡ s.lists
+  pub places : t.places ≡ s.places
+  pub stands : Stands (word (memory_of t)) (heads t.lists) t.lists
+
+abbrev pub ListsAreKept : Type 0
+ListsAreKept =
+    (p : Program) (s t : Recorded) (input text left : List ℕ) → Stands (word (memory_of s)) (heads s.lists) s.lists → IsNoCall (step_of s.regs (memory_of s)).0
+    → acts.recorded_event p s input ≡ Goes t text left → KeepLists s t

@@ -13,3 +13,5 @@ pub mod RecordedGates
 pub mod RecordedSlots
 pub mod Corresponds
 pub mod Landings
+pub mod Agreeing
+pub mod Throws

@@ -1,9 +1,11 @@
 //! How the machine with recorded activations fits the one over bytes (docs/machine.md, "Laws").
 ghost use Rattle.eh_machine.specs.ActivationLaws.{PlainEventsMatch, MachinesStartAlike, ReturnsGiveBack, FramesAreActivations, LandingsStandInTheirFrames, CallsRecord};
-ghost use Rattle.eh_machine.specs.Corresponds.{CallsMatch};
+ghost use Rattle.eh_machine.specs.Agreeing.{AgreeingFramesAreOne};
+ghost use Rattle.eh_machine.specs.Corresponds.{CallsMatch, ListsAreKept};
 ghost use Rattle.eh_machine.specs.FrameEnds.{FramesEndAsTold};
 ghost use Rattle.eh_machine.specs.Landings.{LandingsMatch, LandingsAreInTheirActivation};
 ghost use Rattle.eh_machine.specs.RecordedGates.{FailedSearchesAddTheirEvent, CleanupsEndInTheirOwn};
+ghost use Rattle.eh_machine.specs.Throws.{ThrowsMatch};
 ghost use Rattle.eh_machine.specs.RecordedSlots.{SlotsAreGuarded, SavesBecomeSlots, ReturnsMatch, FirstEventsMatch};
 
 /// An instruction that is no return and no gate of exceptions does the same in both machines.
@@ -86,4 +88,19 @@ pub fn landings_match()
 /// A landing is in the activation that is entered, with those outside it as they were; a cleanup names it by how many these are.
 pub fn landings_are_in_their_activation()
     ensures { LandingsAreInTheirActivation }
+{}
+
+/// An instruction that is no gate of exceptions leaves the lists, and the words of the pool stand for them still.
+pub fn lists_are_kept()
+    ensures { ListsAreKept }
+{}
+
+/// Frames that agree in their sites, sp, descriptors, r4 to r11 and end are one to both phases, and to a landing in either machine.
+pub fn agreeing_frames_are_one()
+    ensures { AgreeingFramesAreOne }
+{}
+
+/// Where the frames of both machines agree, and what phase 2 enters leaves no slot of those that it cuts, a throw does the same in both.
+pub fn throws_match()
+    ensures { ThrowsMatch }
 {}

@@ -1,0 +1,46 @@
+-- A throw over bytes and with recorded activations, where the frames of both agree (docs/machine.md, "Laws").
+use Rattle.std.specs.Prelude.{◌≡◌, ℕ, ◌<◌, ◌^◌, List, ◌∷◌, ◌++◌, drop, Option, Some, None}
+use Rattle.eh_cxa.specs.Words.{Write, block, object_slot, put_all}
+use Rattle.eh_phase.specs.Calls.{stack_of}
+use Rattle.eh_phase.specs.Frames.{frames_of}
+use Rattle.eh_phase.specs.Laws.{goal_of}
+use Rattle.eh_phase.specs.Phases.{phase2}
+use Rattle.eh_phase.specs.declared.phase1.Barrier.{Barrier}
+use Rattle.eh_phase.specs.declared.phase1.Found.TheVariants as found
+use Rattle.thumb_core.specs.Registers.{all_of}
+use Rattle.eh_gates.specs.declared.gates.TheConstants.{THROW_GATE}
+use Rattle.eh_gates.specs.State.{Guide}
+use Rattle.eh_gates.specs.Gates.{gate_of}
+use Rattle.eh_gates.specs.Throwing.{frames_seen, barrier_words}
+use Rattle.eh_machine.specs.Activations.{Activation, Recorded, reg_in, memory_of, bytes_of, first_place}
+use Rattle.eh_machine.specs.ActivationMachine as machine
+use Rattle.eh_machine.specs.Agreeing.{Agree}
+use Rattle.eh_machine.specs.Corresponds.{Corresponds, GateMatches}
+use Rattle.eh_machine.specs.Landings.{Lands}
+
+-- the frames of a state agree in both machines: those that phase 1 sees, and those that phase 2 goes over, whatever words the runtime has written
+-- into the pool before it
+pub record SeesAlike (g : Guide) (s : Recorded) : Type 0 where
+  pub search : Agree (frames_seen g (bytes_of s)) (machine.frames_from g s (first_place s.places))
+  pub advance :
+      (ws : List Write) → Agree (frames_of g.image (stack_of (put_all ws (memory_of s))) None s.regs.pc (all_of s.regs)) (machine.frames_from g s None)
+
+-- what phase 2 enters, for a barrier that was found, stands in an activation, and leaves no slot of those that it cuts
+pub record CanLand (g : Guide) (s : Recorded) (slot : ℕ) (b : Barrier) : Type 0 where
+  pub sp : (barrier_words (block slot) b).sp < 2 ^ 32
+  pub object : (barrier_words (block slot) b).object < 2 ^ 32
+  pub desc : (barrier_words (block slot) b).desc < 2 ^ 32
+  pub pointer : (barrier_words (block slot) b).pointer < 2 ^ 32
+  pub cut : List Activation
+  pub first : Activation
+  pub more : List Activation
+  pub all : s.first ∷ s.outer ≡ cut ++ first ∷ more
+  pub passed : drop (machine.passed_by (goal_of b) 0 (machine.frames_from g s None).frames) (s.first ∷ s.outer) ≡ first ∷ more
+  pub lands : Lands s cut (phase2 (goal_of b) 0 (machine.frames_from g s None))
+
+-- a throw does the same in both machines then, and what it leaves stands for each other
+abbrev pub ThrowsMatch : Type 0
+ThrowsMatch =
+    (g : Guide) (next : ℕ) (s : Recorded) → Corresponds s → reg_in s 1 < 2 ^ 32 → reg_in s 2 < 2 ^ 32 → SeesAlike g s
+    → ((slot : ℕ) (b : Barrier) → object_slot (reg_in s 0) ≡ Some slot → machine.searched g s (machine.thrown_first s) ≡ found.Barrier b → CanLand g s slot b)
+    → GateMatches (gate_of g THROW_GATE next (bytes_of s)) (machine.gate_of g THROW_GATE next s)
