@@ -6,8 +6,9 @@ use Rattle.elf_image.specs.declared.fault.ImageFault.{ImageFault}
 use Rattle.frame_check.specs.Accepts.{IsAccepted, Refuses}
 use Rattle.frame_check.specs.declared.fault.CheckFault.{CheckFault}
 use Rattle.frame_check.specs.declared.fault.CheckFault.TheVariants.{OutOfMemory}
-use Rattle.ehabi_top.specs.CheckReport.{check_fault_line, ImageReports, BytesReports, IsUnaccepted}
+use Rattle.ehabi_top.specs.CheckReport.{check_fault_line, ImageReports, ImageReportsBy, BytesReportsBy, IsUnaccepted}
 use Rattle.ehabi_top.specs.CheckText.{accepted_line}
+use Rattle.ehabi_top.specs.Loading.{Report}
 use Rattle.ehabi_top.specs.Text.{image_fault_line}
 use Rattle.ehabi_top.specs.Writes.{Answers, AnswersOrLacks, Stopped}
 use Rattle.ehabi_top.specs.declared.status.TheConstants.{DONE, REFUSED}
@@ -29,11 +30,11 @@ module _ (result : Result ℕ Stop) (before now : Option (List ℕ)) (f g : ℕ)
   })
 
   -- one that is refused, or no memory was found
-  pub image_refused : (image : Image) (fault : CheckFault) → (fault ≢ OutOfMemory → Refuses image fault) → (fault ≢ OutOfMemory → IsAccepted image → ⊥)
+  pub image_refused : (Says : Image → List ℕ → Report → Type 0) (image : Image) (fault : CheckFault) → (fault ≢ OutOfMemory → Refuses image fault) → (fault ≢ OutOfMemory → IsAccepted image → ⊥)
       → ((fault ≢ OutOfMemory) × Answers (check_fault_line fault) REFUSED result before now f g) ⊎ Stopped Memory result before now f g
-      → AnswersOrLacks (ImageReports (Ok image)) (¬ (IsAccepted image)) result before now f g
-  image_refused image fault stands exact (inr stopped) = inr stopped
-  image_refused image fault stands exact (inl a) = inl (record {
+      → AnswersOrLacks (ImageReportsBy Says (Ok image)) (¬ (IsAccepted image)) result before now f g
+  image_refused Says image fault stands exact (inr stopped) = inr stopped
+  image_refused Says image fault stands exact (inl a) = inl (record {
     text = check_fault_line fault;
     status = REFUSED;
     says = λ input. inr (record { fault = fault; stands = stands a.0; is = refl });
@@ -43,10 +44,11 @@ module _ (result : Result ℕ Stop) (before now : Option (List ℕ)) (f g : ℕ)
   })
 
   -- bytes that stand for no image
-  pub bytes_refused : (bytes : List ℕ) (fault : ImageFault) → image_of bytes ≡ Err fault → Answers (image_fault_line fault) REFUSED result before now f g
-      → AnswersOrLacks (BytesReports bytes) (IsUnaccepted bytes) result before now f g
-  unfolding BytesReports
-  bytes_refused bytes fault e a = inl (record {
+  pub bytes_refused : (Says : Image → List ℕ → Report → Type 0) (bytes : List ℕ) (fault : ImageFault) → image_of bytes ≡ Err fault
+      → Answers (image_fault_line fault) REFUSED result before now f g
+      → AnswersOrLacks (BytesReportsBy Says bytes) (IsUnaccepted bytes) result before now f g
+  unfolding BytesReportsBy
+  bytes_refused Says bytes fault e a = inl (record {
     text = image_fault_line fault;
     status = REFUSED;
     says = λ input. rw e refl;
@@ -56,11 +58,12 @@ module _ (result : Result ℕ Stop) (before now : Option (List ℕ)) (f g : ℕ)
   })
 
   -- .. and those of an image
-  pub bytes_say : (bytes : List ℕ) (image : Image) → image_of bytes ≡ Ok image → AnswersOrLacks (ImageReports (Ok image)) (¬ (IsAccepted image)) result before now f g
-      → AnswersOrLacks (BytesReports bytes) (IsUnaccepted bytes) result before now f g
-  unfolding BytesReports
-  bytes_say bytes image e (inr stopped) = inr stopped
-  bytes_say bytes image e (inl one) = inl (record {
+  pub bytes_say : (Says : Image → List ℕ → Report → Type 0) (bytes : List ℕ) (image : Image) → image_of bytes ≡ Ok image
+      → AnswersOrLacks (ImageReportsBy Says (Ok image)) (¬ (IsAccepted image)) result before now f g
+      → AnswersOrLacks (BytesReportsBy Says bytes) (IsUnaccepted bytes) result before now f g
+  unfolding BytesReportsBy
+  bytes_say Says bytes image e (inr stopped) = inr stopped
+  bytes_say Says bytes image e (inl one) = inl (record {
     text = one.text;
     status = one.status;
     says = λ input. rw e (one.says input);

@@ -8,11 +8,12 @@ use Rattle.ehabi_top.specs.declared.status.TheConstants.{USAGE}
 use Rattle.ehabi_top.specs.declared.stop.Stop.{Stop}
 use Rattle.ehabi_top.specs.declared.stop.Stop.TheVariants.{Read, Write, Memory}
 use Rattle.ehabi_top.specs.Finding.{Finds, FoundReports, StandsFor}
+use Rattle.ehabi_top.specs.GenerateReport.{GenerateReports, IsUnfitProgram}
 use Rattle.ehabi_top.specs.Loading.{Report, SaysWhy, IsReported, IsOfCommand}
 use Rattle.ehabi_top.specs.Report.{Reports, IfTold, Performs, Why, Does}
 use Rattle.ehabi_top.specs.Sources.{Refusal}
 use Rattle.ehabi_top.specs.Text.{usage}
-use Rattle.ehabi_top.specs.Words.{Command}
+use Rattle.ehabi_top.specs.Words.{Command, GenerateProgram}
 use Rattle.ehabi_top.specs.Writes.{Answers, AnswersOrLacks}
 use Rattle.ehabi_top.specs.Yields.{Shelf, Streams, streams, Gives, Gave, given, nothing, Yields}
 use Rattle.ehabi_top.proofs.Statuses.{usage_reported}
@@ -218,6 +219,38 @@ module _ (command : Option Command) (ask : Held → Result (List ℕ) Refusal) (
       why : (held : Option Held) → IfSome held (λ h. ask h ≡ Err refusal) → IfSome held (λ h. Why command h input refusal.status)
       why None e = tt
       why (Some h) e = keeper.asks.lacks h input refusal e
+
+-- ---- a generated program, which reads nothing
+
+pub program_does : (number functions : ℕ) (files : Shelf) (input before now : Option (List ℕ)) (i f g : ℕ) (result : Result ℕ Stop)
+    → AnswersOrLacks (GenerateReports number functions) (IsUnfitProgram number functions) result before now f g
+    → Does (Some (GenerateProgram number functions)) files files (streams input i before f) (streams input i now g) result
+program_does number functions files input before now i f g result (inr stopped) =
+    rw (stopped.is, stopped.same, stopped.calm) (record {
+      told = (refl, λ held b. performs_none (Some (GenerateProgram number functions)) held b Memory (Some b) before);
+      why = tt;
+      read = λ e. absurd (let no : Memory ≡ Read = cc in cc);
+      write = λ e. absurd (let no : Memory ≡ Write = cc in cc);
+      memory = λ _. (refl, record { input = refl; output = refl });
+      status = tt;
+      usage = tt;
+    })
+program_does number functions files input before now i f g result (inl one) =
+    let command = Some (GenerateProgram number functions) in
+    let ofs = of_status IsOfCommand one.text one.status result before now f g one.of one.answers in
+    record {
+      told = (refl, λ held b. performs command held b _ result (Some b) before now (one.says b) (gives_answer one.text one.status b result before now f g one.answers));
+      why = of_status (λ s. IfSome files.held (λ held. Why command held input s)) one.text one.status result before now f g (why files.held) one.answers;
+      read = λ e. absurd (let w = (only_write one.text one.status result Read before now f g one.answers e).0 in cc);
+      write = λ e. (only_write one.text one.status result Write before now f g one.answers e).1;
+      memory = λ e. absurd (let w = (only_write one.text one.status result Memory before now f g one.answers e).0 in cc);
+      status = reported result ofs;
+      usage = used command result (λ e. cc) ofs;
+    }
+  where
+    why : (held : Option Held) → IfSome held (λ h. Why (Some (GenerateProgram number functions)) h input one.status)
+    why None = tt
+    why (Some h) = record { missing = one.why.missing; refused = one.why.refused }
 
 -- ---- words that are no command
 

@@ -11,3 +11,6 @@ mod RunReports
 mod Checking
 mod Doing
 mod Runners
+mod Programs
+mod Asking
+mod Telling

@@ -7,7 +7,7 @@ use Rattle.elf_image.specs.declared.fault.ImageFault.{ImageFault}
 use Rattle.frame_check.specs.Accepts.{Accepted, IsSound, IsAccepted, Refuses}
 use Rattle.frame_check.specs.declared.fault.CheckFault.{CheckFault}
 use Rattle.frame_check.specs.declared.fault.CheckFault.TheVariants.{OutOfMemory}
-use Rattle.ehabi_top.specs.CheckReport.{check_fault_line, IsUnaccepted}
+use Rattle.ehabi_top.specs.CheckReport.{check_fault_line, BytesReportsBy, IsUnaccepted}
 use Rattle.ehabi_top.specs.Loading.{Report, SaysWhy}
 use Rattle.ehabi_top.specs.RunReport.{RunReportsOf, RunBytesReports, accepted_report}
 use Rattle.ehabi_top.specs.Text.{image_fault_line}
@@ -64,7 +64,7 @@ image_not_run budget image fault result input before now i f g stands exact (inl
 pub bytes_yield : (budget : ℕ) (bytes : List ℕ) (image : Image) (old new : Streams) (result : Result ℕ Stop)
     → image_of bytes ≡ Ok image → Yields (RunReportsOf budget (Ok image)) (¬ (IsAccepted image)) old new result
     → Yields (RunBytesReports budget bytes) (IsUnaccepted bytes) old new result
-unfolding RunBytesReports
+unfolding BytesReportsBy
 bytes_yield budget bytes image old new result e y = record {
   told = told_other (RunReportsOf budget (Ok image)) (RunBytesReports budget bytes) old.input result new.input old.output new.output (λ b r is. rw e is) y.told;
   why = rw e y.why;
@@ -78,7 +78,7 @@ bytes_yield budget bytes image old new result e y = record {
 pub bytes_refused : (budget : ℕ) (bytes : List ℕ) (fault : ImageFault) (result : Result ℕ Stop) (input before now : Option (List ℕ)) (i f g : ℕ)
     → image_of bytes ≡ Err fault → Answers (image_fault_line fault) REFUSED result before now f g
     → Yields (RunBytesReports budget bytes) (IsUnaccepted bytes) (streams input i before f) (streams input i now g) result
-unfolding RunBytesReports
+unfolding BytesReportsBy
 bytes_refused budget bytes fault result input before now i f g e a =
     yields_answer (λ b. RunReportsOf budget (image_of bytes) b) (IsUnaccepted bytes) (image_fault_line fault) REFUSED result input before now i f g
     (λ b. rw e refl) (rw e (says_unfit ⊥ (Unit {0}) (λ l. l) tt)) refused_reported a

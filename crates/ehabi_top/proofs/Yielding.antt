@@ -85,7 +85,7 @@ yields_memory Says unfit input before i f = record {
 
 -- ---- a run
 
-at_false : (b : Bool) (P : Type 0) → b ≡ false → OnFalse b P → P
+pub at_false : (b : Bool) (P : Type 0) → b ≡ false → OnFalse b P → P
 at_false true P e h = absurd (cc)
 at_false false P e h = h
 

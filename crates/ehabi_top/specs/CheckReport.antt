@@ -31,13 +31,21 @@ pub record NamesFault (image : Image) (input : List ℕ) (r : Report) : Type 0 w
   pub stands : Refuses image fault
   pub is : r ≡ record { text = check_fault_line fault; status = REFUSED; left = input }
 
-abbrev pub ImageReports : Result Image ImageFault → List ℕ → Report → Type 0
-ImageReports (Ok image) input r = Accepts image input r ⊎ NamesFault image input r
-ImageReports (Err fault) input r = r ≡ record { text = image_fault_line fault; status = REFUSED; left = input }
+-- What a command that checks an image first may say: `Says` is of an image that is accepted, and else a refusal is named. So are bytes
+-- that stand for none.
+abbrev pub ImageReportsBy : (Image → List ℕ → Report → Type 0) → Result Image ImageFault → List ℕ → Report → Type 0
+ImageReportsBy Says (Ok image) input r = Says image input r ⊎ NamesFault image input r
+ImageReportsBy Says (Err fault) input r = r ≡ record { text = image_fault_line fault; status = REFUSED; left = input }
 
 -- of bytes
-unfoldable pub BytesReports : List ℕ → List ℕ → Report → Type 0
-BytesReports bytes input r = ImageReports (image_of bytes) input r
+unfoldable pub BytesReportsBy : (Image → List ℕ → Report → Type 0) → List ℕ → List ℕ → Report → Type 0
+BytesReportsBy Says bytes input r = ImageReportsBy Says (image_of bytes) input r
+
+abbrev pub ImageReports : Result Image ImageFault → List ℕ → Report → Type 0
+ImageReports = ImageReportsBy Accepts
+
+abbrev pub BytesReports : List ℕ → List ℕ → Report → Type 0
+BytesReports = BytesReportsBy Accepts
 
 -- of the image in a file
 abbrev pub CheckReports : List ℕ → List (List ℕ × List ℕ) → List ℕ → Report → Type 0

@@ -5,6 +5,7 @@ pub mod Writes
 pub mod Yields
 pub mod FlatReport
 pub mod RunReport
+pub mod GenerateReport
 pub mod Sources
 pub mod RefusalText
 pub mod Building

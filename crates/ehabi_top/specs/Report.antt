@@ -15,10 +15,11 @@ use Rattle.ehabi_top.specs.BuildReport.{build_report, IsUnwritten}
 use Rattle.ehabi_top.specs.Building.{files_of}
 use Rattle.ehabi_top.specs.CheckReport.{CheckReports, CheckSourcesReports, IsUnaccepted}
 use Rattle.ehabi_top.specs.FlatReport.{flat_report, IsTooLarge}
+use Rattle.ehabi_top.specs.GenerateReport.{GenerateReports, IsUnfitProgram}
 use Rattle.ehabi_top.specs.RunReport.{RunReports, RunSourcesReports}
 use Rattle.ehabi_top.specs.Text.{usage}
 use Rattle.ehabi_top.specs.Unfit.{HoldsUnfit, BuildsUnfit}
-use Rattle.ehabi_top.specs.Words.{Command, FlatFile, BuildSources, CheckFile, CheckSources, RunFile, RunSources}
+use Rattle.ehabi_top.specs.Words.{Command, FlatFile, BuildSources, CheckFile, CheckSources, RunFile, RunSources, GenerateProgram}
 use Rattle.ehabi_top.specs.Yields.{Shelf, Streams, AreCalm}
 
 -- ---- by command
@@ -32,6 +33,7 @@ Reports (Some (CheckFile name)) files input r = CheckReports name files input r
 Reports (Some (CheckSources names)) files input r = CheckSourcesReports names files input r
 Reports (Some (RunFile name budget)) files input r = RunReports name budget files input r
 Reports (Some (RunSources names budget)) files input r = RunSourcesReports names budget files input r
+Reports (Some (GenerateProgram number functions)) files input r = GenerateReports number functions input r
 
 -- a file that the command names is missing or too long
 abbrev pub LacksFile : Option Command → List (List ℕ × List ℕ) → Type 0
@@ -42,9 +44,10 @@ LacksFile (Some (CheckFile name)) files = IsLacking (answer_of files name FILE_L
 LacksFile (Some (CheckSources names)) files = IsErr (files_of files names)
 LacksFile (Some (RunFile name budget)) files = IsLacking (answer_of files name FILE_LIMIT)
 LacksFile (Some (RunSources names budget)) files = IsErr (files_of files names)
+LacksFile (Some (GenerateProgram number functions)) files = ⊥
 
--- What pins the status of a refusal. Of all these commands it is the files alone: they are there, and what they hold is
--- refused. A command whose run can be refused asks in its case that the input is told.
+-- What pins the status of a refusal. Of commands with files it is the files alone: they are there, and what they hold is
+-- refused; of a generated program it is the program. A command whose run can be refused asks in its case that the input is told.
 abbrev pub Refuses : Option Command → List (List ℕ × List ℕ) → (input : Option (List ℕ)) → (status : ℕ) → Type 0
 Refuses None files input status = (status ≡ REFUSED) ↔ ⊥
 Refuses (Some (FlatFile name budget)) files input status = (status ≡ REFUSED) ↔ HoldsUnfit IsTooLarge (answer_of files name FILE_LIMIT)
@@ -53,9 +56,10 @@ Refuses (Some (CheckFile name)) files input status = (status ≡ REFUSED) ↔ Ho
 Refuses (Some (CheckSources names)) files input status = (status ≡ REFUSED) ↔ BuildsUnfit IsUnaccepted (files_of files names)
 Refuses (Some (RunFile name budget)) files input status = (status ≡ REFUSED) ↔ HoldsUnfit IsUnaccepted (answer_of files name FILE_LIMIT)
 Refuses (Some (RunSources names budget)) files input status = (status ≡ REFUSED) ↔ BuildsUnfit IsUnaccepted (files_of files names)
+Refuses (Some (GenerateProgram number functions)) files input status = (status ≡ REFUSED) ↔ IsUnfitProgram number functions
 
 -- Where what the command reads is told, with the files, the input, and what is left of the input. Words that are no command
--- read nothing, and a command that runs nothing leaves the input as it was, whatever it is.
+-- and a generated program read nothing, and a command that runs nothing leaves the input as it was, whatever it is.
 abbrev pub IfTold : Option Command → (files : Option (List (List ℕ × List ℕ))) → (input left : Option (List ℕ))
     → (List (List ℕ × List ℕ) → List ℕ → Option (List ℕ) → Type 0) → Type 0
 IfTold None files input left P = (left ≡ input) × ((held : List (List ℕ × List ℕ)) (bytes : List ℕ) → P held bytes (Some bytes))
@@ -65,6 +69,7 @@ IfTold (Some (CheckFile name)) files input left P = (left ≡ input) × IfSome f
 IfTold (Some (CheckSources names)) files input left P = (left ≡ input) × IfSome files (λ held. (bytes : List ℕ) → P held bytes (Some bytes))
 IfTold (Some (RunFile name budget)) files input left P = IfSome files (λ held. IfSome input (λ bytes. P held bytes left))
 IfTold (Some (RunSources names budget)) files input left P = IfSome files (λ held. IfSome input (λ bytes. P held bytes left))
+IfTold (Some (GenerateProgram number functions)) files input left P = (left ≡ input) × ((held : List (List ℕ × List ℕ)) (bytes : List ℕ) → P held bytes (Some bytes))
 
 -- ---- what a call does of a report
 

@@ -1,6 +1,6 @@
 -- The reports of `run FILE N` of one image and of `run FILE.. N` of sources: what is accepted runs on the machine that unwinds.
-use Rattle.std.specs.Prelude.{ℕ, ◌≡◌, ◌⊎◌, ◌++◌, List, Result, Ok, Err}
-use Rattle.elf_image.specs.Image.{Image, image_of}
+use Rattle.std.specs.Prelude.{ℕ, ◌≡◌, ◌++◌, List, Result}
+use Rattle.elf_image.specs.Image.{Image}
 use Rattle.elf_image.specs.declared.fault.ImageFault.{ImageFault}
 use Rattle.event_runs.specs.Runs.{ran_of}
 use Rattle.eh_gates.specs.State.{State}
@@ -11,11 +11,10 @@ use Rattle.eh_trace.specs.Text.{trace_text}
 use Rattle.eh_types.specs.Graph.{name_of}
 use Rattle.frame_check.specs.Accepts.{Accepted, IsSound}
 use Rattle.ehabi_top.specs.Building.{image_bytes}
-use Rattle.ehabi_top.specs.CheckReport.{NamesFault}
+use Rattle.ehabi_top.specs.CheckReport.{ImageReportsBy, BytesReportsBy}
 use Rattle.ehabi_top.specs.Finding.{file_bytes, FoundReports}
 use Rattle.ehabi_top.specs.Loading.{Report, ran_report}
-use Rattle.ehabi_top.specs.Text.{trace_head, image_fault_line}
-use Rattle.ehabi_top.specs.declared.status.TheConstants.{REFUSED}
+use Rattle.ehabi_top.specs.Text.{trace_head}
 
 -- what the last state says behind the guest's bytes: the trace of its events
 abbrev pub trace : Accepted → State → List ℕ
@@ -34,12 +33,11 @@ pub record RunsImage (budget : ℕ) (image : Image) (input : List ℕ) (r : Repo
 
 -- of an image that isn't accepted the report is that of its check
 abbrev pub RunReportsOf : ℕ → Result Image ImageFault → List ℕ → Report → Type 0
-RunReportsOf budget (Ok image) input r = RunsImage budget image input r ⊎ NamesFault image input r
-RunReportsOf budget (Err fault) input r = r ≡ record { text = image_fault_line fault; status = REFUSED; left = input }
+RunReportsOf budget = ImageReportsBy (RunsImage budget)
 
 -- of bytes
-unfoldable pub RunBytesReports : ℕ → List ℕ → List ℕ → Report → Type 0
-RunBytesReports budget bytes input r = RunReportsOf budget (image_of bytes) input r
+abbrev pub RunBytesReports : ℕ → List ℕ → List ℕ → Report → Type 0
+RunBytesReports budget = BytesReportsBy (RunsImage budget)
 
 -- of the image in a file
 abbrev pub RunReports : List ℕ → ℕ → List (List ℕ × List ℕ) → List ℕ → Report → Type 0

@@ -1,6 +1,8 @@
 -- The texts that the program writes. Each line ends in a line feed.
-use Rattle.std.specs.Prelude.{ℕ, List, [], ◌++◌, codes, decimal}
+use Rattle.std.specs.Prelude.{ℕ, ◌+◌, List, [], ◌++◌, codes, decimal}
 use Rattle.eh_digits.specs.Address.{address_text}
+use Rattle.eh_trace.specs.Trace.{Trace, total_of}
+use Rattle.eh_trace.specs.declared.event.EventKind.TheVariants.{Throw, Rethrow, Cleanup, Catch}
 use Rattle.elf_image.specs.Fault.{fault_name as image_name}
 use Rattle.elf_image.specs.declared.fault.ImageFault.{ImageFault}
 use Rattle.elf_image.specs.declared.fault.ImageFault.TheVariants.{Truncated}
@@ -90,3 +92,12 @@ image_fault_line fault = refusal_line (codes "image") (image_name fault) (image_
 -- `run` has a line between the guest's bytes and its end
 abbrev pub trace_head : List ℕ
 trace_head = codes "\n-- trace\n"
+
+abbrev pub count_line : List ℕ → ℕ → List ℕ
+count_line what count = what ++ codes " " ++ decimal count ++ codes "\n"
+
+-- `gen` says before its end how many functions there are and how many events came: throws and rethrows together, cleanups, and handlers
+abbrev pub summary : ℕ → Trace → List ℕ
+summary functions t =
+    count_line (codes "functions") functions ++ count_line (codes "throws") (total_of Throw t + total_of Rethrow t)
+    ++ count_line (codes "cleanups") (total_of Cleanup t) ++ count_line (codes "catches") (total_of Catch t)

@@ -4,9 +4,10 @@ use Rattle.std.specs.Borrow.{Bor}
 use Rattle.std.specs.List.{ends_with, list_all}
 use Rattle.std.specs.Str.{bytes_eq}
 use Rattle.std.specs.Char.{is_ascii_digit}
-use Rattle.ehabi_top.specs.declared.words.TheConstants.{MOST_INSTRUCTIONS, MOST_SOURCES, MOST_DIGITS}
+use Rattle.eh_kit.specs.declared.program_text.TheConstants.{MAX_FUNCTIONS}
+use Rattle.ehabi_top.specs.declared.words.TheConstants.{MOST_INSTRUCTIONS, MOST_SOURCES, MOST_DIGITS, MOST_NUMBER, MOST_FUNCTION_DIGITS}
 use Rattle.ehabi_top.specs.declared.words.Form.{Form}
-use Rattle.ehabi_top.specs.declared.words.Form.TheVariants.{Flat, Build, Check, CheckSources as CheckOfSources, Run, RunSources as RunOfSources}
+use Rattle.ehabi_top.specs.declared.words.Form.TheVariants.{Flat, Build, Check, CheckSources as CheckOfSources, Run, RunSources as RunOfSources, Generate}
 
 -- a command and what it is given
 pub data Command : Type 0 where
@@ -22,6 +23,8 @@ pub data Command : Type 0 where
   RunFile : (name : List ℕ) (budget : ℕ) → Command
   -- `run FILE.. N` of sources
   RunSources : (names : List (List ℕ)) (budget : ℕ) → Command
+  -- `gen K M`: the program of a number, and how many functions it is asked for
+  GenerateProgram : (number functions : ℕ) → Command
 
 -- the words as texts
 abbrev pub texts : List (Bor (List ℕ)) → List (List ℕ)
@@ -35,15 +38,16 @@ command (Check name) = CheckFile name.now
 command (CheckOfSources names) = CheckSources (texts names.now)
 command (Run name budget) = RunFile name.now budget
 command (RunOfSources names budget) = RunSources (texts names.now) budget
+command (Generate number functions) = GenerateProgram number functions
 
 -- the number that n and these digits write
 abbrev pub digits_from : ℕ → List ℕ → Option ℕ
 digits_from n [] = Some n
 digits_from n (b ∷ bs) = if is_ascii_digit b then digits_from (n * 10 + (b - 48)) bs else None
 
--- one to ten decimal digits
-unfoldable pub number_of : List ℕ → Option ℕ
-number_of bs = if nat_le 1 (length bs) && nat_le (length bs) MOST_DIGITS then digits_from 0 bs else None
+-- decimal digits, at least one and at most so many
+unfoldable pub number_of : ℕ → List ℕ → Option ℕ
+number_of most bs = if nat_le 1 (length bs) && nat_le (length bs) most then digits_from 0 bs else None
 
 abbrev pub if_between : ℕ → ℕ → Option ℕ → Option ℕ
 if_between low high None = None
@@ -51,7 +55,7 @@ if_between low high (Some n) = if nat_le low n && nat_le n high then Some n else
 
 -- how many instructions may run: 1 to 1,000,000,000
 unfoldable pub budget_of : List ℕ → Option ℕ
-budget_of bs = if_between 1 MOST_INSTRUCTIONS (number_of bs)
+budget_of bs = if_between 1 MOST_INSTRUCTIONS (number_of MOST_DIGITS bs)
 
 -- the words behind `flat`: a name that is not empty, and a budget
 unfoldable pub flat_command : List (List ℕ) → Option Command
@@ -95,10 +99,30 @@ unfoldable pub run_command : List (List ℕ) → Option Command
 run_command words =
     if nat_le 1 (length words) then with_budget (take (length words - 1) words) (budget_of (slice_index_or words (length words - 1) [])) else None
 
+-- the number of a program: at most 4,294,967,295
+unfoldable pub program_number : List ℕ → Option ℕ
+program_number bs = if_between 0 MOST_NUMBER (number_of MOST_DIGITS bs)
+
+-- how many functions a program is asked for: 1 to 4,000, in at most four digits
+unfoldable pub program_functions : List ℕ → Option ℕ
+program_functions bs = if_between 1 MAX_FUNCTIONS (number_of MOST_FUNCTION_DIGITS bs)
+
+abbrev pub program_of : Option ℕ → Option ℕ → Option Command
+program_of None functions = None
+program_of (Some number) functions = option_map (GenerateProgram number) functions
+
+-- the words behind `gen`: the number of a program, and how many functions it is asked for
+unfoldable pub gen_command : List (List ℕ) → Option Command
+gen_command [] = None
+gen_command (number ∷ []) = None
+gen_command (number ∷ functions ∷ []) = program_of (program_number number) (program_functions functions)
+gen_command (number ∷ functions ∷ more ∷ rest) = None
+
 unfoldable pub command_of : List (List ℕ) → Option Command
 command_of [] = None
 command_of (word ∷ rest) =
     if bytes_eq word (codes "flat") then flat_command rest
     else (if bytes_eq word (codes "build") then build_command rest
     else (if bytes_eq word (codes "check") then check_command rest
-    else (if bytes_eq word (codes "run") then run_command rest else None)))
+    else (if bytes_eq word (codes "run") then run_command rest
+    else (if bytes_eq word (codes "gen") then gen_command rest else None))))

@@ -2,7 +2,7 @@
 ghost use Rattle.std.specs.Prelude.{◌≡◌, ◌≢◌, ◌++◌, IfOk, IfErr, Ok, Err, true, false};
 ghost use Rattle.ehabi_top.specs.Loading.{status_of, stop_of_fault};
 ghost use Rattle.ehabi_top.specs.Writes.{Answers, AnswersEnd, AnswersRun};
-ghost use Rattle.ehabi_top.specs.Text.{missing_line, too_long_line, trace_head};
+ghost use Rattle.ehabi_top.specs.Text.{missing_line, too_long_line, trace_head, summary};
 ghost use Rattle.eh_trace.specs.Text.{trace_text};
 ghost use Rattle.eh_types.specs.Graph.{name_of};
 ghost use Rattle.ehabi_top.specs.declared.status.TheConstants.{LACKING};
@@ -11,6 +11,7 @@ ghost use Rattle.guest_gates.specs.Ends.{is_fault};
 use crate::line::end_line;
 use crate::status::{DONE, EXITS, LACKING, SPENT, TERMINATED, TRAPPED};
 use crate::stop::Stop;
+use crate::summary::summary_lines;
 use eh_port::{Sink, put_all};
 use eh_trace::{Events, trace_lines};
 use frame_check::Accepted;
@@ -119,6 +120,27 @@ pub(crate) fn answer_run<O: Sink>(
             end_line(end).as_slice(),
             status,
         ),
+        Err(_) => Err(Stop::Memory),
+    }
+}
+
+/// Ends a run whose events are counted: with how many functions there are and how many events came, and the line of its end; or with
+/// the stop of a fault.
+pub(crate) fn answer_summary<O: Sink>(
+    alloc: Global,
+    out: &mut O,
+    functions: usize,
+    events: &Events,
+    end: End,
+) -> Result<u8, Stop>
+    ensures { AnswersRun (summary functions events.now) end result (O.written out.old) (O.written out.new) (O.faults out.old) (O.faults out.new) }
+{
+    let status = match status_of(end) {
+        Ok(status) => status,
+        Err(stop) => return Err(stop),
+    };
+    match summary_lines(alloc, functions, events) {
+        Ok(lines) => answer_both(out, lines.as_slice(), end_line(end).as_slice(), status),
         Err(_) => Err(Stop::Memory),
     }
 }

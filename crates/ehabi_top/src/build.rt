@@ -100,8 +100,11 @@ fn written_bytes<'a>(alloc: Global, parts: &ImageParts) -> Result<Vec<u8>, Build
     }
 }
 
-// The bytes of the image that sources and the stubs are built to.
-fn built<'a>(alloc: Global, sources: &[SourceText<'a>]) -> Result<Vec<u8>, BuildFault<'a>>
+/// The bytes of the image that sources and the stubs are built to.
+pub(crate) fn built<'a>(
+    alloc: Global,
+    sources: &[SourceText<'a>],
+) -> Result<Vec<u8>, BuildFault<'a>>
     ensures { MatchResult result (λ bytes. built sources.now ≡ Ok bytes.items)
         (λ fault. is_memory fault ≡ false → built sources.now ≡ Err (fault_line fault)) }
 {

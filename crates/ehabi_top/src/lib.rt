@@ -13,6 +13,7 @@ mod build;
 mod check;
 mod check_line;
 mod flat;
+mod generated;
 pub mod laws;
 mod line;
 mod named;
@@ -21,6 +22,7 @@ mod run;
 mod sources;
 pub mod status;
 mod stop;
+mod summary;
 mod words;
 
 use answer::answer_text;
@@ -28,6 +30,7 @@ use build::build;
 use check::{check_file, check_sources};
 use eh_port::{Files, Sink, Source};
 use flat::flat;
+use generated::count_program;
 pub use line::{Line, end_line};
 pub use plain_run::flat_run;
 use run::{run, run_sources};
@@ -35,7 +38,9 @@ pub use sources::FILE_LIMIT;
 use status::{LACKING, NO_MEMORY, READ_FAILED, REFUSED, USAGE, WRITE_FAILED};
 use std::alloc::Global;
 pub use stop::Stop;
-pub use words::{Form, MOST_DIGITS, MOST_INSTRUCTIONS, MOST_SOURCES, form_of};
+pub use words::{
+    Form, MOST_DIGITS, MOST_FUNCTION_DIGITS, MOST_INSTRUCTIONS, MOST_NUMBER, MOST_SOURCES, form_of,
+};
 
 // Does what the words ask for.
 fn perform<F: Files, I: Source, O: Sink>(
@@ -63,6 +68,7 @@ fn perform<F: Files, I: Source, O: Sink>(
         Some(Form::RunSources(names, budget)) => {
             run_sources(alloc, names, budget, files, input, out)
         }
+        Some(Form::Generate(number, functions)) => count_program(alloc, number, functions, out),
     }
 }
 
@@ -71,7 +77,7 @@ fn perform<F: Files, I: Source, O: Sink>(
 /// - 0: the guest exits with 0, `build` wrote the image, or `check` accepts it;
 /// - 1: the guest exits with another number;
 /// - 2: the words have no form;
-/// - 3: what the files hold is refused, and the line says why;
+/// - 3: what the files hold, or a generated program, is refused, and the line says why;
 /// - 4, 5, 6: the run ends by terminate, by a trap, by the budget;
 /// - 7: a read of a file or of the input failed;
 /// - 8: a write of the output failed;

@@ -13,6 +13,7 @@ use crate::stop::Stop;
 use asm_layout::{AsmFault, AsmWhat};
 use asm_read::{SourceFault, SourceWhat};
 use eh_digits::address_text;
+use eh_kit::KitMemory;
 use eh_link::LinkFault;
 use eh_port::Sink;
 use eh_word::Name;
@@ -53,6 +54,17 @@ impl<T: Drop> From<AllocFailed<T>> for BuildFault<'_> {
     ghost from_gives = { λ _ fault. fault ≡ OutOfMemory };
 
     fn from(_: AllocFailed<T>) -> Self {
+        BuildFault::OutOfMemory
+    }
+}
+
+impl From<KitMemory> for BuildFault<'_> {
+    ghost use Rattle.std.specs.Prelude.{◌≡◌};
+    ghost use Rattle.ehabi_top.specs.declared.refusal.BuildFault.TheVariants.{OutOfMemory};
+
+    ghost from_gives = { λ _ fault. fault ≡ OutOfMemory };
+
+    fn from(_: KitMemory) -> Self {
         BuildFault::OutOfMemory
     }
 }
@@ -144,8 +156,8 @@ fn answer_link<O: Sink>(out: &mut O, fault: &LinkFault) -> Result<u8, Stop>
     }
 }
 
-// Ends with the line of sources that give no image.
-fn answer_fault<O: Sink>(out: &mut O, fault: &BuildFault) -> Result<u8, Stop>
+/// Ends with the line of sources that give no image.
+pub(crate) fn answer_build_fault<O: Sink>(out: &mut O, fault: &BuildFault) -> Result<u8, Stop>
     requires { is_memory fault.now ≡ false }
     ensures { Answers (fault_line fault.now) REFUSED result (O.written out.old) (O.written out.new) (O.faults out.old) (O.faults out.new) }
 {
@@ -180,6 +192,6 @@ pub(crate) fn answer_files_fault<O: Sink>(out: &mut O, fault: &FilesFault) -> Re
     match fault {
         FilesFault::Missing(name) => answer_missing(out, name),
         FilesFault::TooLong(name) => answer_too_long(out, name),
-        FilesFault::Sources(fault) => answer_fault(out, fault),
+        FilesFault::Sources(fault) => answer_build_fault(out, fault),
     }
 }

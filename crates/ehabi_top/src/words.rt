@@ -1,7 +1,9 @@
 //! The forms of the words that the program is given.
 ghost use Rattle.std.specs.Borrow.{Bor};
-ghost use Rattle.std.specs.Prelude.{◌≡◌, ℕ, List, option_map};
-ghost use Rattle.ehabi_top.specs.Words.{command, texts, number_of, budget_of, is_source, are_sources, flat_command, build_command, image_name, check_command, files_command, run_command, command_of};
+ghost use Rattle.std.specs.Prelude.{◌≡◌, ◌≤◌, ℕ, List, option_map};
+ghost use Rattle.ehabi_top.specs.Words.{command, texts, number_of, budget_of, program_number, program_functions, is_source, are_sources, flat_command, build_command, image_name, check_command, files_command, run_command, gen_command, command_of};
+
+use eh_kit::MAX_FUNCTIONS;
 
 /// The most instructions that a run may be allowed.
 pub const MOST_INSTRUCTIONS: u64 = 1_000_000_000;
@@ -11,6 +13,12 @@ pub const MOST_SOURCES: usize = 16;
 
 /// The most digits of a number.
 pub const MOST_DIGITS: usize = 10;
+
+/// The greatest number of a program.
+pub const MOST_NUMBER: u64 = 4_294_967_295;
+
+/// The most digits of how many functions a program is asked for.
+pub const MOST_FUNCTION_DIGITS: usize = 4;
 
 /// What the words ask for.
 #[derive(Clone, Copy)]
@@ -27,15 +35,18 @@ pub enum Form<'a> {
     Run(&'a str, u64),
     /// `run FILE.. N`: the names of sources, and how many instructions may run.
     RunSources(&'a [&'a str], u64),
+    /// `gen K M`: the number of a program, and how many functions it is asked for.
+    Generate(u32, u32),
 }
 
-// One to ten decimal digits.
+// Decimal digits, at least one and at most so many.
 #[tactic(auto, unfolding(crate::specs::Words::number_of))]
-fn number_of(word: &str) -> Option<u64>
-    ensures { result ≡ number_of word.now }
+fn number_of(most: usize, word: &str) -> Option<u64>
+    requires { most ≤ MOST_DIGITS }
+    ensures { result ≡ number_of most word.now }
 {
     let digits = word.as_bytes();
-    if digits.is_empty() || digits.len() > MOST_DIGITS {
+    if digits.is_empty() || digits.len() > most {
         return None;
     }
     let mut number = 0u64;
@@ -52,7 +63,7 @@ fn number_of(word: &str) -> Option<u64>
 fn budget_of(word: &str) -> Option<u64>
     ensures { result ≡ budget_of word.now }
 {
-    let budget = number_of(word)?;
+    let budget = number_of(MOST_DIGITS, word)?;
     if budget < 1 || budget > MOST_INSTRUCTIONS {
         return None;
     }
@@ -151,6 +162,44 @@ fn run_form<'a>(words: &'a [&'a str]) -> Option<Form<'a>>
     files_form(names, budget)
 }
 
+// The number of a program.
+#[tactic(auto, unfolding(crate::specs::Words::program_number))]
+fn program_number(word: &str) -> Option<u32>
+    ensures { result ≡ program_number word.now }
+{
+    let number = number_of(MOST_DIGITS, word)?;
+    if number > MOST_NUMBER {
+        return None;
+    }
+    Some(number as u32)
+}
+
+// How many functions a program is asked for.
+#[tactic(auto, unfolding(crate::specs::Words::program_functions))]
+fn program_functions(word: &str) -> Option<u32>
+    ensures { result ≡ program_functions word.now }
+{
+    let functions = number_of(MOST_FUNCTION_DIGITS, word)?;
+    if functions < 1 || functions > MAX_FUNCTIONS as u64 {
+        return None;
+    }
+    Some(functions as u32)
+}
+
+// `gen K M`, without the first word.
+#[tactic(auto, unfolding(crate::specs::Words::gen_command))]
+fn gen_form<'a>(words: &[&'a str]) -> Option<Form<'a>>
+    ensures { option_map command result ≡ gen_command (texts words.now) }
+{
+    match words {
+        [number, functions] => {
+            let program = program_number(number)?;
+            Some(Form::Generate(program, program_functions(functions)?))
+        }
+        _ => None,
+    }
+}
+
 /// The form of these words. None where they have none.
 #[tactic(auto, unfolding(crate::specs::Words::command_of))]
 pub fn form_of<'a>(words: &'a [&'a str]) -> Option<Form<'a>>
@@ -162,6 +211,7 @@ pub fn form_of<'a>(words: &'a [&'a str]) -> Option<Form<'a>>
         "build" => build_form(rest),
         "check" => check_form(rest),
         "run" => run_form(rest),
+        "gen" => gen_form(rest),
         _ => None,
     }
 }

@@ -1,4 +1,7 @@
+use Rattle.ehabi_top.proofs.Asking.{AreAsked, asked_of}
 use Rattle.ehabi_top.proofs.Doing.{usage_does}
+use Rattle.ehabi_top.specs.Words.{texts}
+use Rattle.ehabi_top.specs.Yields.{shelf}
 use Rattle.ehabi_top.proofs.perform.Goals as goal
 
 pub returns-in-None : goal.returns-in-None
@@ -18,3 +21,14 @@ pub returns-in-Some-CheckSources : goal.returns-in-Some-CheckSources
 returns-in-Some-CheckSources g c =
     let command = rw c.in-Some-CheckSources.field-0-is at c.in-Some-CheckSources.ensures in
     rw (← command) (c.check_sources.ensures (g.I.Source.left c.args.input.now) (g.I.Source.faults c.args.input.now))
+
+pub count_program-requires : goal.count_program-requires
+count_program-requires g c =
+    let command = rw c.in-Some-Generate.field-0-is at c.in-Some-Generate.ensures in
+    let asked = asked_of (texts c.args.words.now) _ _ command in
+    record { some = asked.some; most = asked.most }
+
+pub returns-in-Some-Generate : goal.returns-in-Some-Generate
+returns-in-Some-Generate g c =
+    let command = rw c.in-Some-Generate.field-0-is at c.in-Some-Generate.ensures in
+    rw (← command) (c.count_program.ensures (shelf (g.F.Files.held c.args.files.now) (g.F.Files.faults c.args.files.now)) (g.I.Source.left c.args.input.now) (g.I.Source.faults c.args.input.now))

@@ -1,0 +1,120 @@
+-- What the words of a command ask for is within its bounds.
+use Rattle.std.specs.Prelude.{◌<◌, ◌&&◌, nat_le, if◌then◌else◌, option_map, codes}
+use Rattle.std.specs.Str.{bytes_eq}
+use Rattle.std.proofs.Common.{◌≡◌, ◌≤◌, ℕ, List, [], ◌∷◌, Option, Some, None, Bool, true, false, IfSome, refl, sym, subst, leb-true, arith}
+use Rattle.eh_kit.specs.declared.program_text.TheConstants.{MAX_FUNCTIONS}
+use Rattle.ehabi_top.specs.Words.{Command, FlatFile, BuildSources, CheckFile, CheckSources, RunFile, RunSources, GenerateProgram, if_between, number_of, budget_of, program_number, program_functions, program_of, flat_command, are_sources, build_command, image_name, check_command, files_command, with_budget, run_command, gen_command, command_of}
+use Rattle.ehabi_top.specs.declared.words.TheConstants.{MOST_FUNCTION_DIGITS}
+
+pub record AreAsked (functions : ℕ) : Type 0 where
+  pub some : 0 < functions
+  pub most : functions ≤ MAX_FUNCTIONS
+
+-- a program is asked for 1 to 4,000 functions
+abbrev pub IsAsked : Option Command → Type 0
+IsAsked None = Unit {0}
+IsAsked (Some (FlatFile name budget)) = Unit {0}
+IsAsked (Some (BuildSources names)) = Unit {0}
+IsAsked (Some (CheckFile name)) = Unit {0}
+IsAsked (Some (CheckSources names)) = Unit {0}
+IsAsked (Some (RunFile name budget)) = Unit {0}
+IsAsked (Some (RunSources names budget)) = Unit {0}
+IsAsked (Some (GenerateProgram number functions)) = AreAsked functions
+
+either : (b : Bool) (x y : Option Command) → IsAsked x → IsAsked y → IsAsked (if b then x else y)
+either true x y p q = p
+either false x y p q = q
+
+mapped : {A : Type 0} (f : A → Command) (o : Option A) → IfSome o (λ a. IsAsked (Some (f a))) → IsAsked (option_map f o)
+mapped f None p = tt
+mapped f (Some a) p = p
+
+all_some : {A : Type 0} (P : A → Type 0) (o : Option A) → ((a : A) → P a) → IfSome o P
+all_some P None p = tt
+all_some P (Some a) p = p a
+
+flat_asked : (words : List (List ℕ)) → IsAsked (flat_command words)
+unfolding flat_command
+flat_asked [] = tt
+flat_asked (name ∷ []) = tt
+flat_asked (name ∷ number ∷ []) = either _ _ None (mapped (FlatFile name) (budget_of number) (all_some _ (budget_of number) (λ _. tt))) tt
+flat_asked (name ∷ number ∷ more ∷ rest) = tt
+
+build_asked : (words : List (List ℕ)) → IsAsked (build_command words)
+unfolding build_command
+build_asked words = either (are_sources words) (Some (BuildSources words)) None tt tt
+
+check_asked : (words : List (List ℕ)) → IsAsked (check_command words)
+unfolding check_command
+check_asked words = either (are_sources words) (Some (CheckSources words)) _ tt (mapped CheckFile (image_name words) (all_some _ (image_name words) (λ _. tt)))
+
+files_asked : (names : List (List ℕ)) (budget : ℕ) → IsAsked (files_command names budget)
+unfolding files_command
+files_asked names budget =
+    either (are_sources names) (Some (RunSources names budget)) _ tt (mapped (λ name. RunFile name budget) (image_name names) (all_some _ (image_name names) (λ _. tt)))
+
+with_asked : (names : List (List ℕ)) (budget : Option ℕ) → IsAsked (with_budget names budget)
+with_asked names None = tt
+with_asked names (Some budget) = files_asked names budget
+
+run_asked : (words : List (List ℕ)) → IsAsked (run_command words)
+unfolding run_command
+run_asked words = either _ (with_budget _ _) None (with_asked _ _) tt
+
+between : (low high n : ℕ) → IfSome (if_between low high (Some n)) (λ n. (low ≤ n) × (n ≤ high))
+between low high n = go (nat_le low n) (nat_le n high) refl refl
+  where
+    go : (above below : Bool) → nat_le low n ≡ above → nat_le n high ≡ below → IfSome (if above && below then Some n else None) (λ n. (low ≤ n) × (n ≤ high))
+    go true true e f = (leb-true low n e, leb-true n high f)
+    go true false e f = tt
+    go false below e f = tt
+
+within : (low high : ℕ) (o : Option ℕ) → IfSome (if_between low high o) (λ n. (low ≤ n) × (n ≤ high))
+within low high None = tt
+within low high (Some n) = between low high n
+
+functions_asked : (words : List ℕ) → IfSome (program_functions words) (λ functions. AreAsked functions)
+unfolding program_functions
+functions_asked words = go (if_between 1 MAX_FUNCTIONS (number_of MOST_FUNCTION_DIGITS words)) (within 1 MAX_FUNCTIONS (number_of MOST_FUNCTION_DIGITS words))
+  where
+    go : (o : Option ℕ) → IfSome o (λ n. (1 ≤ n) × (n ≤ MAX_FUNCTIONS)) → IfSome o (λ functions. AreAsked functions)
+    go None p = tt
+    go (Some n) p = record { some = omega (arith, p.0); most = p.1 }
+
+program_asked : (number : Option ℕ) (functions : List ℕ) → IsAsked (program_of number (program_functions functions))
+program_asked None functions = tt
+program_asked (Some number) functions = mapped (GenerateProgram number) (program_functions functions) (functions_asked functions)
+
+gen_asked : (words : List (List ℕ)) → IsAsked (gen_command words)
+unfolding gen_command
+gen_asked [] = tt
+gen_asked (number ∷ []) = tt
+gen_asked (number ∷ functions ∷ []) = program_asked (program_number number) functions
+gen_asked (number ∷ functions ∷ more ∷ rest) = tt
+
+-- the command by the first word, from one of the names on
+abbrev by_gen : List ℕ → List (List ℕ) → Option Command
+by_gen word rest = if bytes_eq word (codes "gen") then gen_command rest else None
+
+abbrev by_run : List ℕ → List (List ℕ) → Option Command
+by_run word rest = if bytes_eq word (codes "run") then run_command rest else by_gen word rest
+
+abbrev by_check : List ℕ → List (List ℕ) → Option Command
+by_check word rest = if bytes_eq word (codes "check") then check_command rest else by_run word rest
+
+abbrev by_build : List ℕ → List (List ℕ) → Option Command
+by_build word rest = if bytes_eq word (codes "build") then build_command rest else by_check word rest
+
+pub asked : (words : List (List ℕ)) → IsAsked (command_of words)
+unfolding command_of
+asked [] = tt
+asked (word ∷ rest) =
+    let gen = either (bytes_eq word (codes "gen")) (gen_command rest) None (gen_asked rest) tt in
+    let run = either (bytes_eq word (codes "run")) (run_command rest) (by_gen word rest) (run_asked rest) gen in
+    let check = either (bytes_eq word (codes "check")) (check_command rest) (by_run word rest) (check_asked rest) run in
+    let build = either (bytes_eq word (codes "build")) (build_command rest) (by_check word rest) (build_asked rest) check in
+    either (bytes_eq word (codes "flat")) (flat_command rest) (by_build word rest) (flat_asked rest) build
+
+-- .. as the form of words says it
+pub asked_of : (words : List (List ℕ)) (number functions : ℕ) → Some (GenerateProgram number functions) ≡ command_of words → AreAsked functions
+asked_of words number functions e = subst IsAsked (sym e) (asked words)
