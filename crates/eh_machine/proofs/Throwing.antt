@@ -1,12 +1,12 @@
 -- A throw does the same over bytes and with recorded activations, where the frames of both agree.
-use Rattle.std.proofs.Common.{◌≡◌, ℕ, ◌^◌, ◌<◌, Bool, true, false, cond, List, [], ◌∷◌, ◌++◌, length, set, drop, Option, Some, None, Result, Ok, Err, refl, sym, ap, subst, ◌∙◌, arith, get_or-set_same}
+use Rattle.std.proofs.Common.{◌≡◌, ℕ, ◌^◌, ◌<◌, Bool, true, false, cond, List, [], ◌∷◌, ◌++◌, length, set, Option, Some, None, Result, Ok, Err, refl, sym, ap, subst, ◌∙◌, arith, get_or-set_same}
 use Rattle.std.specs.Prelude.{is_some}
 use Rattle.eh_bus.specs.Lists.{Has}
 use Rattle.eh_bus.specs.Map.{IsMap}
 use Rattle.eh_bus.specs.Memory.{Memory}
 use Rattle.eh_cxa.specs.declared.globals.CxaFault.{CxaFault}
 use Rattle.eh_cxa.specs.declared.globals.CxaFault.TheVariants.{BadObject}
-use Rattle.eh_cxa.specs.declared.layout.TheConstants.{SLOTS, STATE, SIZE}
+use Rattle.eh_cxa.specs.declared.layout.TheConstants.{SLOTS, STATE}
 use Rattle.eh_cxa.specs.declared.state.State.{State as Stage}
 use Rattle.eh_cxa.specs.declared.state.State.TheVariants.{Fresh, Flying}
 use Rattle.eh_cxa.specs.Allocate.{size_at}
@@ -19,7 +19,7 @@ use Rattle.eh_cxa.specs.Stands.{record_of, Stands}
 use Rattle.eh_cxa.specs.Words.{Write, Done, word, block, object, block_slot, object_slot, put, put_all, made, one_more}
 use Rattle.eh_cxa.proofs.Looking.{Look, live, free, lost, look, fresh_is, one_state}
 use Rattle.eh_cxa.proofs.Meets.{throw_meets, barrier_meets}
-use Rattle.eh_cxa.proofs.Pools.{object_small, slot_of_block_is, all_is_map}
+use Rattle.eh_cxa.proofs.Pools.{object_small, all_is_map}
 use Rattle.eh_types.specs.Graph.{row_of}
 use Rattle.eh_phase.specs.Calls.{meeting}
 use Rattle.eh_phase.specs.Laws.{goal_of}
@@ -40,7 +40,7 @@ use Rattle.eh_gates.specs.Throwing as bytes
 use Rattle.eh_gates.specs.Throwing.{handed, barrier_words, throw_event, barrier_in, from_barrier}
 use Rattle.eh_machine.specs.Activations.{Activation, Recorded, reg_in, memory_of, heads, with_words, with_lists, words_in, bytes_of, first_place}
 use Rattle.eh_machine.specs.ActivationMachine as machine
-use Rattle.eh_machine.specs.Agreeing.{Agree, AreOne}
+use Rattle.eh_machine.specs.Agreeing.{Agree}
 use Rattle.eh_machine.specs.Corresponds.{Corresponds, GateMatches}
 use Rattle.eh_machine.specs.Landings.{IsInFlight}
 use Rattle.eh_machine.specs.Throws.{SeesAlike, CanLand, ThrowsMatch}
@@ -49,7 +49,7 @@ use Rattle.eh_machine.proofs.FirstEvent.{segments_alone}
 use Rattle.eh_machine.proofs.InStep.{same_slot}
 use Rattle.eh_machine.proofs.Landed.{landings_match}
 
-put_append : (xs ys : List Write) (m : Memory) → put_all (xs ++ ys) m ≡ put_all ys (put_all xs m)
+pub put_append : (xs ys : List Write) (m : Memory) → put_all (xs ++ ys) m ≡ put_all ys (put_all xs m)
 put_append [] ys m = refl
 put_append (x ∷ xs) ys m = put_append xs ys (put m x.slot x.place x.value)
 

@@ -1,6 +1,6 @@
 -- A throw over bytes and with recorded activations, where the frames of both agree (docs/machine.md, "Laws").
-use Rattle.std.specs.Prelude.{◌≡◌, ℕ, ◌<◌, ◌^◌, List, ◌∷◌, ◌++◌, drop, Option, Some, None}
-use Rattle.eh_cxa.specs.Words.{Write, block, object_slot, put_all}
+use Rattle.std.specs.Prelude.{◌≡◌, ℕ, ◌<◌, ◌^◌, List, ◌∷◌, ◌++◌, drop, Some, None}
+use Rattle.eh_cxa.specs.Words.{Write, block, block_slot, object_slot, put_all}
 use Rattle.eh_phase.specs.Calls.{stack_of}
 use Rattle.eh_phase.specs.Frames.{frames_of}
 use Rattle.eh_phase.specs.Laws.{goal_of}
@@ -8,11 +8,11 @@ use Rattle.eh_phase.specs.Phases.{phase2}
 use Rattle.eh_phase.specs.declared.phase1.Barrier.{Barrier}
 use Rattle.eh_phase.specs.declared.phase1.Found.TheVariants as found
 use Rattle.thumb_core.specs.Registers.{all_of}
-use Rattle.eh_gates.specs.declared.gates.TheConstants.{THROW_GATE}
+use Rattle.eh_gates.specs.declared.gates.TheConstants.{THROW_GATE, RETHROW_GATE}
 use Rattle.eh_gates.specs.State.{Guide}
 use Rattle.eh_gates.specs.Gates.{gate_of}
 use Rattle.eh_gates.specs.Throwing.{frames_seen, barrier_words}
-use Rattle.eh_machine.specs.Activations.{Activation, Recorded, reg_in, memory_of, bytes_of, first_place}
+use Rattle.eh_machine.specs.Activations.{Activation, Recorded, reg_in, memory_of, heads, bytes_of, first_place}
 use Rattle.eh_machine.specs.ActivationMachine as machine
 use Rattle.eh_machine.specs.Agreeing.{Agree}
 use Rattle.eh_machine.specs.Corresponds.{Corresponds, GateMatches}
@@ -44,3 +44,11 @@ ThrowsMatch =
     (g : Guide) (next : ℕ) (s : Recorded) → Corresponds s → reg_in s 1 < 2 ^ 32 → reg_in s 2 < 2 ^ 32 → SeesAlike g s
     → ((slot : ℕ) (b : Barrier) → object_slot (reg_in s 0) ≡ Some slot → machine.searched g s (machine.thrown_first s) ≡ found.Barrier b → CanLand g s slot b)
     → GateMatches (gate_of g THROW_GATE next (bytes_of s)) (machine.gate_of g THROW_GATE next s)
+
+-- so does a rethrow of the top of the caught stack
+abbrev pub RethrowsMatch : Type 0
+RethrowsMatch =
+    (g : Guide) (next : ℕ) (s : Recorded) → Corresponds s → SeesAlike g s
+    → ((slot : ℕ) (b : Barrier) → block_slot (heads s.lists).caught ≡ Some slot → machine.searched g s (machine.thrown_of_slot s.lists (Some slot)) ≡ found.Barrier b
+    → CanLand g s slot b)
+    → GateMatches (gate_of g RETHROW_GATE next (bytes_of s)) (machine.gate_of g RETHROW_GATE next s)
