@@ -46,7 +46,7 @@ use Rattle.eh_machine.specs.ActivationMachine as machine
 use Rattle.eh_machine.specs.Agreeing.{Agree}
 use Rattle.eh_machine.specs.Corresponds.{Corresponds, GateMatches}
 use Rattle.eh_machine.specs.Landings.{IsInFlight}
-use Rattle.eh_machine.specs.Throws.{SeesAlike, CanLand, RethrowsMatch}
+use Rattle.eh_machine.specs.Throws.{AreInPool, SeesAlike, CanLand, RethrowsMatch}
 use Rattle.eh_machine.proofs.Agreeing.{are_one}
 use Rattle.eh_machine.proofs.FirstEvent.{segments_alone}
 use Rattle.eh_machine.proofs.InStep.{same_slot, same_count}
@@ -141,12 +141,20 @@ module _ (g : Guide) (s : Recorded) (c : Corresponds s) (sees : SeesAlike g s) w
       abbrev after : Memory → State
       after m = record { regs = s.regs; globals = flight.globals; memory = m; events = pushed s.events e }
 
+      barred_in : AreInPool barred
+      barred_in =
+          subst (λ (o : Option ℕ). AreInPool (set_barrier_of o (barrier_words (block slot) b))) (sym (slot_of_block_is slot small))
+          (small, omega arith, (small, omega arith, (small, omega arith, (small, omega arith, (small, omega arith, (small, omega arith, tt))))))
+
+      written_in : AreInPool (flight.writes ++ barred)
+      written_in = (small, omega arith, (small, omega arith, barred_in))
+
       bytes_same : bytes.throw_to g (after middle) s.regs.pc (block slot) b ≡ entered (bytes_of behind) (block slot) (handed (block slot) b.hit) goes
       unfolding bytes.throw_to
       bytes_same =
           let one = are_one (bytes.frames_from g (after (put_all barred middle)) None s.regs.pc) (machine.frames_from g s None)
           (subst (λ (m : Memory). Agree (bytes.frames_from g (after m) None s.regs.pc) (machine.frames_from g s None)) (put_append flight.writes barred (memory_of s))
-          (sees.advance (flight.writes ++ barred))) in
+          (sees.advance (flight.writes ++ barred) written_in)) in
           one.bytes (goal_of b) 0 (after (put_all barred middle)) (block slot) (handed (block slot) b.hit)
           ∙ ap (λ (m : Memory). entered (after m) (block slot) (handed (block slot) b.hit) goes) memory_is
 

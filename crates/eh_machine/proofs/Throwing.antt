@@ -19,7 +19,7 @@ use Rattle.eh_cxa.specs.Stands.{record_of, Stands}
 use Rattle.eh_cxa.specs.Words.{Write, Done, word, block, object, block_slot, object_slot, put, put_all, made, one_more}
 use Rattle.eh_cxa.proofs.Looking.{Look, live, free, lost, look, fresh_is, one_state}
 use Rattle.eh_cxa.proofs.Meets.{throw_meets, barrier_meets}
-use Rattle.eh_cxa.proofs.Pools.{object_small, all_is_map}
+use Rattle.eh_cxa.proofs.Pools.{object_small, slot_of_block_is, all_is_map}
 use Rattle.eh_types.specs.Graph.{row_of}
 use Rattle.eh_phase.specs.Calls.{meeting}
 use Rattle.eh_phase.specs.Laws.{goal_of}
@@ -43,7 +43,7 @@ use Rattle.eh_machine.specs.ActivationMachine as machine
 use Rattle.eh_machine.specs.Agreeing.{Agree}
 use Rattle.eh_machine.specs.Corresponds.{Corresponds, GateMatches}
 use Rattle.eh_machine.specs.Landings.{IsInFlight}
-use Rattle.eh_machine.specs.Throws.{SeesAlike, CanLand, ThrowsMatch}
+use Rattle.eh_machine.specs.Throws.{AreInPool, SeesAlike, CanLand, ThrowsMatch}
 use Rattle.eh_machine.proofs.Agreeing.{are_one}
 use Rattle.eh_machine.proofs.FirstEvent.{segments_alone}
 use Rattle.eh_machine.proofs.InStep.{same_slot}
@@ -144,12 +144,20 @@ module _ (g : Guide) (s : Recorded) (c : Corresponds s) (ty : reg_in s 1 < 2 ^ 3
       abbrev after : Memory → State
       after m = record { regs = s.regs; globals = flight.globals; memory = m; events = pushed s.events e }
 
+      barred_in : AreInPool barred
+      barred_in =
+          subst (λ (o : Option ℕ). AreInPool (set_barrier_of o (barrier_words (block slot) b))) (sym (slot_of_block_is slot small))
+          (small, omega arith, (small, omega arith, (small, omega arith, (small, omega arith, (small, omega arith, (small, omega arith, tt))))))
+
+      written_in : AreInPool (flight.writes ++ barred)
+      written_in = (small, omega arith, (small, omega arith, (small, omega arith, (small, omega arith, (small, omega arith, barred_in)))))
+
       bytes_same : bytes.throw_to g (after middle) s.regs.pc (block slot) b ≡ entered (bytes_of behind) (block slot) (handed (block slot) b.hit) goes
       unfolding bytes.throw_to
       bytes_same =
           let one = are_one (bytes.frames_from g (after (put_all barred middle)) None s.regs.pc) (machine.frames_from g s None)
           (subst (λ (m : Memory). Agree (bytes.frames_from g (after m) None s.regs.pc) (machine.frames_from g s None)) (put_append flight.writes barred (memory_of s))
-          (sees.advance (flight.writes ++ barred))) in
+          (sees.advance (flight.writes ++ barred) written_in)) in
           one.bytes (goal_of b) 0 (after (put_all barred middle)) (block slot) (handed (block slot) b.hit)
           ∙ ap (λ (m : Memory). entered (after m) (block slot) (handed (block slot) b.hit) goes) memory_is
 

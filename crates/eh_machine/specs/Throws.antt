@@ -1,6 +1,7 @@
 -- A throw over bytes and with recorded activations, where the frames of both agree (docs/machine.md, "Laws").
-use Rattle.std.specs.Prelude.{◌≡◌, ℕ, ◌<◌, ◌^◌, List, ◌∷◌, ◌++◌, drop, Some, None}
+use Rattle.std.specs.Prelude.{◌≡◌, ℕ, ◌<◌, ◌^◌, List, [], ◌∷◌, ◌++◌, drop, Some, None}
 use Rattle.eh_cxa.specs.Words.{Write, block, block_slot, object_slot, put_all}
+use Rattle.eh_cxa.specs.declared.layout.TheConstants.{SLOTS, SLOT_WORDS}
 use Rattle.eh_phase.specs.Calls.{stack_of}
 use Rattle.eh_phase.specs.Frames.{frames_of}
 use Rattle.eh_phase.specs.Laws.{goal_of}
@@ -18,12 +19,17 @@ use Rattle.eh_machine.specs.Agreeing.{Agree}
 use Rattle.eh_machine.specs.Corresponds.{Corresponds, GateMatches}
 use Rattle.eh_machine.specs.Landings.{Lands}
 
+-- words of the pool's slots
+abbrev pub AreInPool : List Write → Type 0
+AreInPool [] = Unit {0}
+AreInPool (w ∷ more) = (w.slot < SLOTS) × (w.place < SLOT_WORDS) × AreInPool more
+
 -- the frames of a state agree in both machines: those that phase 1 sees, and those that phase 2 goes over, whatever words the runtime has written
 -- into the pool before it
 pub record SeesAlike (g : Guide) (s : Recorded) : Type 0 where
   pub search : Agree (frames_seen g (bytes_of s)) (machine.frames_from g s (first_place s.places))
   pub advance :
-      (ws : List Write) → Agree (frames_of g.image (stack_of (put_all ws (memory_of s))) None s.regs.pc (all_of s.regs)) (machine.frames_from g s None)
+      (ws : List Write) → AreInPool ws → Agree (frames_of g.image (stack_of (put_all ws (memory_of s))) None s.regs.pc (all_of s.regs)) (machine.frames_from g s None)
 
 -- what phase 2 enters, for a barrier that was found, stands in an activation, and leaves no slot of those that it cuts
 pub record CanLand (g : Guide) (s : Recorded) (slot : ℕ) (b : Barrier) : Type 0 where
