@@ -1,7 +1,7 @@
 -- Frames that agree in what is handed on are one to the phases and to a landing.
 use Rattle.std.proofs.Common.{◌≡◌, ℕ, List, [], ◌∷◌, refl, sym, ap, ◌∙◌}
 use Rattle.eh_phase.specs.Laws.{seen_entered}
-use Rattle.eh_phase.specs.Phases.{Frames, phase1, phase2}
+use Rattle.eh_phase.specs.Phases.{phase1, phase2}
 use Rattle.eh_phase.specs.declared.phase2.Entered.{Entered}
 use Rattle.eh_phase.specs.declared.phase2.Entered.TheVariants as enters
 use Rattle.eh_phase.specs.declared.phase2.Goal.{Goal}

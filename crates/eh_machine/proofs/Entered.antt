@@ -1,14 +1,9 @@
 -- What is entered with recorded activations, and where.
-use Rattle.std.proofs.Common.{◌≡◌, ℕ, ◌<◌, List, [], ◌∷◌, length, slice_index, refl}
-use Rattle.eh_cxa.specs.Words.{block}
-use Rattle.eh_cxa.specs.declared.layout.TheConstants.{SLOTS}
+use Rattle.std.proofs.Common.{slice_index, refl}
 use Rattle.eh_cxa.proofs.Pools.{slot_of_block_is}
-use Rattle.eh_phase.specs.declared.phase2.Entered.{Entered}
 use Rattle.eh_phase.specs.declared.phase2.Entered.TheVariants as enters
 use Rattle.thumb_core.specs.declared.regs.TheConstants.{SP}
-use Rattle.eh_machine.specs.Activations.{Activation, Recorded}
-use Rattle.eh_machine.specs.ActivationMachine.{entered}
-use Rattle.eh_machine.specs.Landings.{IsEntered, LandingsAreInTheirActivation}
+use Rattle.eh_machine.specs.Landings.{LandingsAreInTheirActivation}
 use Rattle.eh_machine.proofs.RecordedGates.{callers_left, land_keeps}
 
 pub are_in : LandingsAreInTheirActivation

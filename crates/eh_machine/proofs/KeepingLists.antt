@@ -1,7 +1,6 @@
 -- Instructions that are no gates of exceptions leave the lists and the closed words of the pool.
-use Rattle.std.proofs.Common.{◌≡◌, ℕ, ◌+◌, ◌*◌, ◌%◌, ◌<◌, ◌≤◌, nat_le, nat_lt, ◌&&◌, Bool, true, false, cond, List, [], ◌∷◌, Option, Some, None, Ok, Err, refl, sym, ap, subst, ◌∙◌, arith}
+use Rattle.std.proofs.Common.{◌≡◌, ℕ, ◌+◌, ◌*◌, ◌%◌, ◌<◌, ◌≤◌, nat_lt, Bool, true, false, cond, List, [], ◌∷◌, Option, Some, None, refl, sym, ap, subst, ◌∙◌, arith}
 use Rattle.std.proofs.lemmas.Bool.{le-leb, lt-ltb, le-ltb}
-use Rattle.std.proofs.lemmas.Bool.Decides.{nat_tests}
 use Rattle.event_runs.specs.Runs.{Event, Goes, Ends}
 use Rattle.eh_bus.specs.Memory.{Memory, is_closed, host_load, number_in}
 use Rattle.eh_bus.specs.declared.map.TheConstants.{CLOSED_SIZE, POOL_END, POOL_START, SLOT_SIZE}
@@ -21,7 +20,7 @@ use Rattle.thumb_core.specs.declared.regs.Stepped.TheVariants.{Done, Call, Retur
 use Rattle.thumb_core.specs.declared.ends.End.{End}
 use Rattle.eh_machine.specs.Program.{Program, guide}
 use Rattle.eh_machine.specs.Activations.{Activation, Recorded, memory_of, heads}
-use Rattle.eh_machine.specs.ActivationMachine.{left_by, settled_at, moved, tested, tests, with_tests, stepped, checked, passed, onward, acted, gated, in_state, event_of, gate_of, registers_behind, recorded_event}
+use Rattle.eh_machine.specs.ActivationMachine.{left_by, settled_at, moved, tested, tests, stepped, checked, passed, onward, gated, in_state, event_of, gate_of, registers_behind, recorded_event}
 use Rattle.eh_machine.specs.Corresponds.{IsNoCall, KeepLists, ListsAreKept}
 
 closed_word : (s k : ℕ) → s < SLOTS → k < CLOSED_WORDS → is_closed (POOL_START + SLOT_SIZE * s + 4 * k) ≡ true

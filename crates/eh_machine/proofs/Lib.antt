@@ -23,3 +23,4 @@ pub mod Entered
 pub mod KeepingLists
 pub mod Agreeing
 pub mod Throwing
+pub mod Rethrowing

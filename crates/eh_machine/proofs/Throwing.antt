@@ -1,12 +1,12 @@
 -- A throw does the same over bytes and with recorded activations, where the frames of both agree.
-use Rattle.std.proofs.Common.{◌≡◌, ℕ, ◌^◌, ◌<◌, Bool, true, false, cond, List, [], ◌∷◌, ◌++◌, length, set, drop, Option, Some, None, Result, Ok, Err, refl, sym, ap, subst, ◌∙◌, arith, get_or-set_same}
+use Rattle.std.proofs.Common.{◌≡◌, ℕ, ◌^◌, ◌<◌, Bool, true, false, cond, List, [], ◌∷◌, ◌++◌, length, set, Option, Some, None, Result, Ok, Err, refl, sym, ap, subst, ◌∙◌, arith, get_or-set_same}
 use Rattle.std.specs.Prelude.{is_some}
 use Rattle.eh_bus.specs.Lists.{Has}
 use Rattle.eh_bus.specs.Map.{IsMap}
 use Rattle.eh_bus.specs.Memory.{Memory}
 use Rattle.eh_cxa.specs.declared.globals.CxaFault.{CxaFault}
 use Rattle.eh_cxa.specs.declared.globals.CxaFault.TheVariants.{BadObject}
-use Rattle.eh_cxa.specs.declared.layout.TheConstants.{SLOTS, STATE, SIZE}
+use Rattle.eh_cxa.specs.declared.layout.TheConstants.{SLOTS, STATE}
 use Rattle.eh_cxa.specs.declared.state.State.{State as Stage}
 use Rattle.eh_cxa.specs.declared.state.State.TheVariants.{Fresh, Flying}
 use Rattle.eh_cxa.specs.Allocate.{size_at}
@@ -40,16 +40,16 @@ use Rattle.eh_gates.specs.Throwing as bytes
 use Rattle.eh_gates.specs.Throwing.{handed, barrier_words, throw_event, barrier_in, from_barrier}
 use Rattle.eh_machine.specs.Activations.{Activation, Recorded, reg_in, memory_of, heads, with_words, with_lists, words_in, bytes_of, first_place}
 use Rattle.eh_machine.specs.ActivationMachine as machine
-use Rattle.eh_machine.specs.Agreeing.{Agree, AreOne}
+use Rattle.eh_machine.specs.Agreeing.{Agree}
 use Rattle.eh_machine.specs.Corresponds.{Corresponds, GateMatches}
 use Rattle.eh_machine.specs.Landings.{IsInFlight}
-use Rattle.eh_machine.specs.Throws.{SeesAlike, CanLand, ThrowsMatch}
+use Rattle.eh_machine.specs.Throws.{AreInPool, SeesAlike, CanLand, ThrowsMatch}
 use Rattle.eh_machine.proofs.Agreeing.{are_one}
 use Rattle.eh_machine.proofs.FirstEvent.{segments_alone}
 use Rattle.eh_machine.proofs.InStep.{same_slot}
 use Rattle.eh_machine.proofs.Landed.{landings_match}
 
-put_append : (xs ys : List Write) (m : Memory) → put_all (xs ++ ys) m ≡ put_all ys (put_all xs m)
+pub put_append : (xs ys : List Write) (m : Memory) → put_all (xs ++ ys) m ≡ put_all ys (put_all xs m)
 put_append [] ys m = refl
 put_append (x ∷ xs) ys m = put_append xs ys (put m x.slot x.place x.value)
 
@@ -144,12 +144,20 @@ module _ (g : Guide) (s : Recorded) (c : Corresponds s) (ty : reg_in s 1 < 2 ^ 3
       abbrev after : Memory → State
       after m = record { regs = s.regs; globals = flight.globals; memory = m; events = pushed s.events e }
 
+      barred_in : AreInPool barred
+      barred_in =
+          subst (λ (o : Option ℕ). AreInPool (set_barrier_of o (barrier_words (block slot) b))) (sym (slot_of_block_is slot small))
+          (small, omega arith, (small, omega arith, (small, omega arith, (small, omega arith, (small, omega arith, (small, omega arith, tt))))))
+
+      written_in : AreInPool (flight.writes ++ barred)
+      written_in = (small, omega arith, (small, omega arith, (small, omega arith, (small, omega arith, (small, omega arith, barred_in)))))
+
       bytes_same : bytes.throw_to g (after middle) s.regs.pc (block slot) b ≡ entered (bytes_of behind) (block slot) (handed (block slot) b.hit) goes
       unfolding bytes.throw_to
       bytes_same =
           let one = are_one (bytes.frames_from g (after (put_all barred middle)) None s.regs.pc) (machine.frames_from g s None)
           (subst (λ (m : Memory). Agree (bytes.frames_from g (after m) None s.regs.pc) (machine.frames_from g s None)) (put_append flight.writes barred (memory_of s))
-          (sees.advance (flight.writes ++ barred))) in
+          (sees.advance (flight.writes ++ barred) written_in)) in
           one.bytes (goal_of b) 0 (after (put_all barred middle)) (block slot) (handed (block slot) b.hit)
           ∙ ap (λ (m : Memory). entered (after m) (block slot) (handed (block slot) b.hit) goes) memory_is
 

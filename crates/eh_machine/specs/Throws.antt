@@ -1,6 +1,7 @@
 -- A throw over bytes and with recorded activations, where the frames of both agree (docs/machine.md, "Laws").
-use Rattle.std.specs.Prelude.{◌≡◌, ℕ, ◌<◌, ◌^◌, List, ◌∷◌, ◌++◌, drop, Option, Some, None}
-use Rattle.eh_cxa.specs.Words.{Write, block, object_slot, put_all}
+use Rattle.std.specs.Prelude.{◌≡◌, ℕ, ◌<◌, ◌^◌, List, [], ◌∷◌, ◌++◌, drop, Some, None}
+use Rattle.eh_cxa.specs.Words.{Write, block, block_slot, object_slot, put_all}
+use Rattle.eh_cxa.specs.declared.layout.TheConstants.{SLOTS, SLOT_WORDS}
 use Rattle.eh_phase.specs.Calls.{stack_of}
 use Rattle.eh_phase.specs.Frames.{frames_of}
 use Rattle.eh_phase.specs.Laws.{goal_of}
@@ -8,22 +9,27 @@ use Rattle.eh_phase.specs.Phases.{phase2}
 use Rattle.eh_phase.specs.declared.phase1.Barrier.{Barrier}
 use Rattle.eh_phase.specs.declared.phase1.Found.TheVariants as found
 use Rattle.thumb_core.specs.Registers.{all_of}
-use Rattle.eh_gates.specs.declared.gates.TheConstants.{THROW_GATE}
+use Rattle.eh_gates.specs.declared.gates.TheConstants.{THROW_GATE, RETHROW_GATE}
 use Rattle.eh_gates.specs.State.{Guide}
 use Rattle.eh_gates.specs.Gates.{gate_of}
 use Rattle.eh_gates.specs.Throwing.{frames_seen, barrier_words}
-use Rattle.eh_machine.specs.Activations.{Activation, Recorded, reg_in, memory_of, bytes_of, first_place}
+use Rattle.eh_machine.specs.Activations.{Activation, Recorded, reg_in, memory_of, heads, bytes_of, first_place}
 use Rattle.eh_machine.specs.ActivationMachine as machine
 use Rattle.eh_machine.specs.Agreeing.{Agree}
 use Rattle.eh_machine.specs.Corresponds.{Corresponds, GateMatches}
 use Rattle.eh_machine.specs.Landings.{Lands}
+
+-- words of the pool's slots
+abbrev pub AreInPool : List Write → Type 0
+AreInPool [] = Unit {0}
+AreInPool (w ∷ more) = (w.slot < SLOTS) × (w.place < SLOT_WORDS) × AreInPool more
 
 -- the frames of a state agree in both machines: those that phase 1 sees, and those that phase 2 goes over, whatever words the runtime has written
 -- into the pool before it
 pub record SeesAlike (g : Guide) (s : Recorded) : Type 0 where
   pub search : Agree (frames_seen g (bytes_of s)) (machine.frames_from g s (first_place s.places))
   pub advance :
-      (ws : List Write) → Agree (frames_of g.image (stack_of (put_all ws (memory_of s))) None s.regs.pc (all_of s.regs)) (machine.frames_from g s None)
+      (ws : List Write) → AreInPool ws → Agree (frames_of g.image (stack_of (put_all ws (memory_of s))) None s.regs.pc (all_of s.regs)) (machine.frames_from g s None)
 
 -- what phase 2 enters, for a barrier that was found, stands in an activation, and leaves no slot of those that it cuts
 pub record CanLand (g : Guide) (s : Recorded) (slot : ℕ) (b : Barrier) : Type 0 where
@@ -44,3 +50,11 @@ ThrowsMatch =
     (g : Guide) (next : ℕ) (s : Recorded) → Corresponds s → reg_in s 1 < 2 ^ 32 → reg_in s 2 < 2 ^ 32 → SeesAlike g s
     → ((slot : ℕ) (b : Barrier) → object_slot (reg_in s 0) ≡ Some slot → machine.searched g s (machine.thrown_first s) ≡ found.Barrier b → CanLand g s slot b)
     → GateMatches (gate_of g THROW_GATE next (bytes_of s)) (machine.gate_of g THROW_GATE next s)
+
+-- so does a rethrow of the top of the caught stack
+abbrev pub RethrowsMatch : Type 0
+RethrowsMatch =
+    (g : Guide) (next : ℕ) (s : Recorded) → Corresponds s → SeesAlike g s
+    → ((slot : ℕ) (b : Barrier) → block_slot (heads s.lists).caught ≡ Some slot → machine.searched g s (machine.thrown_of_slot s.lists (Some slot)) ≡ found.Barrier b
+    → CanLand g s slot b)
+    → GateMatches (gate_of g RETHROW_GATE next (bytes_of s)) (machine.gate_of g RETHROW_GATE next s)

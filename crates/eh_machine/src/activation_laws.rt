@@ -5,7 +5,7 @@ ghost use Rattle.eh_machine.specs.Corresponds.{CallsMatch, ListsAreKept};
 ghost use Rattle.eh_machine.specs.FrameEnds.{FramesEndAsTold};
 ghost use Rattle.eh_machine.specs.Landings.{LandingsMatch, LandingsAreInTheirActivation};
 ghost use Rattle.eh_machine.specs.RecordedGates.{FailedSearchesAddTheirEvent, CleanupsEndInTheirOwn};
-ghost use Rattle.eh_machine.specs.Throws.{ThrowsMatch};
+ghost use Rattle.eh_machine.specs.Throws.{ThrowsMatch, RethrowsMatch};
 ghost use Rattle.eh_machine.specs.RecordedSlots.{SlotsAreGuarded, SavesBecomeSlots, ReturnsMatch, FirstEventsMatch};
 
 /// An instruction that is no return and no gate of exceptions does the same in both machines.
@@ -103,4 +103,9 @@ pub fn agreeing_frames_are_one()
 /// Where the frames of both machines agree, and what phase 2 enters leaves no slot of those that it cuts, a throw does the same in both.
 pub fn throws_match()
     ensures { ThrowsMatch }
+{}
+
+/// So does a rethrow.
+pub fn rethrows_match()
+    ensures { RethrowsMatch }
 {}
