@@ -1,4 +1,6 @@
 //! The memory: rows of accesses, each with the answer that docs/memory-map.md gives.
+ghost use Rattle.eh_bus.specs.Built.{CanBuild};
+
 use eh_bus::bus::Bus;
 use eh_bus::fault::{BusFault, BusMemory};
 use eh_bus::flat::FlatBus;
@@ -9,7 +11,9 @@ use std::process::Abort;
 use std::test::Fail;
 
 /// 16 bytes of code at 0x8000, which may not be written, and 16 bytes of data behind them, of which 4 are given.
-fn sample(alloc: Global) -> Result<FlatBus, BusMemory> {
+fn sample<'a>() -> [SegmentSpec<'a>; 2]
+    ensures { CanBuild result }
+{
     let code = SegmentSpec {
         start: 0x8000,
         bytes: &[0x41, 0x20, 0x01, 0xdf, 0x11, 0x22, 0x33, 0x44],
@@ -24,12 +28,22 @@ fn sample(alloc: Global) -> Result<FlatBus, BusMemory> {
         write: true,
         exec: false,
     };
-    FlatBus::build(alloc, &[code, data])
+    [code, data]
+}
+
+/// The sample, its segments one after the other.
+fn flat(alloc: Global) -> Result<FlatBus, BusMemory> {
+    FlatBus::build(alloc, &sample())
+}
+
+/// The sample in pages: both segments lie in one.
+fn paged(alloc: Global) -> Result<PagedBus, BusMemory> {
+    PagedBus::build(alloc, &sample())
 }
 
 /// An access at an address.
 #[derive(Clone, Copy)]
-enum Access {
+pub(crate) enum Access {
     Load8(u32),
     Load16(u32),
     Load32(u32),
@@ -40,7 +54,7 @@ enum Access {
 }
 
 /// What the access answers, with 0 for a store that is done.
-fn answer(bus: &mut FlatBus, access: &Access) -> Result<u32, BusFault> {
+pub(crate) fn answer<B: Bus>(bus: &mut B, access: &Access) -> Result<u32, BusFault> {
     match access {
         Access::Load8(a) => Ok(u32::from(bus.load8(*a)?)),
         Access::Load16(a) => Ok(u32::from(bus.load16(*a)?)),
@@ -53,15 +67,17 @@ fn answer(bus: &mut FlatBus, access: &Access) -> Result<u32, BusFault> {
 }
 
 /// Makes the accesses one after the other, each of which has to answer what stands beside it.
-fn check(rt: &impl Abort, bus: &mut FlatBus, rows: &[(Access, Result<u32, BusFault>)]) {
+pub(crate) fn check<B: Bus>(
+    rt: &impl Abort,
+    bus: &mut B,
+    rows: &[(Access, Result<u32, BusFault>)],
+) {
     for (access, want) in rows {
         assert_eq!(rt; answer(bus, access), *want);
     }
 }
 
-#[test]
-fn guarded_word_refuses_each_of_its_bytes(rt: HostRuntime) -> Result<(), Fail> {
-    let mut bus = sample(rt.alloc())?;
+fn guarded_word_refuses_each_of_its_bytes<B: Bus>(rt: &impl Abort, bus: &mut B) {
     let hit = BusFault::SavedSlot(0x3fff_fff4);
     bus.guard(0x3fff_fff4);
     assert_eq!(rt; bus.store_run(0x3fff_ffec, &[1, 2, 3]), Err(hit));
@@ -72,16 +88,13 @@ fn guarded_word_refuses_each_of_its_bytes(rt: HostRuntime) -> Result<(), Fail> {
         (Access::Load32(0x3fff_fff0), Ok(0)),
         (Access::Load32(0x3fff_fff4), Ok(0)),
     ];
-    check(&rt, &mut bus, &rows);
+    check(rt, bus, &rows);
     bus.release_below(0x3fff_fff8);
     assert_eq!(rt; bus.store8(0x3fff_fff7, 9), Ok(()));
     assert_eq!(rt; bus.load32(0x3fff_fff4), Ok(0x0900_0000));
-    Ok(())
 }
 
-#[test]
-fn bytes_and_zeros_stand_where_they_were_asked_for(rt: HostRuntime) -> Result<(), Fail> {
-    let mut bus = sample(rt.alloc())?;
+fn bytes_and_zeros_stand_where_they_were_asked_for<B: Bus>(rt: &impl Abort, bus: &mut B) {
     let rows = [
         (Access::Fetch16(0x8000), Ok(0x2041)),
         (Access::Load8(0x8005), Ok(0x22)),
@@ -92,14 +105,11 @@ fn bytes_and_zeros_stand_where_they_were_asked_for(rt: HostRuntime) -> Result<()
         (Access::Load32(0x3fff_0000), Ok(0)),
         (Access::Load32(0x3800_7ffc), Ok(0)),
     ];
-    check(&rt, &mut bus, &rows);
+    check(rt, bus, &rows);
     assert_eq!(rt; bus.home(), (0x3fff_0000, 0x4000_0000));
-    Ok(())
 }
 
-#[test]
-fn first_fault_is_answered(rt: HostRuntime) -> Result<(), Fail> {
-    let mut bus = sample(rt.alloc())?;
+fn first_fault_is_answered<B: Bus>(rt: &impl Abort, bus: &mut B) {
     bus.guard(0x3fff_fffc);
     let rows = [
         // An access over the end of a segment lies in none, though the next one begins there.
@@ -139,13 +149,10 @@ fn first_fault_is_answered(rt: HostRuntime) -> Result<(), Fail> {
             Err(BusFault::NotExecutable(0x8010)),
         ),
     ];
-    check(&rt, &mut bus, &rows);
-    Ok(())
+    check(rt, bus, &rows);
 }
 
-#[test]
-fn slots_are_closed_but_for_one_word(rt: HostRuntime) -> Result<(), Fail> {
-    let mut bus = sample(rt.alloc())?;
+fn slots_are_closed_but_for_one_word<B: Bus>(rt: &impl Abort, bus: &mut B) {
     bus.host_store32(0x3800_0254, 0x8765_4321);
     assert_eq!(rt; bus.host_load32(0x3800_0254), 0x8765_4321);
     let rows = [
@@ -166,14 +173,11 @@ fn slots_are_closed_but_for_one_word(rt: HostRuntime) -> Result<(), Fail> {
         ),
         (Access::Store32(0x3800_0280, 5), Ok(0)),
     ];
-    check(&rt, &mut bus, &rows);
+    check(rt, bus, &rows);
     assert_eq!(rt; bus.host_load32(0x3800_0280), 5);
-    Ok(())
 }
 
-#[test]
-fn runs_are_stored_whole_or_not_at_all(rt: HostRuntime) -> Result<(), Fail> {
-    let mut bus = sample(rt.alloc())?;
+fn runs_are_stored_whole_or_not_at_all<B: Bus>(rt: &impl Abort, bus: &mut B) {
     assert_eq!(rt; bus.store_run(0x8018, &[0x0102_0304, 5]), Ok(()));
     assert_eq!(rt;
         bus.store_run(0x8018, &[6, 7, 8]),
@@ -185,13 +189,10 @@ fn runs_are_stored_whole_or_not_at_all(rt: HostRuntime) -> Result<(), Fail> {
         (Access::Store16(0x8014, 0xabcd), Ok(0)),
         (Access::Load8(0x8014), Ok(0xcd)),
     ];
-    check(&rt, &mut bus, &rows);
-    Ok(())
+    check(rt, bus, &rows);
 }
 
-#[test]
-fn guards_are_a_set(rt: HostRuntime) -> Result<(), Fail> {
-    let mut bus = sample(rt.alloc())?;
+fn guards_are_a_set<B: Bus>(rt: &impl Abort, bus: &mut B) {
     bus.guard(0x3fff_0000);
     bus.guard(0x3fff_8000);
     bus.guard(0x3fff_8000);
@@ -205,72 +206,88 @@ fn guards_are_a_set(rt: HostRuntime) -> Result<(), Fail> {
             Err(BusFault::SavedSlot(0x3fff_8000)),
         ),
     ];
-    check(&rt, &mut bus, &rows);
+    check(rt, bus, &rows);
     bus.release_below(0x4000_0000);
     assert_eq!(rt; bus.store32(0x3fff_8000, 1), Ok(()));
-    Ok(())
 }
 
-/// 32 bytes, 0 to 31, that lie half in one page and half in the next, and may be written.
-fn two_pages(alloc: Global) -> Result<PagedBus, BusMemory> {
-    let bytes = [
-        0, 1, 2, 3, 4, 5, 6, 7, 8, 9, 10, 11, 12, 13, 14, 15, 16, 17, 18, 19, 20, 21, 22, 23, 24,
-        25, 26, 27, 28, 29, 30, 31,
-    ];
-    let data = SegmentSpec {
-        start: 0x8ff0,
-        bytes: &bytes,
-        size: 32,
-        write: true,
-        exec: false,
+/// A store of a word of the stack, which is refused where the word is guarded.
+fn stored(a: u32, guarded: bool) -> (Access, Result<u32, BusFault>) {
+    let answer = if guarded {
+        Err(BusFault::SavedSlot(a))
+    } else {
+        Ok(0)
     };
-    PagedBus::build(alloc, &[data])
+    (Access::Store32(a, 1), answer)
+}
+
+/// Stores of the words 62 to 65 of the stack, of which these are guarded.
+fn four_words<B: Bus>(rt: &impl Abort, bus: &mut B, guarded: [bool; 4]) {
+    let rows = [
+        stored(0x3fff_00f8, guarded[0]),
+        stored(0x3fff_00fc, guarded[1]),
+        stored(0x3fff_0100, guarded[2]),
+        stored(0x3fff_0104, guarded[3]),
+    ];
+    check(rt, bus, &rows);
+}
+
+fn neighbours_of_a_guard_stay<B: Bus>(rt: &impl Abort, bus: &mut B) {
+    bus.guard(0x3fff_00fc);
+    four_words(rt, bus, [false, true, false, false]);
+    bus.guard(0x3fff_0104);
+    four_words(rt, bus, [false, true, false, true]);
+    bus.release_below(0x3fff_00fc);
+    four_words(rt, bus, [false, true, false, true]);
+    bus.guard(0x3fff_00f8);
+    bus.guard(0x3fff_0100);
+    four_words(rt, bus, [true, true, true, true]);
+    // A word that begins below the address is released, whatever the address.
+    bus.release_below(0x3fff_00f9);
+    four_words(rt, bus, [false, true, true, true]);
+    bus.release_below(0x3fff_0100);
+    four_words(rt, bus, [false, false, true, true]);
+    // One below all that were guarded last, and the last word of the stack.
+    bus.guard(0x3fff_0000);
+    bus.guard(0x3fff_fffc);
+    assert_eq!(rt;
+        bus.store8(0x3fff_0003, 1),
+        Err(BusFault::SavedSlot(0x3fff_0000))
+    );
+    assert_eq!(rt; bus.store8(0x3fff_0004, 1), Ok(()));
+    bus.release_below(0x3fff_0104);
+    assert_eq!(rt; bus.store8(0x3fff_0003, 1), Ok(()));
+    four_words(rt, bus, [false, false, false, true]);
+    bus.release_below(0x3fff_fffc);
+    four_words(rt, bus, [false, false, false, false]);
+    assert_eq!(rt;
+        bus.store8(0x3fff_ffff, 1),
+        Err(BusFault::SavedSlot(0x3fff_fffc))
+    );
+    bus.release_below(0xffff_ffff);
+    assert_eq!(rt; bus.store8(0x3fff_ffff, 1), Ok(()));
 }
 
 #[test]
-fn pages_are_lent_as_they_are_now(rt: HostRuntime) -> Result<(), Fail> {
-    let mut bus = two_pages(rt.alloc())?;
-    assert_eq!(rt; bus.page_count(), 26);
-    assert!(rt; bus.page(10).is_none());
-    assert_eq!(rt; byte_of_page(&bus, 8, 0), Some(0));
-    assert_eq!(rt; byte_of_page(&bus, 8, 4079), Some(0));
-    assert_eq!(rt; byte_of_page(&bus, 8, 4081), Some(1));
-    assert_eq!(rt; byte_of_page(&bus, 8, 4095), Some(15));
-    assert_eq!(rt; byte_of_page(&bus, 9, 0), Some(16));
-    assert_eq!(rt; byte_of_page(&bus, 9, 16), Some(0));
-    assert_eq!(rt; bus.store8(0x9000, 99), Ok(()));
-    assert_eq!(rt; byte_of_page(&bus, 9, 0), Some(99));
-    // A word across the end of a page is no multiple of 4, and nothing of it is stored.
-    assert_eq!(rt; bus.store32(0x8ffe, 0), Err(BusFault::Unaligned(0x8ffe)));
-    assert_eq!(rt; bus.load8(0x8ffe), Ok(14));
-    assert_eq!(rt; bus.load32(0x900e), Err(BusFault::Unmapped(0x900e)));
+fn segments_one_after_the_other(rt: HostRuntime) -> Result<(), Fail> {
+    guarded_word_refuses_each_of_its_bytes(&rt, &mut flat(rt.alloc())?);
+    bytes_and_zeros_stand_where_they_were_asked_for(&rt, &mut flat(rt.alloc())?);
+    first_fault_is_answered(&rt, &mut flat(rt.alloc())?);
+    slots_are_closed_but_for_one_word(&rt, &mut flat(rt.alloc())?);
+    runs_are_stored_whole_or_not_at_all(&rt, &mut flat(rt.alloc())?);
+    guards_are_a_set(&rt, &mut flat(rt.alloc())?);
+    neighbours_of_a_guard_stay(&rt, &mut flat(rt.alloc())?);
     Ok(())
 }
 
-/// A byte of a page.
-fn byte_of_page(bus: &PagedBus, number: u32, k: usize) -> Option<u8> {
-    let bytes = bus.page(number)?;
-    bytes.get(k).copied()
-}
-
 #[test]
-fn paged_guards_refuse_each_byte(rt: HostRuntime) -> Result<(), Fail> {
-    let mut bus = two_pages(rt.alloc())?;
-    let hit = BusFault::SavedSlot(0x3fff_fff4);
-    bus.guard(0x3fff_fff4);
-    assert_eq!(rt; bus.store8(0x3fff_fff7, 0), Err(hit));
-    assert_eq!(rt; bus.store16(0x3fff_fff6, 0), Err(hit));
-    assert_eq!(rt; bus.store_run(0x3fff_ffec, &[1, 2, 3]), Err(hit));
-    assert_eq!(rt; bus.load32(0x3fff_ffec), Ok(0));
-    bus.release_below(0x3fff_fff8);
-    assert_eq!(rt; bus.store8(0x3fff_fff7, 0), Ok(()));
-    assert_eq!(rt; bus.store_run(0x3fff_ffec, &[1, 2, 3]), Ok(()));
-    assert_eq!(rt; bus.load16(0x3fff_fff0), Ok(2));
-    bus.host_store32(0x3800_0254, 7);
-    assert_eq!(rt; bus.host_load32(0x3800_0254), 7);
-    assert_eq!(rt; bus.fetch16(0x8ff0), Err(BusFault::NotExecutable(0x8ff0)));
-    assert_eq!(rt; bus.store16(0x8ff2, 0x0201), Ok(()));
-    assert_eq!(rt; bus.load8(0x8ff3), Ok(2));
-    assert_eq!(rt; bus.home(), (0x3fff_0000, 0x4000_0000));
+fn segments_in_pages(rt: HostRuntime) -> Result<(), Fail> {
+    guarded_word_refuses_each_of_its_bytes(&rt, &mut paged(rt.alloc())?);
+    bytes_and_zeros_stand_where_they_were_asked_for(&rt, &mut paged(rt.alloc())?);
+    first_fault_is_answered(&rt, &mut paged(rt.alloc())?);
+    slots_are_closed_but_for_one_word(&rt, &mut paged(rt.alloc())?);
+    runs_are_stored_whole_or_not_at_all(&rt, &mut paged(rt.alloc())?);
+    guards_are_a_set(&rt, &mut paged(rt.alloc())?);
+    neighbours_of_a_guard_stay(&rt, &mut paged(rt.alloc())?);
     Ok(())
 }

@@ -11,8 +11,8 @@ two_fit s t f g zero d h = f
 two_fit s t f g (suc zero) d h = g
 two_fit s t f g (suc (suc k)) d h = absurd (omega arith)
 
-pub build-requires : goal.build-requires
-build-requires c = record {
+pub returns : goal.returns
+returns c = record {
   fit = two_fit _ _ (omega arith, omega arith) (omega arith, omega arith);
   apart = two_apart _ _ (inl (omega (arith, length-zeros 8)));
   few = omega arith;
