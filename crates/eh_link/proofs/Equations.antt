@@ -7,6 +7,7 @@ use Rattle.std.proofs.lemmas.Bool.Decides.{nat_tests}
 use Rattle.std.proofs.lemmas.List.{length-take-le}
 use Rattle.byteorder.specs.Endian.{little_number}
 use Rattle.eh_word.specs.Words.{moved, number_at}
+use Rattle.unwind_codes.specs.declared.row.TheConstants.{PREL31_LIMIT}
 use Rattle.unwind_codes.specs.Rows.{prel31_to}
 use Rattle.unwind_codes.proofs.RowLaws.{seen_back}
 use Rattle.thumb_isa.specs.Fields.{field}
@@ -144,16 +145,16 @@ back_32 : (target place : ℕ) → target < 2 ^ 32 → place < 2 ^ 32 → ((targ
 back_32 target place t p = omega arith
 
 back_31 : (target place old : ℕ) → target < 2 ^ 32 → place < 2 ^ 32
-    → (prel31_to place target + old / 2 ^ 31 * 2 ^ 31 + place) % 2 ^ 31 ≡ target % 2 ^ 31
+    → (prel31_to place target + old / PREL31_LIMIT * PREL31_LIMIT + place) % PREL31_LIMIT ≡ target % PREL31_LIMIT
 back_31 target place old t p = omega arith
 
-kept_31 : (way old : ℕ) → old < 2 ^ 32 → (way % 2 ^ 31 + old / 2 ^ 31 * 2 ^ 31) / 2 ^ 31 ≡ old / 2 ^ 31
+kept_31 : (way old : ℕ) → old < 2 ^ 32 → (way % PREL31_LIMIT + old / PREL31_LIMIT * PREL31_LIMIT) / PREL31_LIMIT ≡ old / PREL31_LIMIT
 kept_31 way old h = omega arith
 
-low_31 : (way old : ℕ) → (way % 2 ^ 31 + old / 2 ^ 31 * 2 ^ 31) % 2 ^ 31 ≡ way % 2 ^ 31 % 2 ^ 31
+low_31 : (way old : ℕ) → (way % PREL31_LIMIT + old / PREL31_LIMIT * PREL31_LIMIT) % PREL31_LIMIT ≡ way % PREL31_LIMIT % PREL31_LIMIT
 low_31 way old = omega arith
 
-below_32 : (way old : ℕ) → old < 2 ^ 32 → way % 2 ^ 31 + old / 2 ^ 31 * 2 ^ 31 < 2 ^ 32
+below_32 : (way old : ℕ) → old < 2 ^ 32 → way % PREL31_LIMIT + old / PREL31_LIMIT * PREL31_LIMIT < 2 ^ 32
 below_32 way old h = omega arith
 
 pub law_of_absolute : AbsoluteFields
@@ -179,9 +180,9 @@ law_of_prel31 means section start bytes before reloc after meaning is low old th
     let target = target_of meaning reloc.addend in
     let place = start + reloc.offset in
     let way = relative meaning reloc.addend place in
-    let v = way % 2 ^ 31 + old / 2 ^ 31 * 2 ^ 31 in
+    let v = way % PREL31_LIMIT + old / PREL31_LIMIT * PREL31_LIMIT in
     let number : little_number 4 (drop reloc.offset bytes) ≡ old = (number_reads 4 bytes reloc.offset old there).is in
-    let writes : written_by f ≡ Word v = ap (λ n. Word (way % 2 ^ 31 + n / 2 ^ 31 * 2 ^ 31)) number in
+    let writes : written_by f ≡ Word v = ap (λ n. Word (way % PREL31_LIMIT + n / PREL31_LIMIT * PREL31_LIMIT)) number in
     record {
       word = v;
       there = word_field f v writes refl (below_32 way old small);

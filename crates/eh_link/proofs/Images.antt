@@ -30,7 +30,8 @@ use Rattle.eh_link.specs.Index.{row_of, rows_in, body_at}
 use Rattle.eh_link.specs.Linked.{unless, unless_true, linked}
 use Rattle.eh_link.specs.LayoutLaw.{StandsAt, linked_index, linked_code}
 use Rattle.eh_link.specs.EquationLaw.{ImagesReach}
-use Rattle.eh_link.specs.IndexLaw.{object_rows, index_rows, IsLow, IsLowBody, IsEntryOf, IsRowOf, ImagesHaveTheirRows}
+use Rattle.unwind_codes.specs.Laws.{IsLow, IsLowBody}
+use Rattle.eh_link.specs.IndexLaw.{object_rows, index_rows, IsEntryOf, IsRowOf, ImagesHaveTheirRows}
 use Rattle.eh_link.proofs.Equations.{none_of}
 use Rattle.eh_link.proofs.Layouts.{rising}
 use Rattle.eh_link.proofs.Reading.{law_of_reading}

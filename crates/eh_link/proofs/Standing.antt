@@ -14,15 +14,16 @@ use Rattle.eh_link.specs.declared.fault.LinkFault.{LinkFault}
 use Rattle.eh_link.specs.declared.fault.LinkFault.TheVariants.{Duplicate, Undefined, NoEntry, TooLarge, RelocationRange}
 use Rattle.eh_link.specs.declared.fill.Filled.{Filled}
 use Rattle.unwind_codes.specs.declared.row.Entry.{Entry}
-use Rattle.unwind_codes.specs.declared.row.TheConstants.{CANT_UNWIND, ROW_SIZE}
-use Rattle.unwind_codes.specs.Rows.{prel31_to, second_word}
+use Rattle.unwind_codes.specs.declared.row.TheConstants.{ROW_SIZE}
+use Rattle.unwind_codes.specs.Rows.{rows_bytes}
+use Rattle.unwind_codes.proofs.RowBytes.{length-rows}
 use Rattle.eh_link.specs.declared.places.TheConstants.{CODE_START, PAGE}
 use Rattle.eh_link.specs.Placed.{Placed}
 use Rattle.eh_link.specs.Layout.{size_in, address_in, end_of, index_size, layout_of, is_too_large, firsts, all_aligned, ends, placed_from, placed_of, address_at, aligned}
 use Rattle.asm_object.specs.ObjectLaw.{bytes_at}
 use Rattle.eh_link.specs.Fields.{part_in, filled_in, filled_of, lowest_unreachable}
 use Rattle.eh_link.specs.Symbols.{meaning_of, duplicate_of, undefined_of, has_entry}
-use Rattle.eh_link.specs.Index.{row_of, rows_in, row_among, in_order, row_bytes, rows_from, index_of}
+use Rattle.eh_link.specs.Index.{row_of, rows_in, row_among, in_order, closing, index_of}
 use Rattle.eh_link.specs.Linked.{joined, segments_of, parts_of, unless, unless_true, linked}
 use Rattle.eh_link.specs.LayoutLaw.{ImagesHaveTheseBytes, all_filled, linked_index, linked_code, linked_data, StandsAt, EachStands, SizesAreOfBytes, CodeStands, IndexStands, DataStands}
 use Rattle.eh_link.proofs.Holding.{filled_length, word_length}
@@ -190,14 +191,9 @@ pub order_length : (rows : List Entry) → length (in_order rows) ≡ length row
 unfolding in_order
 order_length rows = fold_length [] rows ∙ omega arith
 
-two_words : (x y : ℕ) → length (word x ++ word y) ≡ ROW_SIZE
-two_words x y = length-append (word x) (word y) ∙ omega (arith, word_length x, word_length y)
-
-pub rows_length : (end place : ℕ) (rows : List Entry) → length (rows_from end place rows) ≡ ROW_SIZE * (length rows + 1)
-rows_length end place [] = two_words _ CANT_UNWIND
-rows_length end place (row ∷ more) =
-    length-append (row_bytes place row) (rows_from end (address_at place ROW_SIZE) more)
-    ∙ omega (arith, two_words (prel31_to place row.start) (second_word (address_at place 4) row.body), rows_length end (address_at place ROW_SIZE) more)
+-- with the row that closes it
+pub rows_length : (end place : ℕ) (rows : List Entry) → length (rows_bytes place (rows ++ closing end ∷ [])) ≡ ROW_SIZE * (length rows + 1)
+rows_length end place rows = length-rows place (rows ++ closing end ∷ []) ∙ omega (arith, length-append rows (closing end ∷ []))
 
 rows_of_placed : (at : Addresses) (xs : List Object) → length (flat_map rows_in (placed_from at xs)) ≡ sum_by (λ (object : Object). length object.rows) xs
 rows_of_placed at [] = refl

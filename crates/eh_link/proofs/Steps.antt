@@ -9,22 +9,14 @@ use Rattle.eh_word.specs.Names.{same_bytes}
 use Rattle.eh_list.specs.Bytes.{zeros, gap}
 use Rattle.asm_object.specs.declared.object.Object.{Object}
 use Rattle.asm_object.specs.declared.object.ObjSymbol.{ObjSymbol}
-use Rattle.unwind_codes.specs.declared.row.Entry.{Entry}
-use Rattle.unwind_codes.specs.declared.row.TheConstants.{ROW_SIZE}
 use Rattle.eh_link.specs.declared.names.Meaning.{Meaning}
 use Rattle.eh_link.specs.Placed.{Placed}
-use Rattle.eh_link.specs.Layout.{address_at}
-use Rattle.eh_link.specs.Index.{row_bytes, rows_from}
 use Rattle.eh_link.specs.Symbols.{is_label, is_global, has_label, has_global, global_names, field_names, duplicate_of, undefined_of, first_label, first_in, looked_up, meaning_by, meaning_of}
 use Rattle.eh_link.specs.Fields.{lower, filled_in, filled_by, filled_of, unreachable_for, unreachable_by, lowest_unreachable}
 use Rattle.asm_layout.specs.declared.place.Section.TheVariants.{Text, Rodata, Extab, Init}
 use Rattle.eh_link.specs.declared.fill.Filled.{Filled}
 use Rattle.eh_link.specs.Linked.{joined}
 use Rattle.eh_link.proofs.Changes.{lower_assoc}
-
-pub rows_more : (end place : ℕ) (xs : List Entry) (i : ℕ) (d : Entry) → i < length xs
-    → rows_from end place (drop i xs) ≡ row_bytes place (get_or xs i d) ++ rows_from end (address_at place ROW_SIZE) (drop (i + 1) xs)
-rows_more end place xs i d h = at_drop_more (rows_from end place) xs i d h
 
 pub find_more : {X : Type 0} (p : X → Bool) (xs : List X) (i : ℕ) (d : X) → i < length xs
     → find p (drop i xs) ≡ cond (p (get_or xs i d)) (Some (get_or xs i d)) (find p (drop (i + 1) xs))
@@ -118,8 +110,6 @@ undefined_step names all xs i x h is same =
     at_drop_more (undefined_of all) xs i x h
     ∙ rw (← is) (ap (λ (p : List ℕ → Bool). option_or (find (λ name. not (has_label name x || p name)) (field_names x)) (undefined_of all (drop (i + 1) xs)))
     (fun_ext (λ q. sym (same q))))
-
-pub ruleset rows = (rows_more, append_assoc)
 
 pub ruleset finds = (find_more, first_more)
 

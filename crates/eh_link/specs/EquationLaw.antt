@@ -10,6 +10,7 @@ use Rattle.thumb_isa.specs.declared.instr.Instr.TheVariants.{BCond, B, Bl}
 use Rattle.thumb_encode.specs.Codes.{IsCodeOf}
 use Rattle.thumb_encode.specs.declared.code.Code.{Code}
 use Rattle.thumb_encode.specs.declared.code.Code.TheVariants as code
+use Rattle.unwind_codes.specs.declared.row.TheConstants.{PREL31_LIMIT}
 use Rattle.asm_layout.specs.declared.place.Section.{Section}
 use Rattle.asm_object.specs.declared.object.Object.{Object}
 use Rattle.asm_object.specs.declared.object.Reloc.{Reloc}
@@ -41,12 +42,12 @@ pub record IsRelative (target place : ℕ) (bytes : List ℕ) (offset : ℕ) : T
   pub there : number_at 4 bytes offset ≡ Some word
   pub sum : (word + place) % 2 ^ 32 ≡ target
 
--- the same in bits 30 to 0, modulo 2 ^ 31; bit 31 is that of the word that was there. Below 2 ^ 30 an unwinder reads the target
+-- the same in bits 30 to 0; bit 31 is that of the word that was there. Below 2 ^ 30 an unwinder reads the target
 pub record IsPrel31 (old target place : ℕ) (bytes : List ℕ) (offset : ℕ) : Type 0 where
   pub word : ℕ
   pub there : number_at 4 bytes offset ≡ Some word
-  pub sum : (word + place) % 2 ^ 31 ≡ target % 2 ^ 31
-  pub kept : word / 2 ^ 31 ≡ old / 2 ^ 31
+  pub sum : (word + place) % PREL31_LIMIT ≡ target % PREL31_LIMIT
+  pub kept : word / PREL31_LIMIT ≡ old / PREL31_LIMIT
   pub leads : place < 2 ^ 30 → target < 2 ^ 30 → prel31_of place word ≡ target
 
 -- the halfwords of a code stand at an offset

@@ -9,6 +9,7 @@ use Rattle.thumb_encode.specs.Codes.{encoded_of}
 use Rattle.thumb_encode.specs.declared.code.Code.{Code}
 use Rattle.thumb_encode.specs.declared.code.Code.TheVariants as code
 use Rattle.thumb_encode.specs.declared.code.EncodeFault.{EncodeFault}
+use Rattle.unwind_codes.specs.declared.row.TheConstants.{PREL31_LIMIT}
 use Rattle.unwind_codes.specs.Rows.{prel31_to}
 use Rattle.asm_layout.specs.declared.place.Section.{Section}
 use Rattle.asm_layout.specs.declared.place.Section.TheVariants.{Text, Rodata, Extab, Init, Bss}
@@ -58,7 +59,7 @@ branch (Err _) = Unreachable
 abbrev pub filling : FieldKind → Meaning → ℤ → ℕ → List ℕ → Change
 filling Absolute meaning addend place there = Word (absolute meaning addend)
 filling Relative meaning addend place there = Word (relative meaning addend place)
-filling Prel31 meaning addend place there = Word (prel31_to place (absolute meaning addend) + little_number 4 there / 2 ^ 31 * 2 ^ 31)
+filling Prel31 meaning addend place there = Word (prel31_to place (absolute meaning addend) + little_number 4 there / PREL31_LIMIT * PREL31_LIMIT)
 filling Call meaning addend place there = branch (encoded_of (Bl (distance meaning addend place)))
 filling Jump meaning addend place there = branch (encoded_of (B (distance meaning addend place)))
 filling CondJump meaning addend place there = branch (encoded_of (BCond (little_number 2 there / 2 ^ 8 % 2 ^ 4) (distance meaning addend place)))

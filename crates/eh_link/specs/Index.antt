@@ -1,16 +1,14 @@
 -- The exception index (IHI 0038, "Index table entries"): two words for each function, in rising order of the functions' starts, and
--- a last row that closes it. What a row says, and the words that say it, are those of the crate unwind_codes.
+-- a last row that closes it. What a row says, and its bytes, are those of the crate unwind_codes.
 use Rattle.std.specs.Prelude.{ℕ, nat_lt, if◌then◌else◌, List, [], ◌∷◌, ◌++◌, map, fold}
 use Rattle.std.specs.List.{flat_map}
 use Rattle.unwind_codes.specs.declared.row.Entry.{Entry}
 use Rattle.unwind_codes.specs.declared.row.EntryBody.{EntryBody}
 use Rattle.unwind_codes.specs.declared.row.EntryBody.TheVariants.{CantUnwind, Inline, Table}
-use Rattle.unwind_codes.specs.declared.row.TheConstants.{ROW_SIZE}
-use Rattle.unwind_codes.specs.Rows.{prel31_to, second_word}
+use Rattle.unwind_codes.specs.Rows.{rows_bytes}
 use Rattle.asm_object.specs.declared.object.IndexRow.{IndexRow}
 use Rattle.asm_object.specs.declared.object.RowEntry.{RowEntry}
 use Rattle.asm_object.specs.declared.object.RowEntry.TheVariants as entry
-use Rattle.elf_write.specs.Layout.{word}
 use Rattle.eh_link.specs.declared.places.Addresses.{Addresses}
 use Rattle.eh_link.specs.Placed.{Placed}
 use Rattle.eh_link.specs.Layout.{address_at}
@@ -43,14 +41,6 @@ closing end = record { start = end; body = CantUnwind }
 
 -- ---- their bytes
 
--- each word is seen from its own place
-abbrev pub row_bytes : ℕ → Entry → List ℕ
-row_bytes place row = word (prel31_to place row.start) ++ word (second_word (address_at place 4) row.body)
-
 -- the rows from a place on, and the row behind them, which begins where the last text ends
-abbrev pub rows_from : ℕ → ℕ → List Entry → List ℕ
-rows_from end place [] = row_bytes place (closing end)
-rows_from end place (row ∷ more) = row_bytes place row ++ rows_from end (address_at place ROW_SIZE) more
-
 abbrev pub index_of : ℕ → ℕ → List Placed → List ℕ
-index_of end start all = rows_from end start (in_order (flat_map rows_in all))
+index_of end start all = rows_bytes start (in_order (flat_map rows_in all) ++ closing end ∷ [])

@@ -1,13 +1,11 @@
 -- What an unwinder reads in the exception index (IHI 0038): each function of the objects has its row, the rows ascend by the
 -- functions' starts, and each word, read from the word's own address, gives the address that the row is about.
-use Rattle.std.specs.Prelude.{◌≡◌, ℕ, ◌+◌, ◌*◌, ◌^◌, ◌<◌, ◌≤◌, ◌==◌, List, length, filter, All, slice_get, Some, Ok}
+use Rattle.std.specs.Prelude.{◌≡◌, ℕ, ◌+◌, ◌*◌, ◌^◌, ◌<◌, ◌≤◌, ◌==◌, List, [], ◌∷◌, ◌++◌, length, filter, All, Ok}
 use Rattle.std.specs.List.{flat_map}
 use Rattle.std.specs.List.Sorted.{IsNonDecreasingBy, IsPermutation}
-use Rattle.eh_word.specs.Words.{prel31_of, number_at}
 use Rattle.unwind_codes.specs.declared.row.Entry.{Entry}
-use Rattle.unwind_codes.specs.declared.row.EntryBody.{EntryBody}
-use Rattle.unwind_codes.specs.declared.row.EntryBody.TheVariants.{CantUnwind, Inline, Table}
-use Rattle.unwind_codes.specs.declared.row.TheConstants.{CANT_UNWIND, ROW_SIZE}
+use Rattle.unwind_codes.specs.declared.row.TheConstants.{ROW_SIZE}
+use Rattle.unwind_codes.specs.Laws.{IsLow, HasRows}
 use Rattle.asm_object.specs.declared.object.Object.{Object}
 use Rattle.asm_object.specs.declared.object.IndexRow.{IndexRow}
 use Rattle.asm_object.specs.declared.object.RowEntry.{RowEntry}
@@ -15,7 +13,7 @@ use Rattle.asm_object.specs.declared.object.RowEntry.TheVariants as entry
 use Rattle.elf_write.specs.declared.parts.ImageParts.{ImageParts}
 use Rattle.eh_link.specs.Placed.{Placed}
 use Rattle.eh_link.specs.Layout.{layout_of, placed_of}
-use Rattle.eh_link.specs.Index.{rows_in, in_order, index_of}
+use Rattle.eh_link.specs.Index.{rows_in, in_order, closing, index_of}
 use Rattle.eh_link.specs.Linked.{linked}
 use Rattle.eh_link.specs.LayoutLaw.{linked_index}
 
@@ -43,47 +41,14 @@ SameStartsKeepTheirOrder =
     (all : List Placed) (start : ℕ)
     → filter (λ (row : Entry). row.start == start) (index_rows all) ≡ filter (λ (row : Entry). row.start == start) (object_rows all)
 
--- ---- the words
-
--- the word at an offset of a table leads to an address: bit 31 is clear, and bits 30 to 0 are the way from the word's own address
-pub record LeadsTo (address table : ℕ) (bytes : List ℕ) (offset : ℕ) : Type 0 where
-  pub word : ℕ
-  pub there : number_at 4 bytes offset ≡ Some word
-  pub clear : word < 2 ^ 31
-  pub leads : prel31_of (table + offset) word ≡ address
-
--- the word at an offset is 1 where nothing unwinds, is the inline entry, or leads to the table
-abbrev pub Says : EntryBody → ℕ → List ℕ → ℕ → Type 0
-Says CantUnwind table bytes offset = number_at 4 bytes offset ≡ Some CANT_UNWIND
-Says (Inline word) table bytes offset = number_at 4 bytes offset ≡ Some word
-Says (Table address) table bytes offset = LeadsTo address table bytes offset
-
--- a table at an address has these rows, each of the size of a row, and one more: from `end` on nothing can be unwound
-pub record HasRows (rows : List Entry) (end table : ℕ) (bytes : List ℕ) : Type 0 where
-  pub size : length bytes ≡ ROW_SIZE * (length rows + 1)
-  pub starts : (k : ℕ) (row : Entry) → slice_get rows k ≡ Some row → LeadsTo row.start table bytes (ROW_SIZE * k)
-  pub seconds : (k : ℕ) (row : Entry) → slice_get rows k ≡ Some row → Says row.body table bytes (ROW_SIZE * k + 4)
-  pub last : LeadsTo end table bytes (ROW_SIZE * length rows)
-  pub closed : number_at 4 bytes (ROW_SIZE * length rows + 4) ≡ Some CANT_UNWIND
-
 -- ---- the law
 
-abbrev pub IsLowBody : EntryBody → Type 0
-IsLowBody CantUnwind = Unit {0}
-IsLowBody (Inline word) = word < 2 ^ 32
-IsLowBody (Table address) = address < 2 ^ 30
-
--- a row's addresses are below 2 ^ 30, so that 31 bits lead to them from each place below 2 ^ 30, and an inline entry is a word
-pub record IsLow (row : Entry) : Type 0 where
-  pub start : row.start < 2 ^ 30
-  pub body : IsLowBody row.body
-
--- an index that ends at most at 2 ^ 30 has its rows
+-- an index that ends at most at 2 ^ 30 has its rows and one more: from `end` on nothing can be unwound
 abbrev pub IndexReadsBack : Type 0
 IndexReadsBack =
     (all : List Placed) (end table : ℕ)
     → All IsLow (object_rows all) → end < 2 ^ 30 → table + ROW_SIZE * (length (object_rows all) + 1) ≤ 2 ^ 30
-    → HasRows (index_rows all) end table (index_of end table all)
+    → HasRows (index_rows all ++ closing end ∷ []) table (index_of end table all)
 
 -- ---- images
 
@@ -103,4 +68,4 @@ ImagesHaveTheirRows =
     (objects : List Object) (entry : List ℕ) (image : ImageParts)
     → linked objects entry ≡ Ok image
     → All (λ object. All (IsRowOf object) object.rows) objects
-    → HasRows (index_rows (placed_of objects)) (layout_of objects).text_end image.index.0 (linked_index objects)
+    → HasRows (index_rows (placed_of objects) ++ closing (layout_of objects).text_end ∷ []) image.index.0 (linked_index objects)

@@ -11,7 +11,7 @@ use byteorder::{ByteOrder, LittleEndian};
 use thumb_encode::code::{Code, EncodeFault};
 use thumb_encode::encode::encode;
 use thumb_isa::instr::Instr;
-use unwind_codes::prel31_to;
+use unwind_codes::row::{PREL31_LIMIT, prel31_to};
 
 /// What a relocation does to the bytes of a section.
 #[derive(Clone, Copy, PartialEq, Eq, Debug)]
@@ -96,7 +96,7 @@ fn filling(kind: FieldKind, meaning: Meaning, addend: i32, place: u32, there: &[
         FieldKind::Absolute => Change::Word(absolute(meaning, addend)),
         FieldKind::Relative => Change::Word(relative(meaning, addend, place)),
         FieldKind::Prel31 => {
-            let kept = LittleEndian::read_u32(there) / 0x8000_0000 * 0x8000_0000;
+            let kept = LittleEndian::read_u32(there) / PREL31_LIMIT * PREL31_LIMIT;
             Change::Word(prel31_to(place, absolute(meaning, addend)) + kept)
         }
         FieldKind::Call => call(distance(meaning, addend, place)),

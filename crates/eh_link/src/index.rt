@@ -1,13 +1,12 @@
 //! The exception index (IHI 0038, "Index table entries"; docs/linking.md).
 ghost use Rattle.std.specs.Prelude.{◌≡◌, ◌+◌, ◌++◌, ◌^◌, map, IfOk, OnOk};
 ghost use Rattle.std.specs.List.{flat_map};
-ghost use Rattle.eh_link.specs.Index.{row_of, rows_in, in_order, closing, row_bytes, rows_from, index_of};
+ghost use Rattle.eh_link.specs.Index.{row_of, rows_in, in_order, closing, index_of};
 
 use crate::places::{Addresses, Placed, address_at};
 use asm_object::object::{IndexRow, RowEntry};
-use eh_list::bytes::push_word;
 use std::alloc::{AllocError, Global};
-use unwind_codes::row::{Entry, EntryBody, ROW_SIZE, prel31_to, second_word};
+use unwind_codes::row::{Entry, EntryBody, push_rows};
 
 /// What an object's row says, where the object's parts stand at these addresses.
 fn row_of(at: Addresses, row: &IndexRow) -> Entry
@@ -25,7 +24,7 @@ fn row_of(at: Addresses, row: &IndexRow) -> Entry
 }
 
 /// Puts the rows of an object at the end.
-fn push_rows(out: &mut Vec<Entry>, placed: &Placed) -> Result<(), AllocError>
+fn put_rows(out: &mut Vec<Entry>, placed: &Placed) -> Result<(), AllocError>
     ensures { OnOk result (out.new.items ≡ out.old.items ++ rows_in placed.now) }
 {
     for row in placed.object.rows.as_slice() {
@@ -40,7 +39,7 @@ fn all_rows(alloc: Global, all: &[Placed]) -> Result<Vec<Entry>, AllocError>
 {
     let mut out = Vec::new(alloc);
     for placed in all {
-        push_rows(&mut out, placed)?;
+        put_rows(&mut out, placed)?;
     }
     Ok(out)
 }
@@ -63,30 +62,6 @@ fn closing(end: u32) -> Entry
     }
 }
 
-/// Puts the two words of a row at the end, each as seen from its own place.
-#[tactic(auto, unfolding(elf_write::specs::Layout::word))]
-fn put_row(out: &mut Vec<u8>, place: u32, row: Entry) -> Result<(), AllocError>
-    ensures { OnOk result (out.new.items ≡ out.old.items ++ row_bytes place row) }
-{
-    push_word(out, prel31_to(place, row.start))?;
-    push_word(out, second_word(address_at(place, 4), row.body))
-}
-
-/// The bytes of rows from an address on, and of the row that closes the index.
-#[tactic(auto, using(crate::proofs::Steps::rows), unfolding(elf_write::specs::Layout::word))]
-fn rows_from(alloc: Global, end: u32, start: u32, rows: &[Entry]) -> Result<Vec<u8>, AllocError>
-    ensures { IfOk result (λ bytes. bytes.items ≡ rows_from end start rows.now) }
-{
-    let mut out = Vec::new(alloc);
-    let mut place = start;
-    for row in rows {
-        put_row(&mut out, place, *row)?;
-        place = address_at(place, ROW_SIZE);
-    }
-    put_row(&mut out, place, closing(end))?;
-    Ok(out)
-}
-
 /// The bytes of the index at `start`; the texts end at `end`.
 pub(crate) fn index_of(
     alloc: Global,
@@ -98,5 +73,8 @@ pub(crate) fn index_of(
 {
     let mut rows = all_rows(alloc, all)?;
     sort_rows(&mut rows)?;
-    rows_from(alloc, end, start, &rows)
+    rows.push(closing(end))?;
+    let mut bytes = Vec::new(alloc);
+    push_rows(&mut bytes, start, &rows)?;
+    Ok(bytes)
 }

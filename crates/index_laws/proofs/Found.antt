@@ -33,7 +33,8 @@ use Rattle.source_laws.specs.RowLaw.{behind, entry_for, HasItsRow}
 use Rattle.source_laws.specs.SourceRowLaw.{LiesIn, RowLies}
 use Rattle.source_laws.proofs.SourceRows.{text_offset, law_of_later_rows, law_of_rising, starts_inside}
 use Rattle.source_laws.proofs.Standing.{law_of_rows}
-use Rattle.index_laws.specs.SourceIndex.{IsAssembled, even, row_entry, rows_to_read, IsIn, body_of, own_entry, later_rows, FunctionsAreFound, end_of, AddressesHaveTheirFunction}
+use Rattle.unwind_codes.specs.Rows.{even, as_read}
+use Rattle.index_laws.specs.SourceIndex.{IsAssembled, rows_to_read, IsIn, body_of, own_entry, later_rows, FunctionsAreFound, end_of, AddressesHaveTheirFunction}
 use Rattle.index_laws.proofs.Rising.{Orderly, all_orderly, asc_back, Stands, all_stand, asc_rows, asc_objects, offsets_from, behind_placed}
 use Rattle.index_laws.proofs.Reading.{even_rises, entries_are, image_read}
 
@@ -62,7 +63,7 @@ covering_here site before e after h above =
     ∙ ap (λ b. fold (latest site) (cond b (Some e) (fold (latest site) None before)) after) (le_is e.start site h)
     ∙ stays site (Some e) after above
 
-above_rows : (site low : ℕ) (rows : List Entry) → Ascending low rows → site < even low → Above site (map row_entry rows)
+above_rows : (site low : ℕ) (rows : List Entry) → Ascending low rows → site < even low → Above site (map as_read rows)
 above_rows site low [] asc h = tt
 above_rows site low (r ∷ rows) asc h =
     let here : site < even r.start = omega (arith, h, even_rises low r.start asc.0) in
@@ -152,7 +153,7 @@ entry_same : (start other : ℕ) (b c : EntryBody) → start ≡ other → b ≡
 entry_same start other b c e f = ap (λ a. entry_with a b) e ∙ ap (entry_with other) f
 
 pub entry_is : (objects : List Object) (f : Function) (placed : Placed) (given : EntryWords) → (layout_of objects).code_end < 2 ^ 30 → (own : InImage objects f placed given)
-    → row_entry (row_of placed.at (record { offset = own.has.offset; entry = entry_for own.has.words own.has.table })) ≡ own_entry f placed given
+    → as_read (row_of placed.at (record { offset = own.has.offset; entry = entry_for own.has.words own.has.table })) ≡ own_entry f placed given
 entry_is objects f placed given low own =
     let end = (layout_of objects).code_end in
     let start = low_address placed.at.text own.has.offset end (upto placed.at.text own.has.offset (length placed.object.text) end own.lies.start own.stands.text_to) low in
@@ -177,8 +178,8 @@ law_of_finding objects name parts f there given next after site all linked_to wo
     let entry = entry_is objects f there.placed given low own in
     let F : Entry → Type 0 = λ e. e.start ≤ site in
     ap (λ l. covering l site)
-    (entries_are (image_of_parts parts) (rows_to_read objects) image.read ∙ ap (map row_entry) cut ∙ map-append row_entry before (here ∷ (next ∷ after)))
-    ∙ covering_here site (map row_entry before) (row_entry here) (map row_entry (next ∷ after)) (subst F (sym entry) from) (to, above_rows site next.start after asc.1 to)
+    (entries_are (image_of_parts parts) (rows_to_read objects) image.read ∙ ap (map as_read) cut ∙ map-append as_read before (here ∷ (next ∷ after)))
+    ∙ covering_here site (map as_read before) (as_read here) (map as_read (next ∷ after)) (subst F (sym entry) from) (to, above_rows site next.start after asc.1 to)
     ∙ ap Some entry
 
 -- ---- the function's own addresses
@@ -238,6 +239,6 @@ law_of_addresses objects name parts f there given site all linked_to words_given
     let entry = entry_is objects f there.placed given low own in
     let F : Entry → Type 0 = λ e. e.start ≤ site in
     ap (λ l. covering l site)
-    (entries_are (image_of_parts parts) (rows_to_read objects) image.read ∙ ap (map row_entry) cut ∙ map-append row_entry before (here ∷ later))
-    ∙ covering_here site (map row_entry before) (row_entry here) (map row_entry later) (subst F (sym entry) from) (above_rows site (end_of f there.placed) later (later_ascend objects f there all low) to)
+    (entries_are (image_of_parts parts) (rows_to_read objects) image.read ∙ ap (map as_read) cut ∙ map-append as_read before (here ∷ later))
+    ∙ covering_here site (map as_read before) (as_read here) (map as_read later) (subst F (sym entry) from) (above_rows site (end_of f there.placed) later (later_ascend objects f there all low) to)
     ∙ ap Some entry

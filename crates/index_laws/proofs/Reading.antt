@@ -4,16 +4,16 @@ use Rattle.std.specs.Prelude.{slice_get}
 use Rattle.std.specs.List.{list_any, range_with_len}
 use Rattle.std.proofs.lemmas.Bool.{true≢false}
 use Rattle.std.proofs.lemmas.Bool.Decides.{nat_tests}
-use Rattle.std.proofs.lemmas.Int.{ints}
 use Rattle.std.proofs.lemmas.List.Elements.{All-push, All-get_or}
 use Rattle.std.proofs.lemmas.Option.{get_or_from_slice_get, slice_get_within}
 use Rattle.byteorder.specs.Endian.{little_number}
-use Rattle.eh_word.specs.Words.{prel31_of, number_at}
 use Rattle.unwind_codes.specs.declared.row.Entry.{Entry}
 use Rattle.unwind_codes.specs.declared.row.EntryBody.{EntryBody}
 use Rattle.unwind_codes.specs.declared.row.EntryBody.TheVariants as body
-use Rattle.unwind_codes.specs.declared.row.TheConstants.{CANT_UNWIND, ROW_SIZE}
-use Rattle.unwind_codes.specs.Rows.{body_of, entry_of}
+use Rattle.unwind_codes.specs.declared.row.TheConstants.{ROW_SIZE, PREL31_LIMIT}
+use Rattle.unwind_codes.specs.Rows.{even, as_read, entry_of}
+use Rattle.unwind_codes.specs.Laws.{SaysRow, HasRows, IsTold}
+use Rattle.unwind_codes.proofs.RowBytes.{read_number, law_of_reading as law_of_words}
 use Rattle.asm_object.specs.declared.object.Object.{Object}
 use Rattle.elf_image.specs.Segments.{Segment}
 use Rattle.elf_image.specs.Image.{Image}
@@ -22,20 +22,19 @@ use Rattle.elf_write.specs.declared.parts.ImageParts.{ImageParts}
 use Rattle.eh_link.specs.declared.places.TheConstants.{CODE_START}
 use Rattle.eh_link.specs.Layout.{layout_of, placed_of}
 use Rattle.eh_link.specs.Index.{closing}
-use Rattle.eh_link.specs.IndexLaw.{LeadsTo, Says, HasRows, object_rows, index_rows}
+use Rattle.eh_link.specs.IndexLaw.{object_rows, index_rows}
 use Rattle.eh_link.specs.Linked.{linked}
 use Rattle.eh_link.specs.LayoutLaw.{linked_index, linked_code}
 use Rattle.eh_link.proofs.Images.{image_made, law_of_image_rows, code_below}
 use Rattle.eh_link.proofs.Layouts.{rising, ends_of}
 use Rattle.eh_link.proofs.Sorting.{Ascending}
 use Rattle.eh_link.proofs.Standing.{law_of_images, law_of_index, code_ends}
-use Rattle.eh_link.proofs.Words.{number_reads}
 use Rattle.eh_index.specs.declared.fault.IndexFault.TheVariants.{Length, OutsideImage, Unsorted}
 use Rattle.eh_index.specs.Rows.{first_word, second_word, entry_at, entry_count, entries_of}
 use Rattle.eh_index.specs.Places.{is_code_bound, holds_byte, is_table_place}
 use Rattle.eh_index.specs.Refusal.{is_outside, is_unsorted, entry_refusal, first_of, index_refusal}
 use Rattle.eh_index.proofs.Search.{none_refused}
-use Rattle.index_laws.specs.SourceIndex.{IsAssembled, even, row_entry, rows_to_read, SourcesAreRead}
+use Rattle.index_laws.specs.SourceIndex.{IsAssembled, rows_to_read, SourcesAreRead}
 use Rattle.index_laws.proofs.Rising.{all_orderly, law_of_assembled_rows, rows_ascend, in_this_order, BodyFits, RowFits, rows_fit}
 use Rattle.index_laws.proofs.Segments.{code_of, code_first, image_segments, index_is}
 
@@ -53,79 +52,36 @@ lt_isnt m n h = grind (arith, nat_tests)
 is_same : (m n : ℕ) → m ≡ n → (m == n) ≡ true
 is_same m n h = grind (arith, nat_tests)
 
--- the word that says that nothing unwinds leads to the place behind its own
-one_leads : (place : ℕ) → place < 2 ^ 30 → prel31_of place CANT_UNWIND ≡ place + 1
-unfolding prel31_of
-one_leads place h = grind (arith, ints, nat_tests)
-
-inline_is : (place word : ℕ) (one : Bool) → one ≡ (word == CANT_UNWIND) → 2 ^ 31 ≤ word
-    → cond one body.CantUnwind (cond (nat_le (2 ^ 31) word) (body.Inline word) (body.Table (prel31_of place word))) ≡ body.Inline word
-inline_is place word true e h = absurd (grind (arith, nat_tests))
-inline_is place word false e h = ap (λ b. cond b (body.Inline word) (body.Table (prel31_of place word))) (le_is (2 ^ 31) word h)
-
-no_one : (place address word : ℕ) → word ≡ CANT_UNWIND → place < 2 ^ 30 → place % 4 ≡ 0 → address % 4 ≡ 0 → prel31_of place word ≡ address → ⊥
-no_one place address word one low four aligned e =
-    let is : prel31_of place CANT_UNWIND ≡ address = ap (prel31_of place) (sym one) ∙ e in
-    omega (arith, is, one_leads place low, four, aligned)
-
-table_is : (place address word : ℕ) (one : Bool) → one ≡ (word == CANT_UNWIND) → word < 2 ^ 31 → place < 2 ^ 30 → place % 4 ≡ 0 → address % 4 ≡ 0 → prel31_of place word ≡ address
-    → cond one body.CantUnwind (cond (nat_le (2 ^ 31) word) (body.Inline word) (body.Table (prel31_of place word))) ≡ body.Table address
-table_is place address word true e clear low four aligned leads = absurd (no_one place address word (grind (arith, nat_tests)) low four aligned leads)
-table_is place address word false e clear low four aligned leads =
-    ap (λ b. cond b (body.Inline word) (body.Table (prel31_of place word))) (le_isnt (2 ^ 31) word clear) ∙ ap body.Table leads
-
 -- what a row's words say
 pub record RowRead (image : Image) (k : ℕ) (row : Entry) : Type 0 where
-  pub clear : first_word image k < 2 ^ 31
-  pub entry : entry_at image k ≡ row_entry row
+  pub clear : first_word image k < PREL31_LIMIT
+  pub entry : entry_at image k ≡ as_read row
 
-second_read : (said : EntryBody) (end table : ℕ) (bytes : List ℕ) (offset : ℕ) → Says said table bytes offset → BodyFits end said → table + offset < 2 ^ 30 → (table + offset) % 4 ≡ 0
-    → body_of (table + offset) (little_number 4 (drop offset bytes)) ≡ said
-second_read body.CantUnwind end table bytes offset says fits low four = ap (body_of (table + offset)) (number_reads 4 bytes offset CANT_UNWIND says).is
-second_read (body.Inline word) end table bytes offset says fits low four =
-    ap (body_of (table + offset)) (number_reads 4 bytes offset word says).is ∙ inline_is (table + offset) word (word == CANT_UNWIND) refl fits.0
-second_read (body.Table address) end table bytes offset leads fits low four =
-    let is : little_number 4 (drop offset bytes) ≡ leads.word = (number_reads 4 bytes offset leads.word leads.there).is in
-    ap (body_of (table + offset)) is
-    ∙ table_is (table + offset) address leads.word (leads.word == CANT_UNWIND) refl leads.clear low four fits.0 leads.leads
-
-both_of_entry : (start : ℕ) (row : Entry) (b : EntryBody) → start ≡ row.start → b ≡ row.body
-    → record { start = start - start % 2; body = b } ≡ row_entry row
-both_of_entry start row b e f = ap (λ a. record { start = a - a % 2; body = b }) e ∙ ap (λ c. record { start = even row.start; body = c }) f
-
-place_behind : (table k : ℕ) → table + (ROW_SIZE * k + 4) < 2 ^ 30 → (table + ROW_SIZE * k + 4) % 2 ^ 32 ≡ table + (ROW_SIZE * k + 4)
-place_behind table k h = omega (arith, h)
-
-four_there : (table k : ℕ) → table % 4 ≡ 0 → (table + (ROW_SIZE * k + 4)) % 4 ≡ 0
-four_there table k h = omega (arith, h)
-
-read_at : (image : Image) (table : ℕ) (bytes : List ℕ) (k end : ℕ) (row : Entry) → image.index_start ≡ table → image.index_bytes ≡ bytes → LeadsTo row.start table bytes (ROW_SIZE * k)
-    → Says row.body table bytes (ROW_SIZE * k + 4) → BodyFits end row.body → table % 4 ≡ 0 → table + (ROW_SIZE * k + 4) < 2 ^ 30 → RowRead image k row
-read_at image table bytes k end row start same leads says fits four low =
-    let first : first_word image k ≡ leads.word = ap (λ b. little_number 4 (drop (ROW_SIZE * k) b)) same ∙ (number_reads 4 bytes (ROW_SIZE * k) leads.word leads.there).is in
-    let L : ℕ → Type 0 = λ n. n < 2 ^ 31 in
+read_at : (image : Image) (table : ℕ) (bytes : List ℕ) (k end : ℕ) (row : Entry) → image.index_start ≡ table → image.index_bytes ≡ bytes → SaysRow row table bytes (ROW_SIZE * k)
+    → BodyFits end row.body → table % 4 ≡ 0 → table + ROW_SIZE * (k + 1) ≤ 2 ^ 30 → RowRead image k row
+read_at image table bytes k end row start same says fits four low =
+    let first : first_word image k ≡ says.start.word = ap (λ b. little_number 4 (drop (ROW_SIZE * k) b)) same ∙ read_number bytes (ROW_SIZE * k) says.start.word says.start.there in
+    let L : ℕ → Type 0 = λ n. n < PREL31_LIMIT in
     record {
-      clear = subst L (sym first) leads.clear;
+      clear = subst L (sym first) says.start.clear;
       entry =
           ap (λ s. entry_of (s + ROW_SIZE * k) (first_word image k) (second_word image k)) start
-          ∙ ap (λ w. entry_of (table + ROW_SIZE * k) w (second_word image k)) first
-          ∙ ap (λ b. entry_of (table + ROW_SIZE * k) leads.word (little_number 4 (drop (ROW_SIZE * k + 4) b))) same
-          ∙ both_of_entry (prel31_of (table + ROW_SIZE * k) leads.word) row (body_of ((table + ROW_SIZE * k + 4) % 2 ^ 32) (little_number 4 (drop (ROW_SIZE * k + 4) bytes))) leads.leads
-          (ap (λ p. body_of p (little_number 4 (drop (ROW_SIZE * k + 4) bytes))) (place_behind table k low)
-          ∙ second_read row.body end table bytes (ROW_SIZE * k + 4) says fits low (four_there table k four));
+          ∙ ap (λ b. entry_of (table + ROW_SIZE * k) (little_number 4 (drop (ROW_SIZE * k) b)) (little_number 4 (drop (ROW_SIZE * k + 4) b))) same
+          ∙ law_of_words row table bytes (ROW_SIZE * k) says (told end row.body fits) (four_there table k four) (room_there table k low);
     }
+  where
+    told : (end : ℕ) (said : EntryBody) → BodyFits end said → IsTold said
+    told end body.CantUnwind fits = tt
+    told end (body.Inline word) fits = fits.0
+    told end (body.Table address) fits = fits.0
+
+    four_there : (table k : ℕ) → table % 4 ≡ 0 → (table + ROW_SIZE * k) % 4 ≡ 0
+    four_there table k h = omega (arith, h)
+
+    room_there : (table k : ℕ) → table + ROW_SIZE * (k + 1) ≤ 2 ^ 30 → table + ROW_SIZE * k + ROW_SIZE ≤ 2 ^ 30
+    room_there table k h = omega (arith, h)
 
 -- ---- all rows
-
-got_cases : {X : Type 0} (xs : List X) (y z : X) (k : ℕ) → slice_get (xs ++ y ∷ []) k ≡ Some z → (slice_get xs k ≡ Some z) ⊎ ((k ≡ length xs) × (y ≡ z))
-got_cases [] y z zero e = let same : y ≡ z = cc in inr (refl, same)
-got_cases [] y z (suc k) e = absurd (cc)
-got_cases (x ∷ xs) y z zero e = inl e
-got_cases (x ∷ xs) y z (suc k) e =
-    elim (got_cases xs y z k e) [
-      | inl h ↦ inl h
-      | inr h ↦ inr (omega (arith, h.0), h.1)
-    ]
 
 -- every row of the sources, and the closing one, is read in its place
 pub record AllRead (image : Image) (rows : List Entry) : Type 0 where
@@ -133,61 +89,46 @@ pub record AllRead (image : Image) (rows : List Entry) : Type 0 where
   pub count : entry_count image ≡ length rows
   pub whole : length image.index_bytes % ROW_SIZE ≡ 0
 
-row_count : (n : ℕ) → ROW_SIZE * (n + 1) / ROW_SIZE ≡ n + 1
+row_count : (n : ℕ) → ROW_SIZE * n / ROW_SIZE ≡ n
 row_count n = omega arith
 
-whole_rows : (n : ℕ) → ROW_SIZE * (n + 1) % ROW_SIZE ≡ 0
+whole_rows : (n : ℕ) → ROW_SIZE * n % ROW_SIZE ≡ 0
 whole_rows n = omega arith
 
 fit_at : (end : ℕ) (rows : List Entry) (k : ℕ) (row : Entry) → All (RowFits end) rows → slice_get rows k ≡ Some row → RowFits end row
 fit_at end rows k row all e =
     subst (RowFits end) (get_or_from_slice_get rows k row row e) (All-get_or (RowFits end) rows k row (slice_get_within rows k row e) all)
 
-all_read : (image : Image) (rows : List Entry) (end text_end table : ℕ) (bytes : List ℕ) → image.index_start ≡ table → image.index_bytes ≡ bytes → HasRows rows text_end table bytes
-    → All (RowFits end) rows → table % 4 ≡ 0 → table + length bytes ≤ 2 ^ 30 → AllRead image (rows ++ closing text_end ∷ [])
-all_read image rows end text_end table bytes start same has fit four low = record {
-  each = λ k row e. by k row (got_cases rows (closing text_end) row k e);
-  count = ap (λ (b : List ℕ). length b / ROW_SIZE) same ∙ ap (λ n. n / ROW_SIZE) has.size ∙ row_count (length rows) ∙ sym (length-append rows (closing text_end ∷ []));
+all_read : (image : Image) (rows : List Entry) (end table : ℕ) (bytes : List ℕ) → image.index_start ≡ table → image.index_bytes ≡ bytes → HasRows rows table bytes
+    → All (RowFits end) rows → table % 4 ≡ 0 → table + length bytes ≤ 2 ^ 30 → AllRead image rows
+all_read image rows end table bytes start same has fit four low = record {
+  each = λ k row e. read_at image table bytes k end row start same (has.each k row e) (fit_at end rows k row fit e).body four (inside (length rows) k (slice_get_within rows k row e) room);
+  count = ap (λ (b : List ℕ). length b / ROW_SIZE) same ∙ ap (λ n. n / ROW_SIZE) has.size ∙ row_count (length rows);
   whole = ap (λ (b : List ℕ). length b % ROW_SIZE) same ∙ ap (λ n. n % ROW_SIZE) has.size ∙ whole_rows (length rows);
 }
   where
-    inside : (n k : ℕ) → k ≤ n → table + ROW_SIZE * (n + 1) ≤ 2 ^ 30 → table + (ROW_SIZE * k + 4) < 2 ^ 30
+    inside : (n k : ℕ) → k < n → table + ROW_SIZE * n ≤ 2 ^ 30 → table + ROW_SIZE * (k + 1) ≤ 2 ^ 30
     inside n k h l = omega (arith, h, l)
 
-    room : table + ROW_SIZE * (length rows + 1) ≤ 2 ^ 30
+    room : table + ROW_SIZE * length rows ≤ 2 ^ 30
     room = let L : ℕ → Type 0 = λ n. table + n ≤ 2 ^ 30 in subst L has.size low
-
-    below : (k n : ℕ) → k < n → k ≤ n
-    below k n h = omega (arith, h)
-
-    same_le : (k n : ℕ) → k ≡ n → k ≤ n
-    same_le k n h = omega (arith, h)
-
-    by : (k : ℕ) (row : Entry) → (slice_get rows k ≡ Some row) ⊎ ((k ≡ length rows) × (closing text_end ≡ row)) → RowRead image k row
-    by k row (inl e) =
-        read_at image table bytes k end row start same (has.starts k row e) (has.seconds k row e) (fit_at end rows k row fit e).body four (inside (length rows) k (below _ _ (slice_get_within rows k row e)) room)
-    by k row (inr e) =
-        let R : Entry → Type 0 = λ r. RowRead image k r in
-        let last : LeadsTo text_end table bytes (ROW_SIZE * k) = let P : ℕ → Type 0 = λ n. LeadsTo text_end table bytes (ROW_SIZE * n) in subst P (sym e.0) has.last in
-        let closed : number_at 4 bytes (ROW_SIZE * k + 4) ≡ Some CANT_UNWIND = ap (λ n. number_at 4 bytes (ROW_SIZE * n + 4)) e.0 ∙ has.closed in
-        subst R e.1 (read_at image table bytes k end (closing text_end) start same last closed tt four (inside (length rows) k (same_le _ _ e.0) room))
 
 -- ---- the list of entries
 
-maps_are : (f : ℕ → Entry) (low n : ℕ) (rows : List Entry) → n ≡ length rows → ((k : ℕ) (r : Entry) → slice_get rows k ≡ Some r → f (low + k) ≡ row_entry r)
-    → map f (range_with_len low n) ≡ map row_entry rows
+maps_are : (f : ℕ → Entry) (low n : ℕ) (rows : List Entry) → n ≡ length rows → ((k : ℕ) (r : Entry) → slice_get rows k ≡ Some r → f (low + k) ≡ as_read r)
+    → map f (range_with_len low n) ≡ map as_read rows
 maps_are f low zero [] e h = refl
 maps_are f low (suc n) [] e h = absurd (omega (arith, e))
 maps_are f low zero (r ∷ rows) e h = absurd (omega (arith, e))
 maps_are f low (suc n) (r ∷ rows) e h =
     let here : low + 0 ≡ low = omega arith in
     let rest = maps_are f (low + 1) n rows (omega (arith, e)) (λ k x g. let next : low + 1 + k ≡ low + suc k = omega arith in ap f next ∙ h (suc k) x g) in
-    ap (λ x. x ∷ map f (range_with_len (low + 1) n)) (ap f (sym here) ∙ h 0 r refl) ∙ ap (λ l. row_entry r ∷ l) rest
+    ap (λ x. x ∷ map f (range_with_len (low + 1) n)) (ap f (sym here) ∙ h 0 r refl) ∙ ap (λ l. as_read r ∷ l) rest
 
 zero_left : (k : ℕ) → 0 + k ≡ k
 zero_left k = omega arith
 
-pub entries_are : (image : Image) (rows : List Entry) → AllRead image rows → entries_of image ≡ map row_entry rows
+pub entries_are : (image : Image) (rows : List Entry) → AllRead image rows → entries_of image ≡ map as_read rows
 unfolding entries_of
 entries_are image rows read = maps_are (entry_at image) 0 (entry_count image) rows read.count (λ k r e. ap (entry_at image) (zero_left k) ∙ (read.each k r e).entry)
 
@@ -303,7 +244,7 @@ row_accepted image rows low end k row s more read asc fit segments holds e =
     ap (λ l. is_code_bound l (entry_at image k).start) segments ∙ ap (λ (x : Entry). is_code_bound (s ∷ more) x.start) one.entry ∙ bound_there end row.start s more holds fits.from fits.to in
     let table : is_table_place image.segments (entry_at image k).body ≡ true =
     ap (λ l. is_table_place l (entry_at image k).body) segments ∙ ap (λ (x : Entry). is_table_place (s ∷ more) x.body) one.entry ∙ body_there end row.body s more holds fits.body in
-    accepted image k (none_outside k _ _ _ (le_isnt (2 ^ 31) (first_word image k) one.clear) code table) (sorted_at image rows low k row read asc e)
+    accepted image k (none_outside k _ _ _ (le_isnt PREL31_LIMIT (first_word image k) one.clear) code table) (sorted_at image rows low k row read asc e)
 
 pub none_is_refused : (image : Image) (rows : List Entry) (low end : ℕ) (s : Segment) (more : List Segment) → AllRead image rows → Ascending low rows → All (RowFits end) rows
     → image.segments ≡ s ∷ more → HoldsCode end s → index_refusal image ≡ None
@@ -343,17 +284,19 @@ image_read objects name parts all e =
     let code = code_first objects name parts e in
     let place : parts.index.0 ≡ l.index_start = ap (λ (i : ℕ × ℕ). i.0) (law_of_images objects name parts e).1 in
     let has = law_of_image_rows objects name parts e (law_of_assembled_rows objects all) in
-    let H : ℕ → Type 0 = λ n. HasRows (index_rows (placed_of objects)) l.text_end n (linked_index objects) in
-    let I : List Entry → Type 0 = λ rows. HasRows rows l.text_end l.index_start (linked_index objects) in
+    let H : ℕ → Type 0 = λ n. HasRows (index_rows (placed_of objects) ++ closing l.text_end ∷ []) n (linked_index objects) in
+    let I : List Entry → Type 0 = λ rows. HasRows (rows ++ closing l.text_end ∷ []) l.index_start (linked_index objects) in
     let rows = object_rows (placed_of objects) in
     let rows_fit_all = rows_fit objects own fits in
+    let fit : All (RowFits l.code_end) (rows ++ closing l.text_end ∷ []) =
+    All-push (RowFits l.code_end) rows (closing l.text_end) rows_fit_all (closing_fits l.code_end l.text_end r.text (omega (arith, r.rodata, r.extab, r.index, r.code))) in
     let four : l.index_start % 4 ≡ 0 = omega (arith, ends.index) in
     record {
       read =
-          all_read (image_of_parts parts) rows l.code_end l.text_end l.index_start (linked_index objects) index.start index.bytes
-          (subst I (in_this_order objects own fits) (subst H place has)) rows_fit_all four (omega (arith, (law_of_index objects).1, below));
+          all_read (image_of_parts parts) (rows ++ closing l.text_end ∷ []) l.code_end l.index_start (linked_index objects) index.start index.bytes
+          (subst I (in_this_order objects own fits) (subst H place has)) fit four (omega (arith, (law_of_index objects).1, below));
       ascend = rows_ascend objects own fits;
-      fit = All-push (RowFits l.code_end) rows (closing l.text_end) rows_fit_all (closing_fits l.code_end l.text_end r.text (omega (arith, r.rodata, r.extab, r.index, r.code)));
+      fit = fit;
       first = own_segment (code_of objects);
       more = code.more;
       segments = image_segments parts ∙ code.segments;

@@ -9,6 +9,7 @@ use Rattle.asm_object.specs.declared.object.RowEntry.{RowEntry}
 use Rattle.asm_object.specs.declared.object.RowEntry.TheVariants as entry
 use Rattle.unwind_codes.specs.declared.row.Entry.{Entry}
 use Rattle.unwind_codes.specs.declared.row.EntryBody.{EntryBody}
+use Rattle.unwind_codes.specs.declared.words.TheConstants.{COMPACT_MARK}
 use Rattle.unwind_codes.specs.declared.row.EntryBody.TheVariants.{CantUnwind, Inline, Table}
 use Rattle.eh_link.specs.declared.places.Addresses.{Addresses}
 use Rattle.eh_link.specs.declared.places.TheConstants.{CODE_START}
@@ -156,7 +157,7 @@ in_this_order objects all fits =
 
 abbrev pub BodyFits : ℕ → EntryBody → Type 0
 BodyFits end CantUnwind = Unit {0}
-BodyFits end (Inline word) = (2 ^ 31 ≤ word) × (word < 2 ^ 32)
+BodyFits end (Inline word) = (COMPACT_MARK ≤ word) × (word < 2 ^ 32)
 BodyFits end (Table address) = (address % 4 ≡ 0) × ((CODE_START ≤ address) × (address + 4 ≤ end))
 
 pub record RowFits (end : ℕ) (row : Entry) : Type 0 where

@@ -6,6 +6,7 @@ use Rattle.asm_unwind.specs.declared.entry.EntryWords.{EntryWords}
 use Rattle.asm_unwind.specs.declared.entry.EntryWords.TheVariants as words
 use Rattle.asm_unwind.specs.Entries.{entry_words_of}
 use Rattle.unwind_codes.specs.declared.row.Entry.{Entry}
+use Rattle.unwind_codes.specs.Rows.{even, as_read}
 use Rattle.unwind_codes.specs.declared.row.EntryBody.{EntryBody}
 use Rattle.unwind_codes.specs.declared.row.EntryBody.TheVariants as body
 use Rattle.asm_layout.specs.declared.place.Section.TheVariants.{Extab}
@@ -43,14 +44,6 @@ AssembledRowsLie = (objects : List Object) → All IsAssembled objects → All (
 
 -- ---- what is read
 
--- bit 0 is no part of an address of code
-abbrev pub even : ℕ → ℕ
-even address = address - address % 2
-
--- a row as it is read
-abbrev pub row_entry : Entry → Entry
-row_entry row = record { start = even row.start; body = row.body }
-
 -- the functions' rows in the order of the objects, and there in the order of the text; and the closing one, from which on nothing
 -- can be unwound
 abbrev pub rows_to_read : List Object → List Entry
@@ -61,7 +54,7 @@ abbrev pub SourcesAreRead : Type 0
 SourcesAreRead =
     (objects : List Object) (name : List ℕ) (parts : ImageParts)
     → All IsAssembled objects → linked objects name ≡ Ok parts
-    → (index_refusal (image_of_parts parts) ≡ None) × (entries_of (image_of_parts parts) ≡ map row_entry (rows_to_read objects))
+    → (index_refusal (image_of_parts parts) ≡ None) × (entries_of (image_of_parts parts) ≡ map as_read (rows_to_read objects))
 
 -- ---- a function of a source
 
