@@ -10,6 +10,7 @@ use Rattle.std.proofs.lemmas.List.Quantifiers.{position-Some}
 use Rattle.unwind_codes.specs.declared.code.Code.{Code}
 use Rattle.unwind_codes.specs.declared.code.Code.TheVariants.{Raise, Lower, Refuse, PopMask, Restore, PopRange, PopRangeAndLr, Finish, PopLow, RaiseLong}
 use Rattle.unwind_codes.specs.declared.code.TheConstants.{RAISE, LOWER, POP_MASK, RESTORE, POP_RANGE, POP_RANGE_AND_LR, FINISH, POP_LOW, RAISE_LONG, LONG_LEAST}
+use Rattle.unwind_codes.specs.declared.words.TheConstants.{MOST_PERSONALITY}
 use Rattle.unwind_codes.specs.Bytes.{code_bytes, shortest_uleb128, HasBytes, IsCode}
 use Rattle.asm_unwind.specs.declared.code.TheConstants.{MOST_STEP, WORDS_OF_MOST_STEP}
 use Rattle.asm_unwind.specs.declared.directive.TheConstants.{MOST_PAD}
@@ -151,8 +152,8 @@ bytecode_small : (directives : List UnwindDirective) → All IsWritable directiv
 unfolding bytecode_of
 bytecode_small directives h = All-flat_map HasBytes IsByte code_bytes code_small (codes_of directives) (codes_fit directives h)
 
-index_low : (given : Option ℕ) (bytes : List ℕ) → MatchOption given ⊤ (λ index. index ≤ 2) → index_of given bytes ≤ 2
-index_low None bytes h = elim (nat_le (length bytes) 3) as (λ few. cond few 0 1 ≤ 2) [ true ↦ omega arith | false ↦ omega arith ]
+index_low : (given : Option ℕ) (bytes : List ℕ) → MatchOption given ⊤ (λ index. index ≤ MOST_PERSONALITY) → index_of given bytes ≤ MOST_PERSONALITY
+index_low None bytes h = elim (nat_le (length bytes) 3) as (λ few. cond few 0 1 ≤ MOST_PERSONALITY) [ true ↦ omega arith | false ↦ omega arith ]
 index_low (Some index) bytes h = h
 
 -- an entry is the one of its code, which has room in it

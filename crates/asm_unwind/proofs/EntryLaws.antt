@@ -10,6 +10,7 @@ use Rattle.asm_unwind.specs.declared.entry.EntryWords.TheVariants.{Table}
 use Rattle.asm_unwind.specs.declared.entry.TheConstants.{SHORT_ROOM, LONG_ROOM}
 use Rattle.asm_unwind.specs.Entries.{code_byte, word, word_at, further, short_entry, long_entry, entry_of}
 use Rattle.asm_unwind.specs.EntryLaw.{HoldsCode, EntriesHoldTheirCode}
+use Rattle.unwind_codes.specs.declared.words.TheConstants.{COMPACT_TOP, MOST_PERSONALITY}
 use Rattle.unwind_codes.specs.declared.code.TheConstants.{FINISH}
 use Rattle.unwind_codes.specs.Words.{bytes_of_word, personality_of_word, code_words_behind, code_in_first, code_of_words, words_behind_code}
 
@@ -78,12 +79,12 @@ further_bytes bytes (suc n) small =
     ∙ sym (four_more (code_byte bytes) (2 + 4 * n) (2 + 4 * suc n) (omega arith))
 
 -- personality 0: one word, in the index row or alone in its table
-short_word : (bytes : List ℕ) → length bytes ≤ SHORT_ROOM → All (λ b. b < 2 ^ 8) bytes → bytes_of_word (short_entry bytes) ≡ 0x80 ∷ map (code_byte bytes) (range_with_len 0 3)
+short_word : (bytes : List ℕ) → length bytes ≤ SHORT_ROOM → All (λ b. b < 2 ^ 8) bytes → bytes_of_word (short_entry bytes) ≡ COMPACT_TOP ∷ map (code_byte bytes) (range_with_len 0 3)
 unfolding short_entry
 short_word bytes short small =
-    bytes_of_word-word 0x80 (code_byte bytes 0) (code_byte bytes 1) (code_byte bytes 2) (code_byte_small bytes 0 small) (code_byte_small bytes 1 small) (code_byte_small bytes 2 small)
+    bytes_of_word-word COMPACT_TOP (code_byte bytes 0) (code_byte bytes 1) (code_byte bytes 2) (code_byte_small bytes 0 small) (code_byte_small bytes 1 small) (code_byte_small bytes 2 small)
 
-short_top : (bytes : List ℕ) → All (λ b. b < 2 ^ 8) bytes → short_entry bytes / 2 ^ 24 ≡ 0x80
+short_top : (bytes : List ℕ) → All (λ b. b < 2 ^ 8) bytes → short_entry bytes / 2 ^ 24 ≡ COMPACT_TOP
 unfolding short_entry
 short_top bytes small =
     let first : code_byte bytes 0 < 2 ^ 8 = code_byte_small bytes 0 small in
@@ -132,13 +133,13 @@ short_holds true bytes short small = record {
 }
 
 -- a table whose first word counts the words of its code
-words_counted : (first index a b : ℕ) (words : List ℕ) → bytes_of_word first ≡ (0x80 + index) ∷ length words ∷ a ∷ b ∷ [] → (personality_of_word first == 0) ≡ false →
+words_counted : (first index a b : ℕ) (words : List ℕ) → bytes_of_word first ≡ (COMPACT_TOP + index) ∷ length words ∷ a ∷ b ∷ [] → (personality_of_word first == 0) ≡ false →
     code_words_behind first ≡ length words
 words_counted first index a b words is other =
     let count : first / 2 ^ 16 % 2 ^ 8 ≡ length words = cc in
     ap (λ t. cond t 0 (first / 2 ^ 16 % 2 ^ 8)) other ∙ count
 
-table_code : (first index a b : ℕ) (words closing : List ℕ) → bytes_of_word first ≡ (0x80 + index) ∷ length words ∷ a ∷ b ∷ [] → (personality_of_word first == 0) ≡ false →
+table_code : (first index a b : ℕ) (words closing : List ℕ) → bytes_of_word first ≡ (COMPACT_TOP + index) ∷ length words ∷ a ∷ b ∷ [] → (personality_of_word first == 0) ≡ false →
     code_of_words (first ∷ words ++ closing) ≡ a ∷ b ∷ flat_map bytes_of_word words
 table_code first index a b words closing is other =
     let two : code_in_first first ≡ a ∷ b ∷ [] = ap (λ t. drop (cond t 1 2) (bytes_of_word first)) other ∙ ap (drop 2) is in
@@ -146,12 +147,12 @@ table_code first index a b words closing is other =
     ∙ ap (λ (n : ℕ). a ∷ b ∷ flat_map bytes_of_word (take n (words ++ closing))) (words_counted first index a b words is other)
     ∙ ap (λ (l : List ℕ). a ∷ b ∷ flat_map bytes_of_word l) (take_at words closing (length words) refl)
 
-table_behind : (first index a b : ℕ) (words closing : List ℕ) → bytes_of_word first ≡ (0x80 + index) ∷ length words ∷ a ∷ b ∷ [] → (personality_of_word first == 0) ≡ false →
+table_behind : (first index a b : ℕ) (words closing : List ℕ) → bytes_of_word first ≡ (COMPACT_TOP + index) ∷ length words ∷ a ∷ b ∷ [] → (personality_of_word first == 0) ≡ false →
     words_behind_code (first ∷ words ++ closing) ≡ closing
 table_behind first index a b words closing is other =
     ap (λ (n : ℕ). drop n (words ++ closing)) (words_counted first index a b words is other) ∙ drop_at words closing (length words) refl
 
-counted_words : (first index a b : ℕ) (words closing : List ℕ) → bytes_of_word first ≡ (0x80 + index) ∷ length words ∷ a ∷ b ∷ [] → (personality_of_word first == 0) ≡ false →
+counted_words : (first index a b : ℕ) (words closing : List ℕ) → bytes_of_word first ≡ (COMPACT_TOP + index) ∷ length words ∷ a ∷ b ∷ [] → (personality_of_word first == 0) ≡ false →
     code_words_behind first ≤ length (words ++ closing)
 counted_words first index a b words closing is other = omega (arith, words_counted first index a b words is other, length-append words closing)
 
@@ -160,16 +161,16 @@ words_of : List ℕ → List ℕ
 words_of bytes = map (λ k. word_at bytes (2 + 4 * k)) (range_with_len 0 (further bytes))
 
 long_first : ℕ → List ℕ → ℕ
-long_first index bytes = word (0x80 + index) (further bytes) (code_byte bytes 0) (code_byte bytes 1)
+long_first index bytes = word (COMPACT_TOP + index) (further bytes) (code_byte bytes 0) (code_byte bytes 1)
 
 long_bytes : (index : ℕ) (bytes : List ℕ) → length bytes ≤ LONG_ROOM → All (λ b. b < 2 ^ 8) bytes →
-    bytes_of_word (long_first index bytes) ≡ (0x80 + index) ∷ length (words_of bytes) ∷ code_byte bytes 0 ∷ code_byte bytes 1 ∷ []
+    bytes_of_word (long_first index bytes) ≡ (COMPACT_TOP + index) ∷ length (words_of bytes) ∷ code_byte bytes 0 ∷ code_byte bytes 1 ∷ []
 unfolding words_of long_first
 long_bytes index bytes short small =
     let count : length (words_of bytes) ≡ further bytes = length-map-range_with_len (λ k. word_at bytes (2 + 4 * k)) 0 (further bytes) in
     let few : further bytes < 2 ^ 8 = omega arith in
-    bytes_of_word-word (0x80 + index) (further bytes) (code_byte bytes 0) (code_byte bytes 1) few (code_byte_small bytes 0 small) (code_byte_small bytes 1 small)
-    ∙ ap (λ (n : ℕ). (0x80 + index) ∷ n ∷ code_byte bytes 0 ∷ code_byte bytes 1 ∷ []) (sym count)
+    bytes_of_word-word (COMPACT_TOP + index) (further bytes) (code_byte bytes 0) (code_byte bytes 1) few (code_byte_small bytes 0 small) (code_byte_small bytes 1 small)
+    ∙ ap (λ (n : ℕ). (COMPACT_TOP + index) ∷ n ∷ code_byte bytes 0 ∷ code_byte bytes 1 ∷ []) (sym count)
 
 closed : (handler_data none : Bool) → none ≡ false → cond {A = List ℕ} handler_data [] (0 ∷ []) ≡ cond {A = List ℕ} (handler_data || none) [] (0 ∷ [])
 closed true none other = refl
@@ -180,15 +181,15 @@ no_place true none other = refl
 no_place false none other = sym other
 
 -- an entry of personality 1 or 2 whose table ends with these words
-long_holds : (index : ℕ) (handler_data : Bool) (bytes closing : List ℕ) → (index == 0) ≡ false → index ≤ 2 → length bytes ≤ LONG_ROOM → All (λ b. b < 2 ^ 8) bytes →
+long_holds : (index : ℕ) (handler_data : Bool) (bytes closing : List ℕ) → (index == 0) ≡ false → index ≤ MOST_PERSONALITY → length bytes ≤ LONG_ROOM → All (λ b. b < 2 ^ 8) bytes →
     closing ≡ (cond handler_data [] (0 ∷ [])) →
     HoldsCode (Table (long_entry index bytes ++ closing)) index handler_data bytes
 unfolding long_entry words_of long_first
 long_holds index handler_data bytes closing other low short small ends =
-    let is : bytes_of_word (long_first index bytes) ≡ (0x80 + index) ∷ length (words_of bytes) ∷ code_byte bytes 0 ∷ code_byte bytes 1 ∷ [] = long_bytes index bytes short small in
-    let top : long_first index bytes / 2 ^ 24 ≡ 0x80 + index = cc in
+    let is : bytes_of_word (long_first index bytes) ≡ (COMPACT_TOP + index) ∷ length (words_of bytes) ∷ code_byte bytes 0 ∷ code_byte bytes 1 ∷ [] = long_bytes index bytes short small in
+    let top : long_first index bytes / 2 ^ 24 ≡ COMPACT_TOP + index = cc in
     let number : (personality_of_word (long_first index bytes) == 0) ≡ false =
-    ap (λ (n : ℕ). n % 16 == 0) top ∙ ap (λ (n : ℕ). n == 0) (let e : (0x80 + index) % 16 ≡ index = omega arith in e) ∙ other in
+    ap (λ (n : ℕ). n % 16 == 0) top ∙ ap (λ (n : ℕ). n == 0) (let e : (COMPACT_TOP + index) % 16 ≡ index = omega arith in e) ∙ other in
     record {
       top = top;
       whole = counted_words (long_first index bytes) index (code_byte bytes 0) (code_byte bytes 1) (words_of bytes) closing is number;

@@ -2,6 +2,7 @@
 use Rattle.std.proofs.Common.{◌≡◌, ◌≢◌, ℕ, ◌/◌, ◌%◌, ◌^◌, ◌≤◌, Bool, true, false, List, [], ◌∷◌, ◌++◌, Option, Some, None, ap, sym, ◌∙◌, refl, arith}
 use Rattle.std.specs.Prelude.{◌||◌, ◌==◌, not, is_some, nat_lt, MatchOption, ⊤}
 use Rattle.std.proofs.lemmas.Bool.{ltb-false, eqb-false}
+use Rattle.unwind_codes.specs.declared.words.TheConstants.{MOST_PERSONALITY}
 use Rattle.asm_unwind.specs.declared.directive.UnwindFault.TheVariants.{OutsideFunction, NestedFunction, SaveRange, PadRange, TwoPersonalities, AfterCantunwind}
 use Rattle.std.specs.List.{list_any}
 use Rattle.std.proofs.lemmas.List.Elements.{All-nil, All-push}
@@ -72,7 +73,7 @@ clear seen d h =
 
 no_personality : (xs : List UnwindDirective) (i : ℕ) → refusal_of (seen_in xs) (PersonalityIndex i) ≡ None → personality_in xs ≡ None
 unfolding seen_in
-no_personality xs i h = no_value (personality_in xs) (or_no (is_some (personality_in xs)) (nat_lt 2 i) (clear (seen_in xs) (PersonalityIndex i) h).1).0
+no_personality xs i h = no_value (personality_in xs) (or_no (is_some (personality_in xs)) (nat_lt MOST_PERSONALITY i) (clear (seen_in xs) (PersonalityIndex i) h).1).0
 
 pub seen_more : (xs : List UnwindDirective) (d : UnwindDirective) → refusal_of (seen_in xs) d ≡ None → seen_in (xs ++ d ∷ []) ≡ with_next (seen_in xs) d
 unfolding seen_in refusal_of
@@ -112,9 +113,9 @@ writable_of seen HandlerData h s p = tt
 pub kept_writable : (seen : Seen) (d : UnwindDirective) → HasNarrowList d → refusal_of seen d ≡ None → IsWritable d
 kept_writable seen d narrow h = writable_of seen d narrow (clear seen d h).2 (clear seen d h).0
 
-small_index_more : (seen : Seen) (d : UnwindDirective) → refusal_of seen d ≡ None → MatchOption seen.personality ⊤ (λ index. index ≤ 2) →
-    MatchOption (with_next seen d).personality ⊤ (λ index. index ≤ 2)
-small_index_more seen (PersonalityIndex i) h was = ltb-false 2 i (or_no (is_some seen.personality) (nat_lt 2 i) (clear seen (PersonalityIndex i) h).1).1
+small_index_more : (seen : Seen) (d : UnwindDirective) → refusal_of seen d ≡ None → MatchOption seen.personality ⊤ (λ index. index ≤ MOST_PERSONALITY) →
+    MatchOption (with_next seen d).personality ⊤ (λ index. index ≤ MOST_PERSONALITY)
+small_index_more seen (PersonalityIndex i) h was = ltb-false MOST_PERSONALITY i (or_no (is_some seen.personality) (nat_lt MOST_PERSONALITY i) (clear seen (PersonalityIndex i) h).1).1
 small_index_more seen (Save r) h was = was
 small_index_more seen (Pad n) h was = was
 small_index_more seen (SetFp r k) h was = was

@@ -8,6 +8,7 @@ use Rattle.asm_unwind.specs.declared.entry.EntryWords.{EntryWords}
 use Rattle.asm_unwind.specs.declared.entry.EntryWords.TheVariants.{CantUnwind, Inline, Table}
 use Rattle.asm_unwind.specs.declared.entry.TheConstants.{SHORT_ROOM, LONG_ROOM}
 use Rattle.unwind_codes.specs.declared.code.TheConstants.{FINISH}
+use Rattle.unwind_codes.specs.declared.words.TheConstants.{COMPACT_TOP}
 use Rattle.asm_unwind.specs.Refusals.{seen_in}
 use Rattle.asm_unwind.specs.Codes.{bytecode_of}
 
@@ -37,12 +38,12 @@ further bytes = (length bytes + 1) / 4
 
 -- personality 0: three bytes in one word
 unfoldable pub short_entry : List ℕ → ℕ
-short_entry bytes = word 0x80 (code_byte bytes 0) (code_byte bytes 1) (code_byte bytes 2)
+short_entry bytes = word COMPACT_TOP (code_byte bytes 0) (code_byte bytes 1) (code_byte bytes 2)
 
 -- personality 1 and 2: the number of further words and two bytes in the first word, four bytes in each further one
 unfoldable pub long_entry : ℕ → List ℕ → List ℕ
 long_entry index bytes =
-    word (0x80 + index) (further bytes) (code_byte bytes 0) (code_byte bytes 1)
+    word (COMPACT_TOP + index) (further bytes) (code_byte bytes 0) (code_byte bytes 1)
     ∷ map (λ k. word_at bytes (2 + 4 * k)) (range_with_len 0 (further bytes))
 
 -- the entry of bytecode. With personality 0 it is inline where the source gives no words of its own; with 1 and 2 a

@@ -4,6 +4,7 @@ use Rattle.std.specs.Prelude.{◌≡◌, ℕ, ◌+◌, ◌/◌, ◌^◌, ◌<◌
 use Rattle.unwind_codes.specs.declared.code.Code.{Code}
 use Rattle.unwind_codes.specs.declared.code.Code.TheVariants.{Finish}
 use Rattle.unwind_codes.specs.declared.code.TheConstants.{FINISH}
+use Rattle.unwind_codes.specs.declared.words.TheConstants.{COMPACT_TOP, MOST_PERSONALITY}
 use Rattle.unwind_codes.specs.Cut.{Is, cut}
 use Rattle.unwind_codes.specs.Words.{code_words_behind, code_of_words, words_behind_code}
 use Rattle.asm_unwind.specs.declared.directive.UnwindDirective.{UnwindDirective}
@@ -41,7 +42,7 @@ is_inline _ = false
 -- there; its code is the bytecode and at most three "finish" behind it; a zero word stands behind the code in a table of personality 1 or 2 where the source
 -- gives no words of its own, and else nothing does; and only with personality 0 and no such words there is no table
 pub record HoldsCode (entry : EntryWords) (index : ℕ) (handler_data : Bool) (bytes : List ℕ) : Type 0 where
-  pub top : top_byte (words_in_entry entry) ≡ 0x80 + index
+  pub top : top_byte (words_in_entry entry) ≡ COMPACT_TOP + index
   pub whole : HasItsWords (words_in_entry entry)
   pub fill : ℕ
   pub fill_is_short : fill ≤ 3
@@ -53,7 +54,7 @@ pub record HoldsCode (entry : EntryWords) (index : ℕ) (handler_data : Bool) (b
 abbrev pub EntriesHoldTheirCode : Type 0
 EntriesHoldTheirCode =
     (index : ℕ) (handler_data : Bool) (bytes : List ℕ)
-    → index ≤ 2 → length bytes ≤ room index → All (λ b. b < 2 ^ 8) bytes
+    → index ≤ MOST_PERSONALITY → length bytes ≤ room index → All (λ b. b < 2 ^ 8) bytes
     → HoldsCode (entry_of index handler_data bytes) index handler_data bytes
 
 -- so the entry of a function, unless nothing unwinds through it, holds the codes of its directives, where their numbers are
@@ -61,7 +62,7 @@ EntriesHoldTheirCode =
 abbrev pub FunctionsHoldTheirCode : Type 0
 FunctionsHoldTheirCode =
     (directives : List UnwindDirective) (entry : EntryWords)
-    → All IsWritable directives → MatchOption (seen_in directives).personality ⊤ (λ index. index ≤ 2)
+    → All IsWritable directives → MatchOption (seen_in directives).personality ⊤ (λ index. index ≤ MOST_PERSONALITY)
     → (seen_in directives).cant_unwind ≡ false → entry_words_of directives ≡ Ok entry
     → HoldsCode entry (index_of (seen_in directives).personality (bytecode_of directives)) (seen_in directives).handler_data (bytecode_of directives)
 
@@ -75,6 +76,6 @@ pub record ReadsAs (entry : EntryWords) (codes : List Code) : Type 0 where
 abbrev pub FunctionsAreRead : Type 0
 FunctionsAreRead =
     (directives : List UnwindDirective) (entry : EntryWords)
-    → All IsWritable directives → MatchOption (seen_in directives).personality ⊤ (λ index. index ≤ 2)
+    → All IsWritable directives → MatchOption (seen_in directives).personality ⊤ (λ index. index ≤ MOST_PERSONALITY)
     → (seen_in directives).cant_unwind ≡ false → entry_words_of directives ≡ Ok entry
     → ReadsAs entry (codes_of directives)

@@ -1,5 +1,6 @@
 -- What a frame keeps of its directives.
 use Rattle.std.specs.Prelude.{◌≡◌, ◌≤◌, List, All, MatchOption, ⊤}
+use Rattle.unwind_codes.specs.declared.words.TheConstants.{MOST_PERSONALITY}
 use Rattle.asm_unwind.specs.declared.directive.UnwindDirective.{UnwindDirective}
 use Rattle.asm_unwind.specs.declared.seen.Seen.{Seen}
 use Rattle.asm_unwind.specs.Refusals.{seen_in}
@@ -9,4 +10,4 @@ use Rattle.asm_unwind.specs.Codes.{IsWritable}
 pub record IsKept (directives : List UnwindDirective) (seen : Seen) : Type 0 where
   pub seen_so_far : seen ≡ seen_in directives
   pub writable : All IsWritable directives
-  pub small_index : MatchOption seen.personality ⊤ (λ index. index ≤ 2)
+  pub small_index : MatchOption seen.personality ⊤ (λ index. index ≤ MOST_PERSONALITY)

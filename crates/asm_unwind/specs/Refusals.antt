@@ -4,6 +4,7 @@ use Rattle.std.specs.List.{list_any}
 use Rattle.asm_unwind.specs.declared.directive.UnwindDirective.{UnwindDirective}
 use Rattle.asm_unwind.specs.declared.directive.UnwindDirective.TheVariants.{FnStart, FnEnd, Save, Pad, SetFp, CantUnwind, PersonalityIndex, HandlerData}
 use Rattle.asm_unwind.specs.declared.directive.TheConstants.{MOST_PAD, MOST_FRAME_OFFSET}
+use Rattle.unwind_codes.specs.declared.words.TheConstants.{MOST_PERSONALITY}
 use Rattle.asm_unwind.specs.declared.directive.UnwindFault.{UnwindFault}
 use Rattle.asm_unwind.specs.declared.directive.UnwindFault.TheVariants.{OutsideFunction, NestedFunction, SaveRange, PadRange, TwoPersonalities, AfterCantunwind}
 use Rattle.asm_unwind.specs.declared.seen.Seen.{Seen}
@@ -76,9 +77,9 @@ is_bad_pad (SetFp register offset) =
     nat_lt MOST_FRAME_OFFSET offset || not (offset % 4 == 0) || nat_lt register 4 || nat_lt 11 register
 is_bad_pad _ = false
 
--- a second personality index, or one above 2
+-- a second personality index, or one above the highest
 abbrev pub is_bad_personality : Seen → UnwindDirective → Bool
-is_bad_personality seen (PersonalityIndex index) = is_some seen.personality || nat_lt 2 index
+is_bad_personality seen (PersonalityIndex index) = is_some seen.personality || nat_lt MOST_PERSONALITY index
 is_bad_personality _ _ = false
 
 -- anything but `.fnend` behind `.cantunwind`

@@ -1,5 +1,6 @@
 //! The words of a function's entry, by its bytecode (IHI 0038, "The compact model"; docs/unwind-directives.md).
 ghost use Rattle.std.specs.Prelude.{◌≡◌, ℕ, ◌+◌, ◌*◌, ◌/◌, ◌%◌, ◌^◌, ◌<◌, ◌≤◌, ◌==◌, ◌++◌, ◌≢◌, IfOk, IfErr, MatchOption, ⊤, length};
+ghost use Rattle.unwind_codes.specs.declared.words.TheConstants.{MOST_PERSONALITY};
 ghost use Rattle.asm_unwind.specs.declared.entry.TheConstants.{LONG_ROOM};
 ghost use Rattle.asm_unwind.specs.Entries.{code_byte, word_at, word, index_of, room, further, short_entry, long_entry, entry_of, entry_of_code};
 ghost use Rattle.asm_unwind.specs.declared.directive.UnwindFault.{UnwindFault};
@@ -8,6 +9,7 @@ use crate::directive::UnwindFault;
 use eh_list::Seq;
 use std::alloc::{AllocError, Global};
 use unwind_codes::code::FINISH;
+use unwind_codes::words::COMPACT_TOP;
 
 /// The bytes of bytecode that an entry of personality 0 has room for.
 pub const SHORT_ROOM: usize = 3;
@@ -62,7 +64,7 @@ fn short_entry(bytes: &[u8]) -> u32
     ensures { result ≡ short_entry bytes.now }
 {
     word(
-        0x80,
+        COMPACT_TOP,
         code_byte(bytes, 0),
         code_byte(bytes, 1),
         code_byte(bytes, 2),
@@ -72,14 +74,14 @@ fn short_entry(bytes: &[u8]) -> u32
 /// The entry of personality 1 or 2.
 #[tactic(auto, unfolding(crate::specs::Entries::long_entry))]
 fn long_entry(alloc: Global, index: u8, bytes: &[u8]) -> Result<Vec<u32>, AllocError>
-    requires index { index ≤ 2 }
+    requires index { index ≤ MOST_PERSONALITY }
     requires room { length bytes.now ≤ LONG_ROOM }
     ensures { IfOk result (λ words. words.items ≡ long_entry index bytes.now) }
 {
     let further = (bytes.len() + 1) / 4;
     let mut words = Vec::with_capacity(alloc, further + 1)?;
     let first = word(
-        0x80 + index,
+        COMPACT_TOP + index,
         further as u8,
         code_byte(bytes, 0),
         code_byte(bytes, 1),
@@ -113,7 +115,7 @@ fn entry_of(
     handler_data: bool,
     bytes: &[u8],
 ) -> Result<EntryWords, AllocError>
-    requires index { index ≤ 2 }
+    requires index { index ≤ MOST_PERSONALITY }
     requires room { length bytes.now ≤ room index }
     ensures { IfOk result (λ entry. entry ≡ entry_of index handler_data bytes.now) }
 {
@@ -140,7 +142,7 @@ pub fn entry_of_code(
     handler_data: bool,
     bytes: &[u8],
 ) -> Result<EntryWords, UnwindFault>
-    requires { MatchOption personality ⊤ (λ index. index ≤ 2) }
+    requires { MatchOption personality ⊤ (λ index. index ≤ MOST_PERSONALITY) }
     ensures ok { IfOk result (λ entry. entry_of_code personality handler_data bytes.now ≡ Ok entry) }
     ensures err { IfErr result (λ e. e ≢ UnwindFault.OutOfMemory → entry_of_code personality handler_data bytes.now ≡ Err e) }
 {

@@ -4,6 +4,7 @@ ghost use Rattle.std.specs.Bool.{OnFalse};
 ghost use Rattle.asm_unwind.specs.Refusals.{HasNarrowList, has_register, is_start, is_end, is_outside, is_bad_save, is_bad_pad, is_bad_personality, seen_in, refusal_of, with_next};
 
 use crate::directive::{MOST_FRAME_OFFSET, MOST_PAD, UnwindDirective, UnwindFault};
+use unwind_codes::words::MOST_PERSONALITY;
 
 /// What the directives of a function so far say that later ones depend on.
 #[derive(Clone, Copy)]
@@ -94,7 +95,8 @@ impl Seen {
         ensures { result ≡ is_bad_personality self next }
     {
         match next {
-            UnwindDirective::PersonalityIndex(index) => self.personality.is_some() || index > 2,
+            UnwindDirective::PersonalityIndex(index) => self.personality.is_some()
+                || index > MOST_PERSONALITY,
             _ => false,
         }
     }

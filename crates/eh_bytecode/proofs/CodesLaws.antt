@@ -4,6 +4,7 @@ use Rattle.std.specs.Prelude.{flat_map, nat_lt, Ok, Err}
 use Rattle.std.proofs.lemmas.Bool.Decides.{nat_tests}
 use Rattle.std.proofs.lemmas.Grind.{common_steps}
 use Rattle.byteorder.specs.Endian.{little_number}
+use Rattle.unwind_codes.specs.declared.words.TheConstants.{COMPACT_MARK, COMPACT_TOP}
 use Rattle.unwind_codes.specs.Words.{bytes_of_word, personality_of_word, code_words_behind, code_in_first, code_of_words}
 use Rattle.eh_bytecode.specs.declared.codes.CodesFault.TheVariants.{Short, Generic, Reserved}
 use Rattle.eh_bytecode.specs.Codes.{words_in, turned, is_reserved, table_codes}
@@ -60,22 +61,22 @@ pub record FirstWord (a b c d : ℕ) : Type 0 where
   pub small_c : c < 2 ^ 8
   pub small_d : d < 2 ^ 8
 
-pub generic_first : (a b c d : ℕ) (more : List ℕ) → FirstWord a b c d → d < 0x80 → table_codes (a ∷ b ∷ c ∷ d ∷ more) ≡ Err Generic
+pub generic_first : (a b c d : ℕ) (more : List ℕ) → FirstWord a b c d → d < COMPACT_TOP → table_codes (a ∷ b ∷ c ∷ d ∷ more) ≡ Err Generic
 unfolding table_codes
 generic_first a b c d more s h =
     let ha : a < 2 ^ 8 = s.small_a in
     let hb : b < 2 ^ 8 = s.small_b in
     let hc : c < 2 ^ 8 = s.small_c in
-    let low : nat_lt (word_of a b c d) (2 ^ 31) ≡ true = grind (arith, nat_tests) in
+    let low : nat_lt (word_of a b c d) COMPACT_MARK ≡ true = grind (arith, nat_tests) in
     rw low refl
 
-high : (a b c d : ℕ) → FirstWord a b c d → 0x80 ≤ d → nat_lt (word_of a b c d) (2 ^ 31) ≡ false
+high : (a b c d : ℕ) → FirstWord a b c d → COMPACT_TOP ≤ d → nat_lt (word_of a b c d) COMPACT_MARK ≡ false
 high a b c d s h = grind (arith, nat_tests)
 
 reserved_test : (first top : ℕ) → first / 2 ^ 24 ≡ top → 0x82 < top → top < 2 ^ 8 → is_reserved first ≡ true
 reserved_test first top e l h = grind (arith, nat_tests)
 
-kept_test : (first top : ℕ) → first / 2 ^ 24 ≡ top → 0x80 ≤ top → top ≤ 0x82 → is_reserved first ≡ false
+kept_test : (first top : ℕ) → first / 2 ^ 24 ≡ top → COMPACT_TOP ≤ top → top ≤ 0x82 → is_reserved first ≡ false
 kept_test first top e l h = grind (arith, nat_tests)
 
 pub reserved_first : (a b c d : ℕ) (more : List ℕ) → FirstWord a b c d → 0x82 < d → table_codes (a ∷ b ∷ c ∷ d ∷ more) ≡ Err Reserved
@@ -88,7 +89,7 @@ reserved_first a b c d more s h =
     rw (high a b c d s (omega arith), reserved_test (word_of a b c d) d top h s.small_d) refl
 
 -- personality 0
-pub short_first : (a b c d : ℕ) (more : List ℕ) → FirstWord a b c d → d ≡ 0x80 → table_codes (a ∷ b ∷ c ∷ d ∷ more) ≡ Ok (c ∷ b ∷ a ∷ [])
+pub short_first : (a b c d : ℕ) (more : List ℕ) → FirstWord a b c d → d ≡ COMPACT_TOP → table_codes (a ∷ b ∷ c ∷ d ∷ more) ≡ Ok (c ∷ b ∷ a ∷ [])
 unfolding table_codes
 short_first a b c d more s h =
     let w : ℕ = word_of a b c d in

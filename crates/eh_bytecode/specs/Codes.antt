@@ -2,6 +2,7 @@
 use Rattle.std.specs.Prelude.{ℕ, ◌/◌, ◌%◌, ◌^◌, ◌==◌, ◌||◌, not, Bool, nat_lt, if◌then◌else◌, List, [], ◌∷◌, length, Option, None, Result, Ok, Err}
 use Rattle.byteorder.specs.Endian.{little_number}
 use Rattle.unwind_codes.specs.declared.code.Code.{Code}
+use Rattle.unwind_codes.specs.declared.words.TheConstants.{COMPACT_MARK, MOST_PERSONALITY}
 use Rattle.unwind_codes.specs.Table.{code_front}
 use Rattle.unwind_codes.specs.Words.{personality_of_word, code_words_behind, code_in_first, code_of_words}
 use Rattle.eh_bytecode.specs.declared.codes.CodesFault.{CodesFault}
@@ -17,21 +18,21 @@ abbrev pub turned : List ℕ → List ℕ
 turned (a ∷ b ∷ c ∷ d ∷ more) = d ∷ c ∷ b ∷ a ∷ turned more
 turned _ = []
 
--- bits 30 to 28 aren't 0, or the personality index is above 2
+-- bits 30 to 28 aren't 0, or the personality index is above the highest
 abbrev pub is_reserved : ℕ → Bool
-is_reserved first = not (first / 2 ^ 28 % 2 ^ 3 == 0) || nat_lt 2 (personality_of_word first)
+is_reserved first = not (first / 2 ^ 28 % 2 ^ 3 == 0) || nat_lt MOST_PERSONALITY (personality_of_word first)
 
 -- the codes of an inline entry, which has personality index 0
 abbrev pub inline_codes : ℕ → Result (List ℕ) CodesFault
 inline_codes word =
-    if nat_lt word (2 ^ 31) then Err Generic
+    if nat_lt word COMPACT_MARK then Err Generic
     else (if is_reserved word || not (personality_of_word word == 0) then Err Reserved else Ok (code_in_first word))
 
 -- the codes of an entry in the table
 abbrev pub codes_of_words : List ℕ → Result (List ℕ) CodesFault
 codes_of_words [] = Err Short
 codes_of_words (first ∷ more) =
-    if nat_lt first (2 ^ 31) then Err Generic
+    if nat_lt first COMPACT_MARK then Err Generic
     else (if is_reserved first then Err Reserved
     else (if nat_lt (length more) (code_words_behind first) then Err Short else Ok (code_of_words (first ∷ more))))
 

@@ -12,6 +12,7 @@ use unwind_codes::Code;
 use unwind_codes::code::{
     FINISH, LOWER, POP_LOW, POP_MASK, POP_RANGE, POP_RANGE_AND_LR, RAISE_LONG, RESTORE,
 };
+use unwind_codes::words::{COMPACT_TOP, MOST_PERSONALITY};
 
 /// Why an entry has no codes that can be read. The lowest that holds is answered, but for words past the first, which are looked
 /// for last.
@@ -51,9 +52,9 @@ impl<'a> Codes<'a> {
         ensures { result ≡ inline_codes word }
     {
         let word = word.to_be_bytes();
-        if word[0] < 0x80 {
+        if word[0] < COMPACT_TOP {
             Err(CodesFault::Generic)
-        } else if word[0] > 0x80 {
+        } else if word[0] > COMPACT_TOP {
             Err(CodesFault::Reserved)
         } else {
             Ok(Codes {
@@ -72,13 +73,13 @@ impl<'a> Codes<'a> {
             return Err(CodesFault::Short);
         };
         let word = [*d, *c, *b, *a];
-        if word[0] < 0x80 {
+        if word[0] < COMPACT_TOP {
             return Err(CodesFault::Generic);
         }
-        if word[0] > 0x82 {
+        if word[0] > COMPACT_TOP + MOST_PERSONALITY {
             return Err(CodesFault::Reserved);
         }
-        if word[0] == 0x80 {
+        if word[0] == COMPACT_TOP {
             return Ok(Codes {
                 word,
                 given: 1,

@@ -4,6 +4,7 @@ use Rattle.std.specs.Prelude.{Result, Ok, Err, nat_le, nat_lt, not}
 use Rattle.std.proofs.lemmas.Bool.Decides.{nat_tests}
 use Rattle.eh_word.specs.Words.{number_at}
 use Rattle.unwind_codes.specs.Words.{personality_of_word, code_words_behind}
+use Rattle.unwind_codes.specs.declared.words.TheConstants.{LANDING_PAD_MARK, WIDE_PERSONALITY}
 use Rattle.eh_bytecode.specs.declared.codes.CodesFault.{CodesFault}
 use Rattle.eh_bytecode.specs.Codes.{table_codes}
 use Rattle.eh_desc.specs.declared.descriptor.Desc.{Desc}
@@ -45,8 +46,8 @@ types_next t place len off types count padded h =
 
 specification_next : (t : Form) (place len off at : ℕ) → place ≤ at → IsNext t place (specification_at t place len off at)
 specification_next t place len off at h = with_next t place (word_at t at) _ (λ w.
-    either t place (nat_lt MOST_TYPES (w % 2 ^ 31)) (Fault Count) (types_at t place len off (at + 4) (w % 2 ^ 31) (nat_le (2 ^ 31) w)) tt
-    (types_next t place len off (at + 4) (w % 2 ^ 31) (nat_le (2 ^ 31) w) (omega arith)))
+    either t place (nat_lt MOST_TYPES (w % LANDING_PAD_MARK)) (Fault Count) (types_at t place len off (at + 4) (w % LANDING_PAD_MARK) (nat_le LANDING_PAD_MARK w)) tt
+    (types_next t place len off (at + 4) (w % LANDING_PAD_MARK) (nat_le LANDING_PAD_MARK w) (omega arith)))
 
 kind_next : (t : Form) (place len off at : ℕ) → place ≤ at → IsNext t place (kind_at t place len off at)
 kind_next t place len off at h =
@@ -141,7 +142,7 @@ pub law_of_descriptors : DescriptorsFollow
 law_of_descriptors start address bytes first is =
     where_follow (table_codes bytes) _ (items_behind start address bytes (number_at 4 bytes 0))
     (subst (λ (o : Option ℕ). Follow ((address + (4 + 4 * code_words_behind first)) % 2 ^ 32) (items_behind start address bytes o)) (sym is)
-    (follow_from (record { bytes = bytes; address = address; start = start; wide = personality_of_word first == 2 }) (4 + 4 * code_words_behind first)))
+    (follow_from (record { bytes = bytes; address = address; start = start; wide = personality_of_word first == WIDE_PERSONALITY }) (4 + 4 * code_words_behind first)))
 
 -- ---- what is left, as the iterator keeps it
 

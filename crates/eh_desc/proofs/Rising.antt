@@ -1,9 +1,9 @@
 -- A descriptor ends among the bytes of its table, so that addresses rise.
-use Rattle.std.proofs.Common.{◌≡◌, ℕ, zero, suc, ◌+◌, ◌-◌, ◌*◌, ◌≤◌, ◌<◌, Bool, true, false, cond, List, [], ◌∷◌, length, Option, Some, None, refl, arith, ◌∙◌, ap, sym, subst, ◌%◌, ◌/◌, ◌^◌, ◌==◌}
+use Rattle.std.proofs.Common.{◌≡◌, ℕ, zero, suc, ◌+◌, ◌-◌, ◌*◌, ◌≤◌, ◌<◌, Bool, true, false, cond, List, length, Option, Some, None, refl, arith, sym, subst, ◌%◌, ◌/◌, ◌^◌, ◌==◌}
 use Rattle.std.specs.Prelude.{Result, Ok, Err, nat_le, nat_lt, not}
 use Rattle.std.proofs.lemmas.Bool.Decides.{nat_tests}
 use Rattle.eh_word.specs.Words.{number_at}
-use Rattle.unwind_codes.specs.Words.{personality_of_word, code_words_behind}
+use Rattle.unwind_codes.specs.declared.words.TheConstants.{LANDING_PAD_MARK}
 use Rattle.eh_bytecode.specs.declared.codes.CodesFault.{CodesFault}
 use Rattle.eh_bytecode.specs.Codes.{table_codes}
 use Rattle.eh_desc.specs.declared.descriptor.Desc.{Desc}
@@ -51,8 +51,8 @@ types_inside t place len off types count padded true e =
 
 specification_inside : (t : Form) (place len off at : ℕ) → IsInside t (specification_at t place len off at)
 specification_inside t place len off at = with_inside t at _ _ refl (λ w h.
-    either t (nat_lt MOST_TYPES (w % 2 ^ 31)) (Fault Count) (types_at t place len off (at + 4) (w % 2 ^ 31) (nat_le (2 ^ 31) w)) tt
-    (types_inside t place len off (at + 4) (w % 2 ^ 31) (nat_le (2 ^ 31) w) _ refl))
+    either t (nat_lt MOST_TYPES (w % LANDING_PAD_MARK)) (Fault Count) (types_at t place len off (at + 4) (w % LANDING_PAD_MARK) (nat_le LANDING_PAD_MARK w)) tt
+    (types_inside t place len off (at + 4) (w % LANDING_PAD_MARK) (nat_le LANDING_PAD_MARK w) _ refl))
 
 kind_inside : (t : Form) (place len off at : ℕ) → IsInside t (kind_at t place len off at)
 kind_inside t place len off at =

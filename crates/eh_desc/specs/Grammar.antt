@@ -4,7 +4,9 @@ use Rattle.std.specs.Prelude.{ℕ, zero, suc, ◌+◌, ◌-◌, ◌*◌, ◌/◌
 use Rattle.eh_word.specs.Words.{number_at, prel31_of}
 use Rattle.elf_image.specs.Segments.{Segment}
 use Rattle.eh_index.specs.Places.{bytes_at}
+use Rattle.unwind_codes.specs.Rows.{even}
 use Rattle.unwind_codes.specs.Words.{personality_of_word, code_words_behind}
+use Rattle.unwind_codes.specs.declared.words.TheConstants.{REFERENCE_MARK, LANDING_PAD_MARK, WIDE_PERSONALITY}
 use Rattle.unwind_codes.specs.declared.row.Entry.{Entry}
 use Rattle.unwind_codes.specs.declared.row.EntryBody.{EntryBody}
 use Rattle.unwind_codes.specs.declared.row.EntryBody.TheVariants as body
@@ -27,9 +29,6 @@ pub record Form : Type 0 where
   pub address : ℕ
   pub start : ℕ
   pub wide : Bool
-
-abbrev pub even : ℕ → ℕ
-even x = x - x % 2
 
 abbrev pub word_at : Form → ℕ → Option ℕ
 word_at t place = number_at 4 t.bytes place
@@ -72,7 +71,7 @@ cleanup_at t place len off at = with_word (word_at t at) (λ pad. found t place 
 abbrev pub catch_at : Form → ℕ → ℕ → ℕ → ℕ → Found
 catch_at t place len off at =
     with_word (word_at t at) (λ pad. with_word (word_at t (at + 4)) (λ type.
-    found t place len off (Catch (pad_by t at pad) (nat_le (2 ^ 31) pad) (catch_type (address_at t (at + 4)) type)) (at + 8)))
+    found t place len off (Catch (pad_by t at pad) (nat_le REFERENCE_MARK pad) (catch_type (address_at t (at + 4)) type)) (at + 8)))
 
 -- the types are there
 abbrev pub has_types : Form → ℕ → ℕ → Bool
@@ -92,7 +91,7 @@ types_at t place len off types count padded =
 abbrev pub specification_at : Form → ℕ → ℕ → ℕ → ℕ → Found
 specification_at t place len off at =
     with_word (word_at t at) (λ count.
-    if nat_lt MOST_TYPES (count % 2 ^ 31) then Fault Count else types_at t place len off (at + 4) (count % 2 ^ 31) (nat_le (2 ^ 31) count))
+    if nat_lt MOST_TYPES (count % LANDING_PAD_MARK) then Fault Count else types_at t place len off (at + 4) (count % LANDING_PAD_MARK) (nat_le LANDING_PAD_MARK count))
 
 -- bit 0 of the length and of the offset are marks
 abbrev pub kind_at : Form → ℕ → ℕ → ℕ → ℕ → Found
@@ -129,7 +128,7 @@ items_from t place = items_in (length t.bytes - place) t place
 abbrev pub items_behind : ℕ → ℕ → List ℕ → Option ℕ → List (Result Desc DescFault)
 items_behind start address bytes None = []
 items_behind start address bytes (Some first) =
-    items_from (record { bytes = bytes; address = address; start = start; wide = personality_of_word first == 2 }) (4 + 4 * code_words_behind first)
+    items_from (record { bytes = bytes; address = address; start = start; wide = personality_of_word first == WIDE_PERSONALITY }) (4 + 4 * code_words_behind first)
 
 abbrev pub where_codes : Result (List ℕ) CodesFault → List (Result Desc DescFault) → List (Result Desc DescFault)
 where_codes (Ok _) items = items

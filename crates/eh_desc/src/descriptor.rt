@@ -1,7 +1,7 @@
 //! Descriptors and their iterator (IHI 0038). docs/descriptors.md has the formats.
 ghost use Rattle.std.specs.Prelude.{◌≡◌, ◌+◌, ◌-◌, ◌*◌, ◌/◌, ◌%◌, ◌^◌, ◌<◌, ◌≤◌, ◌==◌, [], length, IfSome, IsTrue, ◌↔◌, nat_le, Some, None, Ok, Err};
 ghost use Rattle.std.specs.Iterator.{YieldsFirst, item_count};
-ghost use Rattle.eh_desc.specs.Grammar.{word_at, address_at, even, pad_by, type_by, catch_type, found, cleanup_at, catch_at, padded_at, types_at, specification_at, kind_at, found_at, items_from, items_of, table_items, type_in};
+ghost use Rattle.eh_desc.specs.Grammar.{word_at, address_at, pad_by, type_by, catch_type, found, cleanup_at, catch_at, padded_at, types_at, specification_at, kind_at, found_at, items_from, items_of, table_items, type_in};
 ghost use Rattle.eh_desc.specs.Tables.{form};
 ghost use Rattle.eh_index.specs.Places.{table_of};
 
@@ -9,7 +9,9 @@ use eh_bytecode::Codes;
 use eh_index::Index;
 use eh_word::{get_word, prel31};
 use std::marker::Model;
-use unwind_codes::{Entry, EntryBody};
+use unwind_codes::row::even;
+use unwind_codes::words::{LANDING_PAD_MARK, REFERENCE_MARK, WIDE_PERSONALITY};
+use unwind_codes::{Entry, EntryBody, code_words_behind, personality_of_word};
 
 /// The type word of a catch that takes everything.
 pub const ALL: u32 = 0xFFFF_FFFF;
@@ -120,13 +122,6 @@ pub enum Found {
     Fault(DescFault),
 }
 
-/// `x` with bit 0 clear.
-fn even(x: u32) -> u32
-    ensures { result ≡ even x }
-{
-    x - x % 2
-}
-
 /// The type of a type word at an address; a word of 0 is type 0.
 fn type_by(address: u32, word: u32) -> u32
     ensures { result ≡ type_by address word }
@@ -207,7 +202,7 @@ impl<'a> Table<'a> {
         };
         let kind = DescKind::Catch {
             pad: self.pad_by(scope.place, pad),
-            reference: pad >= 0x8000_0000,
+            reference: pad >= REFERENCE_MARK,
             ty: catch_type(self.address_at(scope.place + 4), ty),
         };
         self.found(place, scope, kind, scope.place + 8)
@@ -258,11 +253,12 @@ impl<'a> Table<'a> {
         let Some(word) = self.word(scope.place) else {
             return Found::Fault(DescFault::Short);
         };
-        let count = word % 0x8000_0000;
+        let count = word % LANDING_PAD_MARK;
         if count > MOST_TYPES {
             return Found::Fault(DescFault::Count);
         }
-        self.types(place, scope, scope.place + 4, count, word >= 0x8000_0000)
+        let padded = word >= LANDING_PAD_MARK;
+        self.types(place, scope, scope.place + 4, count, padded)
     }
 
     /// What the marks of a scope say stands behind it.
@@ -355,21 +351,15 @@ impl<'a> Descs<'a> {
         let Some(first) = get_word(bytes, 0) else {
             return Descs::none();
         };
-        let personality = first / 0x100_0000 % 16;
-        let words = if personality == 0 {
-            0
-        } else {
-            first / 0x1_0000 % 0x100
-        };
         let table = Table {
             bytes,
             address,
             start,
-            wide: personality == 2,
+            wide: personality_of_word(first) == WIDE_PERSONALITY,
         };
         Descs {
             table,
-            place: 4 + 4 * words as usize,
+            place: 4 + 4 * code_words_behind(first) as usize,
             over: false,
         }
     }

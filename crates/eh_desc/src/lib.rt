@@ -2,7 +2,7 @@
 //! specification descriptors"), read where they stand. docs/descriptors.md states the rules.
 #![tactic(auto)]
 
-ghost use Rattle.eh_desc.specs.Laws.{DescriptorsFollow, DescriptorsRise};
+ghost use Rattle.eh_desc.specs.Laws.{DescriptorsFollow, DescriptorsRise, CleanupsHaveNoMark, CatchesMarkTheLength, SpecificationsMarkTheOffset, BothMarksAreRefused};
 
 pub mod descriptor;
 
@@ -17,4 +17,14 @@ pub fn descriptors_follow()
 /// Where the bytes of a table end below the last address, its descriptors' addresses rise.
 pub fn descriptors_rise()
     ensures { DescriptorsRise }
+{}
+
+/// The marks of a descriptor say what it is: bit 0 of the scope's length makes it a catch, bit 0 of its offset a specification, and
+/// without both it is a cleanup; with both it is refused. Bit 31 of a catch's landing pad word makes it one of a reference, and bit 31
+/// of a specification's count says that a landing pad stands behind the types. Nothing else depends on these bits.
+pub fn descriptors_are_marked()
+    ensures cleanups { CleanupsHaveNoMark }
+    ensures catches { CatchesMarkTheLength }
+    ensures specifications { SpecificationsMarkTheOffset }
+    ensures both { BothMarksAreRefused }
 {}

@@ -1,6 +1,6 @@
 -- What is found among rows: the first refusal, and the entry that covers an address.
-use Rattle.eh_index.specs.Laws.{IsEntry, EntriesStand, RangesCover}
-use Rattle.std.proofs.Common.{◌^◌, ◌≡◌, ℕ, zero, suc, ◌+◌, ◌-◌, ◌%◌, ◌<◌, ◌≤◌, Bool, true, false, not, ◌&&◌, ◌||◌, cond, nat_eq, nat_le, nat_lt, List, [], ◌∷◌, ◌++◌, length, map, fold, Option, Some, None, refl, sym, ◌∙◌, ap, subst, append_assoc, append-nil, arith}
+use Rattle.eh_index.specs.Laws.{IsEntry, EntriesStand, FirstWordsAreClear, RangesCover}
+use Rattle.std.proofs.Common.{◌≡◌, ℕ, zero, suc, ◌+◌, ◌-◌, ◌%◌, ◌<◌, ◌≤◌, Bool, true, false, not, ◌&&◌, ◌||◌, cond, nat_eq, nat_le, nat_lt, List, [], ◌∷◌, ◌++◌, length, map, fold, Option, Some, None, refl, sym, ◌∙◌, ap, subst, append_assoc, append-nil, arith}
 use Rattle.std.proofs.lemmas.Bool.Decides.{nat_tests}
 use Rattle.std.proofs.lemmas.Bool.{false≢true}
 use Rattle.std.proofs.lemmas.List.Elements.{All-nil, All-push}
@@ -8,7 +8,7 @@ use Rattle.std.proofs.lemmas.List.FromFn.{get_or-map-range_with_len, length-map-
 use Rattle.std.specs.List.{range_with_len}
 use Rattle.elf_image.specs.Image.{Image}
 use Rattle.unwind_codes.specs.declared.row.Entry.{Entry}
-use Rattle.unwind_codes.specs.declared.row.TheConstants.{ROW_SIZE}
+use Rattle.unwind_codes.specs.declared.row.TheConstants.{ROW_SIZE, PREL31_LIMIT}
 use Rattle.eh_index.specs.declared.fault.IndexFault.{IndexFault}
 use Rattle.eh_index.specs.declared.fault.IndexFault.TheVariants.{Length, OutsideImage, Unsorted}
 use Rattle.eh_index.specs.Rows.{entry_at, entry_count, entries_of, first_word}
@@ -231,8 +231,20 @@ neither false false c h = absurd cc
 pub entry_stands : (image : Image) → index_refusal image ≡ None → (k : ℕ) → k < entry_count image → IsEntry image (entry_at image k)
 entry_stands image h k inside =
     let p =
-    neither (nat_le (2 ^ 31) (first_word image k)) (is_code_bound image.segments (entry_at image k).start) (is_table_place image.segments (entry_at image k).body) (tests_passed image h k inside).0 in
+    neither (nat_le PREL31_LIMIT (first_word image k)) (is_code_bound image.segments (entry_at image k).start) (is_table_place image.segments (entry_at image k).body) (tests_passed image h k inside).0 in
     record { code = p.0; table = p.1 }
+
+first_clear : (a b c : Bool) → ((a || not b) || not c) ≡ false → a ≡ false
+first_clear true b c h = absurd cc
+first_clear false b c h = refl
+
+below_limit : (word : ℕ) → nat_le PREL31_LIMIT word ≡ false → word < PREL31_LIMIT
+below_limit word h = grind (arith, nat_tests)
+
+pub first_words_clear : FirstWordsAreClear
+first_words_clear image k h inside =
+    below_limit (first_word image k)
+    (first_clear (nat_le PREL31_LIMIT (first_word image k)) (is_code_bound image.segments (entry_at image k).start) (is_table_place image.segments (entry_at image k).body) (tests_passed image h k inside).0)
 
 pub entries_stand : EntriesStand
 unfolding entries_of

@@ -1,72 +1,48 @@
 -- Rows that are written one behind the other are read as the entries that they were written for.
-use Rattle.std.proofs.Common.{◌≡◌, ℕ, ◌+◌, ◌-◌, ◌*◌, ◌%◌, ◌^◌, ◌<◌, List, [], ◌∷◌, ◌++◌, length, map, drop, refl, sym, ◌∙◌, ap, arith}
-use Rattle.std.proofs.Math.Seq.{drop-append_seam}
-use Rattle.std.proofs.lemmas.List.{drop-drop}
-use Rattle.std.proofs.lemmas.List.Elements.{All-head, All-tail}
+use Rattle.std.proofs.Common.{◌≡◌, ℕ, suc, ◌+◌, ◌-◌, ◌*◌, ◌%◌, ◌^◌, ◌<◌, List, [], ◌∷◌, length, map, Some, refl, sym, ◌∙◌, ap, arith, subst}
+use Rattle.std.specs.Prelude.{slice_get}
 use Rattle.std.specs.List.{range_with_len, All}
-use Rattle.byteorder.specs.Endian.{little_number, little_bytes}
-use Rattle.byteorder.specs.Numbers.{little_number-reads_back}
-use Rattle.elf_image.specs.Format.{field}
+use Rattle.std.proofs.lemmas.List.Elements.{All-weaker, All-get_or}
+use Rattle.std.proofs.lemmas.Option.{get_or_from_slice_get, slice_get_within}
 use Rattle.elf_image.specs.Image.{Image}
 use Rattle.unwind_codes.specs.declared.row.Entry.{Entry}
-use Rattle.unwind_codes.specs.declared.row.EntryBody.{EntryBody}
-use Rattle.unwind_codes.specs.declared.row.EntryBody.TheVariants.{CantUnwind, Inline, Table}
 use Rattle.unwind_codes.specs.declared.row.TheConstants.{ROW_SIZE}
-use Rattle.unwind_codes.specs.Rows.{prel31_to, second_word, entry_of}
-use Rattle.unwind_codes.proofs.RowLaws.{seen_back, law_of_rows}
+use Rattle.unwind_codes.specs.Laws.{IsLow, SaysRow, HasRows}
+use Rattle.unwind_codes.proofs.RowBytes.{law_of_saying, law_of_reading}
 use Rattle.eh_index.specs.Rows.{entry_at, entry_count, entries_of}
-use Rattle.eh_index.specs.Laws.{written, IsWordBody, IsRow, RowsAreRead}
-
-word_at : (bytes rest : List ℕ) (at x : ℕ) → drop at bytes ≡ little_bytes 4 x ++ rest → x < 2 ^ 32 → field 4 bytes at ≡ x
-word_at bytes rest at x e h = ap (little_number 4) e ∙ little_number-reads_back 4 x rest h
-
-four : (x : ℕ) → length (little_bytes 4 x) ≡ 4
-four x = refl
-
-behind_word : (bytes rest : List ℕ) (at x : ℕ) → drop at bytes ≡ little_bytes 4 x ++ rest → drop (at + 4) bytes ≡ rest
-behind_word bytes rest at x e = sym (drop-drop 4 at bytes) ∙ ap (drop 4) e ∙ drop-append_seam (little_bytes 4 x) rest
-
-body_fits : (place : ℕ) (body : EntryBody) → IsWordBody body → second_word place body < 2 ^ 32
-body_fits place CantUnwind h = omega arith
-body_fits place (Inline word) h = h
-body_fits place (Table address) h = omega arith
+use Rattle.eh_index.specs.Laws.{IsRow, RowsAreRead}
 
 even_start : (s : ℕ) → s % 2 ≡ 0 → s - s % 2 ≡ s
 even_start s h = omega arith
 
-row_is : (place : ℕ) (e : Entry) → IsRow e → place % 4 ≡ 0 → place + ROW_SIZE < 2 ^ 30 → entry_of place (prel31_to place e.start) (second_word (place + 4) e.body) ≡ e
-row_is place e h whole fits =
-    let start = seen_back place e.start (omega arith) h.low in
-    let at : (place + 4) % 2 ^ 32 ≡ place + 4 = omega arith in
-    let body = law_of_rows (place + 4) e.body (omega arith) (omega arith) h.body in
-    rw (start, at, body, even_start e.start h.even) refl
+maps_are : (f : ℕ → Entry) (low : ℕ) (rows : List Entry) → ((k : ℕ) (row : Entry) → slice_get rows k ≡ Some row → f (low + k) ≡ row)
+    → map f (range_with_len low (length rows)) ≡ rows
+maps_are f low [] each = refl
+maps_are f low (row ∷ rows) each =
+    let here : low + 0 ≡ low = omega arith in
+    let first : f low ≡ row = ap f (sym here) ∙ each 0 row refl in
+    let behind : (k : ℕ) (r : Entry) → slice_get rows k ≡ Some r → f (low + 1 + k) ≡ r =
+    λ k r e. ap f (let same : low + 1 + k ≡ low + suc k = omega arith in same) ∙ each (suc k) r e in
+    ap (λ (r : Entry). r ∷ map f (range_with_len (low + 1) (length rows))) first ∙ ap (λ (rs : List Entry). row ∷ rs) (maps_are f (low + 1) rows behind)
 
-rows_from : (image : Image) (low : ℕ) (es : List Entry) → All IsRow es → image.index_start % 4 ≡ 0 → image.index_start + ROW_SIZE * low + ROW_SIZE * length es < 2 ^ 30
-    → drop (ROW_SIZE * low) image.index_bytes ≡ written (image.index_start + ROW_SIZE * low) es → map (entry_at image) (range_with_len low (length es)) ≡ es
-rows_from image low [] all whole fits e = refl
-rows_from image low (x ∷ more) all whole fits e =
-    let row = All-head IsRow x more all in
-    let place = image.index_start + ROW_SIZE * low in
-    let first = word_at image.index_bytes _ (ROW_SIZE * low) (prel31_to place x.start) e (omega arith) in
-    let behind = behind_word image.index_bytes _ (ROW_SIZE * low) (prel31_to place x.start) e in
-    let second = word_at image.index_bytes _ (ROW_SIZE * low + 4) (second_word (place + 4) x.body) behind (body_fits (place + 4) x.body row.word) in
-    let rest = behind_word image.index_bytes _ (ROW_SIZE * low + 4) (second_word (place + 4) x.body) behind in
-    let next : ROW_SIZE * low + 4 + 4 ≡ ROW_SIZE * (low + 1) = omega arith in
-    let next_place : place + ROW_SIZE ≡ image.index_start + ROW_SIZE * (low + 1) = omega arith in
-    let here : entry_at image low ≡ x = rw (first, second) (row_is place x row (omega arith) (omega arith)) in
-    let later : drop (ROW_SIZE * (low + 1)) image.index_bytes ≡ written (image.index_start + ROW_SIZE * (low + 1)) more =
-    ap (λ (n : ℕ). drop n image.index_bytes) (sym next) ∙ rest ∙ ap (λ (n : ℕ). written n more) next_place in
-    ap (λ (e : Entry). e ∷ map (entry_at image) (range_with_len (low + 1) (length more))) here
-    ∙ ap (λ (es : List Entry). x ∷ es) (rows_from image (low + 1) more (All-tail IsRow x more all) whole (omega arith) later)
+row_at : (rows : List Entry) (k : ℕ) (row : Entry) → All IsRow rows → slice_get rows k ≡ Some row → IsRow row
+row_at rows k row all e = subst IsRow (get_or_from_slice_get rows k row row e) (All-get_or IsRow rows k row (slice_get_within rows k row e) all)
 
-length-written : (place : ℕ) (es : List Entry) → length (written place es) ≡ ROW_SIZE * length es
-length-written place [] = refl
-length-written place (e ∷ more) = omega (arith, length-written (place + ROW_SIZE) more)
+read_one : (image : Image) (row : Entry) (k : ℕ) → IsRow row → SaysRow row image.index_start image.index_bytes (ROW_SIZE * k) → image.index_start % 4 ≡ 0
+    → image.index_start + ROW_SIZE * (k + 1) < 2 ^ 30 → entry_at image k ≡ row
+read_one image row k is says whole fits =
+    law_of_reading row image.index_start image.index_bytes (ROW_SIZE * k) says is.body (omega arith) (omega arith)
+    ∙ ap (λ (s : ℕ). record { start = s; body = row.body }) (even_start row.start is.even)
 
 pub rows_are_read : RowsAreRead
 unfolding entries_of
 rows_are_read image entries all whole fits e =
-    let count : entry_count image ≡ length entries = omega (arith, ap length e, length-written image.index_start entries) in
-    let start : image.index_start + ROW_SIZE * 0 ≡ image.index_start = omega arith in
+    let low : All IsLow entries = All-weaker IsRow IsLow (λ row is. is.low) entries all in
+    let has : HasRows entries image.index_start image.index_bytes =
+    subst (HasRows entries image.index_start) (sym e) (law_of_saying image.index_start entries low (omega arith)) in
+    let count : entry_count image ≡ length entries = omega (arith, has.size) in
     ap (λ (n : ℕ). map (entry_at image) (range_with_len 0 n)) count
-    ∙ rows_from image 0 entries all whole (omega arith) (e ∙ ap (λ (n : ℕ). written n entries) (sym start))
+    ∙ maps_are (entry_at image) 0 entries (λ k row is.
+    let inside : k < length entries = slice_get_within entries k row is in
+    let zero_more : 0 + k ≡ k = omega arith in
+    ap (entry_at image) zero_more ∙ read_one image row k (row_at entries k row all is) (has.each k row is) whole (omega (arith, inside)))

@@ -1,15 +1,13 @@
 -- What an index that is read tells, in the words of the standard: laws above the list of its rows (docs/unwind-index.md).
-use Rattle.unwind_codes.specs.declared.row.EntryBody.{EntryBody}
-use Rattle.unwind_codes.specs.declared.row.TheConstants.{ROW_SIZE}
-use Rattle.unwind_codes.specs.Laws.{IsBody}
-use Rattle.unwind_codes.specs.Rows.{prel31_to, second_word}
-use Rattle.byteorder.specs.Endian.{little_bytes}
-use Rattle.std.specs.Prelude.{◌*◌, ◌%◌, ◌^◌, [], ◌∷◌, ◌++◌, ◌≡◌, ℕ, ◌+◌, ◌<◌, ◌≤◌, true, List, length, All, Some, None}
+use Rattle.unwind_codes.specs.declared.row.TheConstants.{ROW_SIZE, PREL31_LIMIT}
+use Rattle.unwind_codes.specs.Laws.{IsTold, IsLow}
+use Rattle.unwind_codes.specs.Rows.{rows_bytes}
+use Rattle.std.specs.Prelude.{◌*◌, ◌%◌, ◌^◌, ◌≡◌, ℕ, ◌+◌, ◌<◌, ◌≤◌, true, List, length, All, Some, None}
 use Rattle.elf_image.specs.Segments.{Segment}
 use Rattle.elf_image.specs.Image.{Image}
 use Rattle.unwind_codes.specs.declared.row.Entry.{Entry}
-use Rattle.unwind_codes.specs.declared.row.EntryBody.TheVariants.{CantUnwind, Inline, Table}
-use Rattle.eh_index.specs.Rows.{entry_at, entry_count, entries_of}
+use Rattle.unwind_codes.specs.declared.row.EntryBody.TheVariants.{Table}
+use Rattle.eh_index.specs.Rows.{first_word, entry_at, entry_count, entries_of}
 use Rattle.eh_index.specs.Places.{is_code_bound, is_table_place, bytes_at}
 use Rattle.eh_index.specs.Refusal.{index_refusal}
 use Rattle.eh_index.specs.Covering.{covering}
@@ -22,6 +20,10 @@ pub record IsEntry (image : Image) (e : Entry) : Type 0 where
 -- every entry of an index that is read is one
 abbrev pub EntriesStand : Type 0
 EntriesStand = (image : Image) → index_refusal image ≡ None → All (IsEntry image) (entries_of image)
+
+-- and bit 31 of its row's first word is clear
+abbrev pub FirstWordsAreClear : Type 0
+FirstWordsAreClear = (image : Image) (k : ℕ) → index_refusal image ≡ None → k < entry_count image → first_word image k < PREL31_LIMIT
 
 -- an entry covers the addresses from its start to below the next one's
 abbrev pub RangesCover : Type 0
@@ -36,26 +38,14 @@ TablesAreThere =
 
 -- ---- rows as they are written
 
--- the bytes of rows from a place on: each word is seen from its own place
-abbrev pub written : ℕ → List Entry → List ℕ
-written place [] = []
-written place (e ∷ more) = little_bytes 4 (prel31_to place e.start) ++ (little_bytes 4 (second_word (place + 4) e.body) ++ written (place + ROW_SIZE) more)
-
--- an inline entry has 32 bits
-abbrev pub IsWordBody : EntryBody → Type 0
-IsWordBody CantUnwind = Unit {0}
-IsWordBody (Inline word) = word < 2 ^ 32
-IsWordBody (Table address) = Unit {0}
-
--- what a row can say: an even start below 2 ^ 30, and one of its three bodies
+-- what a row can say: an even start below 2 ^ 30, and one of its three bodies, a word or at a multiple of 4 below 2 ^ 30
 pub record IsRow (e : Entry) : Type 0 where
   pub even : e.start % 2 ≡ 0
-  pub low : e.start < 2 ^ 30
-  pub body : IsBody e.body
-  pub word : IsWordBody e.body
+  pub low : IsLow e
+  pub body : IsTold e.body
 
 -- an index that is written row by row at a multiple of 4 is read as these entries, in this order
 abbrev pub RowsAreRead : Type 0
 RowsAreRead =
     (image : Image) (entries : List Entry) → All IsRow entries → image.index_start % 4 ≡ 0 → image.index_start + ROW_SIZE * length entries < 2 ^ 30
-    → image.index_bytes ≡ written image.index_start entries → entries_of image ≡ entries
+    → image.index_bytes ≡ rows_bytes image.index_start entries → entries_of image ≡ entries

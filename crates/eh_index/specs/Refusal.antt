@@ -1,8 +1,8 @@
 -- Which indexes aren't read: the lowest row that is refused, and there the first reason (docs/unwind-index.md).
-use Rattle.std.specs.Prelude.{ℕ, ◌-◌, ◌%◌, ◌^◌, ◌==◌, not, ◌&&◌, ◌||◌, nat_le, nat_lt, Bool, if◌then◌else◌, List, [], ◌∷◌, length, map, Option, Some, None, Result, Ok, Err}
+use Rattle.std.specs.Prelude.{ℕ, ◌-◌, ◌%◌, ◌==◌, not, ◌&&◌, ◌||◌, nat_le, nat_lt, Bool, if◌then◌else◌, List, [], ◌∷◌, length, map, Option, Some, None, Result, Ok, Err}
 use Rattle.std.specs.List.{range_with_len}
 use Rattle.elf_image.specs.Image.{Image}
-use Rattle.unwind_codes.specs.declared.row.TheConstants.{ROW_SIZE}
+use Rattle.unwind_codes.specs.declared.row.TheConstants.{ROW_SIZE, PREL31_LIMIT}
 use Rattle.eh_index.specs.declared.fault.IndexFault.{IndexFault}
 use Rattle.eh_index.specs.declared.fault.IndexFault.TheVariants.{Length, OutsideImage, Unsorted}
 use Rattle.eh_index.specs.Rows.{first_word, entry_at, entry_count}
@@ -11,7 +11,7 @@ use Rattle.eh_index.specs.Places.{is_code_bound, is_table_place}
 -- row k leads out of the image: bit 31 of its first word is set, it begins at no bound of code, or its table stands at no place for one
 abbrev pub is_outside : Image → ℕ → Bool
 is_outside image k =
-    nat_le (2 ^ 31) (first_word image k) || not (is_code_bound image.segments (entry_at image k).start)
+    nat_le PREL31_LIMIT (first_word image k) || not (is_code_bound image.segments (entry_at image k).start)
     || not (is_table_place image.segments (entry_at image k).body)
 
 -- row k begins below the row before it

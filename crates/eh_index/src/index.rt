@@ -13,7 +13,7 @@ use crate::place::{bounds_code, bytes_at, has_bytes};
 use crate::row::{entry_at, first_word};
 use elf_image::image::Image;
 use std::marker::Model;
-use unwind_codes::row::{Entry, EntryBody, ROW_SIZE};
+use unwind_codes::row::{Entry, EntryBody, PREL31_LIMIT, ROW_SIZE};
 
 /// The exception index of an image, which contracts see as that image: its rows are accepted, and rise.
 #[derive(Drop)]
@@ -50,7 +50,7 @@ fn entry_refusal(image: &Image, k: u32) -> Option<IndexFault>
     ensures { result ≡ entry_refusal image.now k }
 {
     let e = entry_at(image, k);
-    if first_word(image, k) >= 0x8000_0000
+    if first_word(image, k) >= PREL31_LIMIT
         || !bounds_code(image, e.start)
         || !is_table_place(image, e.body)
     {

@@ -1,9 +1,11 @@
 //! What an index that is read tells, in the words of the standard (docs/unwind-index.md): laws above the list of its rows.
-ghost use Rattle.eh_index.specs.Laws.{EntriesStand, RangesCover, TablesAreThere, RowsAreRead};
+ghost use Rattle.eh_index.specs.Laws.{EntriesStand, FirstWordsAreClear, RangesCover, TablesAreThere, RowsAreRead};
 
-/// Every entry of an index that is read begins in code or at its end, and a table of its stands at a multiple of 4.
+/// Every entry of an index that is read begins in code or at its end, and a table of its stands at a multiple of 4. Bit 31 of its row's
+/// first word is clear.
 pub fn entries_stand_in_the_image()
-    ensures { EntriesStand }
+    ensures stand { EntriesStand }
+    ensures clear { FirstWordsAreClear }
 {}
 
 /// An entry covers the addresses from its start to below the next one's.

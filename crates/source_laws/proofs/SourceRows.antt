@@ -10,6 +10,7 @@ use Rattle.std.proofs.lemmas.Option.{get_or_from_slice_get, slice_get_within}
 use Rattle.asm_read.specs.declared.statement.Stmt.{Stmt}
 use Rattle.asm_read.specs.declared.statement.StmtKind.{StmtKind}
 use Rattle.asm_read.specs.declared.statement.StmtKind.TheVariants as statement
+use Rattle.unwind_codes.specs.declared.words.TheConstants.{COMPACT_MARK, COMPACT_TOP}
 use Rattle.asm_unwind.specs.declared.directive.UnwindDirective.{UnwindDirective}
 use Rattle.asm_unwind.specs.declared.directive.UnwindDirective.TheVariants as unwind
 use Rattle.asm_unwind.specs.declared.directive.UnwindFault.{UnwindFault}
@@ -330,7 +331,7 @@ kept_between frame (stmt ∷ between) line after shape kept plain e short =
 -- what a row needs of the words
 abbrev pub WordsLie : EntryWords → Type 0
 WordsLie entry.CantUnwind = Unit {0}
-WordsLie (entry.Inline word) = (2 ^ 31 ≤ word) × (word < 2 ^ 32)
+WordsLie (entry.Inline word) = (COMPACT_MARK ≤ word) × (word < 2 ^ 32)
 WordsLie (entry.Table words) = 0 < length words
 
 with_index : (a b : Bool) (index : ℕ) → b ≡ (index == 0) → true ≡ (a && b) → index ≡ 0
@@ -338,10 +339,10 @@ with_index true true index e h = eqb-true index 0 (sym e)
 with_index true false index e h = absurd (true≢false h)
 with_index false b index e h = absurd (true≢false h)
 
-top_bounds : (word index : ℕ) → index ≡ 0 → word / 2 ^ 24 ≡ 0x80 + index → (2 ^ 31 ≤ word) × (word < 2 ^ 32)
+top_bounds : (word index : ℕ) → index ≡ 0 → word / 2 ^ 24 ≡ COMPACT_TOP + index → (COMPACT_MARK ≤ word) × (word < 2 ^ 32)
 top_bounds word index e h = (omega (arith, e, h), omega (arith, e, h))
 
-no_top : (index : ℕ) → 0 ≡ 0x80 + index → ⊥
+no_top : (index : ℕ) → 0 ≡ COMPACT_TOP + index → ⊥
 no_top index h = omega (arith, h)
 
 words_of_code : (words : EntryWords) (index : ℕ) (handler_data : Bool) (bytes : List ℕ) → HoldsCode words index handler_data bytes → WordsLie words

@@ -3,6 +3,7 @@ use Rattle.std.specs.Prelude.{◌≡◌, ℕ, ◌+◌, ◌%◌, ◌^◌, ◌<◌
 use Rattle.asm_read.specs.declared.statement.Stmt.{Stmt}
 use Rattle.asm_read.specs.declared.statement.StmtKind.{StmtKind}
 use Rattle.asm_read.specs.declared.statement.StmtKind.TheVariants as statement
+use Rattle.unwind_codes.specs.declared.words.TheConstants.{COMPACT_MARK}
 use Rattle.asm_object.specs.declared.object.IndexRow.{IndexRow}
 use Rattle.asm_object.specs.declared.object.Object.{Object}
 use Rattle.asm_object.specs.declared.object.RowEntry.{RowEntry}
@@ -50,7 +51,7 @@ HaveShortLists stmts = All (λ s. HasShortList s.kind) stmts
 -- an inline entry is a word with bit 31 set; a table stands at a multiple of 4 and has a word there
 abbrev pub LiesIn : Object → RowEntry → Type 0
 LiesIn object row.CantUnwind = Unit {0}
-LiesIn object (row.Inline word) = (2 ^ 31 ≤ word) × (word < 2 ^ 32)
+LiesIn object (row.Inline word) = (COMPACT_MARK ≤ word) × (word < 2 ^ 32)
 LiesIn object (row.Table offset) = (offset % 4 ≡ 0) × (offset + 4 ≤ length object.extab)
 
 pub record RowLies (object : Object) (row : IndexRow) : Type 0 where

@@ -3,3 +3,4 @@ pub mod Table
 pub mod CutLaws
 pub mod RowLaws
 pub mod CutSteps
+pub mod RowBytes

@@ -5,6 +5,7 @@ use Rattle.std.proofs.lemmas.Bool.Decides.{nat_tests}
 use Rattle.std.proofs.lemmas.Int.{ints}
 use Rattle.eh_word.specs.Words.{moved, prel31_of}
 use Rattle.unwind_codes.specs.declared.row.EntryBody.TheVariants.{CantUnwind, Inline, Table}
+use Rattle.unwind_codes.specs.declared.words.TheConstants.{COMPACT_MARK}
 use Rattle.unwind_codes.specs.Rows.{prel31_to}
 use Rattle.unwind_codes.specs.Laws.{RowsReadBack}
 
@@ -22,14 +23,14 @@ pub law_of_rows : RowsReadBack
 law_of_rows place CantUnwind p whole h = refl
 law_of_rows place (Inline word) p whole h =
     let a : (word == 1) ≡ false = grind (arith, nat_tests) in
-    let b : nat_le (2 ^ 31) word ≡ true = grind (arith, nat_tests) in
+    let b : nat_le COMPACT_MARK word ≡ true = grind (arith, nat_tests) in
     rw (a, b) refl
 law_of_rows place (Table address) p whole h =
     let low : address < 2 ^ 30 = h.0 in
     let even : address % 4 ≡ 0 = h.1 in
     let n : ℕ = prel31_to place address in
     let a : (n == 1) ≡ false = not_one n (omega arith) in
-    let b : nat_le (2 ^ 31) n ≡ false = grind (arith, nat_tests) in
+    let b : nat_le COMPACT_MARK n ≡ false = grind (arith, nat_tests) in
     rw (a, b) (ap Table (seen_back place address p low))
   where
     not_one : (n : ℕ) → n % 4 ≡ 0 → (n == 1) ≡ false

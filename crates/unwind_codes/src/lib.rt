@@ -2,13 +2,15 @@
 //! the unwinding instructions with their bytes and effects, the words of an entry, and the rows of the index.
 #![tactic(auto)]
 
-ghost use Rattle.unwind_codes.specs.Laws.{CodesAreCut, NumbersRead, RowsReadBack};
+ghost use Rattle.unwind_codes.specs.Laws.{CodesAreCut, NumbersRead, RowsReadBack, RowsSay, RowsAreRead};
 
 pub mod code;
 pub mod row;
+pub mod words;
 
 pub use code::{Code, push_code};
-pub use row::{Entry, EntryBody, body_of, entry_of, prel31_to, second_word};
+pub use row::{Entry, EntryBody, body_of, entry_of, prel31_to, push_row, push_rows, second_word};
+pub use words::{code_words_behind, personality_of_word};
 
 /// Bytes are cut into the codes that they were written for: in front of any bytes, the bytes of codes that the standard has are
 /// cut into just these codes, and what stands behind them is cut as if it stood alone. The number in a long raise is read as it was
@@ -18,7 +20,11 @@ pub fn codes_are_cut_as_written()
     ensures numbers { NumbersRead }
 {}
 
-/// A row of the index is read as it was written, from any place below 2^30 and for tables there.
+/// The bytes of rows say what the rows say: each row has eight of them, its first word leads from its own place to the function's
+/// start, and its second word is 1, the entry, or leads from its own place to the table. Bytes that say a row are read as that row,
+/// without bit 0 of its start. All places are below 2^30, and the tables there stand at multiples of 4.
 pub fn rows_read_back()
-    ensures { RowsReadBack }
+    ensures second { RowsReadBack }
+    ensures say { RowsSay }
+    ensures read { RowsAreRead }
 {}
