@@ -24,7 +24,7 @@ use Rattle.asm_object.specs.ObjectLaw.{symbol_place, SymbolsStandAtTheirLabels}
 use Rattle.asm_object.proofs.PlaceLaws.{law_of_ends, none_behind, walks_on, not_large}
 use Rattle.asm_object.proofs.ObjectLaws.{IsTaken, taken, ends_small, entries_count, both_none}
 
-abbrev names_of : List Named → List (List ℕ)
+abbrev pub names_of : List Named → List (List ℕ)
 names_of labels = map (λ label. label.name) labels
 
 abbrev the_none : List Named
@@ -54,7 +54,7 @@ fault_none true line h = absurd (cc)
 fault_none false line h = refl
 
 -- a label that is no duplicate is not among those before it
-new_there : (entries : List (Option EntryWords)) (labels : List Named) (walk : Walk) (before : List Stmt) (line : ℕ) (name : List ℕ) (more : List Stmt)
+pub new_there : (entries : List (Option EntryWords)) (labels : List Named) (walk : Walk) (before : List Stmt) (line : ℕ) (name : List ℕ) (more : List Stmt)
     → duplicates_from (names_of labels) (before ++ record { line = line; kind = Label name } ∷ more) ≡ []
     → is_among name (labels ++ labels_from entries labels walk before) ≡ false
 unfolding duplicates_from labels_from
@@ -103,11 +103,11 @@ find_skip name (label ∷ front) more e = by (same_bytes name label.name) e (fin
     by true e h = absurd (true≢false e)
     by false e h = h e
 
-abbrev label_stmt : ℕ → List ℕ → Stmt
+abbrev pub label_stmt : ℕ → List ℕ → Stmt
 label_stmt line name = record { line = line; kind = Label name }
 
 -- labels from a place of the walk on: the label is found where the statements before it end
-label_there : (entries : List (Option EntryWords)) (labels : List Named) (walk : Walk) (before : List Stmt) (line : ℕ) (name : List ℕ) (more : List Stmt)
+pub label_there : (entries : List (Option EntryWords)) (labels : List Named) (walk : Walk) (before : List Stmt) (line : ℕ) (name : List ℕ) (more : List Stmt)
     → is_among name (labels ++ labels_from entries labels walk before) ≡ false
     → find name (labels_from entries labels walk (before ++ label_stmt line name ∷ more)) ≡ Some (here (walk_behind entries walk before).at)
 unfolding labels_from walk_behind
