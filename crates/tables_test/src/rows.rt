@@ -1,6 +1,9 @@
-//! Rows of the exception index: their second words, and the addresses that they lead to.
+//! Rows of the exception index: their bytes, their second words, and the addresses that they lead to.
 use std::test::Fail;
-use unwind_codes::{Code, Entry, EntryBody, body_of, entry_of, prel31_to, push_code, second_word};
+use unwind_codes::{
+    Code, Entry, EntryBody, body_of, code_words_behind, entry_of, personality_of_word, prel31_to,
+    push_code, push_row, push_rows, second_word,
+};
 
 #[test]
 fn second_words(rt: HostRuntime) {
@@ -28,6 +31,59 @@ fn rows_of_two_words(rt: HostRuntime) {
         body: EntryBody::CantUnwind,
     };
     assert_eq!(rt; row, want);
+}
+
+#[test]
+fn bytes_of_rows(rt: HostRuntime) -> Result<(), Fail> {
+    let rows = [
+        Entry {
+            start: 0x8000,
+            body: EntryBody::Table(0x8A00),
+        },
+        Entry {
+            start: 0x8010,
+            body: EntryBody::Inline(0x80A8_B0B0),
+        },
+        Entry {
+            start: 0x8020,
+            body: EntryBody::CantUnwind,
+        },
+    ];
+    let mut bytes = vec![in rt.alloc(); 0xEE]?;
+    push_rows(&mut bytes, 0x9000, &rows)?;
+    assert_eq!(rt;
+        bytes.as_slice(),
+        [
+            0xEE, //
+            0x00, 0xF0, 0xFF, 0x7F, 0xFC, 0xF9, 0xFF, 0x7F, //
+            0x08, 0xF0, 0xFF, 0x7F, 0xB0, 0xB0, 0xA8, 0x80, //
+            0x10, 0xF0, 0xFF, 0x7F, 0x01, 0x00, 0x00, 0x00,
+        ]
+        .as_slice()
+    );
+    Ok(())
+}
+
+#[test]
+fn a_row_at_the_last_word(rt: HostRuntime) -> Result<(), Fail> {
+    let row = Entry {
+        start: 0,
+        body: EntryBody::Table(0x100),
+    };
+    let mut bytes = Vec::new(rt.alloc());
+    push_row(&mut bytes, 0xFFFF_FFFC, row)?;
+    assert_eq!(rt; bytes.as_slice(), [4, 0, 0, 0, 0, 1, 0, 0].as_slice());
+    Ok(())
+}
+
+#[test]
+fn first_words_of_entries(rt: HostRuntime) {
+    assert_eq!(rt; personality_of_word(0x80A8_B0B0), 0);
+    assert_eq!(rt; code_words_behind(0x80A8_B0B0), 0);
+    assert_eq!(rt; personality_of_word(0x8102_9C80), 1);
+    assert_eq!(rt; code_words_behind(0x8102_9C80), 2);
+    assert_eq!(rt; personality_of_word(0x82FF_B0B0), 2);
+    assert_eq!(rt; code_words_behind(0x82FF_B0B0), 255);
 }
 
 #[test]
