@@ -21,7 +21,7 @@ struct Calls {
     writes: &'static [State],
 }
 
-static CALLS: [Calls; 5] = [
+static CALLS: [Calls; 6] = [
     Calls {
         words: &["flat", "c.bin", "15"],
         held: &[("c.bin", COUNT)],
@@ -66,6 +66,16 @@ static CALLS: [Calls; 5] = [
         files: &[(0, b"A"), (0, b"A")],
         reads: &[(0, b"A"), (1, b"")],
         writes: &[(0, b""), (1, b""), (11, b"")],
+    },
+    Calls {
+        // it asks for no file and reads nothing: the counts of four lines are a write, and the end line is one
+        words: &["gen", "1", "4"],
+        held: &[],
+        input: b"AB",
+        status: 0,
+        files: &[],
+        reads: &[],
+        writes: &[(0, b"AB"), (43, b"AB")],
     },
 ];
 

@@ -18,6 +18,8 @@ mod checks;
 #[cfg(test)]
 mod faults;
 #[cfg(test)]
+mod generated;
+#[cfg(test)]
 mod images;
 #[cfg(test)]
 mod inputs;
