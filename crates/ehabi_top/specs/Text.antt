@@ -6,53 +6,14 @@ use Rattle.eh_trace.specs.declared.event.EventKind.TheVariants.{Throw, Rethrow, 
 use Rattle.elf_image.specs.Fault.{fault_name as image_name}
 use Rattle.elf_image.specs.declared.fault.ImageFault.{ImageFault}
 use Rattle.elf_image.specs.declared.fault.ImageFault.TheVariants.{Truncated}
-use Rattle.thumb_core.specs.declared.ends.Cause.{Cause}
-use Rattle.thumb_core.specs.declared.ends.Cause.TheVariants.{NoHandler, CannotUnwind, NoThrow, LeavesCleanup, Unexpected, NothingCaught, PoolFull, Called}
+use Rattle.thumb_core.specs.EndNames.{kind_name, cause_name}
 use Rattle.thumb_core.specs.declared.ends.End.{End}
 use Rattle.thumb_core.specs.declared.ends.End.TheVariants.{Exit, Terminate, Trap, Budget, ReadFault, WriteFault}
-use Rattle.thumb_core.specs.declared.ends.TrapKind.{TrapKind}
-use Rattle.thumb_core.specs.declared.ends.TrapKind.TheVariants.{Undefined, Unpredictable, NotInProfile, EvenTarget, Unmapped, Unaligned, ReadOnly, SavedSlot, Protected, NotExecutable, FellOff, SpInCleanup, StackLimit, BadCallTarget, UnknownGate, BadObject, BadUcb, TooBig, BadType, CaughtOrder, NoCaught, NoCleanup, CleanupElsewhere, ObjectRead}
 
 abbrev pub usage : List ℕ
 usage = codes "usage: ehabi_run flat FILE N | build FILE.. | check FILE.. | run FILE.. N | gen K M\n"
 
 -- ---- the last line of a run
-
-abbrev pub kind_name : TrapKind → List ℕ
-kind_name Undefined = codes "Undefined"
-kind_name Unpredictable = codes "Unpredictable"
-kind_name NotInProfile = codes "NotInProfile"
-kind_name EvenTarget = codes "EvenTarget"
-kind_name Unmapped = codes "Unmapped"
-kind_name Unaligned = codes "Unaligned"
-kind_name ReadOnly = codes "ReadOnly"
-kind_name SavedSlot = codes "SavedSlot"
-kind_name Protected = codes "Protected"
-kind_name NotExecutable = codes "NotExecutable"
-kind_name FellOff = codes "FellOff"
-kind_name SpInCleanup = codes "SpInCleanup"
-kind_name StackLimit = codes "StackLimit"
-kind_name BadCallTarget = codes "BadCallTarget"
-kind_name UnknownGate = codes "UnknownGate"
-kind_name BadObject = codes "BadObject"
-kind_name BadUcb = codes "BadUcb"
-kind_name TooBig = codes "TooBig"
-kind_name BadType = codes "BadType"
-kind_name CaughtOrder = codes "CaughtOrder"
-kind_name NoCaught = codes "NoCaught"
-kind_name NoCleanup = codes "NoCleanup"
-kind_name CleanupElsewhere = codes "CleanupElsewhere"
-kind_name ObjectRead = codes "ObjectRead"
-
-abbrev pub cause_name : Cause → List ℕ
-cause_name NoHandler = codes "NoHandler"
-cause_name CannotUnwind = codes "CannotUnwind"
-cause_name NoThrow = codes "NoThrow"
-cause_name LeavesCleanup = codes "LeavesCleanup"
-cause_name Unexpected = codes "Unexpected"
-cause_name NothingCaught = codes "NothingCaught"
-cause_name PoolFull = codes "PoolFull"
-cause_name Called = codes "Called"
 
 -- a fault of the source or the sink has none
 abbrev pub end_line : End → List ℕ

@@ -2,64 +2,16 @@
 ghost use Rattle.std.specs.Prelude.{◌≡◌, ◌≤◌, ◌+◌, ◌++◌, [], length};
 ghost use Rattle.arrayvec.specs.ArrayVec.{array_vec_len};
 ghost use Rattle.eh_digits.specs.Address.{address_text};
-ghost use Rattle.ehabi_top.specs.Text.{kind_name, cause_name, end_line, refusal_line, behind_blank, image_fault_line};
+ghost use Rattle.ehabi_top.specs.Text.{end_line, refusal_line, behind_blank, image_fault_line};
 
 use arrayvec::ArrayVec;
 use eh_digits::address_text;
 use elf_image::ImageFault;
 use itoa::Buffer;
-use thumb_core::ends::{Cause, End, TrapKind};
+use thumb_core::ends::End;
 
 /// A line, with room for the longest.
 pub type Line = ArrayVec<u8, 80>;
-
-fn kind_name(kind: TrapKind) -> &'static [u8]
-    ensures name { result.now ≡ kind_name kind }
-    ensures short { length result.now ≤ 16 }
-{
-    match kind {
-        TrapKind::Undefined => b"Undefined",
-        TrapKind::Unpredictable => b"Unpredictable",
-        TrapKind::NotInProfile => b"NotInProfile",
-        TrapKind::EvenTarget => b"EvenTarget",
-        TrapKind::Unmapped => b"Unmapped",
-        TrapKind::Unaligned => b"Unaligned",
-        TrapKind::ReadOnly => b"ReadOnly",
-        TrapKind::SavedSlot => b"SavedSlot",
-        TrapKind::Protected => b"Protected",
-        TrapKind::NotExecutable => b"NotExecutable",
-        TrapKind::FellOff => b"FellOff",
-        TrapKind::SpInCleanup => b"SpInCleanup",
-        TrapKind::StackLimit => b"StackLimit",
-        TrapKind::BadCallTarget => b"BadCallTarget",
-        TrapKind::UnknownGate => b"UnknownGate",
-        TrapKind::BadObject => b"BadObject",
-        TrapKind::BadUcb => b"BadUcb",
-        TrapKind::TooBig => b"TooBig",
-        TrapKind::BadType => b"BadType",
-        TrapKind::CaughtOrder => b"CaughtOrder",
-        TrapKind::NoCaught => b"NoCaught",
-        TrapKind::NoCleanup => b"NoCleanup",
-        TrapKind::CleanupElsewhere => b"CleanupElsewhere",
-        TrapKind::ObjectRead => b"ObjectRead",
-    }
-}
-
-fn cause_name(cause: Cause) -> &'static [u8]
-    ensures name { result.now ≡ cause_name cause }
-    ensures short { length result.now ≤ 16 }
-{
-    match cause {
-        Cause::NoHandler => b"NoHandler",
-        Cause::CannotUnwind => b"CannotUnwind",
-        Cause::NoThrow => b"NoThrow",
-        Cause::LeavesCleanup => b"LeavesCleanup",
-        Cause::Unexpected => b"Unexpected",
-        Cause::NothingCaught => b"NothingCaught",
-        Cause::PoolFull => b"PoolFull",
-        Cause::Called => b"Called",
-    }
-}
 
 /// Puts a text behind a line that has room for it.
 pub(crate) fn append(line: &mut Line, text: &[u8])
@@ -83,12 +35,12 @@ pub fn end_line(end: End) -> Line
         }
         End::Terminate(cause) => {
             append(&mut line, b"-- terminate ");
-            append(&mut line, cause_name(cause));
+            append(&mut line, cause.name());
             append(&mut line, b"\n");
         }
         End::Trap(kind, value, pc) => {
             append(&mut line, b"-- trap ");
-            append(&mut line, kind_name(kind));
+            append(&mut line, kind.name());
             append(&mut line, b" ");
             append(&mut line, &address_text(value));
             append(&mut line, b" at ");
