@@ -15,6 +15,7 @@ pub fn is_wide(first: u16) -> bool
 
 /// The meaning of a pair of halfwords by the instruction table. The second matters only where `is_wide` holds of the
 /// first.
+#[inline(always)]
 #[tactic(auto, using(crate::proofs::Table::table, crate::proofs::Laws::alone, crate::proofs::Laws::sized))]
 pub fn decode(first: u16, second: u16) -> Decoded
     ensures row { result ≡ decoded_of first second }
