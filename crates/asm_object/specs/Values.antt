@@ -7,6 +7,7 @@ use Rattle.asm_layout.specs.declared.word.Word.{Word}
 use Rattle.asm_layout.specs.declared.word.Word.TheVariants as word
 use Rattle.asm_layout.specs.Words.{low_word, is_local}
 use Rattle.asm_object.specs.declared.relocation.TheConstants.{R_ARM_ABS32, R_ARM_REL32, R_ARM_TARGET2, R_ARM_PREL31}
+use Rattle.unwind_codes.specs.declared.words.TheConstants.{REFERENCE_MARK}
 use Rattle.asm_layout.specs.Walks.{same_section}
 use Rattle.asm_layout.specs.Labels.{Named, find}
 
@@ -49,7 +50,7 @@ low_or_zero None = 0
 abbrev pub held : List Named → Word → ℕ
 held labels (word.Num n) = n
 held labels (word.Diff a b n) = low_or_zero (plus (distance labels a b) (pos n))
-held labels (word.Prel31Ref _) = 0x80000000
+held labels (word.Prel31Ref _) = REFERENCE_MARK
 held labels _ = 0
 
 -- a number modulo 2^32 as a signed number

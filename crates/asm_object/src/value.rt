@@ -9,8 +9,9 @@ use asm_layout::labels::Labels;
 use asm_layout::word::{Word, is_local, low_number};
 use asm_read::Expr;
 use eh_word::Name;
+use unwind_codes::words::REFERENCE_MARK;
 
-/// Bit 31.
+/// Bit 31: as a signed number, one that has it is below 0.
 const TOP_BIT: u32 = 0x8000_0000;
 
 /// Whether a name may be used: a local one has a label.
@@ -73,7 +74,7 @@ pub fn held(labels: &Labels, word: &Word) -> u32
             Some(distance) => low_number(distance + i128::from(*n)),
             None => 0,
         },
-        Word::Prel31Ref(_) => TOP_BIT,
+        Word::Prel31Ref(_) => REFERENCE_MARK,
         _ => 0,
     }
 }
