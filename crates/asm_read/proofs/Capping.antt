@@ -1,24 +1,25 @@
 -- A number counted to 2 ^ 33 is of the same kind.
 use Rattle.std.proofs.Common.{◌≡◌, ℕ, ◌+◌, ◌*◌, min, Bool, true, false, List, [], ◌∷◌, drop, Option, Some, None, option_and_then, if◌then◌else◌, refl, ap, ◌∙◌, arith}
 use Rattle.std.proofs.lemmas.Bool.Decides.{nat_tests}
+use Rattle.asm_read.specs.declared.token.TheConstants.{MANY}
 use Rattle.asm_read.specs.Tokens.{hex_digit, decimal_digit, is_hexadecimal, number_from, number_of, kind_of_number}
 use Rattle.asm_read.specs.Capped.{capped_from, capped_number}
 
 -- the least of the number and 2 ^ 33
 abbrev cut : Option ℕ → Option ℕ
 cut None = None
-cut (Some n) = Some (min 8589934592 n)
+cut (Some n) = Some (min MANY n)
 
-ten : (n d : ℕ) → min 8589934592 (min 8589934592 n * 10 + d) ≡ min 8589934592 (n * 10 + d)
+ten : (n d : ℕ) → min MANY (min MANY n * 10 + d) ≡ min MANY (n * 10 + d)
 ten n d = omega arith
 
-sixteen : (n d : ℕ) → min 8589934592 (min 8589934592 n * 16 + d) ≡ min 8589934592 (n * 16 + d)
+sixteen : (n d : ℕ) → min MANY (min MANY n * 16 + d) ≡ min MANY (n * 16 + d)
 sixteen n d = omega arith
 
-capped : (digit : ℕ → Option ℕ) (base : ℕ) → ((n d : ℕ) → min 8589934592 (min 8589934592 n * base + d) ≡ min 8589934592 (n * base + d)) → (bs : List ℕ) (n : ℕ) → capped_from digit base (min 8589934592 n) bs ≡ cut (number_from digit base n bs)
+capped : (digit : ℕ → Option ℕ) (base : ℕ) → ((n d : ℕ) → min MANY (min MANY n * base + d) ≡ min MANY (n * base + d)) → (bs : List ℕ) (n : ℕ) → capped_from digit base (min MANY n) bs ≡ cut (number_from digit base n bs)
 capped digit base step [] n = refl
 capped digit base step (b ∷ bs) n =
-    elim (digit b) as (λ o. option_and_then (λ d. capped_from digit base (min 8589934592 (min 8589934592 n * base + d)) bs) o ≡ cut (option_and_then (λ d. number_from digit base (n * base + d) bs) o)) [
+    elim (digit b) as (λ o. option_and_then (λ d. capped_from digit base (min MANY (min MANY n * base + d)) bs) o ≡ cut (option_and_then (λ d. number_from digit base (n * base + d) bs) o)) [
       | None ↦ refl
       | Some d ↦ ap (λ m. capped_from digit base m bs) (step n d) ∙ capped digit base step bs (n * base + d)
     ]

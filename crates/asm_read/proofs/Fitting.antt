@@ -2,7 +2,7 @@
 use Rattle.std.proofs.lemmas.List.{drop_all}
 use Rattle.std.proofs.Common.{◌<◌, ◌≤◌, ◌+◌, suc, length, drop, map, get_or, drop-cons, arith, ◌≡◌, ℕ, List, [], ◌∷◌, Option, Ok, Err, refl, ap, ◌∙◌}
 use Rattle.asm_read.specs.declared.line.Stop.{Stop}
-use Rattle.asm_read.specs.Forms.{Row, form_of, Form}
+use Rattle.asm_read.specs.Forms.{CodeRow, row_of, TableRow}
 use Rattle.asm_read.specs.Search.{try_form, otherwise, first_fit}
 use Rattle.asm_read.specs.declared.form.Piece.{Piece}
 use Rattle.asm_read.specs.declared.form.Operands.{Operands}
@@ -37,9 +37,9 @@ pub first_fit_none : (word line : List ℕ) (from : ℕ) (best : Option Stop) �
 unfolding first_fit
 first_fit_none word line from best = refl
 
-pub first_fit_step : (f : Form) (fs : List Form) (word line : List ℕ) (from : ℕ) (best : Option Stop) → first_fit (f ∷ fs) word line from best ≡ otherwise (try_form f word line from best) (λ b. first_fit fs word line from b)
+pub first_fit_step : (f : TableRow) (fs : List TableRow) (word line : List ℕ) (from : ℕ) (best : Option Stop) → first_fit (f ∷ fs) word line from best ≡ otherwise (try_form f word line from best) (λ b. first_fit fs word line from b)
 unfolding first_fit
 first_fit_step f fs word line from best = refl
 
-pub rows_end : (rows : List Row) (i : ℕ) (word line : List ℕ) (from : ℕ) (best : Option Stop) → length rows ≤ i → first_fit (map form_of (drop i rows)) word line from best ≡ Err best
-rows_end rows i word line from best h = ap (λ rs. first_fit (map form_of rs) word line from best) (drop_all i rows h) ∙ first_fit_none word line from best
+pub rows_end : (rows : List CodeRow) (i : ℕ) (word line : List ℕ) (from : ℕ) (best : Option Stop) → length rows ≤ i → first_fit (map row_of (drop i rows)) word line from best ≡ Err best
+rows_end rows i word line from best h = ap (λ rs. first_fit (map row_of rs) word line from best) (drop_all i rows h) ∙ first_fit_none word line from best

@@ -4,6 +4,7 @@ pub mod Capped
 pub mod Operands
 pub mod Expressions
 pub mod Fits
+pub mod Patterns
 pub mod Forms
 pub mod Search
 pub mod Plans

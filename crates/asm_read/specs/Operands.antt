@@ -1,12 +1,13 @@
 -- Operands at a place of a line: what stands there and the place behind it, or where reading stops and why
 -- (docs/source-language.md, "Statements").
-use Rattle.std.specs.Prelude.{ℕ, ◌-◌, ◌*◌, ◌/◌, ◌%◌, ◌^◌, ◌==◌, ◌&&◌, nat_eq, nat_lt, nat_le, Bool, true, false, if◌then◌else◌, List, [], length, slice_index, slice_range, Option, Some, None, Result, Ok, Err, ℤ, pos, codes, bit_or, zero, suc, int_le}
+use Rattle.std.specs.Prelude.{ℕ, ◌+◌, ◌-◌, ◌*◌, ◌/◌, ◌%◌, ◌^◌, ◌==◌, ◌&&◌, nat_eq, nat_lt, nat_le, Bool, true, false, if◌then◌else◌, List, [], length, slice_index, slice_range, Option, Some, None, Result, Ok, Err, ℤ, pos, codes, bit_or, zero, suc, int_le}
 use Rattle.std.specs.Cmp.Lexicographic.{pointwise}
 use Rattle.asm_read.specs.declared.fault.SourceWhat.{SourceWhat}
 use Rattle.asm_read.specs.declared.fault.SourceWhat.TheVariants.{BadToken, BadOperand, NumberRange}
 use Rattle.asm_read.specs.declared.token.Kind.{Kind}
 use Rattle.asm_read.specs.declared.token.Kind.TheVariants.{Word, Number, Wide, Quoted, Mark, Bad}
 use Rattle.asm_read.specs.declared.token.Token.{Token}
+use Rattle.asm_read.specs.declared.line.TheConstants.{SP, LR, PC}
 use Rattle.asm_read.specs.declared.line.Span.{Span}
 use Rattle.asm_read.specs.declared.line.Stop.{Stop}
 use Rattle.asm_read.specs.declared.line.Register.{Register}
@@ -52,11 +53,11 @@ name_of line token = name_in line (span token.start token.end) token.kind
 -- r0 to r12, sp, lr and pc
 abbrev pub register_of : List ℕ → Option ℕ
 register_of name =
-    if same name (codes "sp") then Some 13
-    else if same name (codes "lr") then Some 14
-    else if same name (codes "pc") then Some 15
+    if same name (codes "sp") then Some SP
+    else if same name (codes "lr") then Some LR
+    else if same name (codes "pc") then Some PC
     else if length name == 2 && slice_index name 0 == 114 && is_digit (slice_index name 1) then Some (slice_index name 1 - 48)
-    else if length name == 3 && slice_index name 0 == 114 && slice_index name 1 == 49 && within 48 50 (slice_index name 2) then Some (slice_index name 2 - 38)
+    else if length name == 3 && slice_index name 0 == 114 && slice_index name 1 == 49 && within 48 50 (slice_index name 2) then Some (10 + (slice_index name 2 - 48))
     else None
 
 abbrev pub register_in : Token → Option ℕ → Result Register Stop

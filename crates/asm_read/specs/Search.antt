@@ -10,16 +10,17 @@ use Rattle.asm_read.specs.declared.makes.Makes.{Makes}
 use Rattle.asm_read.specs.declared.choice.Statement.{Statement}
 use Rattle.asm_read.specs.Operands.{same}
 use Rattle.asm_read.specs.Fits.{fresh, fits}
-use Rattle.asm_read.specs.Forms.{Form}
+use Rattle.asm_read.specs.Patterns.{pieces_of}
+use Rattle.asm_read.specs.Forms.{TableRow}
 
 -- whether a word stands before another, byte by byte
 abbrev pub is_before : List ℕ → List ℕ → Bool
 is_before word other = is_lt (slice_cmp nat_cmp word other)
 
--- whether no word of these forms stands before the one that comes before it
-abbrev pub rises : List ℕ → List Form → Bool
+-- whether no word of these rows stands before the one that comes before it
+abbrev pub rises : List ℕ → List TableRow → Bool
 rises low [] = true
-rises low (f ∷ fs) = not (is_before f.word low) && rises f.word fs
+rises low (row ∷ more) = not (is_before row.word low) && rises row.word more
 
 abbrev pub is_operand : SourceWhat → Bool
 is_operand BadOperand = true
@@ -35,17 +36,17 @@ abbrev pub tried : Makes → Option Stop → Result Operands Stop → Result Sta
 tried makes best (Ok o) = Ok (record { makes = makes; operands = o })
 tried makes best (Err s) = Err (Some (farther best s))
 
--- one form: it begins with another word, it fits, or it stops
-unfoldable pub try_form : Form → List ℕ → List ℕ → ℕ → Option Stop → Result Statement (Option Stop)
-try_form f word line from best =
-    if same f.word word then tried f.makes best (fits f.pieces line (fresh from)) else Err best
+-- one row's form: it begins with another word, it fits, or it stops
+unfoldable pub try_form : TableRow → List ℕ → List ℕ → ℕ → Option Stop → Result Statement (Option Stop)
+try_form row word line from best =
+    if same row.word word then tried row.form.makes best (fits (pieces_of row.form.operands) line (fresh from)) else Err best
 
 abbrev pub otherwise : Result Statement (Option Stop) → (Option Stop → Result Statement (Option Stop)) → Result Statement (Option Stop)
 otherwise (Ok s) more = Ok s
 otherwise (Err best) more = more best
 
 -- the first of these forms that begins with a word and fits; else the farthest stop, where one begins with it
-unfoldable pub first_fit : List Form → List ℕ → List ℕ → ℕ → Option Stop → Result Statement (Option Stop)
+unfoldable pub first_fit : List TableRow → List ℕ → List ℕ → ℕ → Option Stop → Result Statement (Option Stop)
 first_fit [] word line from best = Err best
-first_fit (f ∷ fs) word line from best =
-    otherwise (try_form f word line from best) (λ b. first_fit fs word line from b)
+first_fit (row ∷ more) word line from best =
+    otherwise (try_form row word line from best) (λ b. first_fit more word line from b)

@@ -5,6 +5,7 @@ use Rattle.asm_read.specs.declared.token.Kind.{Kind}
 use Rattle.asm_read.specs.declared.token.Kind.TheVariants.{Word, Number, Wide, Quoted, Mark, End, Bad}
 use Rattle.asm_read.specs.declared.token.Front.{Front}
 use Rattle.asm_read.specs.declared.token.Token.{Token}
+use Rattle.asm_read.specs.declared.token.TheConstants.{GREATEST, FARTHEST_BELOW}
 
 -- bytes from one to another
 abbrev pub within : ℕ → ℕ → ℕ → Bool
@@ -34,7 +35,7 @@ escape_of b =
 -- the value of a hexadecimal digit
 abbrev pub hex_digit : ℕ → Option ℕ
 hex_digit b =
-    if is_digit b then Some (b - 48) else if within 97 102 b then Some (b - 87) else if within 65 70 b then Some (b - 55) else None
+    if is_digit b then Some (b - 48) else if within 97 102 b then Some (10 + (b - 97)) else if within 65 70 b then Some (10 + (b - 65)) else None
 
 abbrev pub decimal_digit : ℕ → Option ℕ
 decimal_digit b = if is_digit b then Some (b - 48) else None
@@ -56,8 +57,8 @@ number_of run =
 -- a number within 32 bits, signed or unsigned, or one that is too wide, or none
 abbrev pub kind_of_number : Bool → Option ℕ → Kind
 kind_of_number negative None = Bad
-kind_of_number true (Some n) = if nat_le n 2147483648 then Number (pos 0 -ℤ pos n) else Wide
-kind_of_number false (Some n) = if nat_le n 4294967295 then Number (pos n) else Wide
+kind_of_number true (Some n) = if nat_le n FARTHEST_BELOW then Number (pos 0 -ℤ pos n) else Wide
+kind_of_number false (Some n) = if nat_le n GREATEST then Number (pos n) else Wide
 
 abbrev pub front : Kind → ℕ → Front
 front kind len = record { kind = kind; len = len }

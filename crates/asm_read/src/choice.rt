@@ -2,13 +2,15 @@
 ghost use Rattle.std.specs.Prelude.{◌≡◌, ◌≤◌, ◌⊎◌, [], true, length, map, Option, None, IfErr, IfSome, MatchOption};
 ghost use Rattle.std.specs.List.{prefix_len};
 ghost use Rattle.asm_read.specs.Fits.{fresh, fits};
-ghost use Rattle.asm_read.specs.Forms.{Row as FormRow, form_of, rows};
+ghost use Rattle.asm_read.specs.Forms.{CodeRow, row_of, rows};
+ghost use Rattle.asm_read.specs.Patterns.{pieces_of};
 ghost use Rattle.asm_read.specs.Search.{farther, is_operand, is_before, rises, tried, first_fit};
 
 use crate::fault::SourceWhat;
 use crate::form::{Operands, fits, fresh};
 use crate::line::Stop;
 use crate::makes::Makes;
+use crate::pattern::pieces_of;
 use crate::table::{Group, Row, forms_in};
 
 /// A statement: what its form makes, and its operands.
@@ -54,12 +56,15 @@ fn try_form(
 ) -> Result<Statement, Option<Stop>>
     requires from { from ≤ length line.now }
     requires best { IfSome best (λ s. s.at ≤ length line.now) }
-    ensures fit { let form = form_of row.now in result ≡ tried form.makes best (fits form.pieces line.now (fresh from)) }
+    ensures fit { let form = (row_of row.now).form in result ≡ tried form.makes best (fits (pieces_of form.operands) line.now (fresh from)) }
     ensures stop { IfErr result (λ b. IfSome b (λ s. s.at ≤ length line.now)) }
 {
-    let (_, pieces, makes) = *row;
-    match fits(pieces, line, fresh(from)) {
-        Ok(operands) => Ok(Statement { makes, operands }),
+    let (_, form) = *row;
+    match fits(pieces_of(form.operands), line, fresh(from)) {
+        Ok(operands) => Ok(Statement {
+            makes: form.makes,
+            operands,
+        }),
         Err(stop) => Err(Some(farther(best, stop))),
     }
 }
@@ -74,8 +79,8 @@ fn is_before(word: &[u8], other: &[u8]) -> bool
 
 /// How many of these forms have words before a word.
 fn begin_of(rows: &[Row], word: &[u8]) -> usize
-    requires { rises [] (map form_of rows.now) ≡ true }
-    ensures count { result ≡ prefix_len (λ (r : FormRow). is_before (form_of r).word word.now) rows.now }
+    requires { rises [] (map row_of rows.now) ≡ true }
+    ensures count { result ≡ prefix_len (λ (r : CodeRow). is_before (row_of r).word word.now) rows.now }
     ensures within { result ≤ length rows.now }
 {
     rows.partition_point(|row| is_before(row.0, word))
@@ -86,8 +91,8 @@ fn begin_of(rows: &[Row], word: &[u8]) -> usize
 #[tactic(auto, using(crate::proofs::Rising::row_other, crate::proofs::Rising::row_hit, crate::proofs::Rising::row_miss, crate::proofs::Rising::row_rises, crate::proofs::Fitting::rows_end))]
 fn first_fit(rows: &[Row], word: &[u8], line: &[u8], from: usize) -> Result<Statement, Option<Stop>>
     requires from { from ≤ length line.now }
-    requires rise { rises word.now (map form_of rows.now) ≡ true }
-    ensures fit { result ≡ first_fit (map form_of rows.now) word.now line.now from None }
+    requires rise { rises word.now (map row_of rows.now) ≡ true }
+    ensures fit { result ≡ first_fit (map row_of rows.now) word.now line.now from None }
     ensures stop { IfErr result (λ b. IfSome b (λ s. s.at ≤ length line.now)) }
 {
     let mut so_far = None;

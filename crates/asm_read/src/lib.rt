@@ -8,6 +8,7 @@ pub mod fault;
 mod form;
 mod line;
 mod makes;
+mod pattern;
 mod plan;
 pub mod read;
 pub mod statement;

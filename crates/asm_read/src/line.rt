@@ -5,6 +5,13 @@ ghost use Rattle.asm_read.specs.Operands.{is_mark_of, bytes_of, register_of, sto
 use crate::fault::SourceWhat;
 use crate::token::{Kind, Token, token_at};
 
+/// The numbers of sp, lr and pc.
+pub const SP: u8 = 13;
+
+pub const LR: u8 = 14;
+
+pub const PC: u8 = 15;
+
 /// Bytes of a line, from one offset to another.
 #[derive(Clone, Copy)]
 pub struct Span {
@@ -80,17 +87,17 @@ fn register_of(name: &[u8]) -> Option<u8>
     ensures below { IfSome result (λ r. r < 16) }
 {
     if name == b"sp".as_slice() {
-        return Some(13);
+        return Some(SP);
     }
     if name == b"lr".as_slice() {
-        return Some(14);
+        return Some(LR);
     }
     if name == b"pc".as_slice() {
-        return Some(15);
+        return Some(PC);
     }
     match name {
         [b'r', digit] if *digit >= b'0' && *digit <= b'9' => Some(*digit - b'0'),
-        [b'r', b'1', digit] if *digit >= b'0' && *digit <= b'2' => Some(*digit - 38),
+        [b'r', b'1', digit] if *digit >= b'0' && *digit <= b'2' => Some(10 + (*digit - b'0')),
         _ => None,
     }
 }

@@ -1,8 +1,7 @@
 //! The forms of statements as tables (docs/source-language.md, "Statements" and "Directives").
 ghost use Rattle.std.specs.Prelude.{◌≡◌, map};
-ghost use Rattle.asm_read.specs.Forms.{form_of, group_of, forms_in};
+ghost use Rattle.asm_read.specs.Forms.{row_of, group_of, forms_in};
 
-use crate::form::Piece;
 use crate::makes::Computation::{
     AddRdSp, AddReg, AddSp, AddSubReg, AddSubThree, AddSubTwo, Alu, CmpImm, CmpReg, Extend, Mov,
     MovsImm, MovsReg, Rev, Rsbs, ShiftImm, SubSp,
@@ -18,10 +17,37 @@ use crate::makes::Named::{
     TypeObject, Words,
 };
 use crate::makes::Transfer::{Ldm, LdmBack, MemImm, MemReg, MemSp, Pop, Push, Stm};
+use crate::pattern::Pattern::{
+    self, BaseAlone, BaseBackList, BaseIndex, BaseList, BaseOffset, Count, NameFunction,
+    NameObject, NameSize, Nothing, OneName, OneNumber, OneRegister, OneText, Power, RegisterList,
+    RegisterName, RegisterNumber, RegisterSpCount, RegisterSpNumber, RegisterValue, RodataName,
+    SpAlone, SpNumber, SpOffset, ThreeRegisters, TwoRegisters, TwoRegistersNumber,
+    TwoRegistersZero, Values, WordValues,
+};
 
-/// A form: the word that it begins with, its operands, and the statement that it makes. The definitions name the tables
-/// below, which a struct with references would keep them from.
-pub type Row = (&'static [u8], &'static [Piece], Makes);
+/// A form: what stands behind its word, and the statement that it makes.
+#[derive(Clone, Copy)]
+pub struct Form {
+    pub operands: Pattern,
+    pub makes: Makes,
+}
+
+/// A row of a table: the word that a form begins with, and the form. The definitions name the tables below, which a
+/// struct with a reference would keep them from.
+pub type Row = (&'static [u8], Form);
+
+/// A row of a word, its operands, and what it makes.
+macro_rules! row {
+    ($word:expr, $operands:expr, $makes:expr) => {
+        (
+            $word,
+            Form {
+                operands: $operands,
+                makes: $makes,
+            },
+        )
+    };
+}
 
 /// The forms by the first byte of their word.
 #[derive(Clone, Copy)]
@@ -50,331 +76,161 @@ impl Group {
     }
 }
 
-const REGISTER_NUMBER: &[Piece] = &[
-    Piece::First,
-    Piece::Mark(b','),
-    Piece::Mark(b'#'),
-    Piece::Number,
-];
-
-const TWO_REGISTERS: &[Piece] = &[Piece::First, Piece::Mark(b','), Piece::Second];
-
-const THREE_REGISTERS: &[Piece] = &[
-    Piece::First,
-    Piece::Mark(b','),
-    Piece::Second,
-    Piece::Mark(b','),
-    Piece::Third,
-];
-
-const TWO_REGISTERS_NUMBER: &[Piece] = &[
-    Piece::First,
-    Piece::Mark(b','),
-    Piece::Second,
-    Piece::Mark(b','),
-    Piece::Mark(b'#'),
-    Piece::Number,
-];
-
-const REGISTER_SP_NUMBER: &[Piece] = &[
-    Piece::First,
-    Piece::Mark(b','),
-    Piece::Sp,
-    Piece::Mark(b','),
-    Piece::Mark(b'#'),
-    Piece::Number,
-];
-
-const SP_NUMBER: &[Piece] = &[
-    Piece::Sp,
-    Piece::Mark(b','),
-    Piece::Mark(b'#'),
-    Piece::Number,
-];
-
-const TWO_REGISTERS_ZERO: &[Piece] = &[
-    Piece::First,
-    Piece::Mark(b','),
-    Piece::Second,
-    Piece::Mark(b','),
-    Piece::Mark(b'#'),
-    Piece::Zero,
-];
-
-const REGISTER_NAME: &[Piece] = &[Piece::First, Piece::Mark(b','), Piece::Name];
-
-const REGISTER_VALUE: &[Piece] = &[
-    Piece::First,
-    Piece::Mark(b','),
-    Piece::Mark(b'='),
-    Piece::Expression,
-];
-
-const SP_OFFSET: &[Piece] = &[
-    Piece::First,
-    Piece::Mark(b','),
-    Piece::Mark(b'['),
-    Piece::Sp,
-    Piece::Mark(b','),
-    Piece::Mark(b'#'),
-    Piece::Number,
-    Piece::Mark(b']'),
-];
-
-const SP_ALONE: &[Piece] = &[
-    Piece::First,
-    Piece::Mark(b','),
-    Piece::Mark(b'['),
-    Piece::Sp,
-    Piece::Mark(b']'),
-];
-
-const BASE_OFFSET: &[Piece] = &[
-    Piece::First,
-    Piece::Mark(b','),
-    Piece::Mark(b'['),
-    Piece::Second,
-    Piece::Mark(b','),
-    Piece::Mark(b'#'),
-    Piece::Number,
-    Piece::Mark(b']'),
-];
-
-const BASE_ALONE: &[Piece] = &[
-    Piece::First,
-    Piece::Mark(b','),
-    Piece::Mark(b'['),
-    Piece::Second,
-    Piece::Mark(b']'),
-];
-
-const BASE_INDEX: &[Piece] = &[
-    Piece::First,
-    Piece::Mark(b','),
-    Piece::Mark(b'['),
-    Piece::Second,
-    Piece::Mark(b','),
-    Piece::Third,
-    Piece::Mark(b']'),
-];
-
-const LIST: &[Piece] = &[Piece::Registers];
-
-const BASE_BACK_LIST: &[Piece] = &[
-    Piece::First,
-    Piece::Mark(b'!'),
-    Piece::Mark(b','),
-    Piece::Registers,
-];
-
-const BASE_LIST: &[Piece] = &[Piece::First, Piece::Mark(b','), Piece::RegistersWithFirst];
-
-const NAME: &[Piece] = &[Piece::Name];
-
-const REGISTER: &[Piece] = &[Piece::First];
-
-const NUMBER: &[Piece] = &[Piece::Mark(b'#'), Piece::Number];
-
-const NOTHING: &[Piece] = &[];
-
-const RODATA: &[Piece] = &[Piece::Rodata];
-
-const NAME_FUNCTION: &[Piece] = &[
-    Piece::Name,
-    Piece::Mark(b','),
-    Piece::Mark(b'%'),
-    Piece::Function,
-];
-
-const NAME_OBJECT: &[Piece] = &[
-    Piece::Name,
-    Piece::Mark(b','),
-    Piece::Mark(b'%'),
-    Piece::Object,
-];
-
-const NAME_SIZE: &[Piece] = &[
-    Piece::Name,
-    Piece::Mark(b','),
-    Piece::Dot,
-    Piece::Mark(b'-'),
-    Piece::SameName,
-];
-
-const WORD_EXPRESSIONS: &[Piece] = &[Piece::WordExpressions];
-
-const EXPRESSIONS: &[Piece] = &[Piece::Expressions];
-
-const TEXT: &[Piece] = &[Piece::Text];
-
-const COUNT: &[Piece] = &[Piece::MaybeHash, Piece::Number];
-
-const POWER: &[Piece] = &[Piece::MaybeHash, Piece::UpToThree];
-
-const REGISTER_SP_COUNT: &[Piece] = &[
-    Piece::First,
-    Piece::Mark(b','),
-    Piece::Sp,
-    Piece::Mark(b','),
-    Piece::MaybeHash,
-    Piece::Number,
-];
-
 /// Directives.
 pub static DIRECTIVES: [Row; 32] = [
-    (b".2byte", EXPRESSIONS, Names(Halves)),
-    (b".4byte", WORD_EXPRESSIONS, Names(Words)),
-    (b".align", POWER, Directs(Align)),
-    (b".ascii", TEXT, Names(Ascii)),
-    (b".asciz", TEXT, Names(Asciz)),
-    (b".bss", NOTHING, Directs(Bss)),
-    (b".byte", EXPRESSIONS, Names(Bytes)),
-    (b".cantunwind", NOTHING, Directs(CantUnwind)),
-    (b".data", NOTHING, Directs(Data)),
-    (b".fnend", NOTHING, Directs(FnEnd)),
-    (b".fnstart", NOTHING, Directs(FnStart)),
-    (b".global", NAME, Names(Global)),
-    (b".globl", NAME, Names(Global)),
-    (b".half", EXPRESSIONS, Names(Halves)),
-    (b".handlerdata", NOTHING, Directs(HandlerData)),
-    (b".long", WORD_EXPRESSIONS, Names(Words)),
-    (b".ltorg", NOTHING, Directs(Pool)),
-    (b".p2align", POWER, Directs(Align)),
-    (b".pad", COUNT, Directs(Pad)),
-    (b".personalityindex", COUNT, Directs(PersonalityIndex)),
-    (b".pool", NOTHING, Directs(Pool)),
-    (b".save", LIST, Directs(Save)),
-    (b".section", RODATA, Directs(Rodata)),
-    (b".setfp", REGISTER_SP_COUNT, Directs(SetFp)),
-    (b".short", EXPRESSIONS, Names(Halves)),
-    (b".size", NAME_SIZE, Names(Size)),
-    (b".space", COUNT, Directs(Space)),
-    (b".text", NOTHING, Directs(Text)),
-    (b".type", NAME_FUNCTION, Names(TypeFunction)),
-    (b".type", NAME_OBJECT, Names(TypeObject)),
-    (b".word", WORD_EXPRESSIONS, Names(Words)),
-    (b".zero", COUNT, Directs(Space)),
+    row!(b".2byte", Values, Names(Halves)),
+    row!(b".4byte", WordValues, Names(Words)),
+    row!(b".align", Power, Directs(Align)),
+    row!(b".ascii", OneText, Names(Ascii)),
+    row!(b".asciz", OneText, Names(Asciz)),
+    row!(b".bss", Nothing, Directs(Bss)),
+    row!(b".byte", Values, Names(Bytes)),
+    row!(b".cantunwind", Nothing, Directs(CantUnwind)),
+    row!(b".data", Nothing, Directs(Data)),
+    row!(b".fnend", Nothing, Directs(FnEnd)),
+    row!(b".fnstart", Nothing, Directs(FnStart)),
+    row!(b".global", OneName, Names(Global)),
+    row!(b".globl", OneName, Names(Global)),
+    row!(b".half", Values, Names(Halves)),
+    row!(b".handlerdata", Nothing, Directs(HandlerData)),
+    row!(b".long", WordValues, Names(Words)),
+    row!(b".ltorg", Nothing, Directs(Pool)),
+    row!(b".p2align", Power, Directs(Align)),
+    row!(b".pad", Count, Directs(Pad)),
+    row!(b".personalityindex", Count, Directs(PersonalityIndex)),
+    row!(b".pool", Nothing, Directs(Pool)),
+    row!(b".save", RegisterList, Directs(Save)),
+    row!(b".section", RodataName, Directs(Rodata)),
+    row!(b".setfp", RegisterSpCount, Directs(SetFp)),
+    row!(b".short", Values, Names(Halves)),
+    row!(b".size", NameSize, Names(Size)),
+    row!(b".space", Count, Directs(Space)),
+    row!(b".text", Nothing, Directs(Text)),
+    row!(b".type", NameFunction, Names(TypeFunction)),
+    row!(b".type", NameObject, Names(TypeObject)),
+    row!(b".word", WordValues, Names(Words)),
+    row!(b".zero", Count, Directs(Space)),
 ];
 
 /// Mnemonics that begin with a or b.
 pub static A_TO_B: [Row; 32] = [
-    (b"adcs", TWO_REGISTERS, Computes(Alu(5))),
-    (b"add", REGISTER_SP_NUMBER, Computes(AddRdSp)),
-    (b"add", SP_NUMBER, Computes(AddSp)),
-    (b"add", TWO_REGISTERS, Computes(AddReg)),
-    (b"adds", REGISTER_NUMBER, Computes(AddSubTwo(false))),
-    (b"adds", THREE_REGISTERS, Computes(AddSubReg(false))),
-    (b"adds", TWO_REGISTERS_NUMBER, Computes(AddSubThree(false))),
-    (b"adr", REGISTER_NAME, Names(Adr)),
-    (b"ands", TWO_REGISTERS, Computes(Alu(0))),
-    (b"asrs", TWO_REGISTERS_NUMBER, Computes(ShiftImm(2))),
-    (b"asrs", TWO_REGISTERS, Computes(Alu(4))),
-    (b"b", NAME, Names(B)),
-    (b"bcc", NAME, Names(BCond(3))),
-    (b"bcs", NAME, Names(BCond(2))),
-    (b"beq", NAME, Names(BCond(0))),
-    (b"bge", NAME, Names(BCond(10))),
-    (b"bgt", NAME, Names(BCond(12))),
-    (b"bhi", NAME, Names(BCond(8))),
-    (b"bhs", NAME, Names(BCond(2))),
-    (b"bics", TWO_REGISTERS, Computes(Alu(14))),
-    (b"bl", NAME, Names(Bl)),
-    (b"ble", NAME, Names(BCond(13))),
-    (b"blo", NAME, Names(BCond(3))),
-    (b"bls", NAME, Names(BCond(9))),
-    (b"blt", NAME, Names(BCond(11))),
-    (b"blx", REGISTER, Controls(Blx)),
-    (b"bmi", NAME, Names(BCond(4))),
-    (b"bne", NAME, Names(BCond(1))),
-    (b"bpl", NAME, Names(BCond(5))),
-    (b"bvc", NAME, Names(BCond(7))),
-    (b"bvs", NAME, Names(BCond(6))),
-    (b"bx", REGISTER, Controls(Bx)),
+    row!(b"adcs", TwoRegisters, Computes(Alu(5))),
+    row!(b"add", RegisterSpNumber, Computes(AddRdSp)),
+    row!(b"add", SpNumber, Computes(AddSp)),
+    row!(b"add", TwoRegisters, Computes(AddReg)),
+    row!(b"adds", RegisterNumber, Computes(AddSubTwo(false))),
+    row!(b"adds", ThreeRegisters, Computes(AddSubReg(false))),
+    row!(b"adds", TwoRegistersNumber, Computes(AddSubThree(false))),
+    row!(b"adr", RegisterName, Names(Adr)),
+    row!(b"ands", TwoRegisters, Computes(Alu(0))),
+    row!(b"asrs", TwoRegistersNumber, Computes(ShiftImm(2))),
+    row!(b"asrs", TwoRegisters, Computes(Alu(4))),
+    row!(b"b", OneName, Names(B)),
+    row!(b"bcc", OneName, Names(BCond(3))),
+    row!(b"bcs", OneName, Names(BCond(2))),
+    row!(b"beq", OneName, Names(BCond(0))),
+    row!(b"bge", OneName, Names(BCond(10))),
+    row!(b"bgt", OneName, Names(BCond(12))),
+    row!(b"bhi", OneName, Names(BCond(8))),
+    row!(b"bhs", OneName, Names(BCond(2))),
+    row!(b"bics", TwoRegisters, Computes(Alu(14))),
+    row!(b"bl", OneName, Names(Bl)),
+    row!(b"ble", OneName, Names(BCond(13))),
+    row!(b"blo", OneName, Names(BCond(3))),
+    row!(b"bls", OneName, Names(BCond(9))),
+    row!(b"blt", OneName, Names(BCond(11))),
+    row!(b"blx", OneRegister, Controls(Blx)),
+    row!(b"bmi", OneName, Names(BCond(4))),
+    row!(b"bne", OneName, Names(BCond(1))),
+    row!(b"bpl", OneName, Names(BCond(5))),
+    row!(b"bvc", OneName, Names(BCond(7))),
+    row!(b"bvs", OneName, Names(BCond(6))),
+    row!(b"bx", OneRegister, Controls(Bx)),
 ];
 
 /// Mnemonics that begin with c to l.
 pub static C_TO_L: [Row; 28] = [
-    (b"cmn", TWO_REGISTERS, Computes(Alu(11))),
-    (b"cmp", REGISTER_NUMBER, Computes(CmpImm)),
-    (b"cmp", TWO_REGISTERS, Computes(CmpReg)),
-    (b"dmb", NOTHING, Controls(Barrier(1))),
-    (b"dsb", NOTHING, Controls(Barrier(0))),
-    (b"eors", TWO_REGISTERS, Computes(Alu(1))),
-    (b"isb", NOTHING, Controls(Barrier(2))),
-    (b"ldm", BASE_BACK_LIST, Transfers(LdmBack)),
-    (b"ldm", BASE_LIST, Transfers(Ldm)),
-    (b"ldr", REGISTER_NAME, Names(LdrLabel)),
-    (b"ldr", REGISTER_VALUE, Names(LdrPool)),
-    (b"ldr", SP_OFFSET, Transfers(MemSp(true))),
-    (b"ldr", SP_ALONE, Transfers(MemSp(true))),
-    (b"ldr", BASE_OFFSET, Transfers(MemImm(1))),
-    (b"ldr", BASE_ALONE, Transfers(MemImm(1))),
-    (b"ldr", BASE_INDEX, Transfers(MemReg(4))),
-    (b"ldrb", BASE_OFFSET, Transfers(MemImm(3))),
-    (b"ldrb", BASE_ALONE, Transfers(MemImm(3))),
-    (b"ldrb", BASE_INDEX, Transfers(MemReg(6))),
-    (b"ldrh", BASE_OFFSET, Transfers(MemImm(5))),
-    (b"ldrh", BASE_ALONE, Transfers(MemImm(5))),
-    (b"ldrh", BASE_INDEX, Transfers(MemReg(5))),
-    (b"ldrsb", BASE_INDEX, Transfers(MemReg(3))),
-    (b"ldrsh", BASE_INDEX, Transfers(MemReg(7))),
-    (b"lsls", TWO_REGISTERS_NUMBER, Computes(ShiftImm(0))),
-    (b"lsls", TWO_REGISTERS, Computes(Alu(2))),
-    (b"lsrs", TWO_REGISTERS_NUMBER, Computes(ShiftImm(1))),
-    (b"lsrs", TWO_REGISTERS, Computes(Alu(3))),
+    row!(b"cmn", TwoRegisters, Computes(Alu(11))),
+    row!(b"cmp", RegisterNumber, Computes(CmpImm)),
+    row!(b"cmp", TwoRegisters, Computes(CmpReg)),
+    row!(b"dmb", Nothing, Controls(Barrier(1))),
+    row!(b"dsb", Nothing, Controls(Barrier(0))),
+    row!(b"eors", TwoRegisters, Computes(Alu(1))),
+    row!(b"isb", Nothing, Controls(Barrier(2))),
+    row!(b"ldm", BaseBackList, Transfers(LdmBack)),
+    row!(b"ldm", BaseList, Transfers(Ldm)),
+    row!(b"ldr", RegisterName, Names(LdrLabel)),
+    row!(b"ldr", RegisterValue, Names(LdrPool)),
+    row!(b"ldr", SpOffset, Transfers(MemSp(true))),
+    row!(b"ldr", SpAlone, Transfers(MemSp(true))),
+    row!(b"ldr", BaseOffset, Transfers(MemImm(1))),
+    row!(b"ldr", BaseAlone, Transfers(MemImm(1))),
+    row!(b"ldr", BaseIndex, Transfers(MemReg(4))),
+    row!(b"ldrb", BaseOffset, Transfers(MemImm(3))),
+    row!(b"ldrb", BaseAlone, Transfers(MemImm(3))),
+    row!(b"ldrb", BaseIndex, Transfers(MemReg(6))),
+    row!(b"ldrh", BaseOffset, Transfers(MemImm(5))),
+    row!(b"ldrh", BaseAlone, Transfers(MemImm(5))),
+    row!(b"ldrh", BaseIndex, Transfers(MemReg(5))),
+    row!(b"ldrsb", BaseIndex, Transfers(MemReg(3))),
+    row!(b"ldrsh", BaseIndex, Transfers(MemReg(7))),
+    row!(b"lsls", TwoRegistersNumber, Computes(ShiftImm(0))),
+    row!(b"lsls", TwoRegisters, Computes(Alu(2))),
+    row!(b"lsrs", TwoRegistersNumber, Computes(ShiftImm(1))),
+    row!(b"lsrs", TwoRegisters, Computes(Alu(3))),
 ];
 
 /// Mnemonics that begin with m to z.
 pub static M_TO_Z: [Row; 42] = [
-    (b"mov", TWO_REGISTERS, Computes(Mov)),
-    (b"movs", REGISTER_NUMBER, Computes(MovsImm)),
-    (b"movs", TWO_REGISTERS, Computes(MovsReg)),
-    (b"muls", TWO_REGISTERS, Computes(Alu(13))),
-    (b"mvns", TWO_REGISTERS, Computes(Alu(15))),
-    (b"nop", NOTHING, Controls(Hint(0))),
-    (b"orrs", TWO_REGISTERS, Computes(Alu(12))),
-    (b"pop", LIST, Transfers(Pop)),
-    (b"push", LIST, Transfers(Push)),
-    (b"rev", TWO_REGISTERS, Computes(Rev(0))),
-    (b"rev16", TWO_REGISTERS, Computes(Rev(1))),
-    (b"revsh", TWO_REGISTERS, Computes(Rev(3))),
-    (b"rors", TWO_REGISTERS, Computes(Alu(7))),
-    (b"rsbs", TWO_REGISTERS_ZERO, Computes(Rsbs)),
-    (b"sbcs", TWO_REGISTERS, Computes(Alu(6))),
-    (b"sev", NOTHING, Controls(Hint(4))),
-    (b"stm", BASE_BACK_LIST, Transfers(Stm)),
-    (b"str", SP_OFFSET, Transfers(MemSp(false))),
-    (b"str", SP_ALONE, Transfers(MemSp(false))),
-    (b"str", BASE_OFFSET, Transfers(MemImm(0))),
-    (b"str", BASE_ALONE, Transfers(MemImm(0))),
-    (b"str", BASE_INDEX, Transfers(MemReg(0))),
-    (b"strb", BASE_OFFSET, Transfers(MemImm(2))),
-    (b"strb", BASE_ALONE, Transfers(MemImm(2))),
-    (b"strb", BASE_INDEX, Transfers(MemReg(2))),
-    (b"strh", BASE_OFFSET, Transfers(MemImm(4))),
-    (b"strh", BASE_ALONE, Transfers(MemImm(4))),
-    (b"strh", BASE_INDEX, Transfers(MemReg(1))),
-    (b"sub", SP_NUMBER, Computes(SubSp)),
-    (b"subs", REGISTER_NUMBER, Computes(AddSubTwo(true))),
-    (b"subs", THREE_REGISTERS, Computes(AddSubReg(true))),
-    (b"subs", TWO_REGISTERS_NUMBER, Computes(AddSubThree(true))),
-    (b"svc", NUMBER, Controls(Svc)),
-    (b"sxtb", TWO_REGISTERS, Computes(Extend(1))),
-    (b"sxth", TWO_REGISTERS, Computes(Extend(0))),
-    (b"tst", TWO_REGISTERS, Computes(Alu(8))),
-    (b"udf", NUMBER, Controls(Udf)),
-    (b"uxtb", TWO_REGISTERS, Computes(Extend(3))),
-    (b"uxth", TWO_REGISTERS, Computes(Extend(2))),
-    (b"wfe", NOTHING, Controls(Hint(2))),
-    (b"wfi", NOTHING, Controls(Hint(3))),
-    (b"yield", NOTHING, Controls(Hint(1))),
+    row!(b"mov", TwoRegisters, Computes(Mov)),
+    row!(b"movs", RegisterNumber, Computes(MovsImm)),
+    row!(b"movs", TwoRegisters, Computes(MovsReg)),
+    row!(b"muls", TwoRegisters, Computes(Alu(13))),
+    row!(b"mvns", TwoRegisters, Computes(Alu(15))),
+    row!(b"nop", Nothing, Controls(Hint(0))),
+    row!(b"orrs", TwoRegisters, Computes(Alu(12))),
+    row!(b"pop", RegisterList, Transfers(Pop)),
+    row!(b"push", RegisterList, Transfers(Push)),
+    row!(b"rev", TwoRegisters, Computes(Rev(0))),
+    row!(b"rev16", TwoRegisters, Computes(Rev(1))),
+    row!(b"revsh", TwoRegisters, Computes(Rev(3))),
+    row!(b"rors", TwoRegisters, Computes(Alu(7))),
+    row!(b"rsbs", TwoRegistersZero, Computes(Rsbs)),
+    row!(b"sbcs", TwoRegisters, Computes(Alu(6))),
+    row!(b"sev", Nothing, Controls(Hint(4))),
+    row!(b"stm", BaseBackList, Transfers(Stm)),
+    row!(b"str", SpOffset, Transfers(MemSp(false))),
+    row!(b"str", SpAlone, Transfers(MemSp(false))),
+    row!(b"str", BaseOffset, Transfers(MemImm(0))),
+    row!(b"str", BaseAlone, Transfers(MemImm(0))),
+    row!(b"str", BaseIndex, Transfers(MemReg(0))),
+    row!(b"strb", BaseOffset, Transfers(MemImm(2))),
+    row!(b"strb", BaseAlone, Transfers(MemImm(2))),
+    row!(b"strb", BaseIndex, Transfers(MemReg(2))),
+    row!(b"strh", BaseOffset, Transfers(MemImm(4))),
+    row!(b"strh", BaseAlone, Transfers(MemImm(4))),
+    row!(b"strh", BaseIndex, Transfers(MemReg(1))),
+    row!(b"sub", SpNumber, Computes(SubSp)),
+    row!(b"subs", RegisterNumber, Computes(AddSubTwo(true))),
+    row!(b"subs", ThreeRegisters, Computes(AddSubReg(true))),
+    row!(b"subs", TwoRegistersNumber, Computes(AddSubThree(true))),
+    row!(b"svc", OneNumber, Controls(Svc)),
+    row!(b"sxtb", TwoRegisters, Computes(Extend(1))),
+    row!(b"sxth", TwoRegisters, Computes(Extend(0))),
+    row!(b"tst", TwoRegisters, Computes(Alu(8))),
+    row!(b"udf", OneNumber, Controls(Udf)),
+    row!(b"uxtb", TwoRegisters, Computes(Extend(3))),
+    row!(b"uxth", TwoRegisters, Computes(Extend(2))),
+    row!(b"wfe", Nothing, Controls(Hint(2))),
+    row!(b"wfi", Nothing, Controls(Hint(3))),
+    row!(b"yield", Nothing, Controls(Hint(1))),
 ];
 
 /// The forms of a group. Their words rise, byte by byte, so that those of one word stand together; these are tried in
 /// this order.
 #[tactic(auto, unfolding(crate::specs::Forms::directives, crate::specs::Forms::a_to_b, crate::specs::Forms::c_to_l, crate::specs::Forms::m_to_z))]
 pub fn forms_in(group: Group) -> &'static [Row]
-    ensures { map form_of result.now ≡ forms_in group }
+    ensures { map row_of result.now ≡ forms_in group }
 {
     match group {
         Group::Directives => &DIRECTIVES,

@@ -50,7 +50,13 @@ const MINUS_ALONE: Front = Front {
 };
 
 /// The greatest number that digits are counted to: any from here on is as far outside 32 bits.
-const MANY: u64 = 0x2_0000_0000;
+pub const MANY: u64 = 0x2_0000_0000;
+
+/// The greatest number of a source.
+pub const GREATEST: u64 = 0xffff_ffff;
+
+/// How far below 0 the numbers of a source go.
+pub const FARTHEST_BELOW: u64 = 0x8000_0000;
 
 fn is_digit(b: u8) -> bool
     ensures { result ≡ is_digit b }
@@ -110,8 +116,8 @@ fn hex_digit(b: u8) -> Option<u8>
 {
     match b {
         b'0'..=b'9' => Some(b - b'0'),
-        b'a'..=b'f' => Some(b - 87),
-        b'A'..=b'F' => Some(b - 55),
+        b'a'..=b'f' => Some(10 + (b - b'a')),
+        b'A'..=b'F' => Some(10 + (b - b'A')),
         _ => None,
     }
 }
@@ -167,14 +173,14 @@ fn kind_of(negative: bool, number: Option<u64>) -> Kind
     match number {
         None => Kind::Bad,
         Some(n) if negative => {
-            if n <= 0x8000_0000 {
+            if n <= FARTHEST_BELOW {
                 Kind::Number(0 - n as i64)
             } else {
                 Kind::Wide
             }
         }
         Some(n) => {
-            if n <= 0xffff_ffff {
+            if n <= GREATEST {
                 Kind::Number(n as i64)
             } else {
                 Kind::Wide

@@ -13,7 +13,8 @@ use Rattle.asm_read.specs.Tokens.{front_of, token, token_at}
 use Rattle.asm_read.specs.declared.fault.SourceWhat.TheVariants.{NotAscii, LineTooLong}
 use Rattle.asm_read.specs.Operands.{◌>>=◌, span, stop, same, is_mark_of, bytes_of, name_in}
 use Rattle.asm_read.specs.Fits.{fresh, fits}
-use Rattle.asm_read.specs.Forms.{Form, rows}
+use Rattle.asm_read.specs.Patterns.{pieces_of}
+use Rattle.asm_read.specs.Forms.{TableRow, rows}
 use Rattle.asm_read.specs.Search.{tried, try_form, otherwise, first_fit, farther}
 use Rattle.asm_read.specs.Plans.{is_passed, fit_or_stop, word_statement, begun_by, statement_at, is_word, plan, plan_of, not_plain, not_plain_at, too_long, earlier, stop_of, unless, line_plan}
 use Rattle.asm_read.specs.Statements.{kind_of as kind_made}
@@ -38,9 +39,9 @@ if_went makes refused more = more
 if_went makes unknown more = nothing
 
 -- the first of these forms that begins with a word and fits
-abbrev pub chosen : List Form → List ℕ → List Item → Choice
+abbrev pub chosen : List TableRow → List ℕ → List Item → Choice
 chosen [] w ts = nothing
-chosen (f ∷ fs) w ts = if same f.word w then if_went f.makes (fitted f.pieces ts none_yet) (chosen fs w ts) else chosen fs w ts
+chosen (f ∷ fs) w ts = if same f.word w then if_went f.form.makes (fitted (pieces_of f.form.operands) ts none_yet) (chosen fs w ts) else chosen fs w ts
 
 -- the reader's statement with these values
 abbrev pub Chooses : List ℕ → Result Statement (Option Stop) → Makes → Vals → Type 0
@@ -60,12 +61,12 @@ tried_chooses line n m v best (Err s) (went ts w) more next h k e = absurd h
 tried_chooses line n m v best (Err s) refused more next h k e = k (Some (farther best s)) e
 tried_chooses line n m v best (Err s) unknown more next h k e = cc
 
-pub first_chooses : (fs : List Form) (w line : List ℕ) (from : ℕ) (best : Option Stop) (ts : List Item) (m : Makes) (v : Vals) → Agrees line (fresh from) none_yet → Reads line from (flat ts) → chosen fs w ts ≡ picked m v → Chooses line (first_fit fs w line from best) m v
+pub first_chooses : (fs : List TableRow) (w line : List ℕ) (from : ℕ) (best : Option Stop) (ts : List Item) (m : Makes) (v : Vals) → Agrees line (fresh from) none_yet → Reads line from (flat ts) → chosen fs w ts ≡ picked m v → Chooses line (first_fit fs w line from best) m v
 unfolding first_fit try_form
 first_chooses [] w line from best ts m v a h e = cc
 first_chooses (f ∷ fs) w line from best ts m v a h e =
-    (elim (same f.word w) as (λ b. (if b then if_went f.makes (fitted f.pieces ts none_yet) (chosen fs w ts) else chosen fs w ts) ≡ picked m v → Chooses line (otherwise (if b then tried f.makes best (fits f.pieces line (fresh from)) else Err best) (λ c. first_fit fs w line from c)) m v) [
-      | true ↦ λ d. tried_chooses line f.makes m v best (fits f.pieces line (fresh from)) (fitted f.pieces ts none_yet) (chosen fs w ts) (λ c. first_fit fs w line from c) (fits_follows f.pieces line (fresh from) ts none_yet a h) (λ c g. first_chooses fs w line from c ts m v a h g) d
+    (elim (same f.word w) as (λ b. (if b then if_went f.form.makes (fitted (pieces_of f.form.operands) ts none_yet) (chosen fs w ts) else chosen fs w ts) ≡ picked m v → Chooses line (otherwise (if b then tried f.form.makes best (fits (pieces_of f.form.operands) line (fresh from)) else Err best) (λ c. first_fit fs w line from c)) m v) [
+      | true ↦ λ d. tried_chooses line f.form.makes m v best (fits (pieces_of f.form.operands) line (fresh from)) (fitted (pieces_of f.form.operands) ts none_yet) (chosen fs w ts) (λ c. first_fit fs w line from c) (fits_follows (pieces_of f.form.operands) line (fresh from) ts none_yet a h) (λ c g. first_chooses fs w line from c ts m v a h g) d
       | false ↦ λ d. first_chooses fs w line from best ts m v a h d
     ]) e
 

@@ -19,3 +19,10 @@ pub mod Numbered
 pub mod Naming
 pub mod Aliases
 pub mod Whole
+pub mod Going
+pub mod Patterns
+pub mod Reading
+pub mod Taken
+pub mod Spelling
+pub mod Stopped
+pub mod Stopping

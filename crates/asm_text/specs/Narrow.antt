@@ -10,6 +10,7 @@ use Rattle.asm_read.specs.declared.makes.Computation.TheVariants as computation
 use Rattle.asm_read.specs.declared.makes.Transfer.TheVariants as transfer
 use Rattle.asm_read.specs.declared.makes.Directive.TheVariants as directive
 use Rattle.asm_read.specs.declared.makes.Named.TheVariants as name
+use Rattle.asm_read.specs.Patterns.{pieces_of}
 use Rattle.asm_read.specs.Forms.{rows}
 
 abbrev pub is_narrow : Piece → Bool
@@ -46,4 +47,4 @@ narrow (makes.Names name.Bytes) = Expressions ∷ []
 narrow form = []
 
 abbrev pub FormsAreNarrow : Type 0
-FormsAreNarrow = map (λ f. filter is_narrow f.pieces) rows ≡ map (λ f. narrow f.makes) rows
+FormsAreNarrow = map (λ row. filter is_narrow (pieces_of row.form.operands)) rows ≡ map (λ row. narrow row.form.makes) rows

@@ -3,6 +3,8 @@
 use Rattle.std.specs.Prelude.{◌≡◌, ◌≢◌, ℕ, zero, suc, ◌+◌, ◌-◌, ◌^◌, ◌<◌, ◌≤◌, ◌==◌, ◌&&◌, ◌||◌, not, nat_lt, Bool, true, false, if◌then◌else◌, List, [], ◌∷◌, ◌++◌, length, slice_index_or, Ok, ℤ, pos, negsuc, codes}
 use Rattle.std.specs.List.{list_all}
 use Rattle.std.specs.Fmt.{signed_decimal}
+use Rattle.asm_read.specs.declared.token.TheConstants.{GREATEST, FARTHEST_BELOW}
+use Rattle.asm_read.specs.declared.line.TheConstants.{SP, LR, PC}
 use Rattle.asm_read.specs.declared.statement.StmtKind.{StmtKind}
 use Rattle.asm_read.specs.declared.statement.StmtKind.TheVariants.{Label, MovsImm, MovsReg, Mov, CmpImm, CmpReg, AddSubTwo, AddSubReg, AddSubThree, AddReg, AddRdSp, AddSp, SubSp, ShiftImm, Alu, Rsbs, Adr, LdrLabel, LdrPool, MemImm, MemReg, MemSp, Push, Pop, Stm, LdmBack, Ldm, Extend, Rev, B, BCond, Bl, Bx, Blx, Svc, Udf, Hint, Barrier, Text, Data, Bss, Rodata, Global, TypeFunction, TypeObject, Size, Words, Halves, Bytes, Ascii, Asciz, Space, Align, Pool, FnStart, FnEnd, Save, Pad, SetFp, CantUnwind, PersonalityIndex, HandlerData}
 use Rattle.asm_read.specs.declared.statement.Expr.{Expr}
@@ -14,9 +16,9 @@ use Rattle.asm_read.specs.Reading.{stmt, read_of}
 -- r0 to r12, sp, lr and pc
 unfoldable pub register : ℕ → List ℕ
 register r =
-    if r == 13 then codes "sp" else if r == 14 then codes "lr" else if r == 15 then codes "pc"
+    if r == SP then codes "sp" else if r == LR then codes "lr" else if r == PC then codes "pc"
     else if nat_lt r 10 then 114 ∷ (48 + r) ∷ []
-    else 114 ∷ 49 ∷ (38 + r) ∷ []
+    else 114 ∷ 49 ∷ (48 + (r - 10)) ∷ []
 
 -- the word of a list that stands at a place
 abbrev pub word_of : List (List ℕ) → ℕ → List ℕ
@@ -249,18 +251,21 @@ also (SetFp r off) = line (codes ".setfp") (sp_count_plain r off) ∷ []
 also (PersonalityIndex n) = line (codes ".personalityindex") (hash n) ∷ []
 also kind = []
 
--- from -2,147,483,648 to 4,294,967,295
+-- the numbers of a source, from -2,147,483,648 to 4,294,967,295
 abbrev pub InRange : ℤ → Type 0
-InRange (pos n) = n ≤ 4294967295
-InRange (negsuc n) = n < 2147483648
+InRange (pos n) = n ≤ GREATEST
+InRange (negsuc n) = n < FARTHEST_BELOW
 
 abbrev pub is_name : List ℕ → Bool
 is_name [] = false
 is_name (b ∷ bs) = not (is_digit b) && list_all is_name_byte (b ∷ bs)
 
 -- a name that is short enough for the line, of at most 256 bytes, to hold it twice
+abbrev pub longest_name : ℕ
+longest_name = 100
+
 abbrev pub IsNameText : List ℕ → Type 0
-IsNameText name = (is_name name ≡ true) × (length name ≤ 100)
+IsNameText name = (is_name name ≡ true) × (length name ≤ longest_name)
 
 abbrev pub IsPower : ℤ → Type 0
 IsPower (pos n) = n < 4
@@ -280,17 +285,25 @@ abbrev pub AreExpressions : Bool → List Expr → Type 0
 AreExpressions word [] = Unit {0}
 AreExpressions word (e ∷ es) = IsExpression word e × AreExpressions word es
 
+-- the bytes of expressions that a line holds behind its word
+abbrev pub longest_values : ℕ
+longest_values = 240
+
 -- one expression at least, and no more than a line holds
 abbrev pub IsList : Bool → List Expr → Type 0
 IsList word [] = ⊥
-IsList word (e ∷ es) = AreExpressions word (e ∷ es) × (length (expressions (e ∷ es)) ≤ 240)
+IsList word (e ∷ es) = AreExpressions word (e ∷ es) × (length (expressions (e ∷ es)) ≤ longest_values)
+
+-- the bytes of a text, with its escapes, that a line holds behind its word
+abbrev pub longest_text : ℕ
+longest_text = 230
 
 -- what a text has characters and escapes for, and no more than a line holds
 abbrev pub can_stand : ℕ → Bool
 can_stand b = b == 10 || b == 9 || b == 13 || b == 0 || within 32 126 b
 
 abbrev pub IsText : List ℕ → Type 0
-IsText bytes = (list_all can_stand bytes ≡ true) × (length (escaped bytes) ≤ 230)
+IsText bytes = (list_all can_stand bytes ≡ true) × (length (escaped bytes) ≤ longest_text)
 
 -- a statement whose fields the text has words for: registers, numbers of 32 bits, names, and fields of encodings with a
 -- mnemonic. A load or store of a word at sp is a statement of its own
@@ -313,8 +326,8 @@ IsWritable (Alu op d m) = (op < 16) × (op ≢ 9) × (op ≢ 10) × (d < 16) × 
 IsWritable (Rsbs d m) = (d < 16) × (m < 16)
 IsWritable (Adr d name) = (d < 16) × IsNameText name
 IsWritable (LdrLabel t name) = (t < 16) × IsNameText name
-IsWritable (LdrPool t value) = (t < 16) × IsExpression false value × (length (expression value) ≤ 240)
-IsWritable (MemImm op t n off) = (op < 6) × (t < 16) × (n < 16) × (op < 2 → n ≢ 13) × InRange off
+IsWritable (LdrPool t value) = (t < 16) × IsExpression false value × (length (expression value) ≤ longest_values)
+IsWritable (MemImm op t n off) = (op < 6) × (t < 16) × (n < 16) × (op < 2 → n ≢ SP) × InRange off
 IsWritable (MemReg op t n m) = (op < 8) × (t < 16) × (n < 16) × (m < 16)
 IsWritable (MemSp load t off) = (t < 16) × InRange off
 IsWritable (Push list) = list < 2 ^ 16

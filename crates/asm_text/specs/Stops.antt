@@ -1,0 +1,154 @@
+-- Where reading a statement stops: at the first token with which no form of its word goes on (docs/source-language.md,
+-- "Refusals").
+use Rattle.std.specs.Prelude.{◌≡◌, ◌≢◌, ◌⊎◌, ◌<◌, ◌≤◌, ℕ, zero, suc, Bool, false, true, List, [], ◌∷◌, length, Some, Ok, Err}
+use Rattle.asm_read.specs.declared.fault.SourceWhat.{SourceWhat}
+use Rattle.asm_read.specs.declared.fault.SourceWhat.TheVariants.{BadToken, BadOperand, NumberRange}
+use Rattle.asm_read.specs.declared.token.Kind.{Kind}
+use Rattle.asm_read.specs.declared.token.Kind.TheVariants.{Word, Wide, Bad, End}
+use Rattle.asm_read.specs.declared.token.Token.{Token}
+use Rattle.asm_read.specs.declared.line.Span.{Span}
+use Rattle.asm_read.specs.declared.line.Register.{Register}
+use Rattle.asm_read.specs.declared.line.Item.{Item}
+use Rattle.asm_read.specs.declared.line.Stop.{Stop}
+use Rattle.asm_read.specs.declared.expression.Shape.{Shape}
+use Rattle.asm_read.specs.declared.expression.Shaped.{Shaped}
+use Rattle.asm_read.specs.declared.form.Piece.{Piece}
+use Rattle.asm_read.specs.declared.form.Piece.TheVariants.{MaybeHash, Registers, RegistersWithFirst, Expression, Expressions, WordExpressions}
+use Rattle.asm_read.specs.declared.form.Operands.{Operands}
+use Rattle.asm_read.specs.Tokens.{token_at}
+use Rattle.asm_read.specs.Operands.{name_of, register_at, mark_at, name_at, item_at}
+use Rattle.asm_read.specs.Expressions.{relation_of, listed_at}
+use Rattle.asm_read.specs.Fits.{fresh, piece_at}
+use Rattle.asm_read.specs.Patterns.{pieces_of}
+use Rattle.asm_read.specs.Forms.{TableRow, rows}
+use Rattle.asm_read.specs.Plans.{unknown, statement_at}
+
+-- why a token of a kind is refused: as no token, as a number that is too wide where one may stand, or as an operand
+abbrev pub Refuses : Kind → SourceWhat → Type 0
+Refuses Bad what = what ≡ BadToken
+Refuses Wide what = (what ≡ NumberRange) ⊎ (what ≡ BadOperand)
+Refuses kind what = what ≡ BadOperand
+
+-- reading stops at the first byte of a token
+abbrev pub IsStoppedBy : Token → Stop → Type 0
+IsStoppedBy token s = (s.at ≡ token.start) × Refuses token.kind s.what
+
+-- ---- how far a piece of a form goes on
+
+-- behind the first register of an item: a dash, and a register that is no lower
+abbrev pub GoesInRange : List ℕ → Register → ℕ → Type 0
+GoesInRange source low at =
+    (at ≡ low.end)
+    ⊎ ((dash : ℕ) × (mark_at 45 source low.end ≡ Ok dash) × ((at ≡ dash) ⊎ ((high : Register) × (register_at source dash ≡ Ok high) × (low.number ≤ high.number) × (at ≡ high.end))))
+
+-- from a place to one behind tokens of a register or a range that stand there
+abbrev pub GoesInItem : List ℕ → ℕ → ℕ → Type 0
+GoesInItem source from at =
+    (at ≡ from) ⊎ ((low : Register) × (register_at source from ≡ Ok low) × GoesInRange source low at)
+
+-- the same of registers and ranges with commas between them, of no more than so many
+abbrev pub GoesInItems : ℕ → List ℕ → ℕ → ℕ → Type 0
+GoesInItems zero source from at = at ≡ from
+GoesInItems (suc n) source from at =
+    GoesInItem source from at
+    ⊎ ((i : Item) × (next : ℕ) × (item_at source from ≡ Ok i) × (mark_at 44 source i.end ≡ Ok next) × GoesInItems n source next at)
+
+-- a register list, which has no more of them than the line has bytes
+abbrev pub GoesInList : List ℕ → ℕ → ℕ → Type 0
+GoesInList source from at =
+    (at ≡ from) ⊎ ((inside : ℕ) × (mark_at 123 source from ≡ Ok inside) × GoesInItems (length source) source inside at)
+
+-- behind the minus sign of a difference: a name, and + of a number
+abbrev pub GoesInDifference : List ℕ → ℕ → ℕ → Type 0
+GoesInDifference source minus at =
+    (at ≡ minus) ⊎ ((other : Span) × (name_at source minus ≡ Ok other) × (mark_at 43 source other.end ≡ Ok at))
+
+-- behind the parenthesis of a relation: its word
+abbrev pub GoesInRelation : List ℕ → Span → ℕ → ℕ → Type 0
+GoesInRelation source name inside at =
+    let token = token_at source inside in
+    (at ≡ inside) ⊎ ((shape : Shape) × (relation_of name (name_of source token) ≡ Some shape) × (at ≡ token.end))
+
+-- behind a name: + of a number, - of a name, or in a word ( and a relation
+abbrev pub GoesBehindName : Bool → List ℕ → Span → ℕ → Type 0
+GoesBehindName word source name at =
+    (mark_at 43 source name.end ≡ Ok at)
+    ⊎ (((minus : ℕ) × (mark_at 45 source name.end ≡ Ok minus) × GoesInDifference source minus at)
+    ⊎ ((inside : ℕ) × (word ≡ true) × (mark_at 40 source name.end ≡ Ok inside) × GoesInRelation source name inside at))
+
+abbrev pub GoesInExpression : Bool → List ℕ → ℕ → ℕ → Type 0
+GoesInExpression word source from at =
+    (at ≡ from) ⊎ ((name : Span) × (name_at source from ≡ Ok name) × GoesBehindName word source name at)
+
+-- an expression of a list, where a number may have a #
+abbrev pub GoesInListed : Bool → List ℕ → ℕ → ℕ → Type 0
+GoesInListed word source from at = (mark_at 35 source from ≡ Ok at) ⊎ GoesInExpression word source from at
+
+-- expressions with commas between them, of no more than so many
+abbrev pub GoesInSeries : ℕ → Bool → List ℕ → ℕ → ℕ → Type 0
+GoesInSeries zero word source from at = at ≡ from
+GoesInSeries (suc n) word source from at =
+    GoesInListed word source from at
+    ⊎ ((e : Shaped) × (next : ℕ) × (listed_at word source from ≡ Ok e) × (mark_at 44 source e.end ≡ Ok next) × GoesInSeries n word source next at)
+
+abbrev pub GoesInExpressions : Bool → List ℕ → ℕ → ℕ → Type 0
+GoesInExpressions word source from at = GoesInSeries (length source) word source from at
+
+-- from a place to one behind tokens of a piece, which more of it may follow; most pieces are one token
+abbrev pub GoesIn : Piece → List ℕ → ℕ → ℕ → Type 0
+GoesIn Registers source from at = GoesInList source from at
+GoesIn RegistersWithFirst source from at = GoesInList source from at
+GoesIn Expression source from at = GoesInExpression false source from at
+GoesIn Expressions source from at = GoesInExpressions false source from at
+GoesIn WordExpressions source from at = GoesInExpressions true source from at
+GoesIn MaybeHash source from at = ⊥
+GoesIn piece source from at = at ≡ from
+
+-- ---- where a form stops
+
+-- the last of places
+abbrev pub IsLast : (ℕ → Type 0) → ℕ → Type 0
+IsLast P at = (far : ℕ) → P far → far ≤ at
+
+-- a piece of a form goes on to a place and no farther, and stops at the token there
+abbrev pub StopsIn : Piece → List ℕ → ℕ → Stop → Type 0
+StopsIn piece source from s =
+    (at : ℕ) × GoesIn piece source from at × IsStoppedBy (token_at source at) s × IsLast (GoesIn piece source from) at
+
+-- the pieces of a form go on up to a stop: the first that the line doesn't have, or the line doesn't end behind them
+abbrev pub Stops : List Piece → List ℕ → Operands → Stop → Type 0
+Stops [] source o s = ((token_at source o.at).kind ≢ End) × IsStoppedBy (token_at source o.at) s
+Stops (p ∷ ps) source o s =
+    ((piece_at p source o ≡ Err s) × StopsIn p source o.at s) ⊎ ((next : Operands) × (piece_at p source o ≡ Ok next) × Stops ps source next s)
+
+-- the first is before the second, or at its place, and there a number that is too wide comes before a bad operand
+abbrev pub IsNoFarther : Stop → Stop → Type 0
+IsNoFarther t s = (t.at < s.at) ⊎ ((t.at ≡ s.at) × (s.what ≡ BadOperand → t.what ≡ BadOperand))
+
+abbrev pub Among : List TableRow → TableRow → Type 0
+Among [] row = ⊥
+Among (r ∷ rs) row = (r ≡ row) ⊎ Among rs row
+
+-- a row of a word
+abbrev pub IsRowOf : List ℕ → TableRow → Type 0
+IsRowOf word row = Among rows row × (row.word ≡ word)
+
+-- a form of a word stops there, and each stops there or before
+pub record IsFarthest (word source : List ℕ) (from : ℕ) (s : Stop) : Type 0 where
+  pub one : (row : TableRow) × IsRowOf word row × Stops (pieces_of row.form.operands) source (fresh from) s
+  pub each : (row : TableRow) → IsRowOf word row → (t : Stop) × Stops (pieces_of row.form.operands) source (fresh from) t × IsNoFarther t s
+
+-- no form begins with a word
+abbrev pub IsUnknown : List ℕ → Type 0
+IsUnknown word = (row : TableRow) → IsRowOf word row → ⊥
+
+-- what stands at a place is no word; or a word of no form; or a word with forms of which each stops
+abbrev pub IsStopAt : List ℕ → ℕ → Stop → Type 0
+IsStopAt source from s =
+    let token = token_at source from in
+    ((token.kind ≢ Word) × IsStoppedBy token s)
+    ⊎ (((token.kind ≡ Word) × IsUnknown (name_of source token) × (s.at ≡ token.start) × (s.what ≡ unknown (name_of source token)))
+    ⊎ ((token.kind ≡ Word) × IsFarthest (name_of source token) source token.end s))
+
+abbrev pub StopsAtTheFirst : Type 0
+StopsAtTheFirst = (source : List ℕ) (from : ℕ) (s : Stop) → statement_at source from ≡ Err s → IsStopAt source from s
