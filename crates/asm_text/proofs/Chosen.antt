@@ -1,5 +1,5 @@
 -- The form that tokens choose among rows, and what the reader makes of a line that has these tokens.
-use Rattle.std.proofs.Common.{◌≡◌, ℕ, ◌+◌, ◌≤◌, ◌==◌, ◌&&◌, not, Bool, true, false, if◌then◌else◌, List, [], ◌∷◌, ◌++◌, length, Option, Some, None, Result, Ok, Err, refl, ap, sym, subst, ◌∙◌, arith, length-append}
+use Rattle.std.proofs.Common.{◌≡◌, ℕ, ◌+◌, ◌<◌, ◌≤◌, ◌==◌, ◌&&◌, not, Bool, true, false, if◌then◌else◌, List, [], ◌∷◌, ◌++◌, length, Option, Some, None, Result, Ok, Err, refl, ap, sym, subst, ◌∙◌, arith, length-append}
 use Rattle.std.proofs.lemmas.List.{append-nil, drop_at}
 use Rattle.std.proofs.lemmas.Bool.{ne_eqb, le-ltb}
 use Rattle.asm_read.specs.declared.token.Kind.TheVariants.{Word}
@@ -8,6 +8,7 @@ use Rattle.asm_read.specs.declared.form.Operands.{Operands}
 use Rattle.asm_read.specs.declared.makes.Makes.{Makes}
 use Rattle.asm_read.specs.declared.choice.Statement.{Statement}
 use Rattle.asm_read.specs.declared.plan.Plan.{Plan}
+use Rattle.asm_read.specs.declared.plan.TheConstants.{LONGEST}
 use Rattle.asm_read.specs.declared.statement.StmtKind.{StmtKind}
 use Rattle.asm_read.specs.Tokens.{front_of, token, token_at}
 use Rattle.asm_read.specs.declared.fault.SourceWhat.TheVariants.{NotAscii, LineTooLong}
@@ -134,8 +135,8 @@ all_plain at (b ∷ bs) h =
     ap (λ t. if t then Some (stop at NotAscii) else not_plain_at (at + 1) bs) (not_true (not_plain b) (and_left (not (not_plain b)) (plain bs) h))
     ∙ all_plain (at + 1) bs (and_right (not (not_plain b)) (plain bs) h)
 
-short : (line : List ℕ) → length line ≤ 256 → too_long line ≡ None
-short line h = ap (λ t. if t then Some (stop 256 LineTooLong) else None) (le-ltb 256 (length line) h)
+short : (line : List ℕ) → length line ≤ LONGEST → too_long line ≡ None
+short line h = ap (λ t. if t then Some (stop LONGEST LineTooLong) else None) (le-ltb LONGEST (length line) h)
 
 plan_line : (line : List ℕ) (p : Plan) → not_plain_at 0 line ≡ None → too_long line ≡ None → plan_of line ≡ Ok p → line_plan line ≡ Ok p
 unfolding line_plan
@@ -145,7 +146,7 @@ plan_line line p a b c =
     ∙ ap (λ q. unless (earlier (earlier None None) (stop_of q)) q) c
 
 -- a text of one line that may stand in a source
-pub read_one : (b : ℕ) (bs : List ℕ) (p : Plan) → plain (b ∷ bs) ≡ true → length (b ∷ bs) ≤ 256 → plan_of (b ∷ bs) ≡ Ok p → read_of (b ∷ bs) ≡ Ok (stmts_of 1 (b ∷ bs) p)
+pub read_one : (b : ℕ) (bs : List ℕ) (p : Plan) → plain (b ∷ bs) ≡ true → length (b ∷ bs) ≤ LONGEST → plan_of (b ∷ bs) ≡ Ok p → read_of (b ∷ bs) ≡ Ok (stmts_of 1 (b ∷ bs) p)
 unfolding read_of read_lines
 read_one b bs p h small e =
     ap (read_lines 1) (lines_one b bs h)
@@ -189,12 +190,12 @@ label_plan line w h =
       sym (ap (name_in line s) h.1.kind) ∙ h.1.name,
     )
 
-pub label_is : (w : List ℕ) → is_name w ≡ true → length w ≤ 255 → read_of (w ++ (58 ∷ [])) ≡ Ok (stmt 1 (Label w) ∷ [])
+pub label_is : (w : List ℕ) → is_name w ≡ true → length w < LONGEST → read_of (w ++ (58 ∷ [])) ≡ Ok (stmt 1 (Label w) ∷ [])
 label_is [] n few = cc
 label_is (b ∷ bs) n few =
     let line = b ∷ (bs ++ (58 ∷ [])) in
     let planned = label_plan line (b ∷ bs) (label_reads (b ∷ bs) n) in
     let clean = list_all-append (λ c. not (not_plain c)) (b ∷ bs) (58 ∷ []) ∙ both (plain (b ∷ bs)) true (name_plain (b ∷ bs) n) refl in
-    let small : length line ≤ 256 = omega (arith, length-append bs (58 ∷ [])) in
+    let small : length line ≤ LONGEST = omega (arith, length-append bs (58 ∷ [])) in
     read_one b (bs ++ (58 ∷ [])) (plan (Some planned.0) None) clean small planned.1
     ∙ ap (λ x. Ok (stmt 1 (Label x) ∷ [])) planned.2

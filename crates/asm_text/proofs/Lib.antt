@@ -26,3 +26,4 @@ pub mod Taken
 pub mod Spelling
 pub mod Stopped
 pub mod Stopping
+pub mod Refusing

@@ -4,6 +4,7 @@ use Rattle.std.proofs.lemmas.List.Folds.{list_all-append}
 use Rattle.std.proofs.lemmas.List.{append-nil}
 use Rattle.asm_read.specs.declared.form.Operands.{Operands}
 use Rattle.asm_read.specs.declared.makes.Makes.{Makes}
+use Rattle.asm_read.specs.declared.plan.TheConstants.{LONGEST}
 use Rattle.asm_read.specs.declared.statement.StmtKind.{StmtKind}
 use Rattle.asm_read.specs.Tokens.{is_digit, is_name_byte, front_of, front}
 use Rattle.asm_read.specs.Operands.{is_mark_of}
@@ -97,7 +98,7 @@ behind_is w [] h = absurd (omega arith)
 behind_is w (t ∷ ts) h = refl
 
 -- a word with operands that no label's colon begins, as a statement; the line is short
-pub stands_in : (w : List ℕ) (ts : List Item) (m : Makes) (v : Vals) (k : StmtKind) → IsMnemonic w → 0 < length (flat ts) → AllEnd (flat ts) → is_mark_of 58 (head_kind (flat ts)) ≡ false → length w + length (spelled (flat ts)) ≤ 255 → chosen rows w ts ≡ picked m v → ((line : List ℕ) (o : Operands) → Agrees line o v → kind_made line (record { makes = m; operands = o }) ≡ k) → read_of (line w (spelled (flat ts))) ≡ Ok (stmt 1 k ∷ [])
+pub stands_in : (w : List ℕ) (ts : List Item) (m : Makes) (v : Vals) (k : StmtKind) → IsMnemonic w → 0 < length (flat ts) → AllEnd (flat ts) → is_mark_of 58 (head_kind (flat ts)) ≡ false → length w + length (spelled (flat ts)) < LONGEST → chosen rows w ts ≡ picked m v → ((line : List ℕ) (o : Operands) → Agrees line o v → kind_made line (record { makes = m; operands = o }) ≡ k) → read_of (line w (spelled (flat ts))) ≡ Ok (stmt 1 k ∷ [])
 stands_in w ts m v k is some ends colon few choice makes =
     let rest = spelled_plain (flat ts) ends in
     let long = length-append w (32 ∷ spelled (flat ts)) in
@@ -119,7 +120,7 @@ alone w m k is choice makes =
     let brief = is.brief in
     let e = append-nil w in
     subst (λ x. read_of x ≡ Ok (stmt 1 k ∷ [])) e
-    (line_is w [] m none_yet k is.named is.kept tt refl (subst (λ x. plain x ≡ true) (sym e) is.clean) (subst (λ x. length x ≤ 256) (sym e) (omega arith)) choice (λ line o a. makes line o))
+    (line_is w [] m none_yet k is.named is.kept tt refl (subst (λ x. plain x ≡ true) (sym e) is.clean) (subst (λ x. length x ≤ LONGEST) (sym e) (omega arith)) choice (λ line o a. makes line o))
 
 pub comma_ends : (rest : List ℕ) → Ends (sign 44) rest
 unfolding front_of

@@ -105,7 +105,7 @@ unfolding mark_at
 mark_stops b source from s h =
     stopped_by (token_at source from) s (not_past (is_mark_of b (token_at source from).kind) (token_at source from) s h)
 
-mark_there : (b : ℕ) (source : List ℕ) (from : ℕ) → is_mark_of b (token_at source from).kind ≡ true → mark_at b source from ≡ Ok (token_at source from).end
+pub mark_there : (b : ℕ) (source : List ℕ) (from : ℕ) → is_mark_of b (token_at source from).kind ≡ true → mark_at b source from ≡ Ok (token_at source from).end
 unfolding mark_at
 mark_there b source from e = ap (λ c. past_if c (token_at source from)) e
 
@@ -141,7 +141,7 @@ unfolding name_at
 name_stops source from s h =
     stopped_by (token_at source from) s (no_name (token_at source from) (token_at source from).kind s h)
 
-name_there : (source : List ℕ) (from : ℕ) → (token_at source from).kind ≡ kind.Word → name_at source from ≡ Ok (span (token_at source from).start (token_at source from).end)
+pub name_there : (source : List ℕ) (from : ℕ) → (token_at source from).kind ≡ kind.Word → name_at source from ≡ Ok (span (token_at source from).start (token_at source from).end)
 unfolding name_at
 name_there source from e = ap (name_span (token_at source from)) e
 

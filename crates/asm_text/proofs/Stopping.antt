@@ -24,7 +24,7 @@ use Rattle.asm_read.specs.Patterns.{pieces_of}
 use Rattle.asm_read.specs.Forms.{TableRow, rows}
 use Rattle.asm_read.specs.Search.{is_operand, farther, tried, try_form, otherwise, first_fit}
 use Rattle.asm_read.specs.Plans.{is_passed, unknown, fit_or_stop, word_statement, begun_by, statement_at}
-use Rattle.asm_text.specs.Stops.{IsStoppedBy, GoesInList, GoesInExpression, GoesInExpressions, IsLast, StopsIn, Stops, IsNoFarther, Among, IsRowOf, IsFarthest, IsUnknown, IsStopAt, StopsAtTheFirst}
+use Rattle.asm_text.specs.Stops.{IsStoppedBy, GoesInList, GoesInExpression, GoesInExpressions, IsLast, StopsIn, Stops, IsNoFarther, Among, IsRowOf, IsFarthest, IsUnknown, IsStopAt}
 use Rattle.asm_text.proofs.Stopped.{stopped_by, not_past, register_stops, mark_stops, name_stops, number_stops, ListEnds, list_ends, Ended, expression_ends, SeriesEnds, series_ends}
 
 -- ---- one piece
@@ -297,6 +297,6 @@ by_kind source from s kind.End e h = cc
 by_kind source from s k e h =
     inl (λ f. cc, stopped_by (token_at source from) s (sym (let q : stopped (token_at source from) ≡ s = cc in q)))
 
-pub stops_at_first : StopsAtTheFirst
+pub statement_stops : (source : List ℕ) (from : ℕ) (s : Stop) → statement_at source from ≡ Err s → IsStopAt source from s
 unfolding statement_at
-stops_at_first source from s h = by_kind source from s (token_at source from).kind refl h
+statement_stops source from s h = by_kind source from s (token_at source from).kind refl h

@@ -1,6 +1,7 @@
 -- Where reading a statement stops: at the first token with which no form of its word goes on (docs/source-language.md,
 -- "Refusals").
-use Rattle.std.specs.Prelude.{◌≡◌, ◌≢◌, ◌⊎◌, ◌<◌, ◌≤◌, ℕ, zero, suc, Bool, false, true, List, [], ◌∷◌, length, Some, Ok, Err}
+use Rattle.std.specs.Prelude.{◌≡◌, ◌≢◌, ◌⊎◌, ◌+◌, ◌<◌, ◌≤◌, ℕ, zero, suc, Bool, false, true, List, [], ◌∷◌, length, Some, Ok, Err}
+use Rattle.asm_read.specs.declared.fault.SourceFault.{SourceFault}
 use Rattle.asm_read.specs.declared.fault.SourceWhat.{SourceWhat}
 use Rattle.asm_read.specs.declared.fault.SourceWhat.TheVariants.{BadToken, BadOperand, NumberRange}
 use Rattle.asm_read.specs.declared.token.Kind.{Kind}
@@ -15,13 +16,17 @@ use Rattle.asm_read.specs.declared.expression.Shaped.{Shaped}
 use Rattle.asm_read.specs.declared.form.Piece.{Piece}
 use Rattle.asm_read.specs.declared.form.Piece.TheVariants.{MaybeHash, Registers, RegistersWithFirst, Expression, Expressions, WordExpressions}
 use Rattle.asm_read.specs.declared.form.Operands.{Operands}
+use Rattle.asm_read.specs.declared.read.TheConstants.{MOST_LINES}
+use Rattle.asm_read.specs.declared.statement.Stmt.{Stmt}
 use Rattle.asm_read.specs.Tokens.{token_at}
 use Rattle.asm_read.specs.Operands.{name_of, register_at, mark_at, name_at, item_at}
 use Rattle.asm_read.specs.Expressions.{relation_of, listed_at}
 use Rattle.asm_read.specs.Fits.{fresh, piece_at}
 use Rattle.asm_read.specs.Patterns.{pieces_of}
 use Rattle.asm_read.specs.Forms.{TableRow, rows}
-use Rattle.asm_read.specs.Plans.{unknown, statement_at}
+use Rattle.asm_read.specs.Plans.{unknown, not_plain_at, too_long}
+use Rattle.asm_read.specs.Fault.{fault_at}
+use Rattle.asm_read.specs.Reading.{lines_of, line_of, excess, read_of}
 
 -- why a token of a kind is refused: as no token, as a number that is too wide where one may stand, or as an operand
 abbrev pub Refuses : Kind → SourceWhat → Type 0
@@ -150,5 +155,29 @@ IsStopAt source from s =
     ⊎ (((token.kind ≡ Word) × IsUnknown (name_of source token) × (s.at ≡ token.start) × (s.what ≡ unknown (name_of source token)))
     ⊎ ((token.kind ≡ Word) × IsFarthest (name_of source token) source token.end s))
 
+-- where a line's statement begins: at its front, or behind the colon of a label
+abbrev pub StatementBegins : List ℕ → ℕ → Type 0
+StatementBegins source from =
+    (from ≡ 0) ⊎ ((label : Span) × (name_at source 0 ≡ Ok label) × (mark_at 58 source label.end ≡ Ok from))
+
+-- a line stops at a byte that may stand in none, behind its last byte that may, or where its statement does
+abbrev pub IsLineStop : List ℕ → Stop → Type 0
+IsLineStop source s =
+    (not_plain_at 0 source ≡ Some s)
+    ⊎ ((too_long source ≡ Some s) ⊎ ((from : ℕ) × StatementBegins source from × IsStopAt source from s))
+
+-- a line with a number is refused: where it stops, or as one line too many
+abbrev pub IsRefused : ℕ → List ℕ → SourceFault → Type 0
+IsRefused number source fault =
+    ((MOST_LINES < number) × (fault ≡ fault_at number 1 (excess source)))
+    ⊎ ((s : Stop) × (fault ≡ fault_at number (s.at + 1) s.what) × IsLineStop source s)
+
+-- the first of these lines that isn't read is refused so
+abbrev pub FirstRefused : ℕ → List (List ℕ) → SourceFault → Type 0
+FirstRefused number [] fault = ⊥
+FirstRefused number (source ∷ sources) fault =
+    IsRefused number source fault
+    ⊎ ((stmts : List Stmt) × (line_of number source ≡ Ok stmts) × FirstRefused (number + 1) sources fault)
+
 abbrev pub StopsAtTheFirst : Type 0
-StopsAtTheFirst = (source : List ℕ) (from : ℕ) (s : Stop) → statement_at source from ≡ Err s → IsStopAt source from s
+StopsAtTheFirst = (text : List ℕ) (fault : SourceFault) → read_of text ≡ Err fault → FirstRefused 1 (lines_of text) fault

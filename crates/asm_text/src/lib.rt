@@ -30,7 +30,8 @@ pub fn rows_differ()
     ensures { RowsDiffer }
 {}
 
-/// A statement that isn't read is refused where the form of its word that goes on longest doesn't go on.
+/// A source that isn't read is refused in its first line that isn't: at a byte that may not stand, as too long or one too
+/// many, or at the first token with which no form of the statement's word goes on.
 pub fn reading_stops_at_the_first()
     ensures { StopsAtTheFirst }
 {}

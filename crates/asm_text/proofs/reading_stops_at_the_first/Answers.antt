@@ -1,4 +1,4 @@
-use Rattle.asm_text.proofs.Stopping.{stops_at_first}
+use Rattle.asm_text.proofs.Refusing.{stops_at_first}
 use Rattle.asm_text.proofs.reading_stops_at_the_first.Goals as goal
 
 pub returns : goal.returns
