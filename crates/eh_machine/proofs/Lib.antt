@@ -22,5 +22,6 @@ pub mod Landed
 pub mod Entered
 pub mod KeepingLists
 pub mod Agreeing
+pub mod Flying
 pub mod Throwing
 pub mod Rethrowing

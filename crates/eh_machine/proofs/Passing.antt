@@ -1,13 +1,15 @@
 -- One instruction up to its gate, from what its step and its tests have done.
-use Rattle.std.proofs.Common.{◌≡◌, ℕ, ◌+◌, ◌*◌, ◌%◌, ◌^◌, ◌<◌, ◌≤◌, nat_lt, Bool, true, false, ◌&&◌, List, Option, Some, None, Result, Ok, Err, slice_index, length, refl, sym, ap, subst, ◌∙◌, cond, arith}
+use Rattle.std.proofs.Common.{◌≡◌, ℕ, ◌+◌, ◌*◌, ◌%◌, ◌^◌, ◌<◌, ◌≤◌, nat_lt, Bool, true, false, ◌&&◌, List, Option, Some, None, Result, Ok, Err, IfErr, slice_index, length, refl, sym, ap, subst, ◌∙◌, cond, arith}
 use Rattle.std.proofs.lemmas.Bool.{ltb-false, le-ltb}
 use Rattle.std.proofs.Math.Nat.{le_trans}
 use Rattle.std.specs.Option.{option_or}
 use Rattle.eh_bus.specs.Memory.{Memory, guard_all, released}
 use Rattle.eh_bus.specs.Map.{IsMap}
+use Rattle.eh_bus.specs.declared.fault.BusFault.{BusFault}
+use Rattle.eh_bus.specs.declared.fault.BusFault.TheVariants as bus
 use Rattle.eh_cxa.specs.Words.{word}
 use Rattle.eh_cxa.specs.Cleanup.{innermost_of}
-use Rattle.guest_gates.specs.Ends.{trap_end}
+use Rattle.guest_gates.specs.Ends.{bus_end, trap_end, is_fault}
 use Rattle.thumb_isa.specs.Range.{InRange}
 use Rattle.thumb_isa.specs.declared.instr.Instr.{Instr}
 use Rattle.thumb_core.specs.Outcome.{Outcome as Stepping}
@@ -17,6 +19,7 @@ use Rattle.thumb_core.specs.Stores.{stores_of, stores_of_some}
 use Rattle.thumb_core.specs.Laws.{Leaves, LeavesMemory}
 use Rattle.thumb_core.specs.declared.regs.TheConstants.{SP}
 use Rattle.thumb_core.specs.declared.regs.CoreTrap.{CoreTrap}
+use Rattle.thumb_core.specs.declared.regs.CoreTrap.TheVariants as core
 use Rattle.thumb_core.specs.declared.regs.Regs.{Regs}
 use Rattle.thumb_core.specs.declared.regs.Stepped.{Stepped}
 use Rattle.thumb_core.specs.declared.regs.Stepped.TheVariants.{Done, Call, Return, Gate, Trap}
@@ -25,13 +28,47 @@ use Rattle.thumb_core.specs.declared.ends.End.{End}
 use Rattle.thumb_core.specs.declared.ends.End.TheVariants as the_end
 use Rattle.step_ahead.specs.declared.kept.Kept.{Kept}
 use Rattle.step_ahead.specs.declared.kept.Kept.TheVariants.{Nothing}
-use Rattle.step_ahead.specs.Ahead.{branches, branches_some, pushed, pushes_some, MayStore}
+use Rattle.step_ahead.specs.Ahead.{branches, branches_some, pushed, pushes_some, IsLevel, IsJump}
 use Rattle.step_ahead.specs.Kept.{put_back, TakesBack, InStack, PushesInStack, lowest}
 use Rattle.step_ahead.proofs.Stored.{AreWords, OnGo, on_go, step_is, step_pushed, nothing_back}
 use Rattle.step_ahead.proofs.Straight.{GoesOn, effect_goes}
-use Rattle.eh_gates.specs.State.{State, reg}
+use Rattle.eh_trace.specs.Trace.{Trace}
+use Rattle.eh_gates.specs.declared.state.Core.{Core}
+use Rattle.eh_gates.specs.State.{State, state_of, reg}
 use Rattle.eh_machine.specs.Program.{Program}
+use Rattle.eh_machine.specs.Passes.{Passes}
 use Rattle.eh_machine.specs.Machine.{Passed, leaves_cleanup, way_end, refusal, tests, settled, settled_at, freed_below, saved_words, tested, stepped, checked, passed, with_pc_of}
+
+-- ---- what a call has done, by its end
+
+bus_inside : (fault : BusFault) (pc : ℕ) → is_fault (bus_end fault pc) ≡ false
+bus_inside (bus.Unmapped a) pc = refl
+bus_inside (bus.Unaligned a) pc = refl
+bus_inside (bus.ReadOnly a) pc = refl
+bus_inside (bus.SavedSlot a) pc = refl
+bus_inside (bus.Protected a) pc = refl
+bus_inside (bus.NotExecutable a) pc = refl
+
+trap_inside : (trap : CoreTrap) (pc : ℕ) → is_fault (trap_end trap pc) ≡ false
+trap_inside (core.Undefined first) pc = refl
+trap_inside (core.Unpredictable first) pc = refl
+trap_inside (core.NotInProfile first) pc = refl
+trap_inside (core.EvenTarget target) pc = refl
+trap_inside (core.Memory fault) pc = bus_inside fault pc
+
+-- the end by a trap is no fault of the outside
+pub by_trap : (trap : CoreTrap) (pc : ℕ) (end : End) → end ≡ trap_end trap pc → is_fault end ≡ false
+by_trap trap pc end e = ap is_fault e ∙ trap_inside trap pc
+
+module _ (p : Program) (before : Core) (m : Memory) (after : Core) (new : Memory) where
+  pub ended : (end : End) → ((events : Trace) → ◌≡◌ {A = Passed} (Err end, state_of after new events) (passed p (state_of before m events))) → is_fault end ≡ false
+      → Passes p before m (Err end) after new
+  ended end does inside = record { does = does; inside = inside; gate = λ number events e. absurd (cc) }
+
+  pub went_on : (what : Stepped) → ((events : Trace) → ◌≡◌ {A = Passed} (Ok what, state_of after new events) (passed p (state_of before m events)))
+      → ((number : ℕ) (events : Trace) → ◌≡◌ {A = Result Stepped End} (Ok what) (Ok (Gate number)) → with_pc_of (state_of after new events) before.regs.pc ≡ state_of before m events)
+      → Passes p before m (Ok what) after new
+  went_on what does gate = record { does = does; inside = tt; gate = gate }
 
 -- not a trap
 abbrev pub Goes : Stepped → Type 0
@@ -111,6 +148,19 @@ settled_is p s regs m new saves count old sp ea ec eo es e =
     ∙ ap (λ (n : ℕ). settled (p.look s.regs.pc).saves (pushes_some (instr_at s.memory s.regs.pc)) n sp m) eo
     ∙ ap (λ (n : ℕ). settled (p.look s.regs.pc).saves (pushes_some (instr_at s.memory s.regs.pc)) (reg s SP) n m) es
 
+-- sp does not rise: the words of a push are guarded
+pub guarded_is : (p : Program) (s : State) (regs : Regs) (m new : Memory) (saves count sp : ℕ) → saves ≡ (p.look s.regs.pc).saves → count ≡ pushes_some (instr_at s.memory s.regs.pc)
+    → sp ≡ slice_index regs.r SP → slice_index regs.r SP ≤ reg s SP → new ≡ guard_all (saved_words saves count sp) m → new ≡ settled_at p s regs m
+guarded_is p s regs m new saves count sp ea ec es high e =
+    e ∙ ap (λ (n : ℕ). guard_all (saved_words n count sp) m) ea ∙ ap (λ (n : ℕ). guard_all (saved_words (p.look s.regs.pc).saves n sp) m) ec
+    ∙ ap (λ (n : ℕ). guard_all (saved_words (p.look s.regs.pc).saves (pushes_some (instr_at s.memory s.regs.pc)) n) m) es
+    ∙ sym (go (nat_lt (reg s SP) (slice_index regs.r SP)) (le-ltb (reg s SP) (slice_index regs.r SP) high)
+    (guard_all (saved_words (p.look s.regs.pc).saves (pushes_some (instr_at s.memory s.regs.pc)) (slice_index regs.r SP)) m))
+  where
+    go : (b : Bool) → b ≡ false → (guards : Memory) → cond b (released guards (slice_index regs.r SP)) guards ≡ guards
+    go true f guards = absurd (cc)
+    go false f guards = refl
+
 -- no word is pushed and sp stays: the guards stay
 settled_none : (saves sp : ℕ) (m : Memory) → settled saves 0 sp sp m ≡ m
 settled_none saves sp m = go (nat_lt sp sp) (not_below sp)
@@ -185,13 +235,22 @@ module _ (regs : Regs) (m : Memory) (at : Instr × ℕ) where
   pub none_stored : AreWords regs → instr_at m regs.pc ≡ Some at → stores_of at.0 regs ≡ None → TakesBack Nothing regs m
   none_stored small there e = nothing_back regs m small (ap (λ (o : Option (Instr × ℕ)). stores_of_some o regs) there ∙ e)
 
--- what may store goes straight on
-pub straight : (regs : Regs) (m : Memory) (at : Instr × ℕ) (n : ℕ) (what : Stepped) (after : Regs) (new : Memory) → MayStore at.0 regs n → InRange at.0 → length regs.r ≡ 15 → AreWords regs
+-- a test ended the run: registers and memory are back
+pub stopped : (p : Program) (s : State) (at : Instr × ℕ) (what : Stepped) (regs : Regs) (m back : Memory) (landing : Option ℕ) (low : ℕ) (taken : Bool) (o : Option End) (end : End)
+    → (p.look s.regs.pc).is_instr ≡ true → instr_at s.memory s.regs.pc ≡ Some at → (what, regs, m) ≡ effect at.0 at.1 s.regs s.memory → Goes what
+    → landing ≡ innermost_of (word s.memory) s.globals → low ≡ s.memory.home.0 → taken ≡ branches at.0 s.regs → o ≡ refusal p (landing, low) (s.regs.pc, reg s SP) taken what regs
+    → o ≡ Some end → back ≡ s.memory → ◌≡◌ {A = Passed} (Err end, record s { memory = back }) (passed p s)
+stopped p s at what regs m back landing low taken o end reached there e h words home is_taken is some same =
+    refused_passes p s what regs m reached (at_step s.regs s.memory at (what, regs, m) there e) h end back
+    (tests_are p s what regs landing low taken o words home (branches_there s.regs s.memory at taken there is_taken) is ∙ some) same
+
+-- what is told to go straight on does
+pub straight : (regs : Regs) (m : Memory) (at : Instr × ℕ) (n : ℕ) (what : Stepped) (after : Regs) (new : Memory) → IsLevel at.0 regs n → InRange at.0 → length regs.r ≡ 15 → AreWords regs
     → 4 * n ≤ reg_of regs SP → (what, after, new) ≡ effect at.0 at.1 regs m → Goes what → GoesOn n at.1 regs what after
 straight regs m at n what after new told range count small room e h =
     let k = length (pushed at.0) in
     let room_k : 4 * k ≤ reg_of regs SP = subst (λ (j : ℕ). 4 * j ≤ reg_of regs SP) told.count room in
-    let on = subst (λ (o : Stepping). OnGo o.0 (GoesOn k at.1 regs o.0 o.1)) (sym e) (effect_goes at.0 at.1 regs m told.stores range count small room_k) in
+    let on = subst (λ (o : Stepping). OnGo o.0 (GoesOn k at.1 regs o.0 o.1)) (sym e) (effect_goes at.0 at.1 regs m told.level told.taken range count small room_k) in
     subst (λ (j : ℕ). GoesOn j at.1 regs what after) (sym told.count) (on_go what (GoesOn k at.1 regs what after) h on)
 
 -- no test ends a run where sp stays in the running stack and doesn't rise, and no function begins behind the instruction
@@ -217,7 +276,7 @@ none_refused p landing low pc old regs high above next =
     go false false true ea eb ef = absurd (cc)
     go false false false ea eb ef = refl
 
-pub no_test : (p : Program) (s : State) (at : Instr × ℕ) (n low : ℕ) (what : Stepped) (after : Regs) → instr_at s.memory s.regs.pc ≡ Some at → MayStore at.0 s.regs n → low ≡ s.memory.home.0
+pub no_test : (p : Program) (s : State) (at : Instr × ℕ) (n low : ℕ) (what : Stepped) (after : Regs) → instr_at s.memory s.regs.pc ≡ Some at → IsLevel at.0 s.regs n → low ≡ s.memory.home.0
     → GoesOn n at.1 s.regs what after → low ≤ lowest (reg_of s.regs SP) n → (p.look (even ((s.regs.pc + at.1) % 2 ^ 32))).is_function ≡ false → tests p s what after ≡ None
 no_test p s at n low what after there told home on room next =
     let landing = innermost_of (word s.memory) s.globals in
@@ -227,5 +286,34 @@ no_test p s at n low what after there told home on room next =
     ap (λ (w : Stepped). tests p s w after) on.done
     ∙ ap (λ (b : Bool). refusal p (landing, s.memory.home.0) (s.regs.pc, reg s SP) b Done after) taken ∙ none
 
-pub no_gate : (what : Stepped) (number : ℕ) (P : Type 0) → what ≡ Done → ◌≡◌ {A = Result Stepped End} (Ok what) (Ok (Gate number)) → P
-no_gate what number P done e = absurd (cc)
+pub as_done : (p : Program) (s t : State) (what : Stepped) → what ≡ Done → ◌≡◌ {A = Passed} (Ok what, t) (passed p s) → ◌≡◌ {A = Passed} (Ok Done, t) (passed p s)
+as_done p s t what is e = let one : Stepped → Passed = λ w. (Ok w, t) in sym (ap one is) ∙ e
+
+-- ---- a branch that is taken
+
+-- with sp as it was and in the running stack no test ends the run
+none_stops : (p : Program) (landing : Option ℕ) (low pc old : ℕ) (regs : Regs) → slice_index regs.r SP ≡ old → low ≤ slice_index regs.r SP
+    → refusal p (landing, low) (pc, old) true Done regs ≡ None
+none_stops p landing low pc old regs same above =
+    go (leaves_cleanup landing old (slice_index regs.r SP)) (nat_lt (slice_index regs.r SP) low) (not_left landing old (slice_index regs.r SP) (omega (arith, same)))
+    (le-ltb (slice_index regs.r SP) low above)
+  where
+    go : (a b : Bool) → a ≡ false → b ≡ false
+        → option_or (cond a (Some (the_end.Trap kind.SpInCleanup (slice_index regs.r SP) pc)) (cond b (Some (the_end.Trap kind.StackLimit (slice_index regs.r SP) pc)) None)) None ≡ None
+    go true b ea eb = absurd (cc)
+    go false true ea eb = absurd (cc)
+    go false false ea eb = refl
+
+pub jump_passes : (p : Program) (s : State) (at : Instr × ℕ) (to low : ℕ) → (p.look s.regs.pc).is_instr ≡ true → instr_at s.memory s.regs.pc ≡ Some at → IsJump at.0 s.regs to
+    → low ≡ s.memory.home.0 → low ≤ reg s SP → ◌≡◌ {A = Passed} (Ok Done, record s { regs = record s.regs { pc = to } }) (passed p s)
+jump_passes p s at to low reached there told home above =
+    let after : Regs = record s.regs { pc = to } in
+    let landing = innermost_of (word s.memory) s.globals in
+    let taken : branches_some (instr_at s.memory s.regs.pc) s.regs ≡ true = ap (λ (o : Option (Instr × ℕ)). branches_some o s.regs) there ∙ told.taken in
+    let count : pushes_some (instr_at s.memory s.regs.pc) ≡ 0 = ap (λ (o : Option (Instr × ℕ)). pushes_some o) there ∙ ap length told.pushes in
+    let did : (Done, after, s.memory) ≡ step_of s.regs s.memory = at_step s.regs s.memory at (Done, after, s.memory) there (sym (told.goes at.1 s.memory)) in
+    let t : tests p s Done after ≡ None =
+    ap (λ (b : Bool). refusal p (landing, s.memory.home.0) (s.regs.pc, reg s SP) b Done after) taken
+    ∙ none_stops p landing s.memory.home.0 s.regs.pc (reg s SP) after refl (subst (λ (k : ℕ). k ≤ reg s SP) home above) in
+    tested_passes p s Done after s.memory reached did (λ trap e. cc) s.memory t
+    (guarded_is p s after s.memory s.memory (p.look s.regs.pc).saves 0 (reg s SP) refl (sym count) refl (omega arith) refl)

@@ -46,3 +46,7 @@ guard_not saves k count sp m m0 some within bit so_far =
 pub guard_end : (saves k count sp : ℕ) (m m0 : Memory) → k ≡ 0 → m ≡ guard_all (saved_from saves k count sp) m0 → m ≡ guard_all (saved_words saves count sp) m0
 guard_end saves k count sp m m0 e so_far =
     so_far ∙ ap (λ (n : ℕ). guard_all (saved_from saves n count sp) m0) e ∙ ap (λ (xs : List ℕ). guard_all xs m0) (sym (saved_all saves count sp))
+
+-- where no word was pushed
+pub guard_none : (saves count sp : ℕ) (m : Memory) → count ≡ 0 → m ≡ guard_all (saved_words saves count sp) m
+guard_none saves count sp m e = ap (λ (n : ℕ). guard_all (saved_words saves n sp) m) (sym e)

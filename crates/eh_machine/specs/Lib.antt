@@ -1,6 +1,7 @@
 pub mod Program
 pub mod Checked
 pub mod Machine
+pub mod Passes
 pub mod Start
 pub mod Guarded
 pub mod Turns

@@ -42,8 +42,36 @@ pub fn turn<C: Checked, B: Bus, I: Source, O: Sink>(
     ensures input_kept { result ≢ Turned.Ended End.ReadFault → I.faults input.new ≡ I.faults input.old }
     ensures out_kept { result ≢ Turned.Ended End.WriteFault → O.faults out.new ≡ O.faults out.old }
 {
+    let mut known = a.is_instr(core.regs.pc);
+    turn_from(a, &mut known, core, shared, events, input, out)
+}
+
+/// The same where it is known whether the checker reached an instruction at pc, and is told of the pc that the event leads to.
+#[inline(always)]
+pub(crate) fn turn_from<C: Checked, B: Bus, I: Source, O: Sink>(
+    a: &C,
+    known: &mut bool,
+    core: &mut Core,
+    shared: &mut Shared<B>,
+    events: &mut Events,
+    input: &mut I,
+    out: &mut O,
+) -> Turned
+    requires known { known.old ≡ ((C.program a.now).look core.old.regs.pc).is_instr }
+    ensures known { known.new ≡ ((C.program a.now).look core.new.regs.pc).is_instr }
+    ensures told { IfSome (I.left input.old) (λ bytes.
+        let old : State = state_of core.old (B.memory shared.old.bus) events.old in
+        let new : State = state_of core.new (B.memory shared.new.bus) events.new in
+        TurnedOnce (C.program a.now) old bytes result new (I.left input.new) (O.written out.old) (O.written out.new)) }
+    ensures read { result ≡ Turned.Ended End.ReadFault → Rose (I.faults input.old) (I.faults input.new) }
+    ensures write { result ≡ Turned.Ended End.WriteFault → Rose (O.faults out.old) (O.faults out.new) }
+    ensures input_later { I.faults input.old ≤ I.faults input.new }
+    ensures out_later { O.faults out.old ≤ O.faults out.new }
+    ensures input_kept { result ≢ Turned.Ended End.ReadFault → I.faults input.new ≡ I.faults input.old }
+    ensures out_kept { result ≢ Turned.Ended End.WriteFault → O.faults out.new ≡ O.faults out.old }
+{
     let pc = core.regs.pc;
-    let what = match pass(a, core, &mut shared.bus) {
+    let what = match pass(a, known, core, &mut shared.bus) {
         Ok(what) => what,
         Err(end) => return Turned::Ended(end),
     };
@@ -53,10 +81,18 @@ pub fn turn<C: Checked, B: Bus, I: Source, O: Sink>(
     if number > INPUT_GATE {
         let next = core.regs.pc;
         core.regs.pc = pc;
-        return gate(&a.tables(), number, next, core, &mut shared.bus, events);
+        let turned = gate(&a.tables(), number, next, core, &mut shared.bus, events);
+        *known = a.is_instr(core.regs.pc);
+        return turned;
     }
     match guest_gates::gate(number, pc, &mut core.regs, input, out) {
-        None => Turned::Went,
-        Some(end) => Turned::Ended(end),
+        None => {
+            *known = a.is_instr(core.regs.pc);
+            Turned::Went
+        }
+        Some(end) => {
+            *known = a.is_instr(core.regs.pc);
+            Turned::Ended(end)
+        }
     }
 }

@@ -1,17 +1,14 @@
 //! One instruction up to its gate: it is checked, fetched once, done and tested, and its guards are set (docs/machine.md, "An event").
-ghost use Rattle.std.specs.Prelude.{◌≡◌, ◌≤◌, ℕ, true, false, length, Ok, Some, IfErr};
+ghost use Rattle.std.specs.Prelude.{◌≡◌, ◌≤◌, true, length, Some};
 ghost use Rattle.thumb_isa.specs.Range.{InRange};
 ghost use Rattle.thumb_core.specs.Step.{instr_at};
-ghost use Rattle.step_ahead.specs.Ahead.{MayStore, branches, pushed};
+ghost use Rattle.step_ahead.specs.Ahead.{IsJump, IsLevel, branches, pushed};
 ghost use Rattle.step_ahead.specs.Kept.{TakesBack};
-ghost use Rattle.guest_gates.specs.Ends.{is_fault};
-ghost use Rattle.eh_trace.specs.Trace.{Trace};
-ghost use Rattle.eh_gates.specs.State.{state_of};
-ghost use Rattle.eh_machine.specs.Machine.{passed, with_pc_of};
+ghost use Rattle.eh_machine.specs.Passes.{Passes};
 
 use crate::checked::Checked;
-use crate::guards::settle;
-use crate::tests_of::{passes_tests, refusal};
+use crate::guards::{guard_pushed, settle};
+use crate::tests_of::{look_behind, passes_tests, refusal};
 use eh_bus::bus::Bus;
 use eh_cxa::innermost_sp;
 use eh_gates::Core;
@@ -23,16 +20,21 @@ use thumb_core::step::{execute, fetch};
 use thumb_isa::instr::Instr;
 
 /// What was done, or the end by what forbids it, which leaves everything as before the instruction and is no fault of the outside. A gate's
-/// instruction changes pc alone.
+/// instruction changes pc alone. `known` says whether the checker reached an instruction at pc, before it and behind it, so that each address
+/// is looked up once.
 #[inline(always)]
-pub(crate) fn pass<C: Checked, B: Bus>(a: &C, core: &mut Core, bus: &mut B) -> Result<Stepped, End>
-    ensures does { (events : Trace) → (result, state_of core.new (B.memory bus.new) events) ≡ passed (C.program a.now) (state_of core.old (B.memory bus.old) events) }
-    ensures inside { IfErr result (λ end. is_fault end ≡ false) }
-    ensures gate { (number : ℕ) (events : Trace) → result ≡ Ok (Stepped.Gate number)
-        → with_pc_of (state_of core.new (B.memory bus.new) events) core.old.regs.pc ≡ state_of core.old (B.memory bus.old) events }
+pub(crate) fn pass<C: Checked, B: Bus>(
+    a: &C,
+    known: &mut bool,
+    core: &mut Core,
+    bus: &mut B,
+) -> Result<Stepped, End>
+    requires known { known.old ≡ ((C.program a.now).look core.old.regs.pc).is_instr }
+    ensures passes { Passes (C.program a.now) core.old (B.memory bus.old) result core.new (B.memory bus.new) }
+    ensures known { known.new ≡ ((C.program a.now).look core.new.regs.pc).is_instr }
 {
     let pc = core.regs.pc;
-    if !a.is_instr(pc) {
+    if !*known {
         return Err(End::Trap(TrapKind::FellOff, pc, pc));
     }
     let at = match fetch(&core.regs, bus) {
@@ -41,9 +43,82 @@ pub(crate) fn pass<C: Checked, B: Bus>(a: &C, core: &mut Core, bus: &mut B) -> R
     };
     are_words(&core.regs.r);
     match look_ahead(at.0, &core.regs) {
-        Ahead::Plain { branches } => tested(a, at, (branches, 0), &Kept::Nothing, core, bus),
-        Ahead::Stores { pushes } => stored(a, at, pushes, core, bus),
+        Ahead::Level => level(a, at, 0, known, core, bus),
+        Ahead::Pushes { count } => level(a, at, count, known, core, bus),
+        Ahead::Jumps { to } => jump(a, at, to, known, core, bus),
+        Ahead::Other { branches } => {
+            let result = tested(a, at, (branches, 0), &Kept::Nothing, core, bus);
+            *known = a.is_instr(core.regs.pc);
+            result
+        }
     }
+}
+
+/// An instruction `at` pc that goes straight on and pushes so many words. Where its tests, told beforehand, let it pass, there is nothing to
+/// keep.
+#[inline(always)]
+fn level<C: Checked, B: Bus>(
+    a: &C,
+    at: (Instr, u32),
+    pushes: u32,
+    known: &mut bool,
+    core: &mut Core,
+    bus: &mut B,
+) -> Result<Stepped, End>
+    requires reached { ((C.program a.now).look core.old.regs.pc).is_instr ≡ true }
+    requires known { known.old ≡ true }
+    requires there { instr_at (B.memory bus.old) core.old.regs.pc ≡ Some at }
+    requires range { InRange at.0 }
+    requires told { IsLevel at.0 core.old.regs pushes }
+    ensures passes { Passes (C.program a.now) core.old (B.memory bus.old) result core.new (B.memory bus.new) }
+    ensures known { known.new ≡ ((C.program a.now).look core.new.regs.pc).is_instr }
+{
+    let (i, size) = at;
+    let pc = core.regs.pc;
+    let (low, _) = bus.home();
+    are_words(&core.regs.r);
+    let behind = look_behind(a, size, &core.regs);
+    if !passes_tests(low, pushes, behind, &core.regs) {
+        let result = kept(a, at, (false, pushes), core, bus);
+        *known = a.is_instr(core.regs.pc);
+        return result;
+    }
+    let what = execute(i, size, &mut core.regs, bus);
+    if let Stepped::Trap(trap) = what {
+        return Err(trap_end(trap, pc));
+    }
+    let sp = core.regs.r[SP as usize];
+    guard_pushed(a, pc, pushes, sp, bus);
+    *known = behind.is_instr;
+    Ok(Stepped::Done)
+}
+
+/// A branch `at` pc that is taken, to an address. Where sp stands in the running stack no test forbids it.
+#[inline(always)]
+fn jump<C: Checked, B: Bus>(
+    a: &C,
+    at: (Instr, u32),
+    to: u32,
+    known: &mut bool,
+    core: &mut Core,
+    bus: &mut B,
+) -> Result<Stepped, End>
+    requires reached { ((C.program a.now).look core.old.regs.pc).is_instr ≡ true }
+    requires there { instr_at (B.memory bus.old) core.old.regs.pc ≡ Some at }
+    requires range { InRange at.0 }
+    requires told { IsJump at.0 core.old.regs to }
+    ensures passes { Passes (C.program a.now) core.old (B.memory bus.old) result core.new (B.memory bus.new) }
+    ensures known { known.new ≡ ((C.program a.now).look core.new.regs.pc).is_instr }
+{
+    let (low, _) = bus.home();
+    if core.regs.r[SP as usize] < low {
+        let result = kept(a, at, (true, 0), core, bus);
+        *known = a.is_instr(core.regs.pc);
+        return result;
+    }
+    core.regs.pc = to;
+    *known = a.is_instr(to);
+    Ok(Stepped::Done)
 }
 
 /// The instruction `at` pc is done and then tested. `told` says whether it branches and how many words it pushes. Where a test ends the run the
@@ -64,10 +139,7 @@ fn tested<C: Checked, B: Bus>(
     requires pushes { told.1 ≡ length (pushed at.0) }
     requires few { told.1 ≤ 16 }
     requires back { TakesBack kept.now core.old.regs (B.memory bus.old) }
-    ensures does { (events : Trace) → (result, state_of core.new (B.memory bus.new) events) ≡ passed (C.program a.now) (state_of core.old (B.memory bus.old) events) }
-    ensures inside { IfErr result (λ end. is_fault end ≡ false) }
-    ensures gate { (number : ℕ) (events : Trace) → result ≡ Ok (Stepped.Gate number)
-        → with_pc_of (state_of core.new (B.memory bus.new) events) core.old.regs.pc ≡ state_of core.old (B.memory bus.old) events }
+    ensures passes { Passes (C.program a.now) core.old (B.memory bus.old) result core.new (B.memory bus.new) }
 {
     let (i, size) = at;
     let (branches, pushes) = told;
@@ -93,61 +165,25 @@ fn tested<C: Checked, B: Bus>(
     Ok(what)
 }
 
-/// An instruction `at` pc that may store. Where its tests, told beforehand, let it pass, there is nothing to keep.
-#[inline(always)]
-fn stored<C: Checked, B: Bus>(
-    a: &C,
-    at: (Instr, u32),
-    pushes: u32,
-    core: &mut Core,
-    bus: &mut B,
-) -> Result<Stepped, End>
-    requires reached { ((C.program a.now).look core.old.regs.pc).is_instr ≡ true }
-    requires there { instr_at (B.memory bus.old) core.old.regs.pc ≡ Some at }
-    requires range { InRange at.0 }
-    requires told { MayStore at.0 core.old.regs pushes }
-    ensures does { (events : Trace) → (result, state_of core.new (B.memory bus.new) events) ≡ passed (C.program a.now) (state_of core.old (B.memory bus.old) events) }
-    ensures inside { IfErr result (λ end. is_fault end ≡ false) }
-    ensures gate { (number : ℕ) (events : Trace) → result ≡ Ok (Stepped.Gate number)
-        → with_pc_of (state_of core.new (B.memory bus.new) events) core.old.regs.pc ≡ state_of core.old (B.memory bus.old) events }
-{
-    let (i, size) = at;
-    let pc = core.regs.pc;
-    let old = core.regs.r[SP as usize];
-    let (low, _) = bus.home();
-    are_words(&core.regs.r);
-    if !passes_tests(a, low, size, pushes, &core.regs) {
-        return kept(a, at, pushes, core, bus);
-    }
-    let what = execute(i, size, &mut core.regs, bus);
-    if let Stepped::Trap(trap) = what {
-        return Err(trap_end(trap, pc));
-    }
-    let sp = core.regs.r[SP as usize];
-    settle(a.saves_at(pc), pushes, old, sp, bus);
-    Ok(what)
-}
-
-/// An instruction `at` pc that may store and that a test may forbid once it is done: what it may store over is kept.
+/// An instruction `at` pc that a test may forbid once it is done: what it may store over is kept.
 #[cold]
 #[inline(never)]
 fn kept<C: Checked, B: Bus>(
     a: &C,
     at: (Instr, u32),
-    pushes: u32,
+    told: (bool, u32),
     core: &mut Core,
     bus: &mut B,
 ) -> Result<Stepped, End>
     requires reached { ((C.program a.now).look core.old.regs.pc).is_instr ≡ true }
     requires there { instr_at (B.memory bus.old) core.old.regs.pc ≡ Some at }
     requires range { InRange at.0 }
-    requires told { MayStore at.0 core.old.regs pushes }
-    ensures does { (events : Trace) → (result, state_of core.new (B.memory bus.new) events) ≡ passed (C.program a.now) (state_of core.old (B.memory bus.old) events) }
-    ensures inside { IfErr result (λ end. is_fault end ≡ false) }
-    ensures gate { (number : ℕ) (events : Trace) → result ≡ Ok (Stepped.Gate number)
-        → with_pc_of (state_of core.new (B.memory bus.new) events) core.old.regs.pc ≡ state_of core.old (B.memory bus.old) events }
+    requires taken { told.0 ≡ branches at.0 core.old.regs }
+    requires pushes { told.1 ≡ length (pushed at.0) }
+    requires few { told.1 ≤ 16 }
+    ensures passes { Passes (C.program a.now) core.old (B.memory bus.old) result core.new (B.memory bus.new) }
 {
     let (i, size) = at;
     let kept = keep(i, size, &core.regs, bus);
-    tested(a, at, (false, pushes), &kept, core, bus)
+    tested(a, at, told, &kept, core, bus)
 }

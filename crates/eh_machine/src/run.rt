@@ -6,7 +6,7 @@ ghost use Rattle.eh_gates.specs.State.{State, state_of};
 ghost use Rattle.eh_machine.specs.Machine.{machine_of};
 
 use crate::checked::Checked;
-use crate::event::{Shared, turn};
+use crate::event::{Shared, turn_from};
 use eh_bus::bus::Bus;
 use eh_gates::{Core, Turned};
 use eh_port::{Sink, Source};
@@ -40,10 +40,12 @@ impl<'a, C: Checked, B: Bus> Machine<'a, C, B> {
         ensures out_kept { result ≢ End.WriteFault → O.faults out.new ≡ O.faults out.old }
         ensures accepted { self.new.accepted ≡ self.old.accepted }
     {
+        let mut known = self.accepted.is_instr(self.core.regs.pc);
         while self.left > 0 {
             self.left -= 1;
-            match turn(
+            match turn_from(
                 self.accepted,
+                &mut known,
                 &mut self.core,
                 &mut self.shared,
                 &mut self.events,

@@ -135,14 +135,36 @@ fn has_room(sp: u32, pushes: u32, low: u32) -> bool
     }
 }
 
-/// Whether the tests let an instruction of `size` bytes pass that pushes so many words and goes on to the next one, told before it is done.
+/// What stands behind an instruction.
+#[derive(Clone, Copy)]
+pub(crate) struct Behind {
+    /// Whether a function begins there.
+    pub(crate) is_function: bool,
+    /// Whether the checker reached an instruction there.
+    pub(crate) is_instr: bool,
+}
+
+/// Looks behind an instruction of `size` bytes.
 #[inline(always)]
-pub(crate) fn passes_tests<C: Checked>(a: &C, low: u32, size: u32, pushes: u32, regs: &Regs) -> bool
+pub(crate) fn look_behind<C: Checked>(a: &C, size: u32, regs: &Regs) -> Behind
+    ensures function { result.is_function ≡ ((C.program a.now).look (even ((regs.now.pc + size) % 2 ^ 32))).is_function }
+    ensures instr { result.is_instr ≡ ((C.program a.now).look (even ((regs.now.pc + size) % 2 ^ 32))).is_instr }
+{
+    let next = regs.pc.wrapping_add(size);
+    let next = next - next % 2;
+    Behind {
+        is_function: a.is_function(next),
+        is_instr: a.is_instr(next),
+    }
+}
+
+/// Whether the tests let an instruction pass that pushes so many words and goes on to the next one, told before it is done.
+#[inline(always)]
+pub(crate) fn passes_tests(low: u32, pushes: u32, behind: Behind, regs: &Regs) -> bool
     requires { pushes ≤ 16 }
     ensures room { result ≡ true → 4 * pushes ≤ reg regs.now SP }
     ensures low { result ≡ true → low ≤ lowest (reg regs.now SP) pushes }
-    ensures next { result ≡ true → ((C.program a.now).look (even ((regs.now.pc + size) % 2 ^ 32))).is_function ≡ false }
+    ensures next { result ≡ true → behind.is_function ≡ false }
 {
-    let behind = regs.pc.wrapping_add(size);
-    has_room(regs.r[SP as usize], pushes, low) && !a.is_function(behind - behind % 2)
+    !behind.is_function && has_room(regs.r[SP as usize], pushes, low)
 }

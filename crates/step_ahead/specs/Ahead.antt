@@ -1,15 +1,18 @@
 -- What is told of an instruction before it is done (docs/machine.md, "An event"): whether it goes to a target of its own and not on to the
--- next one, how many words it pushes, and whether it may store.
-use Rattle.std.specs.Prelude.{◌≡◌, ◌≤◌, ℕ, ◌==◌, Bool, true, false, List, [], length, Option, Some, None}
+-- next one, how many words it pushes, and whether it leaves sp else.
+use Rattle.std.specs.Prelude.{◌≡◌, ◌≤◌, ℕ, ◌==◌, Bool, true, false, not, List, [], length, Option, Some, None}
+use Rattle.eh_bus.specs.Memory.{Memory}
 use Rattle.thumb_isa.specs.declared.instr.Instr.{Instr}
 use Rattle.thumb_isa.specs.declared.instr.Instr.TheVariants.{ShiftImm, AddSubReg, AddSubImm3, Imm8, Alu, AddHigh, CmpHigh, MovHigh, Bx, Blx, LdrLit, MemReg, MemImm, MemSp, Adr, AddRdSp, AddSp, SubSp, Extend, Rev, Push, Pop, Hint, Stm, Ldm, BCond, Svc, B, Bl, Barrier}
 use Rattle.thumb_core.specs.Branch.{passes}
 use Rattle.thumb_core.specs.Words.{listed}
-use Rattle.thumb_core.specs.declared.regs.TheConstants.{PC}
+use Rattle.thumb_core.specs.declared.regs.TheConstants.{SP, PC}
 use Rattle.thumb_core.specs.declared.regs.Regs.{Regs}
+use Rattle.thumb_core.specs.declared.regs.Stepped.TheVariants.{Done}
+use Rattle.thumb_core.specs.Step.{effect}
 use Rattle.thumb_core.specs.Stores.{stores_of}
 use Rattle.step_ahead.specs.declared.instruction.Ahead.{Ahead as Told}
-use Rattle.step_ahead.specs.declared.instruction.Ahead.TheVariants.{Plain, Stores}
+use Rattle.step_ahead.specs.declared.instruction.Ahead.TheVariants.{Level, Pushes, Jumps, Other}
 
 -- a branch that is taken: B, a B whose condition passes, and an ADD or a MOV into pc. Calls and returns are told by what a step answers
 abbrev pub branches : Instr → Regs → Bool
@@ -86,51 +89,61 @@ abbrev pub pushes_some : Option (Instr × ℕ) → ℕ
 pushes_some None = 0
 pushes_some (Some (i, size)) = length (pushed i)
 
--- the instructions that store, and the loads of the same form
-abbrev pub may_store : Instr → Bool
-may_store (MemReg op t n m) = true
-may_store (MemImm op t n off) = true
-may_store (MemSp load t off) = true
-may_store (Push list) = true
-may_store (Stm n list) = true
-may_store (B off) = false
-may_store (BCond cond off) = false
-may_store (AddHigh d m) = false
-may_store (MovHigh d m) = false
-may_store (ShiftImm op d m n) = false
-may_store (AddSubReg sub d n m) = false
-may_store (AddSubImm3 sub d n imm) = false
-may_store (Imm8 op d imm) = false
-may_store (Alu op d m) = false
-may_store (CmpHigh n m) = false
-may_store (Bx m) = false
-may_store (Blx m) = false
-may_store (LdrLit t off) = false
-may_store (Adr d off) = false
-may_store (AddRdSp d off) = false
-may_store (AddSp off) = false
-may_store (SubSp off) = false
-may_store (Extend op d m) = false
-may_store (Rev op d m) = false
-may_store (Pop list) = false
-may_store (Hint n) = false
-may_store (Ldm n list) = false
-may_store (Svc imm) = false
-may_store (Bl off) = false
-may_store (Barrier op option) = false
+-- the instructions that write sp by a push alone, and are no call, no return, no gate and no branch that is always taken. LDM is left to the
+-- others, which are tested once they are done
+abbrev pub is_level : Instr → Bool
+is_level (AddHigh d m) = not (d == SP)
+is_level (MovHigh d m) = not (d == SP)
+is_level (ShiftImm op d m n) = true
+is_level (AddSubReg sub d n m) = true
+is_level (AddSubImm3 sub d n imm) = true
+is_level (Imm8 op d imm) = true
+is_level (Alu op d m) = true
+is_level (CmpHigh n m) = true
+is_level (LdrLit t off) = true
+is_level (MemReg op t n m) = true
+is_level (MemImm op t n off) = true
+is_level (MemSp load t off) = true
+is_level (Adr d off) = true
+is_level (AddRdSp d off) = true
+is_level (Extend op d m) = true
+is_level (Rev op d m) = true
+is_level (Push list) = true
+is_level (Hint n) = true
+is_level (Stm n list) = true
+is_level (BCond cond off) = true
+is_level (Barrier op option) = true
+is_level (B off) = false
+is_level (Bx m) = false
+is_level (Blx m) = false
+is_level (AddSp off) = false
+is_level (SubSp off) = false
+is_level (Pop list) = false
+is_level (Ldm n list) = false
+is_level (Svc imm) = false
+is_level (Bl off) = false
 
--- .. what is told of one that stores nothing, and of one that may
-pub record IsPlain (i : Instr) (regs : Regs) (is_taken : Bool) : Type 0 where
-  pub taken : is_taken ≡ branches i regs
-  pub stores : stores_of i regs ≡ None
-  pub pushes : pushed i ≡ []
-
-pub record MayStore (i : Instr) (regs : Regs) (n : ℕ) : Type 0 where
-  pub stores : may_store i ≡ true
+-- .. what is told of one that goes straight on and pushes n words
+pub record IsLevel (i : Instr) (regs : Regs) (n : ℕ) : Type 0 where
+  pub level : is_level i ≡ true
   pub taken : branches i regs ≡ false
   pub count : n ≡ length (pushed i)
   pub few : n ≤ 16
 
+-- of a branch that is taken: it goes there and changes nothing else
+pub record IsJump (i : Instr) (regs : Regs) (to : ℕ) : Type 0 where
+  pub taken : branches i regs ≡ true
+  pub pushes : pushed i ≡ []
+  pub goes : (size : ℕ) (m : Memory) → effect i size regs m ≡ (Done, record regs { pc = to }, m)
+
+-- and of any other, which stores nothing
+pub record IsOther (i : Instr) (regs : Regs) (is_taken : Bool) : Type 0 where
+  pub taken : is_taken ≡ branches i regs
+  pub stores : stores_of i regs ≡ None
+  pub pushes : pushed i ≡ []
+
 abbrev pub IsAhead : Instr → Regs → Told → Type 0
-IsAhead i regs (Plain taken) = IsPlain i regs taken
-IsAhead i regs (Stores count) = MayStore i regs count
+IsAhead i regs Level = IsLevel i regs 0
+IsAhead i regs (Pushes count) = IsLevel i regs count
+IsAhead i regs (Jumps to) = IsJump i regs to
+IsAhead i regs (Other taken) = IsOther i regs taken

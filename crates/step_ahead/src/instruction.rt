@@ -1,25 +1,42 @@
 //! What an instruction does to pc and sp, told before it is done (DDI 0419).
-ghost use Rattle.std.specs.Prelude.{◌≡◌};
+ghost use Rattle.std.specs.Prelude.{◌≡◌, ◌%◌, ◌^◌};
+ghost use Rattle.thumb_core.specs.Branch.{target_of};
+ghost use Rattle.thumb_core.specs.Registers.{even};
 ghost use Rattle.step_ahead.specs.Ahead.{IsAhead};
 
 use crate::span::count_of;
 use thumb_core::branch::passes;
-use thumb_core::regs::{PC, Regs};
+use thumb_core::regs::{PC, Regs, SP};
 use thumb_isa::instr::Instr;
 
 /// What is told of an instruction.
 #[derive(Clone, Copy)]
 pub enum Ahead {
-    /// It stores nothing and pushes nothing.
-    Plain {
-        /// Whether it goes to a target of its own.
+    /// It goes on to the next instruction and leaves sp, unless it traps.
+    Level,
+    /// It goes on to the next instruction and lowers sp by the words that it pushes, unless it traps.
+    Pushes {
+        /// How many words it pushes.
+        count: u32,
+    },
+    /// A branch that is taken, which changes pc alone.
+    Jumps {
+        /// The new pc.
+        to: u32,
+    },
+    /// Any other. It stores nothing and pushes nothing.
+    Other {
+        /// Whether it goes to a target of its own and is no call and no return.
         branches: bool,
     },
-    /// It may store, takes no branch, and raises sp nowhere.
-    Stores {
-        /// How many words it pushes.
-        pushes: u32,
-    },
+}
+
+/// Where a branch goes.
+fn target_of(off: i32, regs: &Regs) -> u32
+    ensures { result ≡ even (target_of off regs.now % 2 ^ 32) }
+{
+    let target = regs.pc.wrapping_add(4).wrapping_add_signed(off);
+    target - target % 2
 }
 
 /// Looks at an instruction, by one match. Takes no memory, and a constant time.
@@ -28,37 +45,52 @@ pub fn look_ahead(i: Instr, regs: &Regs) -> Ahead
     ensures { IsAhead i regs.now result }
 {
     match i {
-        Instr::Push { list } => Ahead::Stores {
-            pushes: count_of(list),
+        Instr::Push { list } => Ahead::Pushes {
+            count: count_of(list),
         },
-        Instr::MemReg { .. } | Instr::MemImm { .. } | Instr::MemSp { .. } | Instr::Stm { .. } => {
-            Ahead::Stores { pushes: 0 }
+        Instr::Stm { .. } => Ahead::Level,
+        Instr::B { off } => Ahead::Jumps {
+            to: target_of(off, regs),
+        },
+        Instr::BCond { cond, off } => {
+            if passes(cond, regs) {
+                Ahead::Jumps {
+                    to: target_of(off, regs),
+                }
+            } else {
+                Ahead::Level
+            }
         }
-        Instr::B { .. } => Ahead::Plain { branches: true },
-        Instr::BCond { cond, .. } => Ahead::Plain {
-            branches: passes(cond, regs),
-        },
-        Instr::AddHigh { d, .. } | Instr::MovHigh { d, .. } => Ahead::Plain { branches: d == PC },
-        Instr::ShiftImm { .. }
+        Instr::AddHigh { d, .. } | Instr::MovHigh { d, .. } => {
+            if d == SP || d == PC {
+                Ahead::Other { branches: d == PC }
+            } else {
+                Ahead::Level
+            }
+        }
+        Instr::AddSp { .. }
+        | Instr::SubSp { .. }
+        | Instr::Pop { .. }
+        | Instr::Ldm { .. }
+        | Instr::Bx { .. }
+        | Instr::Blx { .. }
+        | Instr::Bl { .. }
+        | Instr::Svc { .. } => Ahead::Other { branches: false },
+        Instr::MemReg { .. }
+        | Instr::MemImm { .. }
+        | Instr::MemSp { .. }
+        | Instr::ShiftImm { .. }
         | Instr::AddSubReg { .. }
         | Instr::AddSubImm3 { .. }
         | Instr::Imm8 { .. }
         | Instr::Alu { .. }
         | Instr::CmpHigh { .. }
-        | Instr::Bx { .. }
-        | Instr::Blx { .. }
         | Instr::LdrLit { .. }
         | Instr::Adr { .. }
         | Instr::AddRdSp { .. }
-        | Instr::AddSp { .. }
-        | Instr::SubSp { .. }
         | Instr::Extend { .. }
         | Instr::Rev { .. }
-        | Instr::Pop { .. }
         | Instr::Hint { .. }
-        | Instr::Ldm { .. }
-        | Instr::Svc { .. }
-        | Instr::Bl { .. }
-        | Instr::Barrier { .. } => Ahead::Plain { branches: false },
+        | Instr::Barrier { .. } => Ahead::Level,
     }
 }

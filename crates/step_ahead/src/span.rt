@@ -10,18 +10,12 @@ use thumb_core::regs::{Regs, SP};
 use thumb_isa::instr::Instr;
 
 /// How many registers a list names.
-#[tactic(auto, using(thumb_core::proofs::Listed::listed_all, thumb_core::proofs::Listed::listed_more, thumb_core::proofs::Listed::listed_none))]
+#[tactic(auto, using(crate::proofs::Counted::listed_count))]
 pub(crate) fn count_of(list: u16) -> u32
     ensures count { result ≡ length (listed list) }
     ensures within { result ≤ 16 }
 {
-    let mut count = 0;
-    for k in 0..16u16 {
-        if (list >> k) & 1 == 1 {
-            count += 1;
-        }
-    }
-    count
+    list.count_ones()
 }
 
 /// One of the registers r0 to r14.

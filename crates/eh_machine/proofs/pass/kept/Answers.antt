@@ -1,4 +1,3 @@
-use Rattle.std.proofs.Common.{sym}
 use Rattle.eh_machine.proofs.pass.kept.Goals as goal
 
 pub tested-requires : goal.tested-requires
@@ -6,8 +5,8 @@ tested-requires g c = record {
   reached = c.requires.reached;
   there = c.requires.there;
   range = c.requires.range;
-  taken = sym c.requires.told.taken;
-  pushes = c.requires.told.count;
-  few = c.requires.told.few;
+  taken = c.requires.taken;
+  pushes = c.requires.pushes;
+  few = c.requires.few;
   back = c.keep-kept.ensures;
 }

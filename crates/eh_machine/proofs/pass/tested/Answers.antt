@@ -1,46 +1,52 @@
 use Rattle.std.proofs.Common.{◌≡◌, ℕ, ◌+◌, ◌≤◌, length, slice_index, refl, sym, ap, ◌∙◌, arith, Option, None, Some}
 use Rattle.eh_bus.specs.Memory.{Memory}
-use Rattle.thumb_core.specs.declared.regs.Stepped.TheVariants.{Gate}
 use Rattle.eh_gates.specs.State.{State, state_of}
-use Rattle.eh_machine.proofs.Passing.{trap_passes, refused_passes, tested_passes, kept_back, left_as_it_was, tests_are, settled_is, gate_done, gate_passes, above_low, at_step, branches_there, pushes_there, leaves_there, in_stack}
+use Rattle.eh_machine.proofs.Passing.{ended, went_on, by_trap, trap_passes, stopped, tested_passes, kept_back, left_as_it_was, tests_are, settled_is, gate_done, gate_passes, above_low, at_step, branches_there, pushes_there, leaves_there, in_stack}
 use Rattle.eh_machine.proofs.pass.tested.Goals as goal
 
-pub returns-in-Trap-clause-does : goal.returns-in-Trap-clause-does
-returns-in-Trap-clause-does g c =
+pub returns-in-Trap : goal.returns-in-Trap
+returns-in-Trap g c =
     let m = g.B.Bus.memory c.args.bus.now in
-    λ events. trap_passes (g.C.Checked.program c.args.a.now) (state_of c.args.core.now m events) c.in-Trap.trap c.execute-what.new.regs
-    (g.B.Bus.memory c.execute-what.new.bus) c.trap_end.result c.requires.reached (at_step c.args.core.now.regs m c.args.at _ c.requires.there c.in-Trap.ensures.effect)
-    c.in-Trap.ensures.trap.0 c.in-Trap.ensures.trap.1 c.trap_end.ensures
+    record {
+      passes = ended (g.C.Checked.program c.args.a.now) c.args.core.now m _ _ c.trap_end.result
+          (λ events. trap_passes (g.C.Checked.program c.args.a.now) (state_of c.args.core.now m events) c.in-Trap.trap c.execute-what.new.regs
+          (g.B.Bus.memory c.execute-what.new.bus) c.trap_end.result c.requires.reached (at_step c.args.core.now.regs m c.args.at _ c.requires.there c.in-Trap.ensures.effect)
+          c.in-Trap.ensures.trap.0 c.in-Trap.ensures.trap.1 c.trap_end.ensures)
+          (by_trap c.in-Trap.trap _ c.trap_end.result c.trap_end.ensures);
+    }
 
-pub returns-in-Done-clause-does : goal.returns-in-Done-clause-does
-returns-in-Done-clause-does g c =
-    λ events.
+pub returns-in-Done : goal.returns-in-Done
+returns-in-Done g c =
     let p = g.C.Checked.program c.args.a.now in
     let old = g.B.Bus.memory c.args.bus.now in
-    let s : State = state_of c.args.core.now old events in
-    let what = c.execute-what.result in
-    let regs = c.execute-what.new.regs in
     let m = g.B.Bus.memory c.execute-what.new.bus in
-    let did = at_step s.regs old c.args.at (what, regs, m) c.requires.there c.execute-what.ensures.effect in
-    let t = tests_are p s what regs c.innermost_sp-landing.result c.home-low.result.0 c.args.told.0 c.refusal.result
-    c.innermost_sp-landing.ensures.words (ap (λ (h : ℕ × ℕ). h.0) c.home-low.ensures) (branches_there s.regs old c.args.at c.args.told.0 c.requires.there c.requires.taken) c.refusal.ensures.is in
-    refused_passes p s what regs m c.requires.reached did c.in_default.not-Trap c.in-Some.end (g.B.Bus.memory c.put_back.new.bus) (t ∙ c.in-Some.is)
-    (kept_back p s what regs m c.requires.reached did c.in_default.not-Trap c.args.kept.now (g.B.Bus.memory c.put_back.new.bus) c.requires.back c.in-Done.is c.put_back.ensures)
+    let back = g.B.Bus.memory c.put_back.new.bus in
+    record {
+      passes = ended p c.args.core.now old _ _ c.in-Some.end (λ events.
+          let s : State = state_of c.args.core.now old events in
+          let did = at_step s.regs old c.args.at (c.execute-what.result, c.execute-what.new.regs, m) c.requires.there c.execute-what.ensures.effect in
+          stopped p s c.args.at c.execute-what.result c.execute-what.new.regs m back c.innermost_sp-landing.result c.home-low.result.0 c.args.told.0 c.refusal.result c.in-Some.end
+          c.requires.reached c.requires.there c.execute-what.ensures.effect c.in_default.not-Trap c.innermost_sp-landing.ensures.words (ap (λ (h : ℕ × ℕ). h.0) c.home-low.ensures) c.requires.taken
+          c.refusal.ensures.is c.in-Some.is
+          (kept_back p s c.execute-what.result c.execute-what.new.regs m c.requires.reached did c.in_default.not-Trap c.args.kept.now back c.requires.back c.in-Done.is c.put_back.ensures))
+          c.in-Some.ensures.inside;
+    }
 
-pub returns-in_default-what-clause-does : goal.returns-in_default-what-clause-does
-returns-in_default-what-clause-does g c =
-    λ events.
+pub returns-in_default-what : goal.returns-in_default-what
+returns-in_default-what g c =
     let p = g.C.Checked.program c.args.a.now in
     let old = g.B.Bus.memory c.args.bus.now in
-    let s : State = state_of c.args.core.now old events in
-    let what = c.execute-what.result in
-    let regs = c.execute-what.new.regs in
     let m = g.B.Bus.memory c.execute-what.new.bus in
-    let did = at_step s.regs old c.args.at (what, regs, m) c.requires.there c.execute-what.ensures.effect in
-    let t = tests_are p s what regs c.innermost_sp-landing.result c.home-low.result.0 c.args.told.0 c.refusal.result
-    c.innermost_sp-landing.ensures.words (ap (λ (h : ℕ × ℕ). h.0) c.home-low.ensures) (branches_there s.regs old c.args.at c.args.told.0 c.requires.there c.requires.taken) c.refusal.ensures.is in
-    refused_passes p s what regs m c.requires.reached did c.in_default.not-Trap c.in-Some.end m (t ∙ c.in-Some.is)
-    (left_as_it_was p s what regs m c.requires.reached did c.in_default.not-Trap c.in_default-what.not-Done c.execute-what.ensures.leaves_memory)
+    record {
+      passes = ended p c.args.core.now old _ _ c.in-Some.end (λ events.
+          let s : State = state_of c.args.core.now old events in
+          let did = at_step s.regs old c.args.at (c.execute-what.result, c.execute-what.new.regs, m) c.requires.there c.execute-what.ensures.effect in
+          stopped p s c.args.at c.execute-what.result c.execute-what.new.regs m m c.innermost_sp-landing.result c.home-low.result.0 c.args.told.0 c.refusal.result c.in-Some.end
+          c.requires.reached c.requires.there c.execute-what.ensures.effect c.in_default.not-Trap c.innermost_sp-landing.ensures.words (ap (λ (h : ℕ × ℕ). h.0) c.home-low.ensures) c.requires.taken
+          c.refusal.ensures.is c.in-Some.is
+          (left_as_it_was p s c.execute-what.result c.execute-what.new.regs m c.requires.reached did c.in_default.not-Trap c.in_default-what.not-Done c.execute-what.ensures.leaves_memory))
+          c.in-Some.ensures.inside;
+    }
 
 pub settle-requires : goal.settle-requires
 settle-requires g c =
@@ -62,28 +68,25 @@ settle-requires g c =
       high = λ some. (stack some).high;
     }
 
-pub returns-clause-does : goal.returns-clause-does
-returns-clause-does g c =
-    λ events.
+pub returns : goal.returns
+returns g c =
     let p = g.C.Checked.program c.args.a.now in
     let old = g.B.Bus.memory c.args.bus.now in
-    let s : State = state_of c.args.core.now old events in
     let what = c.execute-what.result in
     let regs = c.execute-what.new.regs in
     let m = g.B.Bus.memory c.execute-what.new.bus in
-    let did = at_step s.regs old c.args.at (what, regs, m) c.requires.there c.execute-what.ensures.effect in
-    let t = tests_are p s what regs c.innermost_sp-landing.result c.home-low.result.0 c.args.told.0 c.refusal.result
-    c.innermost_sp-landing.ensures.words (ap (λ (h : ℕ × ℕ). h.0) c.home-low.ensures) (branches_there s.regs old c.args.at c.args.told.0 c.requires.there c.requires.taken) c.refusal.ensures.is in
     let new = g.B.Bus.memory c.settle.new.bus in
-    tested_passes p s what regs m c.requires.reached did c.in_default.not-Trap new (t ∙ c.in_default-refusal.is)
-    (settled_is p s regs m new c.saves_at.result c.args.told.1 _ _ c.saves_at.ensures (pushes_there s.regs old c.args.at c.args.told.1 c.requires.there c.requires.pushes) refl refl c.settle.ensures)
-
-pub returns-clause-gate : goal.returns-clause-gate
-returns-clause-gate g c =
-    λ number events is.
-    let old = g.B.Bus.memory c.args.bus.now in
-    let s : State = state_of c.args.core.now old events in
-    let regs = c.execute-what.new.regs in
-    gate_passes c.execute-what.result c.saves_at.result c.args.told.1 _ _ number s regs (g.B.Bus.memory c.execute-what.new.bus) (g.B.Bus.memory c.settle.new.bus)
-    (gate_done c.execute-what.result number is) (leaves_there s.regs old c.args.at c.execute-what.result regs c.requires.there c.execute-what.ensures.leaves) c.execute-what.ensures.leaves_memory
-    (pushes_there s.regs old c.args.at c.args.told.1 c.requires.there c.requires.pushes) refl refl c.settle.ensures
+    record {
+      passes = went_on p c.args.core.now old _ _ what (λ events.
+          let s : State = state_of c.args.core.now old events in
+          let did = at_step s.regs old c.args.at (what, regs, m) c.requires.there c.execute-what.ensures.effect in
+          let t = tests_are p s what regs c.innermost_sp-landing.result c.home-low.result.0 c.args.told.0 c.refusal.result
+          c.innermost_sp-landing.ensures.words (ap (λ (h : ℕ × ℕ). h.0) c.home-low.ensures) (branches_there s.regs old c.args.at c.args.told.0 c.requires.there c.requires.taken) c.refusal.ensures.is in
+          tested_passes p s what regs m c.requires.reached did c.in_default.not-Trap new (t ∙ c.in_default-refusal.is)
+          (settled_is p s regs m new c.saves_at.result c.args.told.1 _ _ c.saves_at.ensures (pushes_there s.regs old c.args.at c.args.told.1 c.requires.there c.requires.pushes) refl refl c.settle.ensures))
+          (λ number events is.
+          let s : State = state_of c.args.core.now old events in
+          gate_passes what c.saves_at.result c.args.told.1 _ _ number s regs m new
+          (gate_done what number is) (leaves_there s.regs old c.args.at what regs c.requires.there c.execute-what.ensures.leaves) c.execute-what.ensures.leaves_memory
+          (pushes_there s.regs old c.args.at c.args.told.1 c.requires.there c.requires.pushes) refl refl c.settle.ensures);
+    }

@@ -12,6 +12,7 @@ loop-self-init g c = record {
   input_kept = refl;
   out_kept = refl;
   same = refl;
+  known = c.is_instr-known.ensures;
 }
 
 pub loop-self-preserved : goal.loop-self-preserved
@@ -21,6 +22,7 @@ loop-self-preserved g c = record {
   input_kept = c.in-Went.ensures.input_kept (λ e. cc) ∙ c.loop-self.invariant.input_kept;
   out_kept = c.in-Went.ensures.out_kept (λ e. cc) ∙ c.loop-self.invariant.out_kept;
   same = c.loop-self.invariant.same;
+  known = c.in-Went.ensures.known;
 }
 
 pub returns-in-Ended-clause-told : goal.returns-in-Ended-clause-told

@@ -5,7 +5,7 @@ use Rattle.eh_machine.specs.Machine.{machine_of}
 use Rattle.thumb_core.specs.declared.ends.End.{End}
 use Rattle.eh_machine.proofs.run.Machine.run.Given as goal
 
--- what was done and what is left are the whole run, and no count has changed
+-- what was done and what is left are the whole run, no count has changed, and what is known is of pc
 abbrev pub invariant-loop-self : goal.invariant-loop-self
 invariant-loop-self g l = record {
   progress : IfSome (g.I.Source.left l.initial.input) (λ bytes. Progress State End (machine_of (g.C.Checked.program l.initial.self.accepted.now)) l.initial.self.left
@@ -14,6 +14,7 @@ invariant-loop-self g l = record {
   input_kept : g.I.Source.faults l.input ≡ g.I.Source.faults l.initial.input;
   out_kept : g.O.Sink.faults l.out ≡ g.O.Sink.faults l.initial.out;
   same : l.self.accepted ≡ l.initial.self.accepted;
+  known : l.known ≡ ((g.C.Checked.program l.self.accepted.now).look l.self.core.regs.pc).is_instr;
 }
 
 abbrev pub decreases-loop-self : goal.decreases-loop-self
