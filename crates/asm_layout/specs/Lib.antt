@@ -6,5 +6,7 @@ pub mod SameWords
 pub mod Sizes
 pub mod Functions
 pub mod Walks
+pub mod PlacedStmt
+pub mod Placing
 pub mod Labels
 pub mod LabelSteps

@@ -1,13 +1,15 @@
 -- What definitions by the forms of statements say of a form that none of their clauses names.
-use Rattle.std.proofs.Common.{◌≡◌, ℕ, ℤ, List, refl}
+use Rattle.std.proofs.Common.{◌≡◌, ℕ, ℤ, List, Option, Result, refl}
 use Rattle.asm_read.specs.declared.statement.Expr.{Expr}
 use Rattle.asm_read.specs.declared.statement.StmtKind.{StmtKind}
 use Rattle.asm_read.specs.declared.statement.StmtKind.TheVariants as stmt
 use Rattle.asm_layout.specs.Labels.{Named}
 use Rattle.asm_object.specs.Instructions.{plain, instruction}
-use Rattle.asm_object.specs.Refusals.{encode_fault, instruction_fault}
+use Rattle.thumb_encode.specs.declared.code.Code.{Code}
+use Rattle.thumb_encode.specs.declared.code.EncodeFault.{EncodeFault}
+use Rattle.asm_object.specs.Refusals.{coded_fault, encode_fault_by}
 
-pub instruction_of_plain : (labels : List Named) (kind : StmtKind) (place word : ℕ)
+pub instruction_of_plain : (labels : List Named) (kind : StmtKind) (place : ℕ) (word : Option ℕ)
     → ((d : ℕ) (name : List ℕ) → kind ≡ stmt.Adr d name → ⊥)
     → ((t : ℕ) (name : List ℕ) → kind ≡ stmt.LdrLabel t name → ⊥)
     → ((t : ℕ) (value : Expr) → kind ≡ stmt.LdrPool t value → ⊥)
@@ -23,16 +25,16 @@ instruction_of_plain labels (stmt.BCond c name) place word adr label pool b cond
 instruction_of_plain labels (stmt.Bl name) place word adr label pool b cond bl = absurd (bl name refl)
 instruction_of_plain labels _ place word adr label pool b cond bl = refl
 
-pub fault_of_instruction : (labels : List Named) (kind : StmtKind) (place word : ℕ)
+pub fault_of_code : (labels : List Named) (kind : StmtKind) (code : Option (Result Code EncodeFault))
     → ((t : ℕ) (value : Expr) → kind ≡ stmt.LdrPool t value → ⊥)
     → ((imm : ℤ) → kind ≡ stmt.Udf imm → ⊥)
     → ((fields : List Expr) → kind ≡ stmt.Halves fields → ⊥)
     → ((fields : List Expr) → kind ≡ stmt.Bytes fields → ⊥)
     → ((n : ℤ) → kind ≡ stmt.Space n → ⊥)
-    → instruction_fault (instruction labels kind place word) ≡ encode_fault labels kind place word
-fault_of_instruction labels (stmt.LdrPool t value) place word pool udf halves bytes space = absurd (pool t value refl)
-fault_of_instruction labels (stmt.Udf imm) place word pool udf halves bytes space = absurd (udf imm refl)
-fault_of_instruction labels (stmt.Halves fields) place word pool udf halves bytes space = absurd (halves fields refl)
-fault_of_instruction labels (stmt.Bytes fields) place word pool udf halves bytes space = absurd (bytes fields refl)
-fault_of_instruction labels (stmt.Space n) place word pool udf halves bytes space = absurd (space n refl)
-fault_of_instruction labels _ place word pool udf halves bytes space = refl
+    → coded_fault code ≡ encode_fault_by labels kind code
+fault_of_code labels (stmt.LdrPool t value) code pool udf halves bytes space = absurd (pool t value refl)
+fault_of_code labels (stmt.Udf imm) code pool udf halves bytes space = absurd (udf imm refl)
+fault_of_code labels (stmt.Halves fields) code pool udf halves bytes space = absurd (halves fields refl)
+fault_of_code labels (stmt.Bytes fields) code pool udf halves bytes space = absurd (bytes fields refl)
+fault_of_code labels (stmt.Space n) code pool udf halves bytes space = absurd (space n refl)
+fault_of_code labels _ code pool udf halves bytes space = refl

@@ -1,5 +1,5 @@
 -- The instruction of a statement (Armv6-M Architecture Reference Manual, DDI 0419).
-use Rattle.std.specs.Prelude.{ℕ, ◌*◌, ◌/◌, ◌^◌, ◌==◌, ◌&&◌, ℤ, pos, negsuc, ◌-ℤ◌, Bool, false, nat_lt, if◌then◌else◌, List, Option, Some, None}
+use Rattle.std.specs.Prelude.{ℕ, ◌*◌, ◌/◌, ◌^◌, ◌==◌, ◌&&◌, ℤ, pos, negsuc, ◌-ℤ◌, Bool, false, nat_lt, if◌then◌else◌, List, Option, Some, None, Result}
 use Rattle.asm_read.specs.declared.statement.StmtKind.{StmtKind}
 use Rattle.asm_read.specs.declared.statement.StmtKind.TheVariants as stmt
 use Rattle.thumb_isa.specs.declared.instr.Instr.{Instr}
@@ -10,7 +10,11 @@ use Rattle.asm_layout.specs.Sizes.{sum_64}
 use Rattle.asm_layout.specs.Walks.{same_section}
 use Rattle.asm_layout.specs.Labels.{Named, find}
 use Rattle.asm_object.specs.declared.relocation.TheConstants.{R_ARM_THM_CALL, R_ARM_THM_JUMP11, R_ARM_THM_JUMP8}
-use Rattle.asm_object.specs.Values.{Linked, linked}
+use Rattle.asm_object.specs.declared.value.Link.{Link}
+use Rattle.asm_object.specs.Values.{linked}
+use Rattle.thumb_encode.specs.declared.code.Code.{Code}
+use Rattle.thumb_encode.specs.declared.code.EncodeFault.{EncodeFault}
+use Rattle.thumb_encode.specs.Codes.{encoded_of}
 
 -- a number as a field without sign takes it; one too large for every field where it isn't one of 32 bits
 abbrev pub unsigned : ℤ → ℕ
@@ -110,22 +114,27 @@ literal_to None place = pos 0
 abbrev pub label_literal : List Named → List ℕ → ℕ → ℤ
 label_literal labels name place = literal_to (text_place labels name) place
 
--- the instruction of a statement at a place, where its pool word has a place too; none for `udf` and directives
-abbrev pub instruction : List Named → StmtKind → ℕ → ℕ → Option Instr
+-- the instruction of a statement at a place, where its pool word may have a place too; none for `udf` and directives
+abbrev pub instruction : List Named → StmtKind → ℕ → Option ℕ → Option Instr
 instruction labels (stmt.Adr d name) place word = Some (Adr d (label_literal labels name place))
 instruction labels (stmt.LdrLabel t name) place word = Some (LdrLit t (label_literal labels name place))
-instruction labels (stmt.LdrPool t _) place word = Some (LdrLit t (literal word place))
+instruction labels (stmt.LdrPool t _) place word = Some (LdrLit t (literal_to word place))
 instruction labels (stmt.B name) place word = Some (B (branch labels name place))
 instruction labels (stmt.BCond cond name) place word = Some (BCond cond (branch labels name place))
 instruction labels (stmt.Bl name) place word = Some (Bl (branch labels name place))
 instruction labels kind place word = plain kind
 
-abbrev pub linked_unless : Option ℕ → ℕ → List ℕ → Option Linked
+-- what the encoder says of an instruction, where there is one
+abbrev pub coded : Option Instr → Option (Result Code EncodeFault)
+coded None = None
+coded (Some i) = Some (encoded_of i)
+
+abbrev pub linked_unless : Option ℕ → ℕ → List ℕ → Option Link
 linked_unless (Some _) kind name = None
 linked_unless None kind name = linked kind name (negsuc 3)
 
 -- what the linker puts into a branch (IHI 0044), if anything
-abbrev pub branch_link : List Named → StmtKind → Option Linked
+abbrev pub branch_link : List Named → StmtKind → Option Link
 branch_link labels (stmt.Bl name) = linked_unless (text_place labels name) R_ARM_THM_CALL name
 branch_link labels (stmt.B name) = linked_unless (text_place labels name) R_ARM_THM_JUMP11 name
 branch_link labels (stmt.BCond _ name) = linked_unless (text_place labels name) R_ARM_THM_JUMP8 name

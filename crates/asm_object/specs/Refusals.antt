@@ -1,14 +1,14 @@
 -- Why a statement is refused at its place (docs/objects.md, "Refusals").
-use Rattle.std.specs.Prelude.{ℕ, ◌-◌, ◌*◌, ◌==◌, ◌&&◌, ◌||◌, not, ℤ, pos, negsuc, Bool, true, false, nat_lt, nat_le, if◌then◌else◌, List, length, Option, Some, None, is_some}
+use Rattle.std.specs.Prelude.{ℕ, ◌-◌, ◌*◌, ◌==◌, ◌&&◌, ◌||◌, not, ℤ, pos, negsuc, Bool, true, false, nat_lt, nat_le, if◌then◌else◌, List, length, Option, Some, None, is_some, Result}
 use Rattle.std.specs.List.{list_all}
 use Rattle.std.specs.Result.{result_err}
 use Rattle.asm_read.specs.declared.statement.Expr.{Expr}
 use Rattle.asm_read.specs.declared.statement.StmtKind.{StmtKind}
 use Rattle.asm_read.specs.declared.statement.StmtKind.TheVariants as stmt
 use Rattle.thumb_isa.specs.declared.instr.Instr.{Instr}
+use Rattle.thumb_encode.specs.declared.code.Code.{Code}
 use Rattle.thumb_encode.specs.declared.code.EncodeFault.{EncodeFault}
 use Rattle.thumb_encode.specs.declared.code.EncodeFault.TheVariants.{RegisterRange, ImmediateRange}
-use Rattle.thumb_encode.specs.Codes.{encoded_of}
 use Rattle.asm_layout.specs.declared.place.Section.{Section}
 use Rattle.asm_layout.specs.declared.place.Section.TheVariants.{Text, Bss}
 use Rattle.asm_layout.specs.declared.fault.AsmWhat.{AsmWhat}
@@ -17,7 +17,8 @@ use Rattle.asm_layout.specs.Sizes.{is_instruction}
 use Rattle.asm_layout.specs.Walks.{same_section}
 use Rattle.asm_layout.specs.Labels.{Named}
 use Rattle.asm_object.specs.Values.{is_known, is_word_known, number}
-use Rattle.asm_object.specs.Instructions.{text_place, base, instruction}
+use Rattle.asm_object.specs.declared.refusal.TheConstants.{MOST_TO_POOL}
+use Rattle.asm_object.specs.Instructions.{text_place, base, instruction, coded}
 
 -- the names of a statement may be used
 abbrev pub are_names_known : List Named → StmtKind → Bool
@@ -45,9 +46,12 @@ fits half None = true
 abbrev pub fault_unless : Bool → EncodeFault → Option EncodeFault
 fault_unless holds fault = if holds then None else Some fault
 
+abbrev pub coded_fault : Option (Result Code EncodeFault) → Option EncodeFault
+coded_fault None = None
+coded_fault (Some code) = result_err code
+
 abbrev pub instruction_fault : Option Instr → Option EncodeFault
-instruction_fault None = None
-instruction_fault (Some i) = result_err (encoded_of i)
+instruction_fault i = coded_fault (coded i)
 
 abbrev pub is_from_zero_to : ℕ → ℤ → Bool
 is_from_zero_to most (pos n) = nat_le n most
@@ -57,21 +61,25 @@ abbrev pub is_natural : ℤ → Bool
 is_natural (pos n) = true
 is_natural (negsuc n) = false
 
--- why the instruction has no code, or a number doesn't fit its field. Of `ldr rt, =value` the register alone counts
-abbrev pub encode_fault : List Named → StmtKind → ℕ → ℕ → Option EncodeFault
-encode_fault labels (stmt.Halves fields) place word =
+-- why the instruction has no code, or a number doesn't fit its field, where the encoder says of it what it says. Of
+-- `ldr rt, =value` the register alone counts
+abbrev pub encode_fault_by : List Named → StmtKind → Option (Result Code EncodeFault) → Option EncodeFault
+encode_fault_by labels (stmt.Halves fields) code =
     fault_unless (list_all (λ field. fits 32768 (number labels field)) fields) ImmediateRange
-encode_fault labels (stmt.Bytes fields) place word =
+encode_fault_by labels (stmt.Bytes fields) code =
     fault_unless (list_all (λ field. fits 128 (number labels field)) fields) ImmediateRange
-encode_fault labels (stmt.Space n) place word = fault_unless (is_natural n) ImmediateRange
-encode_fault labels (stmt.Udf imm) place word = fault_unless (is_from_zero_to 255 imm) ImmediateRange
-encode_fault labels (stmt.LdrPool t _) place word = fault_unless (nat_lt t 8) RegisterRange
-encode_fault labels kind place word = instruction_fault (instruction labels kind place word)
+encode_fault_by labels (stmt.Space n) code = fault_unless (is_natural n) ImmediateRange
+encode_fault_by labels (stmt.Udf imm) code = fault_unless (is_from_zero_to 255 imm) ImmediateRange
+encode_fault_by labels (stmt.LdrPool t _) code = fault_unless (nat_lt t 8) RegisterRange
+encode_fault_by labels kind code = coded_fault code
 
--- the pool word of a `ldr` in the text is more than 1,020 bytes behind its base
-abbrev pub is_pool_too_far : StmtKind → Section → ℕ → ℕ → Bool
-is_pool_too_far (stmt.LdrPool _ _) section place word = same_section section Text && nat_lt 1020 (word - base place)
-is_pool_too_far _ section place word = false
+abbrev pub encode_fault : List Named → StmtKind → ℕ → Option ℕ → Option EncodeFault
+encode_fault labels kind place word = encode_fault_by labels kind (coded (instruction labels kind place word))
+
+-- a pool word is more than 1,020 bytes behind the base of its `ldr`
+abbrev pub is_pool_too_far : ℕ → Option ℕ → Bool
+is_pool_too_far place (Some word) = nat_lt MOST_TO_POOL (word - base place)
+is_pool_too_far place None = false
 
 abbrev pub has_fields : List Expr → Bool
 has_fields fields = not (length fields == 0)
@@ -100,9 +108,9 @@ encode_or (Some fault) later = Some (Encode fault)
 encode_or None later = later
 
 -- the lowest refusal of names, encodings, pools and places
-unfoldable pub refusal : List Named → StmtKind → Section → ℕ → ℕ → Option AsmWhat
+unfoldable pub refusal : List Named → StmtKind → Section → ℕ → Option ℕ → Option AsmWhat
 refusal labels kind section place word =
     if not (are_names_known labels kind) then Some UndefinedLocal
     else encode_or (encode_fault labels kind place word)
-    (if is_pool_too_far kind section place word then Some PoolTooFar
+    (if is_pool_too_far place word then Some PoolTooFar
     else (if is_misplaced kind section then Some Placement else None))

@@ -7,6 +7,7 @@ use Rattle.asm_layout.specs.declared.word.Word.{Word}
 use Rattle.asm_layout.specs.declared.word.Word.TheVariants as word
 use Rattle.asm_layout.specs.Words.{low_word, is_local}
 use Rattle.asm_object.specs.declared.relocation.TheConstants.{R_ARM_ABS32, R_ARM_REL32, R_ARM_TARGET2, R_ARM_PREL31}
+use Rattle.asm_object.specs.declared.value.Link.{Link}
 use Rattle.unwind_codes.specs.declared.words.TheConstants.{REFERENCE_MARK}
 use Rattle.asm_layout.specs.Walks.{same_section}
 use Rattle.asm_layout.specs.Labels.{Named, find}
@@ -58,16 +59,11 @@ abbrev pub signed : ℕ → ℤ
 signed n = if nat_lt n (2 ^ 31) then pos n else negsuc (0xffffffff - n)
 
 -- what the linker puts into a field: the relocation's kind (Arm ELF, IHI 0044), the name and the addend
-pub record Linked : Type 0 where
-  pub kind : ℕ
-  pub name : List ℕ
-  pub addend : ℤ
-
-abbrev pub linked : ℕ → List ℕ → ℤ → Option Linked
+abbrev pub linked : ℕ → List ℕ → ℤ → Option Link
 linked kind name addend = Some (record { kind = kind; name = name; addend = addend })
 
 -- what the linker puts into a word, if anything
-abbrev pub link_of : Word → Option Linked
+abbrev pub link_of : Word → Option Link
 link_of (word.Num _) = None
 link_of (word.Diff _ _ _) = None
 link_of (word.Of name n) = linked R_ARM_ABS32 name (signed n)

@@ -1,15 +1,18 @@
 //! The instructions of statements, and where their labels lead (docs/objects.md; DDI 0419).
-ghost use Rattle.std.specs.Prelude.{◌≡◌};
+ghost use Rattle.std.specs.Prelude.{◌≡◌, IfOk};
 ghost use Rattle.asm_layout.specs.Labels.{named_in};
-ghost use Rattle.asm_object.specs.Links.{linked_now};
-ghost use Rattle.asm_object.specs.Instructions.{unsigned, offset, compare, add_eight, add_three, plain, pc, base, between, text_place, branch, literal, label_literal, instruction, branch_link};
+ghost use Rattle.asm_object.specs.Instructions.{unsigned, offset, compare, add_eight, add_three, plain, pc, base, between, text_place, branch, literal, literal_to, label_literal, instruction, coded, branch_link};
 
 use crate::relocation::{R_ARM_THM_CALL, R_ARM_THM_JUMP8, R_ARM_THM_JUMP11};
 use crate::value::Link;
 use asm_layout::labels::Labels;
 use asm_layout::place::{Place, Section};
+use asm_layout::word::copied;
 use asm_read::StmtKind;
 use eh_word::Name;
+use std::alloc::{AllocError, Global};
+use thumb_encode::code::{Code, EncodeFault};
+use thumb_encode::encode::encode;
 use thumb_isa::instr::Instr;
 
 /// A number as a field without sign takes it; one too large for every field where it is none of 32 bits.
@@ -27,7 +30,7 @@ fn offset(n: i64) -> i32
 }
 
 /// The instruction of a statement without a name; None for one with a name or a pool word, for `udf` and for directives.
-pub fn plain(kind: &StmtKind) -> Option<Instr>
+fn plain(kind: &StmtKind) -> Option<Instr>
     ensures { result ≡ plain kind.now }
 {
     Some(match kind {
@@ -211,7 +214,7 @@ fn branch(labels: &Labels, name: &Name, place: u64) -> i32
 }
 
 /// The offset of a literal at a place.
-pub fn literal(to: u64, place: u64) -> i32
+fn literal(to: u64, place: u64) -> i32
     ensures { result ≡ literal to place }
 {
     between(to, base(place))
@@ -227,8 +230,18 @@ fn label_literal(labels: &Labels, name: &Name, place: u64) -> i32
     }
 }
 
+/// The offset from a place to a pool word; 0 without one.
+fn word_literal(word: Option<u64>, place: u64) -> i32
+    ensures { result ≡ literal_to word place }
+{
+    match word {
+        Some(to) => literal(to, place),
+        None => 0,
+    }
+}
+
 /// The instruction of a statement at a place, where `word` is the place of its pool word; None for `udf` and directives.
-pub fn instruction(labels: &Labels, kind: &StmtKind, place: u64, word: u64) -> Option<Instr>
+fn instruction(labels: &Labels, kind: &StmtKind, place: u64, word: Option<u64>) -> Option<Instr>
     ensures { result ≡ instruction (named_in labels.now) kind.now place word }
 {
     match kind {
@@ -242,7 +255,7 @@ pub fn instruction(labels: &Labels, kind: &StmtKind, place: u64, word: u64) -> O
         }),
         StmtKind::LdrPool { t, .. } => Some(Instr::LdrLit {
             t: *t,
-            off: literal(word, place),
+            off: word_literal(word, place),
         }),
         StmtKind::B(name) => Some(Instr::B {
             off: branch(labels, name, place),
@@ -258,22 +271,39 @@ pub fn instruction(labels: &Labels, kind: &StmtKind, place: u64, word: u64) -> O
     }
 }
 
+/// What the encoder says of an instruction: its code, or why it has none; None where there is no instruction.
+pub type Coded = Option<Result<Code, EncodeFault>>;
+
+/// What the encoder says of a statement at a place, where `word` is the place of its pool word.
+pub fn coded(labels: &Labels, kind: &StmtKind, place: u64, word: Option<u64>) -> Coded
+    ensures { result ≡ coded (instruction (named_in labels.now) kind.now place word) }
+{
+    match instruction(labels, kind, place, word) {
+        Some(i) => Some(encode(&i)),
+        None => None,
+    }
+}
+
 /// What the linker puts into a branch, if anything: the kinds of `bl`, `b` and `b` with a condition (Arm ELF, IHI 0044).
-pub fn branch_link<'a>(labels: &Labels, kind: &'a StmtKind) -> Option<Link<'a>>
-    ensures { linked_now result ≡ branch_link (named_in labels.now) kind.now }
+pub fn branch_link(
+    alloc: Global,
+    labels: &Labels,
+    kind: &StmtKind,
+) -> Result<Option<Link>, AllocError>
+    ensures { IfOk result (λ link. link ≡ branch_link (named_in labels.now) kind.now) }
 {
     let (kind, name) = match kind {
         StmtKind::Bl(name) => (R_ARM_THM_CALL, name),
         StmtKind::B(name) => (R_ARM_THM_JUMP11, name),
         StmtKind::BCond { name, .. } => (R_ARM_THM_JUMP8, name),
-        _ => return None,
+        _ => return Ok(None),
     };
     if text_place(labels, name).is_some() {
-        return None;
+        return Ok(None);
     }
-    Some(Link {
+    Ok(Some(Link {
         kind,
-        name,
+        name: copied(alloc, name)?,
         addend: -4,
-    })
+    }))
 }
