@@ -321,7 +321,7 @@ small_here entries labels walk stmts few u =
 
 -- the pieces of a statement, and where the text has come to behind them
 record Onward (entries : List (Option EntryWords)) (labels : List Named) (walk : Walk) (stmt : Stmt) (more : List Stmt) : Type 0 where
-  word : ℕ
+  word : Option ℕ
   pieces : pieces_from entries labels walk (stmt ∷ more) ≡ walk_pieces entries labels walk word stmt.kind ++ pieces_from entries labels (next entries walk stmt.kind) more
   unrefused : Unrefused entries labels (next entries walk stmt.kind) more
   grown : walk.at.sizes.text + length (bytes_in Text (walk_pieces entries labels walk word stmt.kind)) ≡ (next entries walk stmt.kind).at.sizes.text
