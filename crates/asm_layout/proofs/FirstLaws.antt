@@ -94,7 +94,7 @@ law_of_first (fault ∷ more) first e = by (one_of fault more first e)
       not_after = g.there.not_after;
     }
 
-some_stays : (first : AsmFault) (faults : List AsmFault) → first_of_all (Some first) faults ≡ None → ⊥
+pub some_stays : (first : AsmFault) (faults : List AsmFault) → first_of_all (Some first) faults ≡ None → ⊥
 unfolding first_of_all
 some_stays first [] e = cc
 some_stays first (fault ∷ more) e = by (is_before fault first) (some_stays fault more) (some_stays first more) e

@@ -19,12 +19,13 @@ use Rattle.asm_unwind.specs.declared.entry.EntryWords.{EntryWords}
 use Rattle.asm_layout.specs.declared.fault.AsmFault.{AsmFault}
 use Rattle.asm_layout.specs.declared.place.Place.{Place}
 use Rattle.asm_layout.specs.declared.labels.Label.{Label}
-use Rattle.asm_layout.specs.declared.walk.Walk.{Walk}
+use Rattle.asm_layout.specs.PlacedStmt.{PlacedStmt}
+use Rattle.asm_layout.specs.Placing.{placed_of}
 use Rattle.asm_layout.specs.declared.fault.AsmWhat.TheVariants.{DuplicateLabel}
 use Rattle.asm_layout.specs.Faults.{fault_if, first_of_all}
 use Rattle.asm_layout.proofs.FaultLaws.{first_behind}
-use Rattle.asm_layout.specs.Walks.{start, next, here}
-use Rattle.asm_layout.specs.Labels.{Named, named, find, is_among, label_unless, new_labels, labels_from, labelled, named_in, size_between, size_by, size_from, typed_by, function_from, global_by, label_faults, names_behind, duplicates_from}
+use Rattle.asm_layout.specs.Walks.{start}
+use Rattle.asm_layout.specs.Labels.{Named, named, find, is_among, label_unless, new_labels, labels_in, labelled, named_in, size_between, size_by, size_said, size_from, typed_by, function_from, global_by, label_faults, names_behind, duplicates_from}
 use Rattle.asm_layout.specs.LabelSteps.{fresh, sized, entry_behind, labels_behind, defines_again, entry_typed, entry_global, described_by, described}
 
 abbrev Entry : Type 0
@@ -197,16 +198,16 @@ size_by-unnamed q labels (Size other) place free =
 size_by-unnamed q labels _ place free = refl
 
 -- a label of some size so far, with what the statements behind say of its size
-abbrev pub with_rest : List (Option EntryWords) → List Named → Walk → List Stmt → Entry → Entry
-with_rest entries labels walk rest e = (e.0, record e.1 { size = size_from e.0 entries labels e.1.size walk rest })
+abbrev pub with_rest : List Named → List PlacedStmt → Entry → Entry
+with_rest labels rest e = (e.0, record e.1 { size = size_said e.0 labels e.1.size rest })
 
 -- behind the statement that defines it, a label's size is nothing yet
-pub with_rest-new : (entries : List (Option EntryWords)) (s : Stmt) (walk : Walk) (more : List Stmt) (labels : List Named) (kind : StmtKind) → kind ≡ s.kind
-    → map (λ l. with_rest entries labels walk (s ∷ more) (fresh l)) (new_labels labels kind (here walk.at))
-    ≡ map (λ l. with_rest entries (labels ++ new_labels labels s.kind (here walk.at)) (next entries walk s.kind) more (fresh l)) (new_labels labels kind (here walk.at))
-unfolding size_from
-with_rest-new entries s walk more labels (DefinesLabel name) is = map_same _ _ (λ l. ap (λ n. (l.name, record (fresh l).1 { size = size_from l.name entries (labels ++ new_labels labels s.kind (here walk.at)) n (next entries walk s.kind) more })) (ap (λ k. size_by l.name labels 0 k (here walk.at)) (sym is))) _
-with_rest-new entries s walk more labels _ is = refl
+pub with_rest-new : (p : PlacedStmt) (more : List PlacedStmt) (labels : List Named) (kind : StmtKind) → kind ≡ p.stmt.kind
+    → map (λ l. with_rest labels (p ∷ more) (fresh l)) (new_labels labels kind p.at)
+    ≡ map (λ l. with_rest (labels ++ new_labels labels p.stmt.kind p.at) more (fresh l)) (new_labels labels kind p.at)
+unfolding size_said
+with_rest-new p more labels (DefinesLabel name) is = map_same _ _ (λ l. ap (λ n. (l.name, record (fresh l).1 { size = size_said l.name (labels ++ new_labels labels p.stmt.kind p.at) n more })) (ap (λ k. size_by l.name labels 0 k p.at) (sym is))) _
+with_rest-new p more labels _ is = refl
 
 is_among-before : (q : List ℕ) (xs ys : List Named) → is_among q (xs ++ ys) ≡ false → is_among q xs ≡ false
 is_among-before q xs ys free =
@@ -221,43 +222,41 @@ new_labels-unnamed labels (DefinesLabel name) place = by (is_among name labels) 
 new_labels-unnamed labels _ place = tt
 
 -- a label that statements define has no name that was there
-pub labels_from-unnamed : (entries : List (Option EntryWords)) (labels : List Named) (walk : Walk) (rest : List Stmt) → AllByRecursion (λ l. is_among l.name labels ≡ false) (labels_from entries labels walk rest)
-unfolding labels_from
-labels_from-unnamed entries labels walk [] = tt
-labels_from-unnamed entries labels walk (s ∷ more) =
-    let new = new_labels labels s.kind (here walk.at) in
-    AllByRecursion-join (λ l. is_among l.name labels ≡ false) new (labels_from entries (labels ++ new) (next entries walk s.kind) more) (new_labels-unnamed labels s.kind (here walk.at))
-    (AllByRecursion-since (λ l. is_among l.name (labels ++ new) ≡ false) (λ l. is_among l.name labels ≡ false) (λ l free. is_among-before l.name labels new free) _ (labels_from-unnamed entries (labels ++ new) (next entries walk s.kind) more))
+pub labels_in-unnamed : (labels : List Named) (rest : List PlacedStmt) → AllByRecursion (λ l. is_among l.name labels ≡ false) (labels_in labels rest)
+unfolding labels_in
+labels_in-unnamed labels [] = tt
+labels_in-unnamed labels (p ∷ more) =
+    let new = new_labels labels p.stmt.kind p.at in
+    AllByRecursion-join (λ l. is_among l.name labels ≡ false) new (labels_in (labels ++ new) more) (new_labels-unnamed labels p.stmt.kind p.at)
+    (AllByRecursion-since (λ l. is_among l.name (labels ++ new) ≡ false) (λ l. is_among l.name labels ≡ false) (λ l free. is_among-before l.name labels new free) _ (labels_in-unnamed (labels ++ new) more))
 
 -- the labels behind statements
-unfoldable pub labels_run : List (Option EntryWords) → List Entry → Walk → List Stmt → List Entry
-labels_run entries es walk [] = es
-labels_run entries es walk (s ∷ more) = labels_run entries (labels_behind es s.kind (here walk.at)) (next entries walk s.kind) more
+unfoldable pub labels_run : List Entry → List PlacedStmt → List Entry
+labels_run es [] = es
+labels_run es (p ∷ more) = labels_run (labels_behind es p.stmt.kind p.at) more
 
 -- are those before with their sizes, and those that the statements define
-pub labels_run-is : (entries : List (Option EntryWords)) (es : List Entry) (walk : Walk) (rest : List Stmt)
-    → labels_run entries es walk rest ≡ map (with_rest entries (named_in es) walk rest) es ++ map (λ l. with_rest entries (named_in es) walk rest (fresh l)) (labels_from entries (named_in es) walk rest)
-unfolding labels_run labels_from size_from
-labels_run-is entries es walk [] = sym (append-nil _ ∙ map_itself _ (λ e. refl) es)
-labels_run-is entries es walk (s ∷ more) =
+pub labels_run-is : (es : List Entry) (rest : List PlacedStmt)
+    → labels_run es rest ≡ map (with_rest (named_in es) rest) es ++ map (λ l. with_rest (named_in es) rest (fresh l)) (labels_in (named_in es) rest)
+unfolding labels_run labels_in size_said
+labels_run-is es [] = sym (append-nil _ ∙ map_itself _ (λ e. refl) es)
+labels_run-is es (p ∷ more) =
     let labels = named_in es in
-    let place = here walk.at in
-    let new = new_labels labels s.kind place in
-    let onward = next entries walk s.kind in
-    let now = with_rest entries labels walk (s ∷ more) in
-    let after = with_rest entries (labels ++ new) onward more in
-    let tail = labels_from entries (labels ++ new) onward more in
-    let olds : map after (map (entry_behind labels s.kind place) es) ≡ map now es = map_after after (entry_behind labels s.kind place) es in
+    let new = new_labels labels p.stmt.kind p.at in
+    let now = with_rest labels (p ∷ more) in
+    let after = with_rest (labels ++ new) more in
+    let tail = labels_in (labels ++ new) more in
+    let olds : map after (map (entry_behind labels p.stmt.kind p.at) es) ≡ map now es = map_after after (entry_behind labels p.stmt.kind p.at) es in
     let news : map after (map fresh new) ≡ map (λ n. now (fresh n)) new =
-    map_after after fresh new ∙ sym (with_rest-new entries s walk more labels s.kind refl) in
+    map_after after fresh new ∙ sym (with_rest-new p more labels p.stmt.kind refl) in
     let later : map (λ n. after (fresh n)) tail ≡ map (λ n. now (fresh n)) tail =
     sym (map_alike (λ l. is_among l.name labels ≡ false) (λ n. now (fresh n)) (λ n. after (fresh n))
-    (λ l free. ap (λ n. (l.name, record (fresh l).1 { size = size_from l.name entries (labels ++ new) n onward more })) (size_by-unnamed l.name labels s.kind place free)) tail
-    (AllByRecursion-since (λ l. is_among l.name (labels ++ new) ≡ false) (λ l. is_among l.name labels ≡ false) (λ l free. is_among-before l.name labels new free) tail (labels_from-unnamed entries (labels ++ new) onward more))) in
-    labels_run-is entries (labels_behind es s.kind place) onward more
-    ∙ ap (λ l. map (with_rest entries l onward more) (labels_behind es s.kind place) ++ map (λ n. with_rest entries l onward more (fresh n)) (labels_from entries l onward more)) (named_in-behind es s.kind place)
-    ∙ ap (λ l. l ++ map (λ n. after (fresh n)) tail) (map-append after (map (entry_behind labels s.kind place) es) (map fresh new))
-    ∙ append_assoc (map after (map (entry_behind labels s.kind place) es)) (map after (map fresh new)) (map (λ n. after (fresh n)) tail)
+    (λ l free. ap (λ n. (l.name, record (fresh l).1 { size = size_said l.name (labels ++ new) n more })) (size_by-unnamed l.name labels p.stmt.kind p.at free)) tail
+    (AllByRecursion-since (λ l. is_among l.name (labels ++ new) ≡ false) (λ l. is_among l.name labels ≡ false) (λ l free. is_among-before l.name labels new free) tail (labels_in-unnamed (labels ++ new) more))) in
+    labels_run-is (labels_behind es p.stmt.kind p.at) more
+    ∙ ap (λ l. map (with_rest l more) (labels_behind es p.stmt.kind p.at) ++ map (λ n. with_rest l more (fresh n)) (labels_in l more)) (named_in-behind es p.stmt.kind p.at)
+    ∙ ap (λ l. l ++ map (λ n. after (fresh n)) tail) (map-append after (map (entry_behind labels p.stmt.kind p.at) es) (map fresh new))
+    ∙ append_assoc (map after (map (entry_behind labels p.stmt.kind p.at) es)) (map after (map fresh new)) (map (λ n. after (fresh n)) tail)
     ∙ (λ j. olds j ++ (news j ++ later j))
     ∙ ap (λ l. map now es ++ l) (sym (map-append (λ n. now (fresh n)) new tail))
 
@@ -326,7 +325,7 @@ first_duplicate-more so_far es s place more =
     ∙ (λ j. first_of_all so_far (sym (label_faults-are es s.line s.kind) j ++ duplicates_from (sym (names_behind-are es s.kind place) j) more))
 
 -- labels with their sizes and with what directives say are labels with all that is said of them
-pub labelled-from_sized : (entries : List (Option EntryWords)) (stmts : List Stmt) (labels : List Named) → map (described stmts) (map (sized entries stmts) labels) ≡ map (labelled entries stmts) labels
+pub labelled-from_sized : (entries : List (Option EntryWords)) (stmts : List Stmt) (labels : List Named) → map (described stmts) (map (sized (placed_of entries stmts)) labels) ≡ map (labelled entries stmts) labels
 labelled-from_sized entries stmts labels =
-    map_after (described stmts) (sized entries stmts) labels
+    map_after (described stmts) (sized (placed_of entries stmts)) labels
     ∙ map_same _ _ (λ l. ap (λ g. (l.name, record { place = l.place; size = size_from l.name entries [] 0 start stmts; function = function_from l.name false stmts; global = g })) (or-false (list_any (λ s. global_by l.name s.kind) stmts))) labels

@@ -3,4 +3,5 @@ pub mod FirstLaws
 pub mod FrameSteps
 pub mod LayoutLaws
 pub mod NamedLaws
+pub mod PlacingLaws
 pub mod WordLemmas

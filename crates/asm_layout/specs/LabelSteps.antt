@@ -1,27 +1,26 @@
 -- What one statement says of the labels so far (docs/objects.md, "Names").
-use Rattle.std.specs.Prelude.{ℕ, Bool, false, ◌||◌, if◌then◌else◌, List, [], ◌++◌, map, Option}
+use Rattle.std.specs.Prelude.{ℕ, Bool, false, ◌||◌, if◌then◌else◌, List, [], ◌++◌, map}
 use Rattle.std.specs.List.{list_any}
 use Rattle.eh_word.specs.Names.{same_bytes}
 use Rattle.asm_read.specs.declared.statement.Stmt.{Stmt}
 use Rattle.asm_read.specs.declared.statement.StmtKind.{StmtKind}
 use Rattle.asm_read.specs.declared.statement.StmtKind.TheVariants as stmt
-use Rattle.asm_unwind.specs.declared.entry.EntryWords.{EntryWords}
 use Rattle.asm_layout.specs.declared.place.Place.{Place}
 use Rattle.asm_layout.specs.declared.labels.Label.{Label}
-use Rattle.asm_layout.specs.Walks.{start}
-use Rattle.asm_layout.specs.Labels.{Named, is_among, new_labels, named_in, size_by, size_from, typed_by, function_from, global_by}
+use Rattle.asm_layout.specs.PlacedStmt.{PlacedStmt}
+use Rattle.asm_layout.specs.Labels.{Named, is_among, new_labels, named_in, size_by, size_said, typed_by, function_from, global_by}
 
 -- a label of which directives say nothing
 abbrev pub fresh : Named → List ℕ × Label
 fresh label = (label.name, record { place = label.place; size = 0; function = false; global = false })
 
 -- a label with its size
-abbrev pub sized : List (Option EntryWords) → List Stmt → Named → List ℕ × Label
-sized entries stmts label = (
+abbrev pub sized : List PlacedStmt → Named → List ℕ × Label
+sized placed label = (
   label.name,
   record {
     place = label.place;
-    size = size_from label.name entries [] 0 start stmts;
+    size = size_said label.name [] 0 placed;
     function = false;
     global = false;
   },

@@ -13,7 +13,9 @@ use Rattle.asm_layout.specs.declared.fault.AsmWhat.TheVariants.{DuplicateLabel, 
 use Rattle.asm_layout.specs.Faults.{fault_if}
 use Rattle.asm_layout.specs.Sizes.{is_too_large}
 use Rattle.asm_layout.specs.declared.walk.Walk.{Walk}
-use Rattle.asm_layout.specs.Walks.{start, next, here, same_section, sizes_with_pool}
+use Rattle.asm_layout.specs.PlacedStmt.{PlacedStmt}
+use Rattle.asm_layout.specs.Placing.{placed_from}
+use Rattle.asm_layout.specs.Walks.{start, next, same_section, sizes_with_pool}
 
 -- a name at its place
 pub record Named : Type 0 where
@@ -41,11 +43,14 @@ new_labels labels _ place = []
 
 -- the labels that statements define behind some labels, in the order of the text, each where the statement behind it
 -- stands
-unfoldable pub labels_from : List (Option EntryWords) → List Named → Walk → List Stmt → List Named
-labels_from entries labels walk [] = []
-labels_from entries labels walk (stmt ∷ more) =
-    new_labels labels stmt.kind (here walk.at)
-    ++ labels_from entries (labels ++ new_labels labels stmt.kind (here walk.at)) (next entries walk stmt.kind) more
+unfoldable pub labels_in : List Named → List PlacedStmt → List Named
+labels_in labels [] = []
+labels_in labels (placed ∷ more) =
+    new_labels labels placed.stmt.kind placed.at
+    ++ labels_in (labels ++ new_labels labels placed.stmt.kind placed.at) more
+
+abbrev pub labels_from : List (Option EntryWords) → List Named → Walk → List Stmt → List Named
+labels_from entries labels walk stmts = labels_in labels (placed_from entries walk stmts)
 
 abbrev pub labels_of : List (Option EntryWords) → List Stmt → List Named
 labels_of entries stmts = labels_from entries [] start stmts
@@ -61,11 +66,14 @@ size_by name labels so_far (stmt.Size other) place =
 size_by name labels so_far _ place = so_far
 
 -- the size of a name's label: the last `.size` of the name says it, by the labels before that
-unfoldable pub size_from : List ℕ → List (Option EntryWords) → List Named → ℕ → Walk → List Stmt → ℕ
-size_from name entries labels so_far walk [] = so_far
-size_from name entries labels so_far walk (stmt ∷ more) =
-    size_from name entries (labels ++ new_labels labels stmt.kind (here walk.at))
-    (size_by name labels so_far stmt.kind (here walk.at)) (next entries walk stmt.kind) more
+unfoldable pub size_said : List ℕ → List Named → ℕ → List PlacedStmt → ℕ
+size_said name labels so_far [] = so_far
+size_said name labels so_far (placed ∷ more) =
+    size_said name (labels ++ new_labels labels placed.stmt.kind placed.at)
+    (size_by name labels so_far placed.stmt.kind placed.at) more
+
+abbrev pub size_from : List ℕ → List (Option EntryWords) → List Named → ℕ → Walk → List Stmt → ℕ
+size_from name entries labels so_far walk stmts = size_said name labels so_far (placed_from entries walk stmts)
 
 abbrev pub typed_by : List ℕ → Bool → StmtKind → Bool
 typed_by name so_far (stmt.TypeFunction other) = if same_bytes name other then true else so_far
@@ -96,6 +104,9 @@ labelled entries stmts label = (label.name, label_of entries stmts label)
 -- labels without what directives say
 abbrev pub named_in : List (List ℕ × Label) → List Named
 named_in labels = map (λ label. named label.0 label.1.place) labels
+
+abbrev pub stmt_of : PlacedStmt → Stmt
+stmt_of placed = placed.stmt
 
 -- a label whose name an earlier one has
 abbrev pub label_faults : List (List ℕ) → ℕ → StmtKind → List AsmFault

@@ -3,8 +3,11 @@ pub mod FaultLaw
 pub mod FaultNames
 pub mod Words
 pub mod SameWords
+pub mod Sorts
 pub mod Sizes
 pub mod Functions
 pub mod Walks
+pub mod PlacedStmt
+pub mod Placing
 pub mod Labels
 pub mod LabelSteps

@@ -1,18 +1,15 @@
-//! The labels of a source, what directives say of them, and where pools stand (docs/objects.md).
+//! The labels of a source, and what directives say of them (docs/objects.md).
 ghost use Rattle.std.specs.Prelude.{◌≡◌, [], ◌++◌, map, IfOk, OnOk, None, Some};
 ghost use Rattle.asm_read.specs.declared.statement.StmtKind.TheVariants.{Size};
 ghost use Rattle.asm_layout.specs.Faults.{first_of_all};
-ghost use Rattle.asm_layout.specs.Walks.{start, pools_if, pools_from, walk_behind};
-ghost use Rattle.asm_layout.specs.Labels.{find, is_among, size_between, label_unless, labels_of, labelled, named_in, duplicates_from, too_large_from};
+ghost use Rattle.asm_layout.specs.Labels.{find, is_among, size_between, label_unless, labels_in, named_in, duplicates_from, stmt_of};
 ghost use Rattle.asm_layout.specs.LabelSteps.{fresh, sized, entry_behind, labels_behind, defines_again, entry_typed, entry_global, described_by, described};
 
 use crate::fault::{AsmFault, AsmWhat, first_if};
 use crate::place::Place;
-use crate::walk::Walk;
+use crate::placed::PlacedStmt;
 use crate::word::copied;
 use asm_read::{Stmt, StmtKind};
-use asm_unwind::EntryWords;
-use eh_list::Seq;
 use eh_word::Name;
 use indexmap::IndexMap;
 use std::alloc::{AllocError, Global};
@@ -151,7 +148,7 @@ impl Labels {
     }
 
     /// Takes what `.type` and `.global` say.
-    fn describe(&mut self, stmts: &[Stmt])
+    pub(crate) fn describe(&mut self, stmts: &[Stmt])
         ensures { self.new ≡ map (described stmts.now) self.old }
     {
         for stmt in stmts {
@@ -160,129 +157,23 @@ impl Labels {
     }
 }
 
-/// Offsets in the text, which contracts see as their list.
-pub type Offsets = Seq<u64>;
-
-/// Adds the offset of a pool where it ends.
-fn push_if(pools: &mut Offsets, ends: bool, walk: &Walk) -> Result<(), AllocError>
-    ensures { OnOk result (pools.new ≡ pools.old ++ pools_if ends walk.now) }
-{
-    if ends {
-        pools.push(walk.pool_place())?;
-    }
-    Ok(())
-}
-
-/// Where labels and pools stand, and what is refused of them.
-#[derive(Drop)]
-pub struct Layout {
-    pub labels: Labels,
-    /// The offset of each pool that has words, in the order of the text.
-    pub pools: Offsets,
-    /// How many bytes the data has that begins as zeros.
-    pub bss: u64,
-    /// The first label whose name an earlier one has.
-    pub duplicate: Option<AsmFault>,
-    /// The first line behind which a section has too many bytes.
-    pub too_large: Option<AsmFault>,
-}
-
 /// Labels with their sizes, and the first one whose name an earlier one has.
 #[derive(Drop)]
-struct Defined {
-    labels: Labels,
-    duplicate: Option<AsmFault>,
+pub(crate) struct Defined {
+    pub labels: Labels,
+    pub duplicate: Option<AsmFault>,
 }
 
 /// The labels of statements, without what `.type` and `.global` say.
-fn defined_in(
-    alloc: Global,
-    stmts: &[Stmt],
-    entries: &[Option<EntryWords>],
-) -> Result<Defined, AllocError>
-    ensures labels { IfOk result (λ defined.
-        defined.labels ≡ map (sized entries.now stmts.now) (labels_of entries.now stmts.now)) }
-    ensures duplicate { IfOk result (λ defined. defined.duplicate ≡ first_of_all None (duplicates_from [] stmts.now)) }
+pub(crate) fn defined_in(alloc: Global, placed: &[PlacedStmt<'_>]) -> Result<Defined, AllocError>
+    ensures labels { IfOk result (λ defined. defined.labels ≡ map (sized placed.now) (labels_in [] placed.now)) }
+    ensures duplicate { IfOk result (λ defined. defined.duplicate ≡ first_of_all None (duplicates_from [] (map stmt_of placed.now))) }
 {
     let mut labels = Labels::new(alloc);
     let mut duplicate = None;
-    let mut walk = Walk::new(alloc);
-    for stmt in stmts {
-        let again = labels.take(alloc, &stmt.kind, walk.at.here())?;
-        duplicate = first_if(duplicate, again, stmt.line, AsmWhat::DuplicateLabel);
-        walk.advance(alloc, stmt, entries)?;
+    for one in placed {
+        let again = labels.take(alloc, &one.stmt.kind, one.at)?;
+        duplicate = first_if(duplicate, again, one.stmt.line, AsmWhat::DuplicateLabel);
     }
     Ok(Defined { labels, duplicate })
-}
-
-/// Where pools stand, and how large sections are.
-#[derive(Drop)]
-struct Extents {
-    pools: Offsets,
-    bss: u64,
-    too_large: Option<AsmFault>,
-}
-
-/// The pools of statements, and what is refused of the sizes of sections.
-fn extents_of(
-    alloc: Global,
-    stmts: &[Stmt],
-    entries: &[Option<EntryWords>],
-) -> Result<Extents, AllocError>
-    ensures pools { IfOk result (λ extents. extents.pools ≡ pools_from entries.now start stmts.now) }
-    ensures bss { IfOk result (λ extents. extents.bss ≡ (walk_behind entries.now start stmts.now).at.sizes.bss) }
-    ensures too_large { IfOk result (λ extents.
-        extents.too_large ≡ first_of_all None (too_large_from entries.now start 0 stmts.now)) }
-{
-    let mut pools = Seq::new(alloc);
-    let mut too_large = None;
-    let mut last = 0;
-    let mut walk = Walk::new(alloc);
-    for stmt in stmts {
-        push_if(&mut pools, walk.ends_pool(&stmt.kind), &walk)?;
-        walk.advance(alloc, stmt, entries)?;
-        let is_large = walk.at.sizes.is_too_large();
-        too_large = first_if(too_large, is_large, stmt.line, AsmWhat::SectionTooLarge);
-        last = stmt.line;
-    }
-    push_if(&mut pools, walk.pool.len() > 0, &walk)?;
-    let is_large = walk.sizes_with_pool().is_too_large();
-    Ok(Extents {
-        pools,
-        bss: walk.at.sizes.bss,
-        too_large: first_if(too_large, is_large, last, AsmWhat::SectionTooLarge),
-    })
-}
-
-/// The layout of statements, with the entries of their functions.
-pub fn layout_of(
-    alloc: Global,
-    stmts: &[Stmt],
-    entries: &[Option<EntryWords>],
-) -> Result<Layout, AllocError>
-    ensures labels { IfOk result (λ layout.
-        layout.labels ≡ map (labelled entries.now stmts.now) (labels_of entries.now stmts.now)) }
-    ensures pools { IfOk result (λ layout. layout.pools ≡ pools_from entries.now start stmts.now) }
-    ensures bss { IfOk result (λ layout. layout.bss ≡ (walk_behind entries.now start stmts.now).at.sizes.bss) }
-    ensures duplicate { IfOk result (λ layout. layout.duplicate ≡ first_of_all None (duplicates_from [] stmts.now)) }
-    ensures too_large { IfOk result (λ layout.
-        layout.too_large ≡ first_of_all None (too_large_from entries.now start 0 stmts.now)) }
-{
-    let Defined {
-        mut labels,
-        duplicate,
-    } = defined_in(alloc, stmts, entries)?;
-    labels.describe(stmts);
-    let Extents {
-        pools,
-        bss,
-        too_large,
-    } = extents_of(alloc, stmts, entries)?;
-    Ok(Layout {
-        labels,
-        pools,
-        bss,
-        duplicate,
-        too_large,
-    })
 }

@@ -1,18 +1,23 @@
 //! The walk over statements: where the next one stands, and the pool that is to come (docs/objects.md).
-ghost use Rattle.std.specs.Prelude.{◌≡◌, ◌<◌, Some, option_map, length, slice_get, not, IfOk, OnOk, OnErr};
+ghost use Rattle.std.specs.Prelude.{◌≡◌, ◌<◌, [], Some, option_map, length, IfOk, OnOk, OnErr};
 ghost use Rattle.std.specs.List.{position_or_len};
-ghost use Rattle.asm_layout.specs.Sizes.{times, multiple, size, is_instruction, size_in, sizes_grown, is_too_large, table_size};
+ghost use Rattle.asm_layout.specs.Sizes.{times, multiple, size_at, is_instruction, size_in, sizes_grown, is_too_large, table_size};
 ghost use Rattle.asm_layout.specs.SameWords.{same_word};
-ghost use Rattle.asm_layout.specs.Walks.{entry_at, here, start, started, ended, handling, within, grown, cursor_behind, pool_with, ends_pool, pool_place, sizes_with_pool, next};
+ghost use Rattle.asm_read.specs.declared.statement.StmtKind.TheVariants.{Pool as ForPool};
+ghost use Rattle.asm_layout.specs.Walks.{entry_at, here, start, started, ended, handling, within, grown, cursor_behind, pool_with, pool_behind, ends_pool, pool_place, sizes_with_pool, next};
+ghost use Rattle.asm_layout.specs.Placing.{word_offset, pool_here, function_puts, puts_at, stood_at};
 
 use crate::place::{Place, Section};
-use crate::word::{Word, word_of};
+use crate::placed::{PlacedFunction, PlacedPool, PlacedStmt, Puts};
+use crate::word::{Word, Words, word_of};
+use crate::{bare_form, branch_form, data_form, name_form, nameless_form, reader_form};
 use asm_read::{Stmt, StmtKind};
 use asm_unwind::EntryWords;
 use eh_list::bytes::gap;
 use indexmap::IndexSet;
 use std::alloc::{AllocError, Global};
 use std::marker::Model;
+use std::mem;
 
 /// How many bytes each section has so far. Sums stop at 2^64 - 1, far above what a section may have.
 #[derive(Clone, Copy, PartialEq, Eq, Debug)]
@@ -94,20 +99,25 @@ fn times(len: usize, size: u64) -> u64
     (len as u64).saturating_mul(size)
 }
 
-/// The bytes of a statement that doesn't look at its place.
-pub fn size(kind: &StmtKind) -> u64
-    ensures { result ≡ size kind.now }
+/// The bytes of a statement at a place: `bl` and the barriers have two halfwords, `.align` fills up to a multiple.
+fn size_at(place: u64, kind: &StmtKind) -> u64
+    ensures { result ≡ size_at place kind.now }
 {
     match kind {
+        nameless_form!()
+        | reader_form!()
+        | StmtKind::B(_)
+        | StmtKind::BCond { .. }
+        | StmtKind::Udf { .. } => 2,
+        StmtKind::Bl(_) | StmtKind::Barrier { .. } => 4,
         StmtKind::Words(words) => times(words.as_slice().len(), 4),
         StmtKind::Halves(halves) => times(halves.as_slice().len(), 2),
         StmtKind::Bytes(bytes) => times(bytes.as_slice().len(), 1),
         StmtKind::Ascii(text) => times(text.bytes().len(), 1),
         StmtKind::Asciz(text) => times(text.bytes().len(), 1).saturating_add(1),
         StmtKind::Space(n) => u64::try_from(*n).unwrap_or(0),
-        StmtKind::Bl(_) | StmtKind::Barrier { .. } => 4,
-        _ if is_instruction(kind) => 2,
-        _ => 0,
+        StmtKind::Align(n) => gap(place, multiple(*n)),
+        name_form!() | bare_form!() => 0,
     }
 }
 
@@ -115,34 +125,14 @@ pub fn size(kind: &StmtKind) -> u64
 pub fn is_instruction(kind: &StmtKind) -> bool
     ensures { result ≡ is_instruction kind.now }
 {
-    !matches!(
-        kind,
-        StmtKind::Label(_)
-            | StmtKind::Text
-            | StmtKind::Data
-            | StmtKind::Bss
-            | StmtKind::Rodata
-            | StmtKind::Global(_)
-            | StmtKind::TypeFunction(_)
-            | StmtKind::TypeObject(_)
-            | StmtKind::Size(_)
-            | StmtKind::Words(_)
-            | StmtKind::Halves(_)
-            | StmtKind::Bytes(_)
-            | StmtKind::Ascii(_)
-            | StmtKind::Asciz(_)
-            | StmtKind::Space(_)
-            | StmtKind::Align(_)
-            | StmtKind::Pool
-            | StmtKind::FnStart
-            | StmtKind::FnEnd
-            | StmtKind::Save { .. }
-            | StmtKind::Pad(_)
-            | StmtKind::SetFp { .. }
-            | StmtKind::CantUnwind
-            | StmtKind::PersonalityIndex(_)
-            | StmtKind::HandlerData
-    )
+    match kind {
+        nameless_form!()
+        | reader_form!()
+        | branch_form!()
+        | StmtKind::Udf { .. }
+        | StmtKind::Barrier { .. } => true,
+        data_form!() | StmtKind::Align(_) | name_form!() | bare_form!() => false,
+    }
 }
 
 /// Where the next statement stands.
@@ -257,6 +247,25 @@ impl Cursor {
         self
     }
 
+    /// The function that begins with a statement.
+    fn function_puts(self, kind: &StmtKind) -> Puts
+        ensures { result ≡ function_puts self kind.now }
+    {
+        match kind {
+            StmtKind::FnStart => {
+                if self.inside {
+                    return Puts::Nothing;
+                }
+                Puts::Function(PlacedFunction {
+                    start: self.sizes.text,
+                    from: self.sizes.extab,
+                    number: self.functions,
+                })
+            }
+            _ => Puts::Nothing,
+        }
+    }
+
     /// Behind a statement, but for what a pool adds.
     pub fn behind(self, kind: &StmtKind, entries: &[Option<EntryWords>]) -> Cursor
         ensures { result ≡ cursor_behind entries.now self kind.now }
@@ -269,8 +278,7 @@ impl Cursor {
             StmtKind::FnStart => self.started(entries),
             StmtKind::FnEnd => self.ended(),
             StmtKind::HandlerData => self.handling(),
-            StmtKind::Align(n) => self.grown(gap(self.place(), multiple(*n))),
-            _ => self.grown(size(kind)),
+            _ => self.grown(size_at(self.place(), kind)),
         }
     }
 }
@@ -292,7 +300,7 @@ impl Model for Pool {
 
 impl Pool {
     /// A pool without words.
-    pub fn new(alloc: Global) -> Pool
+    fn new(alloc: Global) -> Pool
         ensures { length result ≡ 0 }
     {
         Pool {
@@ -301,7 +309,7 @@ impl Pool {
     }
 
     /// The place of a word in the pool; it goes last where it isn't there. Without memory the pool stays as it is.
-    pub fn put(&mut self, word: Word) -> Result<usize, AllocError>
+    fn put(&mut self, word: Word) -> Result<usize, AllocError>
         ensures index { IfOk result (λ index. index ≡ position_or_len (same_word word) self.old) }
         ensures pool { OnOk result (self.new ≡ pool_with self.old word) }
         ensures err { OnErr result (self.new ≡ self.old) }
@@ -311,17 +319,21 @@ impl Pool {
     }
 
     /// How many words the pool has.
-    pub fn len(&self) -> usize
+    pub(crate) fn len(&self) -> usize
         ensures { result ≡ length self.now }
     {
         self.words.len()
     }
 
-    /// A word by its number.
-    pub fn get(&self, index: usize) -> Option<&Word>
-        ensures { option_map (λ word. word.now) result ≡ slice_get self.now index }
+    /// The words in order.
+    fn into_words(self, alloc: Global) -> Result<Words, AllocError>
+        ensures { IfOk result (λ words. words ≡ self) }
     {
-        self.words.get_index(index)
+        let mut words = Vec::new(alloc);
+        for word in self.words {
+            words.push(word)?;
+        }
+        Ok(Words::of_vec(words))
     }
 }
 
@@ -334,7 +346,7 @@ pub struct Walk {
 
 impl Walk {
     /// Before the first statement.
-    pub fn new(alloc: Global) -> Walk
+    pub(crate) fn new(alloc: Global) -> Walk
         ensures { result ≡ start }
     {
         Walk {
@@ -343,15 +355,8 @@ impl Walk {
         }
     }
 
-    /// Whether a statement ends a pool that has words.
-    pub fn ends_pool(&self, kind: &StmtKind) -> bool
-        ensures { result ≡ ends_pool self.now kind.now }
-    {
-        matches!(kind, StmtKind::Pool) && self.at.section == Section::Text && self.pool.len() > 0
-    }
-
     /// Where a pool that ends here begins.
-    pub fn pool_place(&self) -> u64
+    pub(crate) fn pool_place(&self) -> u64
         ensures { result ≡ pool_place self.now }
     {
         self.at
@@ -360,8 +365,15 @@ impl Walk {
             .saturating_add(gap(self.at.sizes.text, 4))
     }
 
+    /// Whether a statement ends a pool that has words.
+    pub(crate) fn ends_pool(&self, kind: &StmtKind) -> bool
+        ensures { result ≡ ends_pool self.now kind.now }
+    {
+        matches!(kind, StmtKind::Pool) && self.at.section == Section::Text && self.pool.len() > 0
+    }
+
     /// The sizes with the pool that ends here, which is nothing where it has no words.
-    pub fn sizes_with_pool(&self) -> Sizes
+    pub(crate) fn sizes_with_pool(&self) -> Sizes
         ensures { result ≡ sizes_with_pool self.now }
     {
         if self.pool.len() == 0 {
@@ -371,31 +383,79 @@ impl Walk {
         self.at.sizes.grown(Section::Text, by)
     }
 
-    /// Goes behind a statement. Without memory the walk stays where it is.
-    pub fn advance(
+    /// The pool that is to come, where nothing comes behind it.
+    pub(crate) fn into_pool(self, alloc: Global) -> Result<PlacedPool, AllocError>
+        ensures { IfOk result (λ pool. pool ≡ pool_here self) }
+    {
+        Ok(PlacedPool {
+            from: self.at.sizes.text,
+            words: self.pool.into_words(alloc)?,
+        })
+    }
+
+    /// How far behind the start of its pool the word of a statement stands; it goes last where it isn't there.
+    fn put_word(&mut self, alloc: Global, kind: &StmtKind) -> Result<Option<u64>, AllocError>
+        ensures word { IfOk result (λ word. word ≡ word_offset self.old kind.now) }
+        ensures walk { OnOk result (self.new ≡ record self.old { pool = pool_behind self.old kind.now }) }
+    {
+        match kind {
+            StmtKind::LdrPool { value, .. } => {
+                if self.at.section != Section::Text {
+                    return Ok(None);
+                }
+                let index = self.pool.put(word_of(alloc, value)?)?;
+                Ok(Some(times(index, 4)))
+            }
+            _ => Ok(None),
+        }
+    }
+
+    /// What a `.pool` puts here, behind which the walk goes.
+    fn end_pool(&mut self, alloc: Global) -> Result<Puts, AllocError>
+        ensures puts { IfOk result (λ puts. puts ≡ puts_at self.old ForPool) }
+        ensures walk { OnOk result (self.new ≡ next [] self.old ForPool) }
+    {
+        if self.at.section != Section::Text {
+            return Ok(Puts::Nothing);
+        }
+        let from = self.at.sizes.text;
+        self.at.sizes = self.sizes_with_pool();
+        let words = mem::replace(&mut self.pool, Pool::new(alloc)).into_words(alloc)?;
+        Ok(Puts::Pool(PlacedPool { from, words }))
+    }
+
+    /// A statement where the walk stands, its word by its offset in the pool; the walk goes behind it.
+    pub(crate) fn place<'a>(
         &mut self,
         alloc: Global,
-        stmt: &Stmt,
+        stmt: &'a Stmt,
         entries: &[Option<EntryWords>],
-    ) -> Result<(), AllocError>
-        ensures ok { OnOk result (self.new ≡ next entries.now self.old stmt.now.kind) }
-        ensures err { OnErr result (self.new ≡ self.old) }
+    ) -> Result<PlacedStmt<'a>, AllocError>
+        ensures placed { IfOk result (λ placed. placed ≡ stood_at self.old stmt.now) }
+        ensures walk { OnOk result (self.new ≡ next entries.now self.old stmt.now.kind) }
     {
+        let at = self.at.here();
         match &stmt.kind {
             StmtKind::Pool => {
-                if self.at.section == Section::Text {
-                    self.at.sizes = self.sizes_with_pool();
-                    self.pool = Pool::new(alloc);
-                }
+                let puts = self.end_pool(alloc)?;
+                Ok(PlacedStmt {
+                    stmt,
+                    at,
+                    word: None,
+                    puts,
+                })
             }
-            StmtKind::LdrPool { value, .. } => {
-                if self.at.section == Section::Text {
-                    self.pool.put(word_of(alloc, value)?)?;
-                }
-                self.at = self.at.behind(&stmt.kind, entries);
+            kind => {
+                let puts = self.at.function_puts(kind);
+                let word = self.put_word(alloc, kind)?;
+                self.at = self.at.behind(kind, entries);
+                Ok(PlacedStmt {
+                    stmt,
+                    at,
+                    word,
+                    puts,
+                })
             }
-            kind => self.at = self.at.behind(kind, entries),
         }
-        Ok(())
     }
 }

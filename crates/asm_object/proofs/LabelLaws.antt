@@ -14,15 +14,17 @@ use Rattle.asm_layout.specs.declared.place.Section.{Section}
 use Rattle.asm_layout.specs.declared.walk.Walk.{Walk}
 use Rattle.asm_layout.specs.Faults.{fault_at}
 use Rattle.asm_layout.specs.Functions.{entries_of, no_frame}
-use Rattle.asm_layout.specs.Labels.{Named, named, find, is_among, label_unless, new_labels, labels_from, labels_of, labelled, label_faults, names_behind, duplicates_from}
+use Rattle.asm_layout.specs.Labels.{Named, named, find, is_among, label_unless, new_labels, labels_from, labels_of, labelled, label_faults, names_behind, duplicates_from, labels_in}
 use Rattle.asm_layout.specs.Sizes.{size_in, is_too_large}
 use Rattle.asm_layout.specs.Walks.{start, next, here, walk_behind, sizes_with_pool}
 use Rattle.asm_object.specs.declared.object.Object.{Object}
-use Rattle.asm_object.specs.Objects.{joined, symbol_of, refusals_from}
-use Rattle.asm_object.specs.Pieces.{bytes_in, pieces_from}
+use Rattle.asm_object.specs.Objects.{joined, symbol_of}
+use Rattle.asm_object.specs.Pieces.{bytes_in}
 use Rattle.asm_object.specs.ObjectLaw.{symbol_place, SymbolsStandAtTheirLabels}
 use Rattle.asm_object.proofs.PlaceLaws.{law_of_ends, none_behind, walks_on, not_large}
 use Rattle.asm_object.proofs.ObjectLaws.{IsTaken, taken, ends_small, entries_count, both_none}
+use Rattle.asm_layout.specs.Placing.{placed_from}
+use Rattle.asm_object.specs.Behind.{pieces_from, refusals_from}
 
 abbrev pub names_of : List Named → List (List ℕ)
 names_of labels = map (λ label. label.name) labels
@@ -57,7 +59,7 @@ fault_none false line h = refl
 pub new_there : (entries : List (Option EntryWords)) (labels : List Named) (walk : Walk) (before : List Stmt) (line : ℕ) (name : List ℕ) (more : List Stmt)
     → duplicates_from (names_of labels) (before ++ record { line = line; kind = Label name } ∷ more) ≡ []
     → is_among name (labels ++ labels_from entries labels walk before) ≡ false
-unfolding duplicates_from labels_from
+unfolding duplicates_from labels_in placed_from
 new_there entries labels walk [] line name more e =
     ap (λ ls. is_among name ls) (append-nil labels)
     ∙ fault_none (is_among name labels) line (both_none (label_faults (names_of labels) line (Label name)) _ e).0
@@ -110,7 +112,7 @@ label_stmt line name = record { line = line; kind = Label name }
 pub label_there : (entries : List (Option EntryWords)) (labels : List Named) (walk : Walk) (before : List Stmt) (line : ℕ) (name : List ℕ) (more : List Stmt)
     → is_among name (labels ++ labels_from entries labels walk before) ≡ false
     → find name (labels_from entries labels walk (before ++ label_stmt line name ∷ more)) ≡ Some (here (walk_behind entries walk before).at)
-unfolding labels_from walk_behind
+unfolding labels_in placed_from walk_behind
 label_there entries labels walk [] line name more e =
     let own = new_labels labels (Label name) (here walk.at) in
     let rest = labels_from entries (labels ++ own) (next entries walk (Label name)) more in

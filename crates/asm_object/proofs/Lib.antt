@@ -1,11 +1,10 @@
 pub mod ListLemmas
-pub mod WalkLemmas
+pub mod Statements
 pub mod FirstOf
 pub mod BuiltLemmas
-pub mod StepLemmas
+pub mod GivenLemmas
 pub mod ObjectLemmas
 pub mod PlaceLaws
-mod Unnamed
 pub mod ObjectLaws
 pub mod LabelLaws
 pub mod LoadLaws

@@ -1,5 +1,5 @@
 -- A `ldr` of a value reads the value's word in the pool.
-use Rattle.std.proofs.Common.{◌≡◌, ℕ, ◌+◌, ◌-◌, ◌*◌, ◌^◌, ◌≤◌, ◌<◌, min, ◌==◌, ◌&&◌, ◌||◌, not, Bool, true, false, cond, List, [], ◌∷◌, ◌++◌, length, drop, take, Option, refl, sym, ap, ◌∙◌, arith, append-nil, append_assoc, length-append, subst}
+use Rattle.std.proofs.Common.{◌≡◌, ℕ, ◌+◌, ◌-◌, ◌*◌, ◌^◌, ◌≤◌, ◌<◌, min, ◌==◌, ◌&&◌, ◌||◌, not, Bool, true, false, cond, List, [], ◌∷◌, ◌++◌, length, drop, take, Option, Some, None, option_map, refl, sym, ap, ◌∙◌, arith, append-nil, append_assoc, length-append, subst}
 use Rattle.std.specs.List.{list_any, position_or_len}
 use Rattle.std.proofs.lemmas.Bool.{true≢false}
 use Rattle.std.proofs.lemmas.Bool.Decides.{nat_tests}
@@ -29,18 +29,22 @@ use Rattle.asm_layout.specs.Walks.{start, here, same_section, next, is_empty, is
 use Rattle.asm_layout.proofs.LayoutLaws.{same_bytes-true}
 use Rattle.asm_object.specs.Bytes.{word_bytes, filling_bytes}
 use Rattle.asm_object.specs.Values.{held}
-use Rattle.asm_object.specs.Pieces.{Piece, place_at, filling_piece, words_piece, own_piece, set_pieces, words_bytes, pool_pieces, pieces_from, pieces_at, bytes_in, bytes_of_code, word_place}
-use Rattle.asm_object.specs.Refusals.{refusal}
+use Rattle.asm_object.specs.Pieces.{Piece, place_at, filling_piece, words_piece, own_piece, words_bytes, pool_pieces, bytes_in, bytes_of_code, put_pieces, pieces_of}
+use Rattle.asm_object.specs.Refusals.{instruction_fault, refusal}
 use Rattle.asm_object.specs.LoadLaw.{LoadsReadTheirWords}
 use Rattle.asm_object.specs.declared.object.Object.{Object}
-use Rattle.asm_object.specs.Instructions.{literal}
-use Rattle.asm_object.specs.Objects.{refusals_from, joined}
+use Rattle.asm_object.specs.Instructions.{literal, literal_to}
+use Rattle.asm_object.specs.Objects.{joined}
 use Rattle.asm_object.proofs.PlaceLaws.{Fewer, filled_length, words_length, not_large, none_parts, none_behind, walks_on, law_of_ends, law_of_bytes, refusal_parts, not_false, text_here, gives, loads}
 use Rattle.asm_object.proofs.ObjectLaws.{IsTaken, taken, ends_small, entries_count}
+use Rattle.asm_object.proofs.Statements.{walk_sets, walk_pieces}
+use Rattle.asm_layout.specs.Placing.{word_place, placed_from, pool_here, pool_puts}
+use Rattle.asm_layout.specs.declared.placed.Puts.TheVariants as puts
+use Rattle.asm_object.specs.Behind.{pieces_from, refusals_from}
 
 -- ---- where a word goes in its pool
 
-and_true : (a b : Bool) → (a && b) ≡ true → (a ≡ true) × (b ≡ true)
+pub and_true : (a b : Bool) → (a && b) ≡ true → (a ≡ true) × (b ≡ true)
 and_true true b e = (refl, e)
 and_true false b e = absurd (true≢false (sym e))
 
@@ -63,16 +67,16 @@ same_words (word.Rel a) (word.Rel b) e = ap (λ x. word.Rel x) (same_bytes-true 
 same_words _ _ e = absurd (true≢false (sym e))
 
 -- a pool has a word behind some others
-record HasWord (pool : List Word) (word : Word) (at : ℕ) : Type 0 where
-  front : List Word
-  back : List Word
-  split : pool ≡ front ++ word ∷ back
-  place : at ≡ length front
+pub record HasWord (pool : List Word) (word : Word) (at : ℕ) : Type 0 where
+  pub front : List Word
+  pub back : List Word
+  pub split : pool ≡ front ++ word ∷ back
+  pub place : at ≡ length front
 
 abbrev no_words : List Word
 no_words = []
 
-put_there : (pool : List Word) (word : Word) → HasWord (pool_with pool word) word (position_or_len (same_word word) pool)
+pub put_there : (pool : List Word) (word : Word) → HasWord (pool_with pool word) word (position_or_len (same_word word) pool)
 put_there [] word = record { front = []; back = []; split = refl; place = refl }
 put_there (x ∷ xs) word = by (same_word word x) refl (put_there xs word)
   where
@@ -91,7 +95,7 @@ put_there (x ∷ xs) word = by (same_word word x) refl (put_there xs word)
     }
 
 -- a pool without an end goes on
-pool_keeps : (entries : List (Option EntryWords)) (walk : Walk) (kind : StmtKind) (word : Word) (at : ℕ) → ends_pool walk kind ≡ false
+pub pool_keeps : (entries : List (Option EntryWords)) (walk : Walk) (kind : StmtKind) (word : Word) (at : ℕ) → ends_pool walk kind ≡ false
     → HasWord walk.pool word at → HasWord (next entries walk kind).pool word at
 pool_keeps entries walk stmt.Pool word at e h = by (is_in_text walk.at) refl
   where
@@ -132,7 +136,7 @@ regroup : (f a w b r : List ℕ) → f ++ (a ++ (w ++ b) ++ []) ++ r ≡ f ++ a 
 regroup f a w b r = simp (append-nil, append_assoc)
 
 pool_has : (labels : List Named) (walk : Walk) (word : Word) (at : ℕ) (rest all : List ℕ) → HasWord walk.pool word at
-    → (sizes_with_pool walk).text ≤ 1048576 → all ≡ bytes_in Text (pool_pieces labels walk) ++ rest
+    → (sizes_with_pool walk).text ≤ 1048576 → all ≡ bytes_in Text (pool_pieces labels (pool_here walk)) ++ rest
     → WordThere labels walk.at.sizes.text (pool_place walk) all word at
 pool_has labels walk word at rest all h small is = by (is_empty walk.pool) refl small is
   where
@@ -164,7 +168,7 @@ pool_has labels walk word at rest all h small is = by (is_empty walk.pool) refl 
 
 -- ---- statements
 
-ends_sizes : (entries : List (Option EntryWords)) (walk : Walk) (kind : StmtKind) → ends_pool walk kind ≡ true → (next entries walk kind).at.sizes ≡ sizes_with_pool walk
+pub ends_sizes : (entries : List (Option EntryWords)) (walk : Walk) (kind : StmtKind) → ends_pool walk kind ≡ true → (next entries walk kind).at.sizes ≡ sizes_with_pool walk
 ends_sizes entries walk stmt.Pool e =
     ap (λ b. (cond b (record { at = record walk.at { sizes = sizes_with_pool walk }; pool = no_words }) walk).at.sizes) (and_true (is_in_text walk.at) (not (is_empty walk.pool)) e).0
 ends_sizes entries walk _ e = absurd (true≢false (sym e))
@@ -172,13 +176,13 @@ ends_sizes entries walk _ e = absurd (true≢false (sym e))
 abbrev no_bytes : List ℕ
 no_bytes = []
 
-ends_pieces : (entries : List (Option EntryWords)) (labels : List Named) (walk : Walk) (word : ℕ) (kind : StmtKind) → ends_pool walk kind ≡ true
-    → bytes_in Text (pieces_at entries labels walk word kind) ≡ bytes_in Text (pool_pieces labels walk)
+ends_pieces : (entries : List (Option EntryWords)) (labels : List Named) (walk : Walk) (word : Option ℕ) (kind : StmtKind) → ends_pool walk kind ≡ true
+    → bytes_in Text (walk_pieces entries labels walk word kind) ≡ bytes_in Text (pool_pieces labels (pool_here walk))
 ends_pieces entries labels walk word stmt.Pool e =
-    flat_map-append (λ p. cond (same_section p.place.section Text) p.bytes no_bytes) (set_pieces entries labels walk stmt.Pool) (own_piece labels stmt.Pool (here walk.at) word ∷ [])
-    ∙ ap (λ l. bytes_in Text (set_pieces entries labels walk stmt.Pool) ++ l) (none (same_section walk.at.section Text))
-    ∙ append-nil (bytes_in Text (set_pieces entries labels walk stmt.Pool))
-    ∙ ap (λ b. bytes_in Text (cond b (pool_pieces labels walk) [])) (and_true (is_in_text walk.at) (not (is_empty walk.pool)) e).0
+    flat_map-append (λ p. cond (same_section p.place.section Text) p.bytes no_bytes) (walk_sets entries labels walk stmt.Pool) (own_piece labels stmt.Pool (here walk.at) word ∷ [])
+    ∙ ap (λ l. bytes_in Text (walk_sets entries labels walk stmt.Pool) ++ l) (none (same_section walk.at.section Text))
+    ∙ append-nil (bytes_in Text (walk_sets entries labels walk stmt.Pool))
+    ∙ ap (λ b. bytes_in Text (put_pieces entries labels (cond b (pool_puts walk) puts.Nothing))) (and_true (is_in_text walk.at) (not (is_empty walk.pool)) e).0
   where
     none : (b : Bool) → cond b no_bytes [] ++ no_bytes ≡ []
     none true = refl
@@ -189,7 +193,7 @@ in_both : (own rest : List Piece) → bytes_in Text (own ++ rest) ≡ bytes_in T
 in_both own rest = flat_map-append (λ p. cond (same_section p.place.section Text) p.bytes no_bytes) own rest
 
 stays : (entries : List (Option EntryWords)) (labels : List Named) (walk : Walk) (kind : StmtKind) (own rest : List Piece) (later end : ℕ) (word : Word) (at : ℕ) (b : Bool)
-    → ends_pool walk kind ≡ b → (ends_pool walk kind ≡ true → bytes_in Text own ≡ bytes_in Text (pool_pieces labels walk))
+    → ends_pool walk kind ≡ b → (ends_pool walk kind ≡ true → bytes_in Text own ≡ bytes_in Text (pool_pieces labels (pool_here walk)))
     → (next entries walk kind).at.sizes.text + length (bytes_in Text rest) ≡ end → walk.at.sizes.text + length (bytes_in Text (own ++ rest)) ≡ end → end ≤ 1048576
     → HasWord walk.pool word at
     → (b ≡ false → WordThere labels (next entries walk kind).at.sizes.text later (bytes_in Text rest) word at)
@@ -221,15 +225,15 @@ stays entries labels walk kind own rest later end word at false e pool ends all 
 word_stays : (entries : List (Option EntryWords)) (labels : List Named) (walk : Walk) (stmts : List Stmt) (word : Word) (at : ℕ) → Fewer entries
     → refusals_from entries labels walk stmts ≡ [] → is_too_large (sizes_with_pool (walk_behind entries walk stmts)) ≡ false → HasWord walk.pool word at
     → WordThere labels walk.at.sizes.text (coming_pool entries walk stmts) (bytes_in Text (pieces_from entries labels walk stmts)) word at
-unfolding pieces_from refusals_from walk_behind coming_pool
+unfolding pieces_of placed_from walk_behind coming_pool
 word_stays entries labels walk [] word at few r h there =
-    pool_has labels walk word at [] _ there (not_large (sizes_with_pool walk) Text h) (sym (append-nil (bytes_in Text (pool_pieces labels walk))))
+    pool_has labels walk word at [] _ there (not_large (sizes_with_pool walk) Text h) (sym (append-nil (bytes_in Text (pool_pieces labels (pool_here walk)))))
 word_stays entries labels walk (stmt ∷ more) word at few r h there =
     let after = next entries walk stmt.kind in
     let end = (sizes_with_pool (walk_behind entries after more)).text in
     let place = word_place walk stmt.kind (cond (ends_pool walk stmt.kind) (pool_place walk) (coming_pool entries after more)) in
     let parts = none_parts stmt.line (refusal labels stmt.kind walk.at.section (here walk.at).offset place) (refusals_from entries labels after more) r in
-    stays entries labels walk stmt.kind (pieces_at entries labels walk place stmt.kind) (pieces_from entries labels after more) (coming_pool entries after more) end word at
+    stays entries labels walk stmt.kind (walk_pieces entries labels walk place stmt.kind) (pieces_from entries labels after more) (coming_pool entries after more) end word at
     (ends_pool walk stmt.kind) refl (ends_pieces entries labels walk place stmt.kind)
     (law_of_ends entries labels after more Text few parts.1 h) (law_of_ends entries labels walk (stmt ∷ more) Text few r h)
     (not_large (sizes_with_pool (walk_behind entries after more)) Text h) there
@@ -280,7 +284,7 @@ load_there : (entries : List (Option EntryWords)) (labels : List Named) (walk : 
     → drop walk.at.sizes.text whole ≡ bytes_in Text (pieces_from entries labels walk (load line t value ∷ more))
     → drop (next entries walk (stmt.LdrPool t value)).at.sizes.text whole ≡ bytes_in Text (pieces_from entries labels (next entries walk (stmt.LdrPool t value)) more)
     → LoadThere entries labels walk t value whole
-unfolding refusals_from walk_behind pieces_from coming_pool
+unfolding placed_from walk_behind pieces_of coming_pool
 load_there entries labels walk line t value more whole few r h own rest =
     let kind = stmt.LdrPool t value in
     let after = next entries walk kind in
@@ -297,15 +301,19 @@ load_there entries labels walk line t value more whole few r h own rest =
     let ends = law_of_ends entries labels after more Text few parts.1 h in
     let long = ap length there.split ∙ length-append (there.before ++ word_bytes (held labels (word_of value))) there.after
     ∙ ap (λ n. n + length there.after) (length-append there.before (word_bytes (held labels (word_of value)))) in
-    let place : word ≡ after.at.sizes.text + length there.before =
-    ap (λ b. cond b (sum_64 coming (times at 4)) 0) text ∙ exact coming at after.at.sizes.text (length there.before) (length there.after) _ _ there.place long ends large in
-    let has = (gives (LdrLit t (literal word (here walk.at).offset))).has (loads entries labels walk kind more word refl large parts.0 refl) in
+    let spot = sum_64 coming (times at 4) in
+    let is : word ≡ Some spot = ap (λ b. option_map (sum_64 coming) (cond b (Some (times at 4)) None)) text in
+    let place : spot ≡ after.at.sizes.text + length there.before = exact coming at after.at.sizes.text (length there.before) (length there.after) _ _ there.place long ends large in
+    let taken : instruction_fault (Some (LdrLit t (literal spot (here walk.at).offset))) ≡ None =
+    ap (λ o. instruction_fault (Some (LdrLit t (literal_to o (here walk.at).offset)))) (sym is) ∙ loads entries labels walk kind more word refl large parts.0 refl in
+    let has = (gives (LdrLit t (literal spot (here walk.at).offset))).has taken in
     record {
-      place = word;
-      word = four_there whole _ there.before (word_bytes (held labels (word_of value))) there.after after.at.sizes.text word rest there.split refl place;
+      place = spot;
+      word = four_there whole _ there.before (word_bytes (held labels (word_of value))) there.after after.at.sizes.text spot rest there.split refl place;
       code = ap (λ n. take 2 (drop n whole)) (text_here walk.at.sizes walk.at.section text)
           ∙ ap (take 2) own
-          ∙ ap (λ b. take 2 (cond b (bytes_of_code (encoded_of (LdrLit t (literal word (here walk.at).offset)))) [] ++ bytes_in Text (pieces_from entries labels after more))) text
+          ∙ ap (λ b. take 2 (cond b (bytes_of_code (encoded_of (LdrLit t (literal_to word (here walk.at).offset)))) [] ++ bytes_in Text (pieces_from entries labels after more))) text
+          ∙ ap (λ o. take 2 (bytes_of_code (encoded_of (LdrLit t (literal_to o (here walk.at).offset))) ++ bytes_in Text (pieces_from entries labels after more))) is
           ∙ first_two _ _ has;
     }
   where

@@ -33,14 +33,19 @@ use Rattle.asm_layout.specs.Words.{word_of}
 use Rattle.asm_object.specs.declared.object.Object.{Object}
 use Rattle.asm_object.specs.declared.object.Reloc.{Reloc}
 use Rattle.asm_object.specs.Instructions.{linked_unless, text_place, branch_link}
-use Rattle.asm_object.specs.Values.{Linked, linked, link_of}
-use Rattle.asm_object.specs.Pieces.{Piece, place_at, relocs_of, word_relocs, filling_piece, words_piece, pool_pieces, table_pieces, set_pieces, own_piece, instruction_piece, data_piece, data_relocs, pieces_at, pieces_from, word_place, relocs_in, bytes_in}
+use Rattle.asm_object.specs.declared.value.Link.{Link}
+use Rattle.asm_object.specs.Values.{linked, link_of}
+use Rattle.asm_object.specs.Pieces.{Piece, place_at, relocs_of, word_relocs, filling_piece, words_piece, pool_pieces, table_pieces, own_piece, instruction_piece, data_piece, data_relocs, relocs_in, bytes_in, put_pieces, pieces_of}
 use Rattle.asm_object.specs.Refusals.{refusal}
-use Rattle.asm_object.specs.Objects.{refusals_from, faults_of, joined, object_unless, object_of}
+use Rattle.asm_object.specs.Objects.{faults_of, joined, object_unless, object_of}
 use Rattle.asm_object.specs.ObjectLaw.{kinds, StandInOrder, FieldsStandInOrder, RelocsGoBySection, RelocsHaveKinds, relocs_at, bytes_at}
 use Rattle.asm_object.specs.Relocations.{field_size}
 use Rattle.asm_layout.proofs.FirstLaws.{law_of_none}
 use Rattle.asm_object.proofs.PlaceLaws.{Fewer, SameEnd, is_ordinary, ordinary_sizes, ordinary_sets, own_stands, special_counts, not_large, none_parts, law_of_ends, earlier}
+use Rattle.asm_object.proofs.Statements.{walk_sets, walk_pieces}
+use Rattle.asm_layout.specs.Placing.{word_place, placed_from, pool_here, pool_puts, function_here}
+use Rattle.asm_layout.specs.declared.placed.Puts.TheVariants as puts
+use Rattle.asm_object.specs.Behind.{pieces_from, refusals_from}
 
 -- ---- an object is that of statements that nothing is refused of
 
@@ -152,7 +157,7 @@ link_stands : (place : Place) (to : Option ℕ) (kind : ℕ) (name : List ℕ) (
 link_stands place (Some to) kind name by h k = omega arith
 link_stands place None kind name by h k = k
 
-own_stand : (labels : List Named) (kind : StmtKind) (place : Place) (word : ℕ) → place.offset + size kind ≤ 1048576
+own_stand : (labels : List Named) (kind : StmtKind) (place : Place) (word : Option ℕ) → place.offset + size kind ≤ 1048576
     → StandInOrder place.offset (own_piece labels kind place word).relocs (place.offset + size kind)
 own_stand labels (stmt.Words words) place word h =
     let count : length (map word_of words) ≡ length words = length-map words word_of in
@@ -183,9 +188,9 @@ grown_stand sizes Init Init by relocs h k = diagonal sizes.init by relocs h k
 grown_stand sizes Bss Bss by relocs h k = diagonal sizes.bss by relocs h k
 grown_stand sizes _ _ by relocs h k = omega arith
 
-ordinary_stand : (entries : List (Option EntryWords)) (labels : List Named) (walk : Walk) (word : ℕ) (kind : StmtKind) (s : Section) → is_ordinary kind ≡ true
+ordinary_stand : (entries : List (Option EntryWords)) (labels : List Named) (walk : Walk) (word : Option ℕ) (kind : StmtKind) (s : Section) → is_ordinary kind ≡ true
     → size_in (next entries walk kind).at.sizes s ≤ 1048576
-    → StandInOrder (size_in walk.at.sizes s) (relocs_in s (pieces_at entries labels walk word kind)) (size_in (next entries walk kind).at.sizes s)
+    → StandInOrder (size_in walk.at.sizes s) (relocs_in s (walk_pieces entries labels walk word kind)) (size_in (next entries walk kind).at.sizes s)
 ordinary_stand entries labels walk word kind s o h =
     let own = own_piece labels kind (here walk.at) word in
     let sizes = ordinary_sizes entries walk kind o in
@@ -195,13 +200,13 @@ ordinary_stand entries labels walk word kind s o h =
     let placed = subst P (sym (own_stands labels kind (here walk.at) word)) grown in
     let Q : List Piece → Type 0 = λ set. StandInOrder (size_in walk.at.sizes s) (relocs_in s (set ++ own ∷ [])) (size_in (sizes_grown walk.at.sizes walk.at.section (size kind)) s) in
     let behind = subst Q (sym (ordinary_sets entries labels walk kind o)) placed in
-    let R : Sizes → Type 0 = λ z. StandInOrder (size_in walk.at.sizes s) (relocs_in s (pieces_at entries labels walk word kind)) (size_in z s) in
+    let R : Sizes → Type 0 = λ z. StandInOrder (size_in walk.at.sizes s) (relocs_in s (walk_pieces entries labels walk word kind)) (size_in z s) in
     subst R (sym sizes) behind
 
 -- ---- pools
 
 pool_stands : (labels : List Named) (walk : Walk) (s : Section) → size_in (sizes_with_pool walk) s ≤ 1048576
-    → StandInOrder (size_in walk.at.sizes s) (relocs_in s (pool_pieces labels walk)) (size_in (sizes_with_pool walk) s)
+    → StandInOrder (size_in walk.at.sizes s) (relocs_in s (pool_pieces labels (pool_here walk))) (size_in (sizes_with_pool walk) s)
 pool_stands labels walk s h = by (is_empty walk.pool) s h
   where
     fill : ℕ
@@ -257,16 +262,19 @@ table_unlinked place (Some entry.CantUnwind) s = refl
 table_unlinked place (Some (entry.Inline word)) s = refl
 table_unlinked place None s = refl
 
-pub start_unlinked : (b : Bool) (place : ℕ) (entry : Option EntryWords) (s : Section) → relocs_in s (cond b [] (table_pieces place entry)) ≡ []
-start_unlinked true place entry s = refl
-start_unlinked false place entry s = table_unlinked place entry s
+pub start_unlinked : (entries : List (Option EntryWords)) (labels : List Named) (walk : Walk) (s : Section) → relocs_in s (walk_sets entries labels walk stmt.FnStart) ≡ []
+start_unlinked entries labels walk s = by walk.at.inside
+  where
+    by : (b : Bool) → relocs_in s (put_pieces entries labels (cond b puts.Nothing (function_here walk.at))) ≡ []
+    by true = refl
+    by false = table_unlinked walk.at.sizes.extab (entry_at entries walk.at.functions) s
 
 grows : (a n x : ℕ) → SameEnd n (a + x) → n ≤ 1048576 → a ≤ n
 grows a n x e h = omega (arith, e, h)
 
-special_stand : (entries : List (Option EntryWords)) (labels : List Named) (walk : Walk) (word : ℕ) (kind : StmtKind) (s : Section) → Fewer entries → is_ordinary kind ≡ false
+special_stand : (entries : List (Option EntryWords)) (labels : List Named) (walk : Walk) (word : Option ℕ) (kind : StmtKind) (s : Section) → Fewer entries → is_ordinary kind ≡ false
     → size_in (next entries walk kind).at.sizes s ≤ 1048576
-    → StandInOrder (size_in walk.at.sizes s) (relocs_in s (pieces_at entries labels walk word kind)) (size_in (next entries walk kind).at.sizes s)
+    → StandInOrder (size_in walk.at.sizes s) (relocs_in s (walk_pieces entries labels walk word kind)) (size_in (next entries walk kind).at.sizes s)
 special_stand entries labels walk word stmt.Text s few o h = none_stand _ _ _ (unlinked s (own_piece labels stmt.Text (here walk.at) word) [] refl) (omega arith)
 special_stand entries labels walk word stmt.Data s few o h = none_stand _ _ _ (unlinked s (own_piece labels stmt.Data (here walk.at) word) [] refl) (omega arith)
 special_stand entries labels walk word stmt.Bss s few o h = none_stand _ _ _ (unlinked s (own_piece labels stmt.Bss (here walk.at) word) [] refl) (omega arith)
@@ -276,32 +284,32 @@ special_stand entries labels walk word stmt.FnEnd s few o h =
 special_stand entries labels walk word stmt.HandlerData s few o h =
     none_stand _ _ _ (unlinked s (own_piece labels stmt.HandlerData (here walk.at) word) [] refl) (grows _ _ _ (special_counts entries labels walk word stmt.HandlerData s few o) h)
 special_stand entries labels walk word (stmt.Align n) s few o h =
-    none_stand _ _ _ (last_unlinked s (set_pieces entries labels walk (stmt.Align n)) (own_piece labels (stmt.Align n) (here walk.at) word) refl
+    none_stand _ _ _ (last_unlinked s (walk_sets entries labels walk (stmt.Align n)) (own_piece labels (stmt.Align n) (here walk.at) word) refl
     ∙ unlinked s (filling_piece (here walk.at) (gap (here walk.at).offset (multiple n))) [] refl)
     (grows _ _ _ (special_counts entries labels walk word (stmt.Align n) s few o) h)
 special_stand entries labels walk word stmt.FnStart s few o h =
     none_stand _ _ _
-    (last_unlinked s (set_pieces entries labels walk stmt.FnStart) (own_piece labels stmt.FnStart (here walk.at) word) refl
-    ∙ start_unlinked walk.at.inside walk.at.sizes.extab (entry_at entries walk.at.functions) s)
+    (last_unlinked s (walk_sets entries labels walk stmt.FnStart) (own_piece labels stmt.FnStart (here walk.at) word) refl
+    ∙ start_unlinked entries labels walk s)
     (grows _ _ _ (special_counts entries labels walk word stmt.FnStart s few o) h)
 special_stand entries labels walk word stmt.Pool s few o h =
     let P : List Reloc → Type 0 = λ relocs. StandInOrder (size_in walk.at.sizes s) relocs (size_in (next entries walk stmt.Pool).at.sizes s) in
-    subst P (sym (last_unlinked s (set_pieces entries labels walk stmt.Pool) (own_piece labels stmt.Pool (here walk.at) word) refl)) (ends (is_in_text walk.at) h)
+    subst P (sym (last_unlinked s (walk_sets entries labels walk stmt.Pool) (own_piece labels stmt.Pool (here walk.at) word) refl)) (ends (is_in_text walk.at) h)
   where
     ends : (b : Bool) → size_in (cond b (record { at = record walk.at { sizes = sizes_with_pool walk }; pool = [] }) walk).at.sizes s ≤ 1048576
-        → StandInOrder (size_in walk.at.sizes s) (relocs_in s (cond b (pool_pieces labels walk) []))
+        → StandInOrder (size_in walk.at.sizes s) (relocs_in s (put_pieces entries labels (cond b (pool_puts walk) puts.Nothing)))
         (size_in (cond b (record { at = record walk.at { sizes = sizes_with_pool walk }; pool = [] }) walk).at.sizes s)
     ends true h = pool_stands labels walk s h
     ends false h = omega arith
 special_stand entries labels walk word _ s few o h = absurd (true≢false o)
 
-statement_stands : (entries : List (Option EntryWords)) (labels : List Named) (walk : Walk) (word : ℕ) (kind : StmtKind) (s : Section) → Fewer entries
+statement_stands : (entries : List (Option EntryWords)) (labels : List Named) (walk : Walk) (word : Option ℕ) (kind : StmtKind) (s : Section) → Fewer entries
     → size_in (next entries walk kind).at.sizes s ≤ 1048576
-    → StandInOrder (size_in walk.at.sizes s) (relocs_in s (pieces_at entries labels walk word kind)) (size_in (next entries walk kind).at.sizes s)
+    → StandInOrder (size_in walk.at.sizes s) (relocs_in s (walk_pieces entries labels walk word kind)) (size_in (next entries walk kind).at.sizes s)
 statement_stands entries labels walk word kind s few h = by (is_ordinary kind) refl
   where
     by : (b : Bool) → is_ordinary kind ≡ b
-        → StandInOrder (size_in walk.at.sizes s) (relocs_in s (pieces_at entries labels walk word kind)) (size_in (next entries walk kind).at.sizes s)
+        → StandInOrder (size_in walk.at.sizes s) (relocs_in s (walk_pieces entries labels walk word kind)) (size_in (next entries walk kind).at.sizes s)
     by true o = ordinary_stand entries labels walk word kind s o h
     by false o = special_stand entries labels walk word kind s few o h
 
@@ -313,7 +321,7 @@ within a x end e h = omega (arith, e, h)
 pub all_stand : (entries : List (Option EntryWords)) (labels : List Named) (walk : Walk) (stmts : List Stmt) (s : Section) → Fewer entries
     → refusals_from entries labels walk stmts ≡ [] → is_too_large (sizes_with_pool (walk_behind entries walk stmts)) ≡ false
     → StandInOrder (size_in walk.at.sizes s) (relocs_in s (pieces_from entries labels walk stmts)) (size_in (sizes_with_pool (walk_behind entries walk stmts)) s)
-unfolding pieces_from refusals_from walk_behind
+unfolding pieces_of placed_from walk_behind
 all_stand entries labels walk [] s few r h = pool_stands labels walk s (not_large (sizes_with_pool walk) s h)
 all_stand entries labels walk (stmt ∷ more) s few r h =
     let after = next entries walk stmt.kind in
@@ -324,14 +332,14 @@ all_stand entries labels walk (stmt ∷ more) s few r h =
     let small = within (size_in after.at.sizes s) _ end (law_of_ends entries labels after more s few parts.1 h) (not_large (sizes_with_pool (walk_behind entries after more)) s h) in
     let own = statement_stands entries labels walk word stmt.kind s few small in
     let P : List Reloc → Type 0 = λ relocs. StandInOrder (size_in walk.at.sizes s) relocs end in
-    subst P (sym (flat_map-append (λ p. cond (same_section p.place.section s) p.relocs the_none) (pieces_at entries labels walk word stmt.kind) (pieces_from entries labels after more)))
-    (one_behind _ (relocs_in s (pieces_at entries labels walk word stmt.kind)) (size_in after.at.sizes s) (relocs_in s (pieces_from entries labels after more)) end own rest)
+    subst P (sym (flat_map-append (λ p. cond (same_section p.place.section s) p.relocs the_none) (walk_pieces entries labels walk word stmt.kind) (pieces_from entries labels after more)))
+    (one_behind _ (relocs_in s (walk_pieces entries labels walk word stmt.kind)) (size_in after.at.sizes s) (relocs_in s (pieces_from entries labels after more)) end own rest)
 
 -- the fields of the statements before some others stand before the place of those
 pub earlier_stand : (entries : List (Option EntryWords)) (labels : List Named) (walk : Walk) (before more : List Stmt) (s : Section) → Fewer entries
     → refusals_from entries labels walk (before ++ more) ≡ [] → is_too_large (sizes_with_pool (walk_behind entries walk (before ++ more))) ≡ false
     → StandInOrder (size_in walk.at.sizes s) (relocs_in s (earlier entries labels walk before more)) (size_in (walk_behind entries walk before).at.sizes s)
-unfolding earlier refusals_from walk_behind
+unfolding earlier placed_from walk_behind
 earlier_stand entries labels walk [] more s few r h = omega arith
 earlier_stand entries labels walk (stmt ∷ before) more s few r h =
     let after = next entries walk stmt.kind in
@@ -342,19 +350,19 @@ earlier_stand entries labels walk (stmt ∷ before) more s few r h =
     let small = within (size_in after.at.sizes s) _ (size_in (sizes_with_pool (walk_behind entries after (before ++ more))) s) (law_of_ends entries labels after (before ++ more) s few parts.1 h) (not_large (sizes_with_pool (walk_behind entries after (before ++ more))) s h) in
     let own = statement_stands entries labels walk word stmt.kind s few small in
     let P : List Reloc → Type 0 = λ relocs. StandInOrder (size_in walk.at.sizes s) relocs end in
-    subst P (sym (flat_map-append (λ p. cond (same_section p.place.section s) p.relocs the_none) (pieces_at entries labels walk word stmt.kind) (earlier entries labels after before more)))
-    (one_behind _ (relocs_in s (pieces_at entries labels walk word stmt.kind)) (size_in after.at.sizes s) (relocs_in s (earlier entries labels after before more)) end own rest)
+    subst P (sym (flat_map-append (λ p. cond (same_section p.place.section s) p.relocs the_none) (walk_pieces entries labels walk word stmt.kind) (earlier entries labels after before more)))
+    (one_behind _ (relocs_in s (walk_pieces entries labels walk word stmt.kind)) (size_in after.at.sizes s) (relocs_in s (earlier entries labels after before more)) end own rest)
 
 -- ---- relocations are of their pieces' sections, and of the standard's kinds
 
-abbrev is_kind : ℕ → Bool
+abbrev pub is_kind : ℕ → Bool
 is_kind number = list_any (λ kind. number == kind) kinds
 
-record IsOf (section : Section) (reloc : Reloc) : Type 0 where
-  there : reloc.section ≡ section
-  known : is_kind reloc.kind ≡ true
+pub record IsOf (section : Section) (reloc : Reloc) : Type 0 where
+  pub there : reloc.section ≡ section
+  pub known : is_kind reloc.kind ≡ true
 
-abbrev OfSection : Section → List Reloc → Type 0
+abbrev pub OfSection : Section → List Reloc → Type 0
 OfSection section [] = Unit {0}
 OfSection section (reloc ∷ more) = IsOf section reloc × OfSection section more
 
@@ -362,15 +370,15 @@ of_both : (section : Section) (xs ys : List Reloc) → OfSection section xs → 
 of_both section [] ys h k = k
 of_both section (x ∷ xs) ys h k = (h.0, of_both section xs ys h.1 k)
 
-of_link : (place : Place) (link : Option Linked) → ((l : Linked) → link ≡ Some l → is_kind l.kind ≡ true) → OfSection place.section (relocs_of place link)
+of_link : (place : Place) (link : Option Link) → ((l : Link) → link ≡ Some l → is_kind l.kind ≡ true) → OfSection place.section (relocs_of place link)
 of_link place None h = tt
 of_link place (Some link) h = (record { there = refl; known = h link refl }, tt)
 
-linked_kind : (number : ℕ) (name : List ℕ) (addend : ℤ) (l : Linked) → is_kind number ≡ true → linked number name addend ≡ Some l → is_kind l.kind ≡ true
+linked_kind : (number : ℕ) (name : List ℕ) (addend : ℤ) (l : Link) → is_kind number ≡ true → linked number name addend ≡ Some l → is_kind l.kind ≡ true
 linked_kind number name addend l h e =
     let same : number ≡ l.kind = cc in ap is_kind (sym same) ∙ h
 
-word_kind : (word : Word) (l : Linked) → link_of word ≡ Some l → is_kind l.kind ≡ true
+word_kind : (word : Word) (l : Link) → link_of word ≡ Some l → is_kind l.kind ≡ true
 word_kind (word.Num n) l e = absurd (cc)
 word_kind (word.Diff a b n) l e = absurd (cc)
 word_kind (word.Of name n) l e = linked_kind 2 name _ l refl e
@@ -379,11 +387,11 @@ word_kind (word.Target2 name) l e = linked_kind 41 name _ l refl e
 word_kind (word.Prel31 name) l e = linked_kind 42 name _ l refl e
 word_kind (word.Prel31Ref name) l e = linked_kind 42 name _ l refl e
 
-unless_kind : (to : Option ℕ) (number : ℕ) (name : List ℕ) (l : Linked) → is_kind number ≡ true → linked_unless to number name ≡ Some l → is_kind l.kind ≡ true
+unless_kind : (to : Option ℕ) (number : ℕ) (name : List ℕ) (l : Link) → is_kind number ≡ true → linked_unless to number name ≡ Some l → is_kind l.kind ≡ true
 unless_kind (Some to) number name l h e = absurd (cc)
 unless_kind None number name l h e = linked_kind number name _ l h e
 
-branch_kind : (labels : List Named) (kind : StmtKind) (l : Linked) → branch_link labels kind ≡ Some l → is_kind l.kind ≡ true
+branch_kind : (labels : List Named) (kind : StmtKind) (l : Link) → branch_link labels kind ≡ Some l → is_kind l.kind ≡ true
 branch_kind labels (stmt.Bl name) l e = unless_kind (text_place labels name) 10 name l refl e
 branch_kind labels (stmt.B name) l e = unless_kind (text_place labels name) 102 name l refl e
 branch_kind labels (stmt.BCond c name) l e = unless_kind (text_place labels name) 103 name l refl e
@@ -395,7 +403,7 @@ of_words section offset [] = tt
 of_words section offset (word ∷ more) =
     of_both section (relocs_of (place_at section offset) (link_of word)) (word_relocs section (sum_64 offset 4) more) (of_link (place_at section offset) (link_of word) (word_kind word)) (of_words section (sum_64 offset 4) more)
 
-abbrev AllOwn : List Piece → Type 0
+abbrev pub AllOwn : List Piece → Type 0
 AllOwn [] = Unit {0}
 AllOwn (piece ∷ more) = OfSection piece.place.section piece.relocs × AllOwn more
 
@@ -407,44 +415,47 @@ data_own : (kind : StmtKind) (place : Place) → OfSection place.section (data_r
 data_own (stmt.Words exprs) place = of_words place.section place.offset (map word_of exprs)
 data_own _ place = tt
 
-own_own : (labels : List Named) (kind : StmtKind) (place : Place) (word : ℕ) → OfSection (own_piece labels kind place word).place.section (own_piece labels kind place word).relocs
+own_own : (labels : List Named) (kind : StmtKind) (place : Place) (word : Option ℕ) → OfSection (own_piece labels kind place word).place.section (own_piece labels kind place word).relocs
 own_own labels kind place word = by (is_instruction kind)
   where
     by : (b : Bool) → OfSection (cond b (instruction_piece labels kind place word) (data_piece labels kind place)).place.section (cond b (instruction_piece labels kind place word) (data_piece labels kind place)).relocs
     by true = of_link place (branch_link labels kind) (branch_kind labels kind)
     by false = data_own kind place
 
-pool_own : (labels : List Named) (walk : Walk) → AllOwn (pool_pieces labels walk)
+pool_own : (labels : List Named) (walk : Walk) → AllOwn (pool_pieces labels (pool_here walk))
 pool_own labels walk = by (is_empty walk.pool)
   where
     by : (b : Bool) → AllOwn (cond b [] (filling_piece (place_at Text walk.at.sizes.text) (gap walk.at.sizes.text 4) ∷ words_piece labels (place_at Text (pool_place walk)) walk.pool ∷ []))
     by true = tt
     by false = (tt, (of_words Text (pool_place walk) walk.pool, tt))
 
-table_own : (b : Bool) (place : ℕ) (entry : Option EntryWords) → AllOwn (cond b [] (table_pieces place entry))
-table_own true place entry = tt
-table_own false place (Some (entry.Table words)) = (tt, tt)
-table_own false place (Some entry.CantUnwind) = tt
-table_own false place (Some (entry.Inline word)) = tt
-table_own false place None = tt
+table_own : (place : ℕ) (entry : Option EntryWords) → AllOwn (table_pieces place entry)
+table_own place (Some (entry.Table words)) = (tt, tt)
+table_own place (Some entry.CantUnwind) = tt
+table_own place (Some (entry.Inline word)) = tt
+table_own place None = tt
 
-set_own : (entries : List (Option EntryWords)) (labels : List Named) (walk : Walk) (kind : StmtKind) → AllOwn (set_pieces entries labels walk kind)
+set_own : (entries : List (Option EntryWords)) (labels : List Named) (walk : Walk) (kind : StmtKind) → AllOwn (walk_sets entries labels walk kind)
 set_own entries labels walk (stmt.Align n) = (tt, tt)
 set_own entries labels walk stmt.Pool = by (is_in_text walk.at)
   where
-    by : (b : Bool) → AllOwn (cond b (pool_pieces labels walk) [])
+    by : (b : Bool) → AllOwn (put_pieces entries labels (cond b (pool_puts walk) puts.Nothing))
     by true = pool_own labels walk
     by false = tt
-set_own entries labels walk stmt.FnStart = table_own walk.at.inside walk.at.sizes.extab (entry_at entries walk.at.functions)
+set_own entries labels walk stmt.FnStart = by walk.at.inside
+  where
+    by : (b : Bool) → AllOwn (put_pieces entries labels (cond b puts.Nothing (function_here walk.at)))
+    by true = tt
+    by false = table_own walk.at.sizes.extab (entry_at entries walk.at.functions)
 set_own entries labels walk _ = tt
 
-all_own : (entries : List (Option EntryWords)) (labels : List Named) (walk : Walk) (stmts : List Stmt) → AllOwn (pieces_from entries labels walk stmts)
-unfolding pieces_from
+pub all_own : (entries : List (Option EntryWords)) (labels : List Named) (walk : Walk) (stmts : List Stmt) → AllOwn (pieces_from entries labels walk stmts)
+unfolding pieces_of placed_from walk_behind
 all_own entries labels walk [] = pool_own labels walk
 all_own entries labels walk (stmt ∷ more) =
     let word = word_place walk stmt.kind (coming_pool entries walk (stmt ∷ more)) in
-    all_both (pieces_at entries labels walk word stmt.kind) (pieces_from entries labels (next entries walk stmt.kind) more)
-    (all_both (set_pieces entries labels walk stmt.kind) (own_piece labels stmt.kind (here walk.at) word ∷ []) (set_own entries labels walk stmt.kind) (own_own labels stmt.kind (here walk.at) word, tt))
+    all_both (walk_pieces entries labels walk word stmt.kind) (pieces_from entries labels (next entries walk stmt.kind) more)
+    (all_both (walk_sets entries labels walk stmt.kind) (own_piece labels stmt.kind (here walk.at) word ∷ []) (set_own entries labels walk stmt.kind) (own_own labels stmt.kind (here walk.at) word, tt))
     (all_own entries labels (next entries walk stmt.kind) more)
 
 pub same_is : (a b : Section) → same_section a b ≡ true → a ≡ b
@@ -455,7 +466,7 @@ same_is Init Init e = refl
 same_is Bss Bss e = refl
 same_is _ _ e = absurd (true≢false (sym e))
 
-of_in : (s : Section) (pieces : List Piece) → AllOwn pieces → OfSection s (relocs_in s pieces)
+pub of_in : (s : Section) (pieces : List Piece) → AllOwn pieces → OfSection s (relocs_in s pieces)
 of_in s [] h = tt
 of_in s (piece ∷ more) h =
     of_both s (cond (same_section piece.place.section s) piece.relocs []) (relocs_in s more) (by (same_section piece.place.section s) refl) (of_in s more h.1)

@@ -1,5 +1,5 @@
 -- Where a statement stands is the number of bytes of its section before it.
-use Rattle.std.proofs.Common.{◌≡◌, ℕ, pos, negsuc, ◌-ℤ◌, zero, suc, ◌+◌, ◌-◌, ◌*◌, ◌/◌, ◌%◌, ◌^◌, ◌≤◌, ◌<◌, min, ◌==◌, ◌&&◌, ◌||◌, not, nat_lt, Bool, true, false, cond, List, [], ◌∷◌, ◌++◌, length, drop, map, flat_map, replicate, Option, Some, None, unwrap_or, Result, Ok, Err, refl, sym, ap, ◌∙◌, arith, append_assoc, length-append}
+use Rattle.std.proofs.Common.{◌≡◌, ℕ, pos, negsuc, ◌-ℤ◌, zero, suc, ◌+◌, ◌-◌, ◌*◌, ◌/◌, ◌%◌, ◌^◌, ◌≤◌, ◌<◌, min, ◌==◌, ◌&&◌, ◌||◌, not, nat_lt, Bool, true, false, cond, List, [], ◌∷◌, ◌++◌, length, drop, map, flat_map, replicate, Option, Some, None, is_some, option_map, unwrap_or, Result, Ok, Err, refl, sym, ap, ◌∙◌, arith, append_assoc, length-append}
 use Rattle.std.specs.Result.{result_err}
 use Rattle.std.specs.List.{position_or_len}
 use Rattle.std.proofs.lemmas.Bool.{true≢false, le-ltb}
@@ -28,7 +28,7 @@ use Rattle.asm_layout.specs.declared.walk.Sizes.{Sizes}
 use Rattle.asm_layout.specs.declared.walk.Walk.{Walk}
 use Rattle.asm_layout.specs.Words.{word_of}
 use Rattle.asm_layout.specs.SameWords.{same_word}
-use Rattle.asm_layout.specs.Sizes.{sum_64, times, multiple, natural, is_instruction, size, table_size, size_in, sizes_grown, is_too_large}
+use Rattle.asm_layout.specs.Sizes.{sum_64, times, multiple, natural, is_instruction, sort_size, size, table_size, size_in, sizes_grown, is_too_large}
 use Rattle.eh_list.specs.Bytes.{gap, zeros, length-zeros}
 use Rattle.asm_layout.specs.Walks.{start, next, here, pool_place, ended, handling, started, entry_at, same_section, is_empty, is_in_text, ends_pool, walk_behind, coming_pool, sizes_with_pool}
 use Rattle.asm_layout.specs.declared.fault.AsmFault.{AsmFault}
@@ -37,11 +37,16 @@ use Rattle.asm_layout.specs.declared.fault.AsmWhat.TheVariants.{UndefinedLocal, 
 use Rattle.asm_layout.specs.Labels.{Named}
 use Rattle.asm_object.specs.Bytes.{byte_bytes, half_bytes, word_bytes, code_bytes, fillers, filling_bytes}
 use Rattle.asm_object.specs.Values.{number, held, low_or_zero}
-use Rattle.asm_object.specs.Instructions.{offset, base, literal, unsigned, add_eight, is_above_seven, instruction}
-use Rattle.asm_object.specs.Pieces.{Piece, instruction_piece, data_piece, place_at, words_piece, words_bytes, bytes_of_code, bytes_of_instruction, filling_piece, pool_pieces, table_pieces, set_pieces, own_piece, pieces_at, word_place, pieces_from, bytes_in}
+use Rattle.asm_layout.specs.Sorts.{Operation, Nameless, Undefined, LdrValue, BlTo, WordsOf, HalvesOf, BytesOf, AsciiOf, AscizOf, ZerosOf, Sort, CodeOf, DataOf, offset, unsigned, add_eight, is_above_seven, sort_of, operation_in, given_in}
+use Rattle.asm_object.specs.Instructions.{base, literal, literal_to, made, coded, operation_link}
+use Rattle.asm_object.specs.Pieces.{Piece, instruction_piece, data_piece, place_at, relocs_of, words_piece, words_bytes, bytes_of_code, bytes_of_coded, bytes_of_instruction, bytes_of_half, undefined_half, given_bytes, given_relocs, filling_piece, pool_pieces, table_pieces, own_piece, bytes_in, put_pieces, pieces_of}
 use Rattle.asm_object.specs.PlaceLaw.{SectionsEndBehindTheirBytes, PlacesCountTheBytesBefore, BytesStandAtTheirPlaces}
-use Rattle.asm_object.specs.Refusals.{instruction_fault, encode_fault, fault_unless, encode_or, is_pool_too_far, is_misplaced, are_names_known, refusal}
-use Rattle.asm_object.specs.Objects.{faults_at, refusals_from}
+use Rattle.asm_object.specs.Refusals.{instruction_fault, sort_fault, encode_fault, fault_unless, encode_or, is_pool_too_far, is_misplaced, are_names_known, refusal}
+use Rattle.asm_object.specs.Objects.{faults_at}
+use Rattle.asm_object.proofs.Statements.{walk_sets, walk_pieces}
+use Rattle.asm_layout.specs.Placing.{word_place, placed_from, pool_here, pool_puts, function_here}
+use Rattle.asm_layout.specs.declared.placed.Puts.TheVariants as puts
+use Rattle.asm_object.specs.Behind.{pieces_from, refusals_from}
 
 -- ---- bytes of lists
 
@@ -123,19 +128,18 @@ gives (B off) = field_gives 2 (target_field (2 ^ 11) off) _ (λ field. refl)
 gives (Bl off) = field_gives 4 (target_field (2 ^ 24) off) bl_code (λ field. refl)
 gives (Barrier op option) = refused_gives 4 (nat_lt 2 op) RegisterRange _ (refused_gives 4 (nat_lt 15 option) ImmediateRange _ (record { has = λ e. refl }))
 
-compare_gives : (b : Bool) (i j : Instr) (n : ℕ) → width i ≡ n → width j ≡ n → result_err (encoded_of (cond b i j)) ≡ None → length (bytes_of_code (encoded_of (cond b i j))) ≡ n
-compare_gives true i j n h k e = (gives i).has e ∙ h
-compare_gives false i j n h k e = (gives j).has e ∙ k
-
 -- ---- bytes of statements
 
-abbrev pub is_load : StmtKind → Bool
-is_load (stmt.LdrPool _ _) = true
-is_load _ = false
+abbrev pub loads_value : Sort → Bool
+loads_value (CodeOf _ (LdrValue _ _)) = true
+loads_value _ = false
+
+abbrev pub HasLoadCode : List Named → Sort → ℕ → Option ℕ → Type 0
+HasLoadCode labels sort place word = loads_value sort ≡ true → instruction_fault (made labels (operation_in sort) place word) ≡ None
 
 -- a load from the pool has a code, which its refusals do not ask for
-abbrev pub LoadHasCode : List Named → StmtKind → ℕ → ℕ → Type 0
-LoadHasCode labels kind place word = is_load kind ≡ true → instruction_fault (instruction labels kind place word) ≡ None
+abbrev pub LoadHasCode : List Named → StmtKind → ℕ → Option ℕ → Type 0
+LoadHasCode labels kind place word = HasLoadCode labels (sort_of kind) place word
 
 abbrev pub SameEnd : ℕ → ℕ → Type 0
 SameEnd a b = min a (2 ^ 64 - 1) ≡ min b (2 ^ 64 - 1)
@@ -168,58 +172,57 @@ has_code : (o : Option Instr) (n : ℕ) → width_of o ≡ n → instruction_fau
 has_code (Some i) n h e = ap (λ k. min k (2 ^ 64 - 1)) (sym ((gives i).has e ∙ h))
 has_code None n h e = ap (λ k. min k (2 ^ 64 - 1)) (sym h)
 
--- a statement has as many bytes as are counted for it
-own_size : (labels : List Named) (kind : StmtKind) (place : Place) (word : ℕ) → LoadHasCode labels kind place.offset word
-    → encode_fault labels kind place.offset word ≡ None → SameEnd (size kind) (length (own_piece labels kind place word).bytes)
-own_size labels (stmt.Words words) place word load e =
+-- an instruction has so many bytes
+abbrev operation_size : Operation → ℕ
+operation_size (Nameless i) = width i
+operation_size (BlTo name) = 4
+operation_size _ = 2
+
+abbrev IsSized : Sort → Type 0
+IsSized (CodeOf bytes operation) = operation_size operation ≡ bytes
+IsSized _ = zero ≡ zero
+
+either_half : (b : Bool) (i j : Instr) → width i ≡ 2 → width j ≡ 2 → width (cond b i j) ≡ 2
+either_half true i j h k = h
+either_half false i j h k = k
+
+-- as its line in the table says
+sized : (kind : StmtKind) → IsSized (sort_of kind)
+sized (stmt.CmpReg n m) = either_half (nat_lt n 8 && nat_lt m 8) (Alu 10 n m) (CmpHigh n m) refl refl
+sized (stmt.AddSubThree sub d n imm) = either_half (is_above_seven imm && (d == n)) (add_eight sub d imm) (AddSubImm3 sub d n (unsigned imm)) refl refl
+sized _ = refl
+
+-- a statement's own piece, by its sort
+abbrev piece_of : List Named → Sort → Place → Option ℕ → Piece
+piece_of labels sort place word = cond (is_some (operation_in sort))
+    (record {
+      place = place;
+      code = true;
+      bytes = bytes_of_half (undefined_half (operation_in sort)) ++ bytes_of_coded (coded (made labels (operation_in sort) place.offset word));
+      relocs = relocs_of place (operation_link labels (operation_in sort));
+    })
+    (record { place = place; code = false; bytes = given_bytes labels (given_in sort); relocs = given_relocs (given_in sort) place })
+
+sort_counts : (labels : List Named) (sort : Sort) (place : Place) (word : Option ℕ) → IsSized sort → HasLoadCode labels sort place.offset word
+    → sort_fault labels sort (coded (made labels (operation_in sort) place.offset word)) ≡ None → SameEnd (sort_size (λ n. 0) sort) (length (piece_of labels sort place word).bytes)
+sort_counts labels (CodeOf bytes (Undefined imm)) place word z load e = ap (λ k. min k (2 ^ 64 - 1)) (sym z)
+sort_counts labels (CodeOf bytes (LdrValue t value)) place word z load e = has_code (Some (LdrLit t (literal_to word place.offset))) bytes z (load refl)
+sort_counts labels (CodeOf bytes operation) place word z load e = has_code (made labels (Some operation) place.offset word) bytes z e
+sort_counts labels (DataOf (WordsOf words)) place word z load e =
     capped (length words * 4) (length (words_bytes labels (map word_of words))) (words_length labels (map word_of words) ∙ ap (λ n. n * 4) (length-map words word_of))
-own_size labels (stmt.Halves halves) place word load e =
+sort_counts labels (DataOf (HalvesOf halves)) place word z load e =
     capped (length halves * 2) _ (each_has (λ half. half_bytes (low_or_zero (number labels half))) 2 (λ half. refl) halves)
-own_size labels (stmt.Bytes bytes) place word load e =
+sort_counts labels (DataOf (BytesOf bytes)) place word z load e =
     capped (length bytes * 1) _ (each_has (λ byte. byte_bytes (low_or_zero (number labels byte))) 1 (λ byte. refl) bytes)
-own_size labels (stmt.Ascii text) place word load e = capped (length text * 1) (length text) (omega arith)
-own_size labels (stmt.Asciz text) place word load e = omega (arith, length-append text (0 ∷ []))
-own_size labels (stmt.Space n) place word load e = ap (λ k. min k (2 ^ 64 - 1)) (sym (length-zeros (natural n)))
-own_size labels (stmt.Udf imm) place word load e = refl
-own_size labels (stmt.LdrPool t value) place word load e = has_code (instruction labels (stmt.LdrPool t value) place.offset word) 2 refl (load refl)
-own_size labels (stmt.CmpReg n m) place word load e =
-    ap (λ k. min k (2 ^ 64 - 1)) (sym (compare_gives (nat_lt n 8 && nat_lt m 8) (Alu 10 n m) (CmpHigh n m) 2 refl refl e))
-own_size labels (stmt.AddSubThree sub d n imm) place word load e =
-    ap (λ k. min k (2 ^ 64 - 1)) (sym (compare_gives (is_above_seven imm && (d == n)) (add_eight sub d imm) (AddSubImm3 sub d n (unsigned imm)) 2 refl refl e))
-own_size labels (stmt.MovsImm d imm) place word load e = has_code (instruction labels (stmt.MovsImm d imm) place.offset word) 2 refl e
-own_size labels (stmt.MovsReg d m) place word load e = has_code (instruction labels (stmt.MovsReg d m) place.offset word) 2 refl e
-own_size labels (stmt.Mov d m) place word load e = has_code (instruction labels (stmt.Mov d m) place.offset word) 2 refl e
-own_size labels (stmt.CmpImm n imm) place word load e = has_code (instruction labels (stmt.CmpImm n imm) place.offset word) 2 refl e
-own_size labels (stmt.AddSubTwo sub d imm) place word load e = has_code (instruction labels (stmt.AddSubTwo sub d imm) place.offset word) 2 refl e
-own_size labels (stmt.AddSubReg sub d n m) place word load e = has_code (instruction labels (stmt.AddSubReg sub d n m) place.offset word) 2 refl e
-own_size labels (stmt.AddReg d m) place word load e = has_code (instruction labels (stmt.AddReg d m) place.offset word) 2 refl e
-own_size labels (stmt.AddRdSp d off) place word load e = has_code (instruction labels (stmt.AddRdSp d off) place.offset word) 2 refl e
-own_size labels (stmt.AddSp off) place word load e = has_code (instruction labels (stmt.AddSp off) place.offset word) 2 refl e
-own_size labels (stmt.SubSp off) place word load e = has_code (instruction labels (stmt.SubSp off) place.offset word) 2 refl e
-own_size labels (stmt.ShiftImm op d m n) place word load e = has_code (instruction labels (stmt.ShiftImm op d m n) place.offset word) 2 refl e
-own_size labels (stmt.Alu op d m) place word load e = has_code (instruction labels (stmt.Alu op d m) place.offset word) 2 refl e
-own_size labels (stmt.Rsbs d m) place word load e = has_code (instruction labels (stmt.Rsbs d m) place.offset word) 2 refl e
-own_size labels (stmt.MemImm op t n off) place word load e = has_code (instruction labels (stmt.MemImm op t n off) place.offset word) 2 refl e
-own_size labels (stmt.MemReg op t n m) place word load e = has_code (instruction labels (stmt.MemReg op t n m) place.offset word) 2 refl e
-own_size labels (stmt.MemSp loads t off) place word load e = has_code (instruction labels (stmt.MemSp loads t off) place.offset word) 2 refl e
-own_size labels (stmt.Push list) place word load e = has_code (instruction labels (stmt.Push list) place.offset word) 2 refl e
-own_size labels (stmt.Pop list) place word load e = has_code (instruction labels (stmt.Pop list) place.offset word) 2 refl e
-own_size labels (stmt.Stm n list) place word load e = has_code (instruction labels (stmt.Stm n list) place.offset word) 2 refl e
-own_size labels (stmt.LdmBack n list) place word load e = has_code (instruction labels (stmt.LdmBack n list) place.offset word) 2 refl e
-own_size labels (stmt.Ldm n list) place word load e = has_code (instruction labels (stmt.Ldm n list) place.offset word) 2 refl e
-own_size labels (stmt.Extend op d m) place word load e = has_code (instruction labels (stmt.Extend op d m) place.offset word) 2 refl e
-own_size labels (stmt.Rev op d m) place word load e = has_code (instruction labels (stmt.Rev op d m) place.offset word) 2 refl e
-own_size labels (stmt.Bx m) place word load e = has_code (instruction labels (stmt.Bx m) place.offset word) 2 refl e
-own_size labels (stmt.Blx m) place word load e = has_code (instruction labels (stmt.Blx m) place.offset word) 2 refl e
-own_size labels (stmt.Svc imm) place word load e = has_code (instruction labels (stmt.Svc imm) place.offset word) 2 refl e
-own_size labels (stmt.Hint n) place word load e = has_code (instruction labels (stmt.Hint n) place.offset word) 2 refl e
-own_size labels (stmt.Barrier op) place word load e = has_code (instruction labels (stmt.Barrier op) place.offset word) 4 refl e
-own_size labels (stmt.Adr d name) place word load e = has_code (instruction labels (stmt.Adr d name) place.offset word) 2 refl e
-own_size labels (stmt.LdrLabel t name) place word load e = has_code (instruction labels (stmt.LdrLabel t name) place.offset word) 2 refl e
-own_size labels (stmt.B name) place word load e = has_code (instruction labels (stmt.B name) place.offset word) 2 refl e
-own_size labels (stmt.BCond c name) place word load e = has_code (instruction labels (stmt.BCond c name) place.offset word) 2 refl e
-own_size labels (stmt.Bl name) place word load e = has_code (instruction labels (stmt.Bl name) place.offset word) 4 refl e
-own_size labels _ place word load e = refl
+sort_counts labels (DataOf (AsciiOf text)) place word z load e = capped (length text * 1) (length text) (omega arith)
+sort_counts labels (DataOf (AscizOf text)) place word z load e = omega (arith, length-append text (0 ∷ []))
+sort_counts labels (DataOf (ZerosOf n)) place word z load e = ap (λ k. min k (2 ^ 64 - 1)) (sym (length-zeros (natural n)))
+sort_counts labels _ place word z load e = refl
+
+-- a statement has as many bytes as are counted for it
+own_size : (labels : List Named) (kind : StmtKind) (place : Place) (word : Option ℕ) → LoadHasCode labels kind place.offset word
+    → encode_fault labels kind place.offset word ≡ None → SameEnd (size kind) (length (own_piece labels kind place word).bytes)
+own_size labels kind place word load e = sort_counts labels (sort_of kind) place word (sized kind) load e
 
 -- ---- sizes behind pieces
 
@@ -248,7 +251,7 @@ behind_none xs true = refl
 behind_none xs false = refl
 
 pool_counts : (labels : List Named) (walk : Walk) (s : Section)
-    → SameEnd (size_in (sizes_with_pool walk) s) (size_in walk.at.sizes s + length (bytes_in s (pool_pieces labels walk)))
+    → SameEnd (size_in (sizes_with_pool walk) s) (size_in walk.at.sizes s + length (bytes_in s (pool_pieces labels (pool_here walk))))
 pool_counts labels walk s = by (is_empty walk.pool) s
   where
     fill : ℕ
@@ -308,13 +311,13 @@ ordinary_sizes entries walk stmt.Pool o = absurd (true≢false (sym o))
 ordinary_sizes entries walk _ o = refl
 
 pub ordinary_sets : (entries : List (Option EntryWords)) (labels : List Named) (walk : Walk) (kind : StmtKind) → is_ordinary kind ≡ true
-    → set_pieces entries labels walk kind ≡ []
+    → walk_sets entries labels walk kind ≡ []
 ordinary_sets entries labels walk stmt.FnStart o = absurd (true≢false (sym o))
 ordinary_sets entries labels walk (stmt.Align n) o = absurd (true≢false (sym o))
 ordinary_sets entries labels walk stmt.Pool o = absurd (true≢false (sym o))
 ordinary_sets entries labels walk _ o = refl
 
-pub own_stands : (labels : List Named) (kind : StmtKind) (place : Place) (word : ℕ) → (own_piece labels kind place word).place ≡ place
+pub own_stands : (labels : List Named) (kind : StmtKind) (place : Place) (word : Option ℕ) → (own_piece labels kind place word).place ≡ place
 own_stands labels kind place word = by (is_instruction kind)
   where
     by : (b : Bool) → (cond b (instruction_piece labels kind place word) (data_piece labels kind place)).place ≡ place
@@ -324,9 +327,9 @@ own_stands labels kind place word = by (is_instruction kind)
 abbrev pub Fewer : List (Option EntryWords) → Type 0
 Fewer entries = length entries < 2 ^ 64
 
-ordinary_counts : (entries : List (Option EntryWords)) (labels : List Named) (walk : Walk) (word : ℕ) (kind : StmtKind) (s : Section) → is_ordinary kind ≡ true
+ordinary_counts : (entries : List (Option EntryWords)) (labels : List Named) (walk : Walk) (word : Option ℕ) (kind : StmtKind) (s : Section) → is_ordinary kind ≡ true
     → LoadHasCode labels kind (here walk.at).offset word → encode_fault labels kind (here walk.at).offset word ≡ None
-    → SameEnd (size_in (next entries walk kind).at.sizes s) (size_in walk.at.sizes s + length (bytes_in s (pieces_at entries labels walk word kind)))
+    → SameEnd (size_in (next entries walk kind).at.sizes s) (size_in walk.at.sizes s + length (bytes_in s (walk_pieces entries labels walk word kind)))
 ordinary_counts entries labels walk word kind s o load e =
     ap (λ sizes. min (size_in sizes s) (2 ^ 64 - 1)) (ordinary_sizes entries walk kind o)
     ∙ grown_counts walk.at.sizes walk.at.section s (size kind) (own_piece labels kind (here walk.at) word).bytes (own_size labels kind (here walk.at) word load e)
@@ -355,10 +358,9 @@ handling_sizes walk = by (same_section walk.at.section Extab)
 no_entry : (entries : List (Option EntryWords)) (function : ℕ) → Fewer entries → nat_lt function (2 ^ 64 - 1) ≡ false → entry_at entries function ≡ None
 no_entry entries function few e = ap (λ o. unwrap_or o None) (slice_get_past entries function (grind (arith, nat_tests)))
 
-start_counts : (entries : List (Option EntryWords)) (walk : Walk) (s : Section) → Fewer entries
-    → SameEnd (size_in (started entries walk.at).sizes s)
-    (size_in walk.at.sizes s + length (bytes_in s (cond walk.at.inside [] (table_pieces walk.at.sizes.extab (entry_at entries walk.at.functions)))))
-start_counts entries walk s few = by walk.at.inside (nat_lt walk.at.functions (2 ^ 64 - 1)) refl
+start_counts : (entries : List (Option EntryWords)) (labels : List Named) (walk : Walk) (s : Section) → Fewer entries
+    → SameEnd (size_in (started entries walk.at).sizes s) (size_in walk.at.sizes s + length (bytes_in s (walk_sets entries labels walk stmt.FnStart)))
+start_counts entries labels walk s few = by walk.at.inside (nat_lt walk.at.functions (2 ^ 64 - 1)) refl
   where
     by : (inside below : Bool) → nat_lt walk.at.functions (2 ^ 64 - 1) ≡ below
         → SameEnd (size_in (cond (inside || not below) walk.at (record walk.at {
@@ -366,22 +368,22 @@ start_counts entries walk s few = by walk.at.inside (nat_lt walk.at.functions (2
           inside = true;
           functions = walk.at.functions + 1;
         })).sizes s)
-        (size_in walk.at.sizes s + length (bytes_in s (cond inside [] (table_pieces walk.at.sizes.extab (entry_at entries walk.at.functions)))))
+        (size_in walk.at.sizes s + length (bytes_in s (put_pieces entries labels (cond inside puts.Nothing (function_here walk.at)))))
     by true below e = omega arith
     by false true e = table_counts walk.at.sizes (entry_at entries walk.at.functions) s
     by false false e =
         none_more (size_in walk.at.sizes s)
         ∙ ap (λ entry. min (size_in walk.at.sizes s + length (bytes_in s (table_pieces walk.at.sizes.extab entry))) (2 ^ 64 - 1)) (sym (no_entry entries walk.at.functions few e))
 
-pub special_counts : (entries : List (Option EntryWords)) (labels : List Named) (walk : Walk) (word : ℕ) (kind : StmtKind) (s : Section) → Fewer entries → is_ordinary kind ≡ false
-    → SameEnd (size_in (next entries walk kind).at.sizes s) (size_in walk.at.sizes s + length (bytes_in s (pieces_at entries labels walk word kind)))
+pub special_counts : (entries : List (Option EntryWords)) (labels : List Named) (walk : Walk) (word : Option ℕ) (kind : StmtKind) (s : Section) → Fewer entries → is_ordinary kind ≡ false
+    → SameEnd (size_in (next entries walk kind).at.sizes s) (size_in walk.at.sizes s + length (bytes_in s (walk_pieces entries labels walk word kind)))
 special_counts entries labels walk word stmt.Text s few o = none_counts (size_in walk.at.sizes s) (same_section walk.at.section s)
 special_counts entries labels walk word stmt.Data s few o = none_counts (size_in walk.at.sizes s) (same_section walk.at.section s)
 special_counts entries labels walk word stmt.Bss s few o = none_counts (size_in walk.at.sizes s) (same_section walk.at.section s)
 special_counts entries labels walk word stmt.Rodata s few o = none_counts (size_in walk.at.sizes s) (same_section walk.at.section s)
 special_counts entries labels walk word stmt.FnStart s few o =
-    start_counts entries walk s few
-    ∙ ap (λ n. min (size_in walk.at.sizes s + n) (2 ^ 64 - 1)) (sym (last_none s (set_pieces entries labels walk stmt.FnStart) (own_piece labels stmt.FnStart (here walk.at) word) refl))
+    start_counts entries labels walk s few
+    ∙ ap (λ n. min (size_in walk.at.sizes s + n) (2 ^ 64 - 1)) (sym (last_none s (walk_sets entries labels walk stmt.FnStart) (own_piece labels stmt.FnStart (here walk.at) word) refl))
 special_counts entries labels walk word stmt.FnEnd s few o =
     ap (λ sizes. min (size_in sizes s) (2 ^ 64 - 1)) (ended_sizes walk) ∙ none_counts (size_in walk.at.sizes s) (same_section walk.at.section s)
 special_counts entries labels walk word stmt.HandlerData s few o =
@@ -389,34 +391,34 @@ special_counts entries labels walk word stmt.HandlerData s few o =
 special_counts entries labels walk word (stmt.Align n) s few o =
     grown_counts walk.at.sizes walk.at.section s (gap (here walk.at).offset (multiple n)) (filling_piece (here walk.at) (gap (here walk.at).offset (multiple n))).bytes
     (ap (λ k. min k (2 ^ 64 - 1)) (sym (filling_length (same_section walk.at.section Text) (gap (here walk.at).offset (multiple n)))))
-    ∙ ap (λ k. min (size_in walk.at.sizes s + k) (2 ^ 64 - 1)) (sym (last_none s (set_pieces entries labels walk (stmt.Align n)) (own_piece labels (stmt.Align n) (here walk.at) word) refl))
+    ∙ ap (λ k. min (size_in walk.at.sizes s + k) (2 ^ 64 - 1)) (sym (last_none s (walk_sets entries labels walk (stmt.Align n)) (own_piece labels (stmt.Align n) (here walk.at) word) refl))
 special_counts entries labels walk word stmt.Pool s few o =
     ended_pool (is_in_text walk.at)
-    ∙ ap (λ n. min (size_in walk.at.sizes s + n) (2 ^ 64 - 1)) (sym (last_none s (set_pieces entries labels walk stmt.Pool) (own_piece labels stmt.Pool (here walk.at) word) refl))
+    ∙ ap (λ n. min (size_in walk.at.sizes s + n) (2 ^ 64 - 1)) (sym (last_none s (walk_sets entries labels walk stmt.Pool) (own_piece labels stmt.Pool (here walk.at) word) refl))
   where
     ended_pool : (b : Bool) → SameEnd (size_in (cond b (record { at = record walk.at { sizes = sizes_with_pool walk }; pool = [] }) walk).at.sizes s)
-        (size_in walk.at.sizes s + length (bytes_in s (cond b (pool_pieces labels walk) [])))
+        (size_in walk.at.sizes s + length (bytes_in s (put_pieces entries labels (cond b (pool_puts walk) puts.Nothing))))
     ended_pool true = pool_counts labels walk s
     ended_pool false = omega arith
 special_counts entries labels walk word _ s few o = absurd (true≢false o)
 
 -- a statement's pieces have as many bytes as the walk goes on by
-statement_counts : (entries : List (Option EntryWords)) (labels : List Named) (walk : Walk) (word : ℕ) (kind : StmtKind) (s : Section) → Fewer entries
+statement_counts : (entries : List (Option EntryWords)) (labels : List Named) (walk : Walk) (word : Option ℕ) (kind : StmtKind) (s : Section) → Fewer entries
     → LoadHasCode labels kind (here walk.at).offset word → encode_fault labels kind (here walk.at).offset word ≡ None
-    → SameEnd (size_in (next entries walk kind).at.sizes s) (size_in walk.at.sizes s + length (bytes_in s (pieces_at entries labels walk word kind)))
+    → SameEnd (size_in (next entries walk kind).at.sizes s) (size_in walk.at.sizes s + length (bytes_in s (walk_pieces entries labels walk word kind)))
 statement_counts entries labels walk word kind s few load e = by (is_ordinary kind) refl
   where
-    by : (b : Bool) → is_ordinary kind ≡ b → SameEnd (size_in (next entries walk kind).at.sizes s) (size_in walk.at.sizes s + length (bytes_in s (pieces_at entries labels walk word kind)))
+    by : (b : Bool) → is_ordinary kind ≡ b → SameEnd (size_in (next entries walk kind).at.sizes s) (size_in walk.at.sizes s + length (bytes_in s (walk_pieces entries labels walk word kind)))
     by true o = ordinary_counts entries labels walk word kind s o load e
     by false o = special_counts entries labels walk word kind s few o
 
 -- ---- a load from the pool
 
-pub refusal_parts : (labels : List Named) (kind : StmtKind) (section : Section) (place word : ℕ) → refusal labels kind section place word ≡ None
-    → (encode_fault labels kind place word ≡ None) × ((is_pool_too_far kind section place word ≡ false) × (is_misplaced kind section ≡ false))
+pub refusal_parts : (labels : List Named) (kind : StmtKind) (section : Section) (place : ℕ) (word : Option ℕ) → refusal labels kind section place word ≡ None
+    → (encode_fault labels kind place word ≡ None) × ((is_pool_too_far place word ≡ false) × (is_misplaced kind section ≡ false))
 unfolding refusal
 refusal_parts labels kind section place word e =
-    by (not (are_names_known labels kind)) (encode_fault labels kind place word) (is_pool_too_far kind section place word) (is_misplaced kind section) e
+    by (not (are_names_known labels kind)) (encode_fault labels kind place word) (is_pool_too_far place word) (is_misplaced kind section) e
   where
     by : (unknown : Bool) (fault : Option EncodeFault) (far misplaced : Bool)
         → cond unknown (Some UndefinedLocal) (encode_or fault (cond far (Some PoolTooFar) (cond misplaced (Some Placement) None))) ≡ None
@@ -547,10 +549,6 @@ pub not_false : (b : Bool) → not b ≡ false → b ≡ true
 not_false true e = refl
 not_false false e = absurd (true≢false e)
 
-and_false : (a b : Bool) → a ≡ true → (a && b) ≡ false → b ≡ false
-and_false true b e f = f
-and_false false b e f = absurd (true≢false (sym e))
-
 pub text_here : (sizes : Sizes) (section : Section) → same_section section Text ≡ true → size_in sizes section ≡ sizes.text
 text_here sizes Text e = refl
 text_here sizes _ e = absurd (true≢false (sym e))
@@ -567,23 +565,26 @@ load_there t place index pool word text r w near small behind p =
     ap (λ n. result_err (encoded_of (LdrLit t (offset n)))) (minus word (base place) there.0)
     ∙ load_code t (word - base place) r close there.1
 
-pub loads : (entries : List (Option EntryWords)) (labels : List Named) (walk : Walk) (kind : StmtKind) (more : List Stmt) (word : ℕ)
+pub loads : (entries : List (Option EntryWords)) (labels : List Named) (walk : Walk) (kind : StmtKind) (more : List Stmt) (word : Option ℕ)
     → word ≡ word_place walk kind (cond (ends_pool walk kind) (pool_place walk) (coming_pool entries (next entries walk kind) more))
     → (sizes_with_pool (walk_behind entries (next entries walk kind) more)).text ≤ 1048576
     → refusal labels kind walk.at.section (here walk.at).offset word ≡ None → LoadHasCode labels kind (here walk.at).offset word
 loads entries labels walk (stmt.LdrPool t value) more word w small e l =
-    let parts = refusal_parts labels (stmt.LdrPool t value) walk.at.section (here walk.at).offset word e in
+    let at = (here walk.at).offset in
+    let parts = refusal_parts labels (stmt.LdrPool t value) walk.at.section at word e in
     let there = not_false (same_section walk.at.section Text) parts.1.1 in
-    let at = text_here walk.at.sizes walk.at.section there in
+    let same = text_here walk.at.sizes walk.at.section there in
     let grows = text_grown walk.at.sizes walk.at.section 2 there in
     let ends = end_text entries (next entries walk (stmt.LdrPool t value)) more in
     let pool = pool_behind entries (next entries walk (stmt.LdrPool t value)) more in
-    let fits : size_in walk.at.sizes walk.at.section + 2 ≤ 1048576 = fit walk.at.sizes.text _ _ _ at grows ends small in
-    load_there t (here walk.at).offset (position_or_len (same_word (word_of value)) walk.pool) (coming_pool entries (next entries walk (stmt.LdrPool t value)) more) word pool.text
-    (unless_none (nat_lt t 8) RegisterRange parts.0)
-    (w ∙ ap (λ b. cond b (sum_64 (coming_pool entries (next entries walk (stmt.LdrPool t value)) more) (times (position_or_len (same_word (word_of value)) walk.pool) 4)) 0) there)
-    (and_false (same_section walk.at.section Text) _ there parts.1.0)
-    fits (reach walk.at.sizes.text _ _ _ at grows fits pool.behind) pool.begins
+    let fits : size_in walk.at.sizes walk.at.section + 2 ≤ 1048576 = fit walk.at.sizes.text _ _ _ same grows ends small in
+    let index = position_or_len (same_word (word_of value)) walk.pool in
+    let coming = coming_pool entries (next entries walk (stmt.LdrPool t value)) more in
+    let is : word ≡ Some (sum_64 coming (times index 4)) = w ∙ ap (λ b. option_map (sum_64 coming) (cond b (Some (times index 4)) None)) there in
+    ap (λ o. instruction_fault (Some (LdrLit t (literal_to o at)))) is
+    ∙ load_there t at index coming (sum_64 coming (times index 4)) pool.text (unless_none (nat_lt t 8) RegisterRange parts.0) refl
+    (ap (λ o. is_pool_too_far at o) (sym is) ∙ parts.1.0)
+    fits (reach walk.at.sizes.text _ _ _ same grows fits pool.behind) pool.begins
   where
     fit : (a place b end : ℕ) → place ≡ a → b ≡ sum_64 a 2 → min b (2 ^ 64 - 1) ≤ end → end ≤ 1048576 → place + 2 ≤ 1048576
     fit a place b end p g h k = omega (arith, p, g, h, k)
@@ -604,7 +605,7 @@ both_count s some more =
 counts : (entries : List (Option EntryWords)) (labels : List Named) (walk : Walk) (stmts : List Stmt) (s : Section) → Fewer entries
     → refusals_from entries labels walk stmts ≡ [] → (sizes_with_pool (walk_behind entries walk stmts)).text ≤ 1048576
     → SameEnd (size_in (sizes_with_pool (walk_behind entries walk stmts)) s) (size_in walk.at.sizes s + length (bytes_in s (pieces_from entries labels walk stmts)))
-unfolding pieces_from refusals_from walk_behind coming_pool
+unfolding pieces_of placed_from walk_behind coming_pool
 counts entries labels walk [] s few r small = pool_counts labels walk s
 counts entries labels walk (stmt ∷ more) s few r small =
     let word = word_place walk stmt.kind (cond (ends_pool walk stmt.kind) (pool_place walk) (coming_pool entries (next entries walk stmt.kind) more)) in
@@ -612,8 +613,8 @@ counts entries labels walk (stmt ∷ more) s few r small =
     let own = statement_counts entries labels walk word stmt.kind s few (loads entries labels walk stmt.kind more word refl small parts.0)
     (refusal_parts labels stmt.kind walk.at.section (here walk.at).offset word parts.0).0 in
     let later = counts entries labels (next entries walk stmt.kind) more s few parts.1 small in
-    joined _ _ (size_in walk.at.sizes s) (length (bytes_in s (pieces_at entries labels walk word stmt.kind))) _ later own
-    ∙ ap (λ n. min (size_in walk.at.sizes s + n) (2 ^ 64 - 1)) (sym (both_count s (pieces_at entries labels walk word stmt.kind) (pieces_from entries labels (next entries walk stmt.kind) more)))
+    joined _ _ (size_in walk.at.sizes s) (length (bytes_in s (walk_pieces entries labels walk word stmt.kind))) _ later own
+    ∙ ap (λ n. min (size_in walk.at.sizes s + n) (2 ^ 64 - 1)) (sym (both_count s (walk_pieces entries labels walk word stmt.kind) (pieces_from entries labels (next entries walk stmt.kind) more)))
 
 or_parts_false : (a b : Bool) → (a || b) ≡ false → (a ≡ false) × (b ≡ false)
 or_parts_false true b e = absurd (true≢false e)
@@ -660,7 +661,7 @@ walks_on entries walk (stmt ∷ before) more = walks_on entries (next entries wa
 
 pub none_behind : (entries : List (Option EntryWords)) (labels : List Named) (walk : Walk) (before more : List Stmt)
     → refusals_from entries labels walk (before ++ more) ≡ [] → refusals_from entries labels (walk_behind entries walk before) more ≡ []
-unfolding walk_behind refusals_from
+unfolding walk_behind placed_from
 none_behind entries labels walk [] more r = r
 none_behind entries labels walk (stmt ∷ before) more r = none_behind entries labels (next entries walk stmt.kind) before more (none_parts stmt.line _ _ r).1
 
@@ -680,15 +681,15 @@ law_of_places entries labels before more s few r h =
 unfoldable pub earlier : List (Option EntryWords) → List Named → Walk → List Stmt → List Stmt → List Piece
 earlier entries labels walk [] more = []
 earlier entries labels walk (stmt ∷ before) more =
-    pieces_at entries labels walk (word_place walk stmt.kind (coming_pool entries walk (stmt ∷ before ++ more))) stmt.kind
+    walk_pieces entries labels walk (word_place walk stmt.kind (coming_pool entries walk (stmt ∷ before ++ more))) stmt.kind
     ++ earlier entries labels (next entries walk stmt.kind) before more
 
 pub split : (entries : List (Option EntryWords)) (labels : List Named) (walk : Walk) (before more : List Stmt)
     → pieces_from entries labels walk (before ++ more) ≡ earlier entries labels walk before more ++ pieces_from entries labels (walk_behind entries walk before) more
-unfolding walk_behind pieces_from earlier
+unfolding walk_behind pieces_of placed_from earlier
 split entries labels walk [] more = refl
 split entries labels walk (stmt ∷ before) more =
-    let own = pieces_at entries labels walk (word_place walk stmt.kind (coming_pool entries walk (stmt ∷ before ++ more))) stmt.kind in
+    let own = walk_pieces entries labels walk (word_place walk stmt.kind (coming_pool entries walk (stmt ∷ before ++ more))) stmt.kind in
     ap (λ pieces. own ++ pieces) (split entries labels (next entries walk stmt.kind) before more)
     ∙ sym (append_assoc own (earlier entries labels (next entries walk stmt.kind) before more) (pieces_from entries labels (walk_behind entries (next entries walk stmt.kind) before) more))
 

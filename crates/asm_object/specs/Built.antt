@@ -1,12 +1,7 @@
 -- What the parts of an object stand for, piece by piece (docs/objects.md).
-use Rattle.std.specs.Prelude.{ℕ, ◌==◌, ◌%◌, ◌^◌, map, not, Bool, true, if◌then◌else◌, List, [], ◌∷◌, ◌++◌, fold, length, Some, None}
-use Rattle.asm_read.specs.declared.statement.StmtKind.{StmtKind}
-use Rattle.asm_read.specs.declared.statement.StmtKind.TheVariants as stmt
+use Rattle.std.specs.Prelude.{ℕ, ◌==◌, ◌%◌, ◌^◌, map, not, Bool, if◌then◌else◌, List, [], ◌∷◌, ◌++◌, fold, length, Some, None}
 use Rattle.asm_layout.specs.declared.place.Section.{Section}
 use Rattle.asm_layout.specs.declared.place.Section.TheVariants.{Text, Rodata, Extab, Init, Bss}
-use Rattle.asm_layout.specs.declared.walk.Walk.{Walk}
-use Rattle.asm_layout.specs.Words.{word_of}
-use Rattle.asm_layout.specs.Walks.{is_in_text, pool_with}
 use Rattle.asm_object.specs.declared.object.Reloc.{Reloc}
 use Rattle.asm_object.specs.declared.part.Part.{Part}
 use Rattle.asm_object.specs.declared.parts.Marked.{Marked}
@@ -56,22 +51,6 @@ no_sections = record {
   extab = no_part;
   init = no_part;
 }
-
--- the first of some places, 0 without one
-abbrev pub first_place : List ℕ → ℕ
-first_place [] = 0
-first_place (place ∷ more) = place
-
--- the places behind the first one where a pool ends
-abbrev pub places_behind : List ℕ → Bool → List ℕ
-places_behind (place ∷ more) true = more
-places_behind places _ = places
-
--- a walk that has put a statement's pool word into its pool
-abbrev pub with_word : Walk → StmtKind → Walk
-with_word walk (stmt.LdrPool _ value) =
-    if is_in_text walk.at then record walk { pool = pool_with walk.pool (word_of value) } else walk
-with_word walk _ = walk
 
 -- the object of sections, rows and labels
 abbrev pub object_built : Sections → List IndexRow → List (List ℕ × Label) → ℕ → Object

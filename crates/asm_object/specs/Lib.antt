@@ -1,12 +1,12 @@
 pub mod Bytes
 pub mod Relocations
 pub mod Values
-pub mod Links
 pub mod Instructions
 pub mod Refusals
 pub mod Pieces
 pub mod Objects
 pub mod Built
+pub mod Behind
 pub mod PlaceLaw
 pub mod ObjectLaw
 pub mod LoadLaw

@@ -1,7 +1,6 @@
 -- The object of statements, or why there is none (docs/objects.md).
-use Rattle.std.specs.Prelude.{ℕ, ◌%◌, ◌^◌, List, [], ◌∷◌, ◌++◌, map, Option, Some, None, Result, Ok, Err}
+use Rattle.std.specs.Prelude.{ℕ, ◌%◌, ◌^◌, List, [], ◌∷◌, ◌++◌, map, flat_map, Option, Some, None, Result, Ok, Err}
 use Rattle.asm_read.specs.declared.statement.Stmt.{Stmt}
-use Rattle.asm_unwind.specs.declared.entry.EntryWords.{EntryWords}
 use Rattle.asm_layout.specs.declared.place.Section.TheVariants.{Text, Rodata, Extab, Init}
 use Rattle.asm_object.specs.declared.object.ObjSymbol.{ObjSymbol}
 use Rattle.asm_object.specs.declared.object.Object.{Object}
@@ -9,31 +8,32 @@ use Rattle.asm_layout.specs.declared.fault.AsmFault.{AsmFault}
 use Rattle.asm_layout.specs.declared.fault.AsmWhat.{AsmWhat}
 use Rattle.asm_layout.specs.Faults.{fault_at, first_of_all}
 use Rattle.asm_layout.specs.Functions.{entries_of, unwind_faults_of}
-use Rattle.asm_layout.specs.declared.walk.Walk.{Walk}
-use Rattle.asm_layout.specs.Walks.{start, next, here, walk_behind, coming_pool}
+use Rattle.asm_layout.specs.PlacedStmt.{PlacedStmt}
+use Rattle.asm_layout.specs.Placing.{placed_of, last_pool}
+use Rattle.asm_layout.specs.Walks.{start, walk_behind}
 use Rattle.asm_layout.specs.Labels.{Named, labels_of, labelled, duplicates_from, too_large_from}
 use Rattle.asm_layout.specs.declared.labels.Label.{Label}
 use Rattle.asm_object.specs.Refusals.{refusal}
-use Rattle.asm_object.specs.Pieces.{pieces_from, bytes_in, relocs_in, marks_from, rows_from, word_place}
+use Rattle.asm_object.specs.Pieces.{pieces_of, bytes_in, relocs_in, marks_from, rows_of}
 
 abbrev pub faults_at : ℕ → Option AsmWhat → List AsmFault
 faults_at line None = []
 faults_at line (Some what) = fault_at line what ∷ []
 
--- what is refused of statements where the walk stands
-unfoldable pub refusals_from : List (Option EntryWords) → List Named → Walk → List Stmt → List AsmFault
-refusals_from entries labels walk [] = []
-refusals_from entries labels walk (stmt ∷ more) =
-    faults_at stmt.line (refusal labels stmt.kind walk.at.section (here walk.at).offset
-    (word_place walk stmt.kind (coming_pool entries walk (stmt ∷ more))))
-    ++ refusals_from entries labels (next entries walk stmt.kind) more
+-- what is refused of a statement where it stands
+abbrev pub refusals_at : List Named → PlacedStmt → List AsmFault
+refusals_at labels placed =
+    faults_at placed.stmt.line (refusal labels placed.stmt.kind placed.at.section placed.at.offset placed.word)
+
+abbrev pub refusals_of : List Named → List PlacedStmt → List AsmFault
+refusals_of labels placed = flat_map (refusals_at labels) placed
 
 -- every refusal of a source
 unfoldable pub faults_of : List Stmt → List AsmFault
 faults_of stmts =
     let entries = entries_of stmts in
     unwind_faults_of stmts ++ duplicates_from [] stmts ++ too_large_from entries start 0 stmts
-    ++ refusals_from entries (labels_of entries stmts) start stmts
+    ++ refusals_of (labels_of entries stmts) (placed_of entries stmts)
 
 -- a label as a symbol; offsets and sizes are words
 abbrev pub symbol_of : List ℕ × Label → ObjSymbol
@@ -51,7 +51,7 @@ unfoldable pub joined : List Stmt → Object
 joined stmts =
     let entries = entries_of stmts in
     let labels = labels_of entries stmts in
-    let pieces = pieces_from entries labels start stmts in
+    let pieces = pieces_of entries labels (placed_of entries stmts) (last_pool entries start stmts) in
     record {
       text = bytes_in Text pieces;
       rodata = bytes_in Rodata pieces;
@@ -60,7 +60,7 @@ joined stmts =
       bss = (walk_behind entries start stmts).at.sizes.bss % 2 ^ 32;
       symbols = map (λ label. symbol_of (labelled entries stmts label)) labels;
       marks = marks_from None pieces;
-      rows = rows_from entries start stmts;
+      rows = rows_of entries (placed_of entries stmts);
       relocs = relocs_in Text pieces ++ relocs_in Rodata pieces ++ relocs_in Extab pieces ++ relocs_in Init pieces;
     }
 

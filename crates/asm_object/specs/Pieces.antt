@@ -1,15 +1,11 @@
 -- The bytes of statements, each piece at its place, and what the linker fills in them (docs/objects.md, "Sections and places").
 use Rattle.std.specs.Prelude.{ℕ, ◌+◌, ◌%◌, ◌^◌, ◌==◌, ◌&&◌, not, ℤ, pos, negsuc, Bool, true, false, nat_lt, if◌then◌else◌, List, [], ◌∷◌, ◌++◌, map, flat_map, length, Option, Some, None, Result, Ok, Err}
-use Rattle.std.specs.List.{position_or_len}
-use Rattle.asm_read.specs.declared.statement.Stmt.{Stmt}
 use Rattle.asm_read.specs.declared.statement.StmtKind.{StmtKind}
-use Rattle.asm_read.specs.declared.statement.StmtKind.TheVariants as stmt
 use Rattle.asm_unwind.specs.declared.entry.EntryWords.{EntryWords}
 use Rattle.asm_unwind.specs.declared.entry.EntryWords.TheVariants as entry
 use Rattle.thumb_isa.specs.declared.instr.Instr.{Instr}
 use Rattle.thumb_encode.specs.declared.code.Code.{Code}
 use Rattle.thumb_encode.specs.declared.code.EncodeFault.{EncodeFault}
-use Rattle.thumb_encode.specs.Codes.{encoded_of}
 use Rattle.asm_layout.specs.declared.place.Section.{Section}
 use Rattle.asm_layout.specs.declared.place.Section.TheVariants.{Text, Extab}
 use Rattle.asm_object.specs.declared.object.Reloc.{Reloc}
@@ -20,15 +16,20 @@ use Rattle.asm_object.specs.declared.object.IndexRow.{IndexRow}
 use Rattle.asm_layout.specs.declared.place.Place.{Place}
 use Rattle.asm_layout.specs.declared.word.Word.{Word}
 use Rattle.asm_layout.specs.Words.{word_of}
-use Rattle.asm_layout.specs.SameWords.{same_word}
-use Rattle.asm_layout.specs.Sizes.{sum_64, times, multiple, natural, is_instruction}
+use Rattle.asm_layout.specs.Sizes.{sum_64, multiple, natural, is_instruction}
+use Rattle.asm_layout.specs.Sorts.{Operation, Nameless, Undefined, AdrOf, LdrOf, LdrValue, BTo, BCondTo, BlTo, Given, WordsOf, HalvesOf, BytesOf, AsciiOf, AscizOf, ZerosOf, Sort, CodeOf, DataOf, Filling, AboutName, Bare, sort_of, operation, given}
 use Rattle.eh_list.specs.Bytes.{gap, zeros}
 use Rattle.asm_object.specs.Bytes.{byte_bytes, half_bytes, word_bytes, code_bytes, filling_bytes}
-use Rattle.asm_layout.specs.declared.walk.Walk.{Walk}
-use Rattle.asm_layout.specs.Walks.{next, here, entry_at, is_empty, is_in_text, pool_place, coming_pool, same_section}
+use Rattle.asm_layout.specs.declared.placed.PlacedFunction.{PlacedFunction}
+use Rattle.asm_layout.specs.declared.placed.PlacedPool.{PlacedPool}
+use Rattle.asm_layout.specs.declared.placed.Puts.{Puts}
+use Rattle.asm_layout.specs.declared.placed.Puts.TheVariants as puts
+use Rattle.asm_layout.specs.PlacedStmt.{PlacedStmt}
+use Rattle.asm_layout.specs.Walks.{entry_at, is_empty, same_section}
 use Rattle.asm_layout.specs.Labels.{Named}
-use Rattle.asm_object.specs.Values.{number, held, low_or_zero, Linked, link_of}
-use Rattle.asm_object.specs.Instructions.{instruction, branch_link}
+use Rattle.asm_object.specs.declared.value.Link.{Link}
+use Rattle.asm_object.specs.Values.{number, held, low_or_zero, link_of}
+use Rattle.asm_object.specs.Instructions.{instruction, coded, branch_link}
 
 -- bytes at a place, code or words, with the relocations in them
 pub record Piece : Type 0 where
@@ -40,7 +41,7 @@ pub record Piece : Type 0 where
 abbrev pub place_at : Section → ℕ → Place
 place_at section offset = record { section = section; offset = offset }
 
-abbrev pub relocs_of : Place → Option Linked → List Reloc
+abbrev pub relocs_of : Place → Option Link → List Reloc
 relocs_of place None = []
 relocs_of place (Some link) = record {
   section = place.section;
@@ -75,66 +76,95 @@ abbrev pub filling_piece : Place → ℕ → Piece
 filling_piece place count =
     bytes_piece place true (if same_section place.section Text then filling_bytes count else zeros count)
 
--- the pool that ends here, at a multiple of 4; nothing without words
-abbrev pub pool_pieces : List Named → Walk → List Piece
-pool_pieces labels walk =
-    if is_empty walk.pool then []
-    else filling_piece (place_at Text walk.at.sizes.text) (gap walk.at.sizes.text 4)
-    ∷ words_piece labels (place_at Text (pool_place walk)) walk.pool ∷ []
+-- a pool, at a multiple of 4; nothing without words
+abbrev pub pool_pieces : List Named → PlacedPool → List Piece
+pool_pieces labels pool =
+    if is_empty pool.words then []
+    else filling_piece (place_at Text pool.from) (gap pool.from 4)
+    ∷ words_piece labels (place_at Text (sum_64 pool.from (gap pool.from 4))) pool.words ∷ []
 
 -- the words of a function's table, at a multiple of 4
 abbrev pub table_pieces : ℕ → Option EntryWords → List Piece
 table_pieces place (Some (entry.Table words)) =
     bytes_piece (place_at Extab place) false (zeros (gap place 4) ++ flat_map word_bytes words) ∷ []
-table_pieces place _ = []
+table_pieces place (Some entry.CantUnwind) = []
+table_pieces place (Some (entry.Inline _)) = []
+table_pieces place None = []
 
 abbrev pub bytes_of_code : Result Code EncodeFault → List ℕ
 bytes_of_code (Ok code) = code_bytes code
 bytes_of_code (Err _) = []
 
+abbrev pub bytes_of_coded : Option (Result Code EncodeFault) → List ℕ
+bytes_of_coded (Some code) = bytes_of_code code
+bytes_of_coded None = []
+
 abbrev pub bytes_of_instruction : Option Instr → List ℕ
-bytes_of_instruction (Some i) = bytes_of_code (encoded_of i)
-bytes_of_instruction None = []
+bytes_of_instruction i = bytes_of_coded (coded i)
 
 abbrev pub low_byte_or_zero : ℤ → ℕ
 low_byte_or_zero (pos n) = if nat_lt n 256 then n else 0
 low_byte_or_zero (negsuc n) = 0
 
 -- the halfword of `udf`, which is no instruction of the encoder's
+abbrev pub undefined_half : Option Operation → Option ℕ
+undefined_half None = None
+undefined_half (Some (Nameless _)) = None
+undefined_half (Some (Undefined imm)) = Some (0xde00 + low_byte_or_zero imm)
+undefined_half (Some (AdrOf _ _)) = None
+undefined_half (Some (LdrOf _ _)) = None
+undefined_half (Some (LdrValue _ _)) = None
+undefined_half (Some (BTo _)) = None
+undefined_half (Some (BCondTo _ _)) = None
+undefined_half (Some (BlTo _)) = None
+
 abbrev pub udf_half : StmtKind → Option ℕ
-udf_half (stmt.Udf imm) = Some (0xde00 + low_byte_or_zero imm)
-udf_half _ = None
+udf_half kind = undefined_half (operation kind)
 
 abbrev pub bytes_of_half : Option ℕ → List ℕ
 bytes_of_half None = []
 bytes_of_half (Some half) = half_bytes half
 
-abbrev pub instruction_bytes : List Named → StmtKind → ℕ → ℕ → List ℕ
-instruction_bytes labels kind place word =
-    bytes_of_half (udf_half kind) ++ bytes_of_instruction (instruction labels kind place word)
+-- the bytes of an instruction of which the encoder says what it says
+abbrev pub code_bytes_of : StmtKind → Option (Result Code EncodeFault) → List ℕ
+code_bytes_of kind code = bytes_of_half (udf_half kind) ++ bytes_of_coded code
 
-abbrev pub instruction_piece : List Named → StmtKind → Place → ℕ → Piece
-instruction_piece labels kind place word = record {
+abbrev pub code_piece : List Named → StmtKind → Place → Option (Result Code EncodeFault) → Piece
+code_piece labels kind place code = record {
   place = place;
   code = true;
-  bytes = instruction_bytes labels kind place.offset word;
+  bytes = code_bytes_of kind code;
   relocs = relocs_of place (branch_link labels kind);
 }
 
--- the bytes of a statement that is data
-abbrev pub data_bytes : List Named → StmtKind → List ℕ
-data_bytes labels (stmt.Words exprs) = words_bytes labels (map word_of exprs)
-data_bytes labels (stmt.Halves exprs) = flat_map (λ expr. half_bytes (low_or_zero (number labels expr))) exprs
-data_bytes labels (stmt.Bytes exprs) = flat_map (λ expr. byte_bytes (low_or_zero (number labels expr))) exprs
-data_bytes labels (stmt.Ascii text) = text
-data_bytes labels (stmt.Asciz text) = text ++ 0 ∷ []
-data_bytes labels (stmt.Space n) = zeros (natural n)
-data_bytes labels _ = []
+abbrev pub instruction_piece : List Named → StmtKind → Place → Option ℕ → Piece
+instruction_piece labels kind place word = code_piece labels kind place (coded (instruction labels kind place.offset word))
 
--- the relocations of a statement that is data: those of its words
+-- the bytes of data
+abbrev pub given_bytes : List Named → Option Given → List ℕ
+given_bytes labels None = []
+given_bytes labels (Some (WordsOf exprs)) = words_bytes labels (map word_of exprs)
+given_bytes labels (Some (HalvesOf exprs)) = flat_map (λ expr. half_bytes (low_or_zero (number labels expr))) exprs
+given_bytes labels (Some (BytesOf exprs)) = flat_map (λ expr. byte_bytes (low_or_zero (number labels expr))) exprs
+given_bytes labels (Some (AsciiOf text)) = text
+given_bytes labels (Some (AscizOf text)) = text ++ 0 ∷ []
+given_bytes labels (Some (ZerosOf n)) = zeros (natural n)
+
+abbrev pub data_bytes : List Named → StmtKind → List ℕ
+data_bytes labels kind = given_bytes labels (given kind)
+
+-- the relocations of data: those of its words
+abbrev pub given_relocs : Option Given → Place → List Reloc
+given_relocs None place = []
+given_relocs (Some (WordsOf exprs)) place = word_relocs place.section place.offset (map word_of exprs)
+given_relocs (Some (HalvesOf _)) place = []
+given_relocs (Some (BytesOf _)) place = []
+given_relocs (Some (AsciiOf _)) place = []
+given_relocs (Some (AscizOf _)) place = []
+given_relocs (Some (ZerosOf _)) place = []
+
 abbrev pub data_relocs : StmtKind → Place → List Reloc
-data_relocs (stmt.Words exprs) place = word_relocs place.section place.offset (map word_of exprs)
-data_relocs _ place = []
+data_relocs kind place = given_relocs (given kind) place
 
 abbrev pub data_piece : List Named → StmtKind → Place → Piece
 data_piece labels kind place = record {
@@ -144,37 +174,43 @@ data_piece labels kind place = record {
   relocs = data_relocs kind place;
 }
 
--- what a statement fills, and the pool or table that stands where it does
-abbrev pub set_pieces : List (Option EntryWords) → List Named → Walk → StmtKind → List Piece
-set_pieces entries labels walk (stmt.Align n) =
-    filling_piece (here walk.at) (gap (here walk.at).offset (multiple n)) ∷ []
-set_pieces entries labels walk stmt.Pool = if is_in_text walk.at then pool_pieces labels walk else []
-set_pieces entries labels walk stmt.FnStart =
-    if walk.at.inside then [] else table_pieces walk.at.sizes.extab (entry_at entries walk.at.functions)
-set_pieces entries labels walk _ = []
+-- the pool or the table that a statement puts
+abbrev pub put_pieces : List (Option EntryWords) → List Named → Puts → List Piece
+put_pieces entries labels (puts.Pool pool) = pool_pieces labels pool
+put_pieces entries labels (puts.Function function) =
+    table_pieces function.from (entry_at entries function.number)
+put_pieces entries labels puts.Nothing = []
 
--- a statement's own bytes, where its pool word has a place too
-abbrev pub own_piece : List Named → StmtKind → Place → ℕ → Piece
-own_piece labels kind place word =
-    if is_instruction kind then instruction_piece labels kind place word else data_piece labels kind place
+-- what a statement of a sort fills, or what it puts, as only `.align` fills
+abbrev pub filled_or : Sort → Place → List Piece → List Piece
+filled_or (CodeOf _ _) place put = put
+filled_or (DataOf _) place put = put
+filled_or (Filling n) place put = filling_piece place (gap place.offset (multiple n)) ∷ []
+filled_or (AboutName _) place put = put
+filled_or Bare place put = put
 
--- the pieces of a statement where the walk stands
-abbrev pub pieces_at : List (Option EntryWords) → List Named → Walk → ℕ → StmtKind → List Piece
-pieces_at entries labels walk word kind =
-    set_pieces entries labels walk kind ++ own_piece labels kind (here walk.at) word ∷ []
+-- what a statement fills, or the pool or table that it puts
+abbrev pub set_pieces : List (Option EntryWords) → List Named → StmtKind → Place → Puts → List Piece
+set_pieces entries labels kind place put = filled_or (sort_of kind) place (put_pieces entries labels put)
 
--- the place of a statement's pool word, where its pool begins at a place; 0 without one
-abbrev pub word_place : Walk → StmtKind → ℕ → ℕ
-word_place walk (stmt.LdrPool _ value) pool =
-    if is_in_text walk.at then sum_64 pool (times (position_or_len (same_word (word_of value)) walk.pool) 4) else 0
-word_place walk _ pool = 0
+-- a statement's own bytes, where the encoder says of it what it says
+abbrev pub own_piece_by : List Named → StmtKind → Place → Option (Result Code EncodeFault) → Piece
+own_piece_by labels kind place code = if is_instruction kind then code_piece labels kind place code else data_piece labels kind place
+
+-- the same where its pool word may have a place too
+abbrev pub own_piece : List Named → StmtKind → Place → Option ℕ → Piece
+own_piece labels kind place word = own_piece_by labels kind place (coded (instruction labels kind place.offset word))
+
+-- the pieces of a statement where it stands
+abbrev pub pieces_at : List (Option EntryWords) → List Named → PlacedStmt → List Piece
+pieces_at entries labels placed =
+    set_pieces entries labels placed.stmt.kind placed.at placed.puts
+    ++ own_piece labels placed.stmt.kind placed.at placed.word ∷ []
 
 -- the pieces of statements in the order of the text, the pool at its end last
-unfoldable pub pieces_from : List (Option EntryWords) → List Named → Walk → List Stmt → List Piece
-pieces_from entries labels walk [] = pool_pieces labels walk
-pieces_from entries labels walk (stmt ∷ more) =
-    pieces_at entries labels walk (word_place walk stmt.kind (coming_pool entries walk (stmt ∷ more))) stmt.kind
-    ++ pieces_from entries labels (next entries walk stmt.kind) more
+unfoldable pub pieces_of : List (Option EntryWords) → List Named → List PlacedStmt → PlacedPool → List Piece
+pieces_of entries labels [] last = pool_pieces labels last
+pieces_of entries labels (placed ∷ more) last = pieces_at entries labels placed ++ pieces_of entries labels more last
 
 -- a section's bytes and relocations are those of its pieces
 abbrev pub bytes_in : Section → List Piece → List ℕ
@@ -212,19 +248,20 @@ row_entry table entry.CantUnwind = row.CantUnwind
 row_entry table (entry.Inline word) = row.Inline word
 row_entry table (entry.Table _) = row.Table (table % 2 ^ 32)
 
--- a function's row: the place of its `.fnstart`, and its table at a multiple of 4
-abbrev pub row_of : Walk → Option EntryWords → List IndexRow
-row_of walk None = []
-row_of walk (Some words) = record {
-  offset = walk.at.sizes.text % 2 ^ 32;
-  entry = row_entry (sum_64 walk.at.sizes.extab (gap walk.at.sizes.extab 4)) words;
+-- a function's row: its place, and its table at a multiple of 4
+abbrev pub row_of : PlacedFunction → Option EntryWords → List IndexRow
+row_of function None = []
+row_of function (Some words) = record {
+  offset = function.start % 2 ^ 32;
+  entry = row_entry (sum_64 function.from (gap function.from 4)) words;
 } ∷ []
 
-abbrev pub new_rows : List (Option EntryWords) → Walk → StmtKind → List IndexRow
-new_rows entries walk stmt.FnStart = if walk.at.inside then [] else row_of walk (entry_at entries walk.at.functions)
-new_rows entries walk _ = []
+-- the row of the function that a statement begins
+abbrev pub put_rows : List (Option EntryWords) → Puts → List IndexRow
+put_rows entries (puts.Function function) = row_of function (entry_at entries function.number)
+put_rows entries (puts.Pool _) = []
+put_rows entries puts.Nothing = []
 
-unfoldable pub rows_from : List (Option EntryWords) → Walk → List Stmt → List IndexRow
-rows_from entries walk [] = []
-rows_from entries walk (stmt ∷ more) =
-    new_rows entries walk stmt.kind ++ rows_from entries (next entries walk stmt.kind) more
+-- the rows of functions in the order of the text
+abbrev pub rows_of : List (Option EntryWords) → List PlacedStmt → List IndexRow
+rows_of entries placed = flat_map (λ p. put_rows entries p.puts) placed

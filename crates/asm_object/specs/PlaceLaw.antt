@@ -9,8 +9,8 @@ use Rattle.asm_layout.specs.declared.walk.Walk.{Walk}
 use Rattle.asm_layout.specs.Sizes.{size_in, is_too_large}
 use Rattle.asm_layout.specs.Walks.{start, walk_behind, sizes_with_pool}
 use Rattle.asm_layout.specs.Labels.{Named}
-use Rattle.asm_object.specs.Pieces.{pieces_from, bytes_in}
-use Rattle.asm_object.specs.Objects.{refusals_from}
+use Rattle.asm_object.specs.Pieces.{bytes_in}
+use Rattle.asm_object.specs.Behind.{pieces_from, refusals_from}
 
 -- from the start or from any other place of the walk: a section ends as many bytes behind the place as the statements
 -- from there on have in it, the last pool with them

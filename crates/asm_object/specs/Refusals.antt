@@ -1,40 +1,56 @@
 -- Why a statement is refused at its place (docs/objects.md, "Refusals").
-use Rattle.std.specs.Prelude.{ℕ, ◌-◌, ◌*◌, ◌==◌, ◌&&◌, ◌||◌, not, ℤ, pos, negsuc, Bool, true, false, nat_lt, nat_le, if◌then◌else◌, List, length, Option, Some, None, is_some}
+use Rattle.std.specs.Prelude.{ℕ, ◌-◌, ◌*◌, ◌==◌, ◌&&◌, ◌||◌, not, ℤ, pos, negsuc, Bool, true, false, nat_lt, nat_le, if◌then◌else◌, List, length, Option, Some, None, is_some, Result}
 use Rattle.std.specs.List.{list_all}
 use Rattle.std.specs.Result.{result_err}
 use Rattle.asm_read.specs.declared.statement.Expr.{Expr}
 use Rattle.asm_read.specs.declared.statement.StmtKind.{StmtKind}
 use Rattle.asm_read.specs.declared.statement.StmtKind.TheVariants as stmt
 use Rattle.thumb_isa.specs.declared.instr.Instr.{Instr}
+use Rattle.thumb_encode.specs.declared.code.Code.{Code}
 use Rattle.thumb_encode.specs.declared.code.EncodeFault.{EncodeFault}
 use Rattle.thumb_encode.specs.declared.code.EncodeFault.TheVariants.{RegisterRange, ImmediateRange}
-use Rattle.thumb_encode.specs.Codes.{encoded_of}
 use Rattle.asm_layout.specs.declared.place.Section.{Section}
 use Rattle.asm_layout.specs.declared.place.Section.TheVariants.{Text, Bss}
 use Rattle.asm_layout.specs.declared.fault.AsmWhat.{AsmWhat}
 use Rattle.asm_layout.specs.declared.fault.AsmWhat.TheVariants.{UndefinedLocal, Encode, PoolTooFar, Placement}
 use Rattle.asm_layout.specs.Sizes.{is_instruction}
+use Rattle.asm_layout.specs.Sorts.{Operation, Nameless, Undefined, AdrOf, LdrOf, LdrValue, BTo, BCondTo, BlTo, Given, WordsOf, HalvesOf, BytesOf, AsciiOf, AscizOf, ZerosOf, Sort, CodeOf, DataOf, Filling, AboutName, Bare, sort_of, given}
 use Rattle.asm_layout.specs.Walks.{same_section}
 use Rattle.asm_layout.specs.Labels.{Named}
 use Rattle.asm_object.specs.Values.{is_known, is_word_known, number}
-use Rattle.asm_object.specs.Instructions.{text_place, base, instruction}
+use Rattle.asm_object.specs.declared.refusal.TheConstants.{MOST_TO_POOL}
+use Rattle.asm_object.specs.Instructions.{text_place, base, instruction, coded}
+
+-- the names of an instruction may be used
+abbrev pub are_operands_known : List Named → Operation → Bool
+are_operands_known labels (Nameless _) = true
+are_operands_known labels (Undefined _) = true
+are_operands_known labels (AdrOf _ name) = is_some (text_place labels name)
+are_operands_known labels (LdrOf _ name) = is_some (text_place labels name)
+are_operands_known labels (LdrValue _ value) = is_word_known labels value
+are_operands_known labels (BTo name) = is_known labels name
+are_operands_known labels (BCondTo _ name) = is_known labels name
+are_operands_known labels (BlTo name) = is_known labels name
+
+-- the names of data may be used
+abbrev pub are_fields_known : List Named → Given → Bool
+are_fields_known labels (WordsOf words) = list_all (is_word_known labels) words
+are_fields_known labels (HalvesOf fields) = list_all (λ field. is_some (number labels field)) fields
+are_fields_known labels (BytesOf fields) = list_all (λ field. is_some (number labels field)) fields
+are_fields_known labels (AsciiOf _) = true
+are_fields_known labels (AscizOf _) = true
+are_fields_known labels (ZerosOf _) = true
+
+abbrev pub is_sort_known : List Named → Sort → Bool
+is_sort_known labels (CodeOf _ operation) = are_operands_known labels operation
+is_sort_known labels (DataOf d) = are_fields_known labels d
+is_sort_known labels (Filling _) = true
+is_sort_known labels (AboutName name) = is_known labels name
+is_sort_known labels Bare = true
 
 -- the names of a statement may be used
 abbrev pub are_names_known : List Named → StmtKind → Bool
-are_names_known labels (stmt.Adr _ name) = is_some (text_place labels name)
-are_names_known labels (stmt.LdrLabel _ name) = is_some (text_place labels name)
-are_names_known labels (stmt.LdrPool _ value) = is_word_known labels value
-are_names_known labels (stmt.B name) = is_known labels name
-are_names_known labels (stmt.BCond _ name) = is_known labels name
-are_names_known labels (stmt.Bl name) = is_known labels name
-are_names_known labels (stmt.Global name) = is_known labels name
-are_names_known labels (stmt.TypeFunction name) = is_known labels name
-are_names_known labels (stmt.TypeObject name) = is_known labels name
-are_names_known labels (stmt.Size name) = is_known labels name
-are_names_known labels (stmt.Words words) = list_all (is_word_known labels) words
-are_names_known labels (stmt.Halves fields) = list_all (λ field. is_some (number labels field)) fields
-are_names_known labels (stmt.Bytes fields) = list_all (λ field. is_some (number labels field)) fields
-are_names_known labels _ = true
+are_names_known labels kind = is_sort_known labels (sort_of kind)
 
 -- a number from -half to 2 * half - 1
 abbrev pub fits : ℕ → Option ℤ → Bool
@@ -45,9 +61,12 @@ fits half None = true
 abbrev pub fault_unless : Bool → EncodeFault → Option EncodeFault
 fault_unless holds fault = if holds then None else Some fault
 
+abbrev pub coded_fault : Option (Result Code EncodeFault) → Option EncodeFault
+coded_fault None = None
+coded_fault (Some code) = result_err code
+
 abbrev pub instruction_fault : Option Instr → Option EncodeFault
-instruction_fault None = None
-instruction_fault (Some i) = result_err (encoded_of i)
+instruction_fault i = coded_fault (coded i)
 
 abbrev pub is_from_zero_to : ℕ → ℤ → Bool
 is_from_zero_to most (pos n) = nat_le n most
@@ -57,33 +76,59 @@ abbrev pub is_natural : ℤ → Bool
 is_natural (pos n) = true
 is_natural (negsuc n) = false
 
--- why the instruction has no code, or a number doesn't fit its field. Of `ldr rt, =value` the register alone counts
-abbrev pub encode_fault : List Named → StmtKind → ℕ → ℕ → Option EncodeFault
-encode_fault labels (stmt.Halves fields) place word =
-    fault_unless (list_all (λ field. fits 32768 (number labels field)) fields) ImmediateRange
-encode_fault labels (stmt.Bytes fields) place word =
-    fault_unless (list_all (λ field. fits 128 (number labels field)) fields) ImmediateRange
-encode_fault labels (stmt.Space n) place word = fault_unless (is_natural n) ImmediateRange
-encode_fault labels (stmt.Udf imm) place word = fault_unless (is_from_zero_to 255 imm) ImmediateRange
-encode_fault labels (stmt.LdrPool t _) place word = fault_unless (nat_lt t 8) RegisterRange
-encode_fault labels kind place word = instruction_fault (instruction labels kind place word)
+-- why an instruction has no code, where the encoder says of it what it says. Of `ldr rt, =value` the register alone counts
+abbrev pub operation_fault : Operation → Option (Result Code EncodeFault) → Option EncodeFault
+operation_fault (Nameless _) code = coded_fault code
+operation_fault (Undefined imm) code = fault_unless (is_from_zero_to 255 imm) ImmediateRange
+operation_fault (AdrOf _ _) code = coded_fault code
+operation_fault (LdrOf _ _) code = coded_fault code
+operation_fault (LdrValue t _) code = fault_unless (nat_lt t 8) RegisterRange
+operation_fault (BTo _) code = coded_fault code
+operation_fault (BCondTo _ _) code = coded_fault code
+operation_fault (BlTo _) code = coded_fault code
 
--- the pool word of a `ldr` in the text is more than 1,020 bytes behind its base
-abbrev pub is_pool_too_far : StmtKind → Section → ℕ → ℕ → Bool
-is_pool_too_far (stmt.LdrPool _ _) section place word = same_section section Text && nat_lt 1020 (word - base place)
-is_pool_too_far _ section place word = false
+-- why a number doesn't fit its field
+abbrev pub data_fault : List Named → Given → Option EncodeFault
+data_fault labels (WordsOf _) = None
+data_fault labels (HalvesOf fields) = fault_unless (list_all (λ field. fits 32768 (number labels field)) fields) ImmediateRange
+data_fault labels (BytesOf fields) = fault_unless (list_all (λ field. fits 128 (number labels field)) fields) ImmediateRange
+data_fault labels (AsciiOf _) = None
+data_fault labels (AscizOf _) = None
+data_fault labels (ZerosOf n) = fault_unless (is_natural n) ImmediateRange
+
+abbrev pub sort_fault : List Named → Sort → Option (Result Code EncodeFault) → Option EncodeFault
+sort_fault labels (CodeOf _ operation) code = operation_fault operation code
+sort_fault labels (DataOf d) code = data_fault labels d
+sort_fault labels (Filling _) code = None
+sort_fault labels (AboutName _) code = None
+sort_fault labels Bare code = None
+
+abbrev pub encode_fault_by : List Named → StmtKind → Option (Result Code EncodeFault) → Option EncodeFault
+encode_fault_by labels kind code = sort_fault labels (sort_of kind) code
+
+abbrev pub encode_fault : List Named → StmtKind → ℕ → Option ℕ → Option EncodeFault
+encode_fault labels kind place word = encode_fault_by labels kind (coded (instruction labels kind place word))
+
+-- a pool word is more than 1,020 bytes behind the base of its `ldr`
+abbrev pub is_pool_too_far : ℕ → Option ℕ → Bool
+is_pool_too_far place (Some word) = nat_lt MOST_TO_POOL (word - base place)
+is_pool_too_far place None = false
 
 abbrev pub has_fields : List Expr → Bool
 has_fields fields = not (length fields == 0)
 
--- a statement gives bytes of its own
+-- data gives bytes, and not zeros alone
+abbrev pub has_bytes_in : Option Given → Bool
+has_bytes_in None = false
+has_bytes_in (Some (WordsOf fields)) = has_fields fields
+has_bytes_in (Some (HalvesOf fields)) = has_fields fields
+has_bytes_in (Some (BytesOf fields)) = has_fields fields
+has_bytes_in (Some (AsciiOf text)) = not (length text == 0)
+has_bytes_in (Some (AscizOf _)) = true
+has_bytes_in (Some (ZerosOf _)) = false
+
 abbrev pub has_bytes : StmtKind → Bool
-has_bytes (stmt.Words fields) = has_fields fields
-has_bytes (stmt.Halves fields) = has_fields fields
-has_bytes (stmt.Bytes fields) = has_fields fields
-has_bytes (stmt.Ascii text) = not (length text == 0)
-has_bytes (stmt.Asciz text) = true
-has_bytes _ = false
+has_bytes kind = has_bytes_in (given kind)
 
 abbrev pub starts_function : StmtKind → Bool
 starts_function stmt.FnStart = true
@@ -100,9 +145,9 @@ encode_or (Some fault) later = Some (Encode fault)
 encode_or None later = later
 
 -- the lowest refusal of names, encodings, pools and places
-unfoldable pub refusal : List Named → StmtKind → Section → ℕ → ℕ → Option AsmWhat
+unfoldable pub refusal : List Named → StmtKind → Section → ℕ → Option ℕ → Option AsmWhat
 refusal labels kind section place word =
     if not (are_names_known labels kind) then Some UndefinedLocal
     else encode_or (encode_fault labels kind place word)
-    (if is_pool_too_far kind section place word then Some PoolTooFar
+    (if is_pool_too_far place word then Some PoolTooFar
     else (if is_misplaced kind section then Some Placement else None))

@@ -7,6 +7,7 @@ use Rattle.asm_layout.specs.declared.word.Word.{Word}
 use Rattle.asm_layout.specs.declared.word.Word.TheVariants as word
 use Rattle.asm_layout.specs.Words.{low_word, is_local}
 use Rattle.asm_object.specs.declared.relocation.TheConstants.{R_ARM_ABS32, R_ARM_REL32, R_ARM_TARGET2, R_ARM_PREL31}
+use Rattle.asm_object.specs.declared.value.Link.{Link}
 use Rattle.unwind_codes.specs.declared.words.TheConstants.{REFERENCE_MARK}
 use Rattle.asm_layout.specs.Walks.{same_section}
 use Rattle.asm_layout.specs.Labels.{Named, find}
@@ -40,7 +41,11 @@ plus None n = None
 abbrev pub number : List Named → Expr → Option ℤ
 number labels (expr.Num n) = Some n
 number labels (expr.Diff a b n) = plus (distance labels a b) n
-number labels _ = None
+number labels (expr.Of _ _) = None
+number labels (expr.Prel31 _) = None
+number labels (expr.Prel31Ref _) = None
+number labels (expr.Target2 _) = None
+number labels (expr.Rel _) = None
 
 abbrev pub low_or_zero : Option ℤ → ℕ
 low_or_zero (Some n) = low_word n
@@ -50,24 +55,22 @@ low_or_zero None = 0
 abbrev pub held : List Named → Word → ℕ
 held labels (word.Num n) = n
 held labels (word.Diff a b n) = low_or_zero (plus (distance labels a b) (pos n))
+held labels (word.Of _ _) = 0
+held labels (word.Rel _) = 0
+held labels (word.Target2 _) = 0
+held labels (word.Prel31 _) = 0
 held labels (word.Prel31Ref _) = REFERENCE_MARK
-held labels _ = 0
 
 -- a number modulo 2^32 as a signed number
 abbrev pub signed : ℕ → ℤ
 signed n = if nat_lt n (2 ^ 31) then pos n else negsuc (0xffffffff - n)
 
 -- what the linker puts into a field: the relocation's kind (Arm ELF, IHI 0044), the name and the addend
-pub record Linked : Type 0 where
-  pub kind : ℕ
-  pub name : List ℕ
-  pub addend : ℤ
-
-abbrev pub linked : ℕ → List ℕ → ℤ → Option Linked
+abbrev pub linked : ℕ → List ℕ → ℤ → Option Link
 linked kind name addend = Some (record { kind = kind; name = name; addend = addend })
 
 -- what the linker puts into a word, if anything
-abbrev pub link_of : Word → Option Linked
+abbrev pub link_of : Word → Option Link
 link_of (word.Num _) = None
 link_of (word.Diff _ _ _) = None
 link_of (word.Of name n) = linked R_ARM_ABS32 name (signed n)

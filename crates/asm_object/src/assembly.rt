@@ -1,151 +1,131 @@
 //! Statements to their object: refusals first, then sections, rows, symbols and relocations (docs/objects.md).
-ghost use Rattle.std.specs.Prelude.{◌≡◌, ◌⊎◌, MatchResult, IfOk, OnOk, option_map, None, Ok, Err};
+ghost use Rattle.std.specs.Prelude.{◌≡◌, ◌++◌, ◌⊎◌, MatchResult, IfOk, OnOk, option_map, None, Ok, Err};
 ghost use Rattle.asm_layout.specs.Faults.{fault_at, out_of_memory, first_of_all};
-ghost use Rattle.asm_layout.specs.Walks.{start, pools_from};
 ghost use Rattle.asm_layout.specs.Labels.{named_in};
+ghost use Rattle.asm_object.specs.Instructions.{instruction, coded};
 ghost use Rattle.asm_object.specs.Refusals.{refusal};
-ghost use Rattle.asm_object.specs.Pieces.{word_place, pieces_from, rows_from};
-ghost use Rattle.asm_object.specs.Objects.{refusals_from, object_of};
-ghost use Rattle.asm_object.specs.Built.{first_place, places_behind, with_word, with_pieces, no_sections, object_built};
+ghost use Rattle.asm_object.specs.Pieces.{pool_pieces, pieces_at, pieces_of, put_rows, rows_of};
+ghost use Rattle.asm_object.specs.Objects.{refusals_at, refusals_of, object_of};
+ghost use Rattle.asm_object.specs.Built.{with_pieces, no_sections, object_built};
 
+use crate::code::{Coded, coded};
 use crate::object::{IndexRows, Object};
 use crate::part::Part;
-use crate::parts::{Marked, Sections, Stand, push_row};
+use crate::parts::{Marked, Sections, push_row};
 use crate::refusal::refusal;
 use crate::symbols::{relocs, symbols};
 use asm_layout::fault::{AsmFault, first_of};
 use asm_layout::frames::functions_of;
-use asm_layout::labels::{Labels, Layout, layout_of};
-use asm_layout::place::{Place, Section};
-use asm_layout::walk::Walk;
-use asm_layout::word::{low_part, word_of};
-use asm_read::{Stmt, StmtKind};
+use asm_layout::labels::Labels;
+use asm_layout::layout::{Layout, layout_of};
+use asm_layout::placed::{PlacedPool, PlacedStmt};
+use asm_layout::word::low_part;
+use asm_read::Stmt;
 use asm_unwind::EntryWords;
 use std::alloc::{AllocError, Global};
 
-/// The place of a statement's pool word, where the pools to come stand at these places: 0 for a statement without one.
-/// The word is in the pool then.
-fn pool_word(
-    alloc: Global,
-    walk: &mut Walk,
-    pools: &[u64],
-    kind: &StmtKind,
-) -> Result<u64, AllocError>
-    ensures place { IfOk result (λ place. place ≡ word_place walk.old kind.now (first_place pools.now)) }
-    ensures walk { OnOk result (walk.new ≡ with_word walk.old kind.now) }
-{
-    match kind {
-        StmtKind::LdrPool { value, .. } => {
-            if walk.at.section != Section::Text {
-                return Ok(0);
-            }
-            let index = walk.pool.put(word_of(alloc, value)?)?;
-            Ok(first_place(pools).saturating_add((index as u64).saturating_mul(4)))
-        }
-        _ => Ok(0),
-    }
+/// What statements give so far: the first refusal, and where there is none their sections and rows.
+#[derive(Drop)]
+struct Gathered {
+    first: Option<AsmFault>,
+    sections: Sections,
+    rows: IndexRows,
 }
 
-/// The first of some places, 0 without one.
-fn first_place(places: &[u64]) -> u64
-    ensures { result ≡ first_place places.now }
+/// Why a statement is refused at its place, if it is, where `code` is what the encoder says.
+fn refusal_at(labels: &Labels, placed: &PlacedStmt<'_>, code: &Coded) -> Option<AsmFault>
+    requires { code.now ≡ coded (instruction (named_in labels.now) placed.now.stmt.kind placed.now.at.offset placed.now.word) }
+    ensures { result ≡ option_map (fault_at placed.now.stmt.line) (refusal (named_in labels.now) placed.now.stmt.kind placed.now.at.section placed.now.at.offset placed.now.word) }
 {
-    match places {
-        [place, ..] => *place,
-        [] => 0,
-    }
-}
-
-/// The places of the pools behind a statement, which may end the first one.
-fn places_behind(places: &[u64], ends: bool) -> &[u64]
-    ensures { result.now ≡ places_behind places.now ends }
-{
-    match places {
-        [_, more @ ..] if ends => more,
-        _ => places,
-    }
-}
-
-/// Why a statement is refused at a place, if it is, where `word` is the place of its pool word.
-fn refusal_at(labels: &Labels, stmt: &Stmt, at: Place, word: u64) -> Option<AsmFault>
-    ensures { result ≡ option_map (fault_at stmt.now.line) (refusal (named_in labels.now) stmt.now.kind at.section at.offset word) }
-{
-    match refusal(labels, &stmt.kind, at.section, at.offset, word) {
+    match refusal(labels, &placed.stmt.kind, placed.at, placed.word, code) {
         Some(what) => Some(AsmFault {
-            line: stmt.line,
+            line: placed.stmt.line,
             what,
         }),
         None => None,
     }
 }
 
-/// The first refusal of statements at their places.
-#[tactic(auto, unfolding(crate::specs::Objects::refusals_from, asm_layout::specs::Faults::first_of_all))]
-fn refusals_of(
-    alloc: Global,
-    stmts: &[Stmt],
-    layout: &Layout,
-    entries: &[Option<EntryWords>],
-) -> Result<Option<AsmFault>, AllocError>
-    requires { layout.now.pools ≡ pools_from entries.now start stmts.now }
-    ensures { IfOk result (λ first. first ≡ first_of_all None (refusals_from entries.now (named_in layout.now.labels) start stmts.now)) }
-{
-    let mut first = None;
-    let mut walk = Walk::new(alloc);
-    let mut pools = layout.pools.as_slice();
-    for stmt in stmts {
-        let word = pool_word(alloc, &mut walk, pools, &stmt.kind)?;
-        first = first_of(
-            first,
-            refusal_at(&layout.labels, stmt, walk.at.here(), word),
-        );
-        pools = places_behind(pools, walk.ends_pool(&stmt.kind));
-        walk.advance(alloc, stmt, entries)?;
+impl Gathered {
+    /// Adds what a statement gives, where `code` is what the encoder says.
+    fn add(
+        &mut self,
+        alloc: Global,
+        labels: &Labels,
+        entries: &[Option<EntryWords>],
+        placed: PlacedStmt<'_>,
+        code: Coded,
+    ) -> Result<(), AllocError>
+        requires { code ≡ coded (instruction (named_in labels.now) placed.stmt.kind placed.at.offset placed.word) }
+        ensures first { OnOk result (self.new.first ≡ self.old.first) }
+        ensures sections { OnOk result (self.new.sections ≡ with_pieces self.old.sections (pieces_at entries.now (named_in labels.now) placed.entry)) }
+        ensures rows { OnOk result (self.new.rows ≡ self.old.rows ++ put_rows entries.now placed.entry.puts) }
+    {
+        let PlacedStmt { stmt, at, puts, .. } = placed;
+        push_row(&mut self.rows, entries, &puts)?;
+        self.sections
+            .push_set(labels, entries, at, &stmt.kind, puts)?;
+        self.sections.push_own(alloc, labels, at, &stmt.kind, code)
     }
-    Ok(first)
+
+    /// Takes a statement. Behind a refusal only refusals count.
+    fn take(
+        &mut self,
+        alloc: Global,
+        labels: &Labels,
+        entries: &[Option<EntryWords>],
+        placed: PlacedStmt<'_>,
+    ) -> Result<(), AllocError>
+        ensures first { OnOk result (self.new.first ≡ first_of_all self.old.first (refusals_at (named_in labels.now) placed.entry)) }
+        ensures sections { OnOk result (self.new.first ≡ None → self.new.sections ≡ with_pieces self.old.sections (pieces_at entries.now (named_in labels.now) placed.entry)) }
+        ensures rows { OnOk result (self.new.first ≡ None → self.new.rows ≡ self.old.rows ++ put_rows entries.now placed.entry.puts) }
+    {
+        let code = coded(labels, &placed.stmt.kind, placed.at.offset, placed.word);
+        self.first = first_of(self.first, refusal_at(labels, &placed, &code));
+        if self.first.is_some() {
+            return Ok(());
+        }
+        self.add(alloc, labels, entries, placed, code)
+    }
+
+    /// Adds the pool at the end of the text.
+    fn end(&mut self, labels: &Labels, last: PlacedPool) -> Result<(), AllocError>
+        ensures first { OnOk result (self.new.first ≡ self.old.first) }
+        ensures sections { OnOk result (self.new.first ≡ None → self.new.sections ≡ with_pieces self.old.sections (pool_pieces (named_in labels.now) last)) }
+        ensures rows { OnOk result (self.new.rows ≡ self.old.rows) }
+    {
+        if self.first.is_none() {
+            self.sections.push_pool(labels, last)?;
+        }
+        Ok(())
+    }
 }
 
-/// The sections of statements by their layout.
-#[tactic(auto, unfolding(crate::specs::Pieces::pieces_from))]
-fn sections_of(
+/// What statements where they stand give, and the pool at the end of the text, behind a first refusal that may be.
+#[tactic(auto, unfolding(crate::specs::Pieces::pieces_of, asm_layout::specs::Faults::first_of_all))]
+fn gather(
     alloc: Global,
-    stmts: &[Stmt],
-    layout: &Layout,
+    labels: &Labels,
     entries: &[Option<EntryWords>],
-) -> Result<Sections, AllocError>
-    requires { layout.now.pools ≡ pools_from entries.now start stmts.now }
-    ensures { IfOk result (λ sections. sections ≡ with_pieces no_sections (pieces_from entries.now (named_in layout.now.labels) start stmts.now)) }
+    first: Option<AsmFault>,
+    placed: Vec<PlacedStmt<'_>>,
+    last: PlacedPool,
+) -> Result<Gathered, AllocError>
+    ensures first { IfOk result (λ gathered. gathered.first ≡ first_of_all first (refusals_of (named_in labels.now) placed.entry.items)) }
+    ensures sections { IfOk result (λ gathered. gathered.first ≡ None
+        → gathered.sections ≡ with_pieces no_sections (pieces_of entries.now (named_in labels.now) placed.entry.items last)) }
+    ensures rows { IfOk result (λ gathered. gathered.first ≡ None → gathered.rows ≡ rows_of entries.now placed.entry.items) }
 {
-    let mut sections = Sections::new(alloc);
-    let mut walk = Walk::new(alloc);
-    let mut pools = layout.pools.as_slice();
-    for stmt in stmts {
-        let word = pool_word(alloc, &mut walk, pools, &stmt.kind)?;
-        let stand = Stand { walk: &walk, word };
-        sections.push(alloc, &layout.labels, entries, stand, &stmt.kind)?;
-        pools = places_behind(pools, walk.ends_pool(&stmt.kind));
-        walk.advance(alloc, stmt, entries)?;
+    let mut gathered = Gathered {
+        first,
+        sections: Sections::new(alloc),
+        rows: IndexRows::new(alloc),
+    };
+    for one in placed {
+        gathered.take(alloc, labels, entries, one)?;
     }
-    sections.push_pool(alloc, &layout.labels, &walk)?;
-    Ok(sections)
-}
-
-/// The rows of the functions of statements.
-#[tactic(auto, unfolding(crate::specs::Pieces::rows_from))]
-fn rows_of(
-    alloc: Global,
-    stmts: &[Stmt],
-    entries: &[Option<EntryWords>],
-) -> Result<IndexRows, AllocError>
-    ensures { IfOk result (λ rows. rows ≡ rows_from entries.now start stmts.now) }
-{
-    let mut rows = IndexRows::new(alloc);
-    let mut walk = Walk::new(alloc);
-    for stmt in stmts {
-        push_row(&mut rows, entries, &walk, &stmt.kind)?;
-        walk.advance(alloc, stmt, entries)?;
-    }
-    Ok(rows)
+    gathered.end(labels, last)?;
+    Ok(gathered)
 }
 
 /// The object of sections, rows and labels, with `bss` bytes that begin as zeros.
@@ -207,21 +187,22 @@ pub fn assemble(alloc: Global, stmts: &[Stmt]) -> Result<Object, AsmFault>
 {
     let functions = functions_of(alloc, stmts)?;
     let entries = functions.entries.as_slice();
-    let layout = layout_of(alloc, stmts, entries)?;
-    let refused = refusals_of(alloc, stmts, &layout, entries)?;
-    let first = first_of(
-        first_of(
-            first_of(functions.first, layout.duplicate),
-            layout.too_large,
-        ),
-        refused,
-    );
+    let Layout {
+        placed,
+        last,
+        labels,
+        bss,
+        duplicate,
+        too_large,
+    } = layout_of(alloc, stmts, entries)?;
+    let first = first_of(first_of(functions.first, duplicate), too_large);
+    let Gathered {
+        first,
+        sections,
+        rows,
+    } = gather(alloc, &labels, entries, first, placed, last)?;
     match first {
         Some(fault) => Err(fault),
-        None => {
-            let sections = sections_of(alloc, stmts, &layout, entries)?;
-            let rows = rows_of(alloc, stmts, entries)?;
-            Ok(object(alloc, sections, rows, layout.labels, layout.bss)?)
-        }
+        None => Ok(object(alloc, sections, rows, labels, bss)?),
     }
 }

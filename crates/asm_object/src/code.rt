@@ -1,15 +1,20 @@
 //! The instructions of statements, and where their labels lead (docs/objects.md; DDI 0419).
-ghost use Rattle.std.specs.Prelude.{◌≡◌};
+ghost use Rattle.std.specs.Prelude.{◌≡◌, IfOk};
 ghost use Rattle.asm_layout.specs.Labels.{named_in};
-ghost use Rattle.asm_object.specs.Links.{linked_now};
-ghost use Rattle.asm_object.specs.Instructions.{unsigned, offset, compare, add_eight, add_three, plain, pc, base, between, text_place, branch, literal, label_literal, instruction, branch_link};
+ghost use Rattle.asm_layout.specs.Sorts.{unsigned, offset, compare, add_eight, add_three};
+ghost use Rattle.asm_object.specs.Instructions.{pc, base, between, text_place, branch, literal, literal_to, label_literal, instruction, coded, branch_link};
 
 use crate::relocation::{R_ARM_THM_CALL, R_ARM_THM_JUMP8, R_ARM_THM_JUMP11};
 use crate::value::Link;
 use asm_layout::labels::Labels;
 use asm_layout::place::{Place, Section};
+use asm_layout::word::copied;
+use asm_layout::{bare_form, data_form, name_form, nameless_form, reader_form};
 use asm_read::StmtKind;
 use eh_word::Name;
+use std::alloc::{AllocError, Global};
+use thumb_encode::code::{Code, EncodeFault};
+use thumb_encode::encode::encode;
 use thumb_isa::instr::Instr;
 
 /// A number as a field without sign takes it; one too large for every field where it is none of 32 bits.
@@ -26,9 +31,120 @@ fn offset(n: i64) -> i32
     i32::try_from(n).unwrap_or(i32::MAX)
 }
 
-/// The instruction of a statement without a name; None for one with a name or a pool word, for `udf` and for directives.
-pub fn plain(kind: &StmtKind) -> Option<Instr>
-    ensures { result ≡ plain kind.now }
+/// `cmp` of two registers: the form of low registers where both are.
+fn compare(n: u8, m: u8) -> Instr
+    ensures { result ≡ compare n m }
+{
+    if n < 8 && m < 8 {
+        Instr::Alu { op: 10, d: n, m }
+    } else {
+        Instr::CmpHigh { n, m }
+    }
+}
+
+/// `adds` and `subs` with eight bits.
+fn add_eight(sub: bool, d: u8, imm: i64) -> Instr
+    ensures { result ≡ add_eight sub d imm }
+{
+    Instr::Imm8 {
+        op: if sub { 3 } else { 2 },
+        d,
+        imm: unsigned(imm),
+    }
+}
+
+/// `adds` and `subs` of three operands: with three bits up to 7, and with eight where both registers are one.
+fn add_three(sub: bool, d: u8, n: u8, imm: i64) -> Instr
+    ensures { result ≡ add_three sub d n imm }
+{
+    if imm > 7 && d == n {
+        add_eight(sub, d, imm)
+    } else {
+        Instr::AddSubImm3 {
+            sub,
+            d,
+            n,
+            imm: unsigned(imm),
+        }
+    }
+}
+
+/// The difference of two places as an offset's field takes it.
+fn between(to: u64, from: u64) -> i32
+    ensures { result ≡ between to from }
+{
+    i32::try_from(i128::from(to) - i128::from(from)).unwrap_or(i32::MAX)
+}
+
+/// Where an instruction at a place finds its pc.
+fn pc(place: u64) -> u64
+    ensures { result ≡ pc place }
+{
+    place.saturating_add(4)
+}
+
+/// The pc rounded down to a multiple of 4.
+pub fn base(place: u64) -> u64
+    ensures { result ≡ base place }
+{
+    pc(place) / 4 * 4
+}
+
+/// The place of a label in the text.
+pub fn text_place(labels: &Labels, name: &Name) -> Option<u64>
+    ensures { result ≡ text_place (named_in labels.now) name.now }
+{
+    match labels.place_of(name) {
+        Some(
+            Place {
+                section: Section::Text,
+                offset,
+            },
+        ) => Some(offset),
+        _ => None,
+    }
+}
+
+/// The offset of a branch at a place: to a label in the text, else -4, which the linker fills.
+fn branch(labels: &Labels, name: &Name, place: u64) -> i32
+    ensures { result ≡ branch (named_in labels.now) name.now place }
+{
+    match text_place(labels, name) {
+        Some(to) => between(to, pc(place)),
+        None => -4,
+    }
+}
+
+/// The offset of a literal at a place.
+fn literal(to: u64, place: u64) -> i32
+    ensures { result ≡ literal to place }
+{
+    between(to, base(place))
+}
+
+/// The offset of a label in the text from the base of a place; 0 without one.
+fn label_literal(labels: &Labels, name: &Name, place: u64) -> i32
+    ensures { result ≡ label_literal (named_in labels.now) name.now place }
+{
+    match text_place(labels, name) {
+        Some(to) => literal(to, place),
+        None => 0,
+    }
+}
+
+/// The offset from a place to a pool word; 0 without one.
+fn word_literal(word: Option<u64>, place: u64) -> i32
+    ensures { result ≡ literal_to word place }
+{
+    match word {
+        Some(to) => literal(to, place),
+        None => 0,
+    }
+}
+
+/// The instruction of a statement at a place, where `word` is the place of its pool word; None for `udf` and directives.
+fn instruction(labels: &Labels, kind: &StmtKind, place: u64, word: Option<u64>) -> Option<Instr>
+    ensures { result ≡ instruction (named_in labels.now) kind.now place word }
 {
     Some(match kind {
         StmtKind::MovsImm { d, imm } => Instr::Imm8 {
@@ -122,158 +238,74 @@ pub fn plain(kind: &StmtKind) -> Option<Instr>
             op: *op,
             option: 15,
         },
-        _ => return None,
+        StmtKind::Adr { d, name } => Instr::Adr {
+            d: *d,
+            off: label_literal(labels, name, place),
+        },
+        StmtKind::LdrLabel { t, name } => Instr::LdrLit {
+            t: *t,
+            off: label_literal(labels, name, place),
+        },
+        StmtKind::LdrPool { t, .. } => Instr::LdrLit {
+            t: *t,
+            off: word_literal(word, place),
+        },
+        StmtKind::B(name) => Instr::B {
+            off: branch(labels, name, place),
+        },
+        StmtKind::BCond { cond, name } => Instr::BCond {
+            cond: *cond,
+            off: branch(labels, name, place),
+        },
+        StmtKind::Bl(name) => Instr::Bl {
+            off: branch(labels, name, place),
+        },
+        StmtKind::Udf { .. } | data_form!() | StmtKind::Align(_) | name_form!() | bare_form!() => {
+            return None;
+        }
     })
 }
 
-/// `cmp` of two registers: the form of low registers where both are.
-fn compare(n: u8, m: u8) -> Instr
-    ensures { result ≡ compare n m }
-{
-    if n < 8 && m < 8 {
-        Instr::Alu { op: 10, d: n, m }
-    } else {
-        Instr::CmpHigh { n, m }
-    }
-}
+/// What the encoder says of an instruction: its code, or why it has none; None where there is no instruction.
+pub type Coded = Option<Result<Code, EncodeFault>>;
 
-/// `adds` and `subs` with eight bits.
-fn add_eight(sub: bool, d: u8, imm: i64) -> Instr
-    ensures { result ≡ add_eight sub d imm }
+/// What the encoder says of a statement at a place, where `word` is the place of its pool word.
+pub fn coded(labels: &Labels, kind: &StmtKind, place: u64, word: Option<u64>) -> Coded
+    ensures { result ≡ coded (instruction (named_in labels.now) kind.now place word) }
 {
-    Instr::Imm8 {
-        op: if sub { 3 } else { 2 },
-        d,
-        imm: unsigned(imm),
-    }
-}
-
-/// `adds` and `subs` of three operands: with three bits up to 7, and with eight where both registers are one.
-fn add_three(sub: bool, d: u8, n: u8, imm: i64) -> Instr
-    ensures { result ≡ add_three sub d n imm }
-{
-    if imm > 7 && d == n {
-        add_eight(sub, d, imm)
-    } else {
-        Instr::AddSubImm3 {
-            sub,
-            d,
-            n,
-            imm: unsigned(imm),
-        }
-    }
-}
-
-/// The difference of two places as an offset's field takes it.
-fn between(to: u64, from: u64) -> i32
-    ensures { result ≡ between to from }
-{
-    i32::try_from(i128::from(to) - i128::from(from)).unwrap_or(i32::MAX)
-}
-
-/// Where an instruction at a place finds its pc.
-fn pc(place: u64) -> u64
-    ensures { result ≡ pc place }
-{
-    place.saturating_add(4)
-}
-
-/// The pc rounded down to a multiple of 4.
-pub fn base(place: u64) -> u64
-    ensures { result ≡ base place }
-{
-    pc(place) / 4 * 4
-}
-
-/// The place of a label in the text.
-pub fn text_place(labels: &Labels, name: &Name) -> Option<u64>
-    ensures { result ≡ text_place (named_in labels.now) name.now }
-{
-    match labels.place_of(name) {
-        Some(
-            Place {
-                section: Section::Text,
-                offset,
-            },
-        ) => Some(offset),
-        _ => None,
-    }
-}
-
-/// The offset of a branch at a place: to a label in the text, else -4, which the linker fills.
-fn branch(labels: &Labels, name: &Name, place: u64) -> i32
-    ensures { result ≡ branch (named_in labels.now) name.now place }
-{
-    match text_place(labels, name) {
-        Some(to) => between(to, pc(place)),
-        None => -4,
-    }
-}
-
-/// The offset of a literal at a place.
-pub fn literal(to: u64, place: u64) -> i32
-    ensures { result ≡ literal to place }
-{
-    between(to, base(place))
-}
-
-/// The offset of a label in the text from the base of a place; 0 without one.
-fn label_literal(labels: &Labels, name: &Name, place: u64) -> i32
-    ensures { result ≡ label_literal (named_in labels.now) name.now place }
-{
-    match text_place(labels, name) {
-        Some(to) => literal(to, place),
-        None => 0,
-    }
-}
-
-/// The instruction of a statement at a place, where `word` is the place of its pool word; None for `udf` and directives.
-pub fn instruction(labels: &Labels, kind: &StmtKind, place: u64, word: u64) -> Option<Instr>
-    ensures { result ≡ instruction (named_in labels.now) kind.now place word }
-{
-    match kind {
-        StmtKind::Adr { d, name } => Some(Instr::Adr {
-            d: *d,
-            off: label_literal(labels, name, place),
-        }),
-        StmtKind::LdrLabel { t, name } => Some(Instr::LdrLit {
-            t: *t,
-            off: label_literal(labels, name, place),
-        }),
-        StmtKind::LdrPool { t, .. } => Some(Instr::LdrLit {
-            t: *t,
-            off: literal(word, place),
-        }),
-        StmtKind::B(name) => Some(Instr::B {
-            off: branch(labels, name, place),
-        }),
-        StmtKind::BCond { cond, name } => Some(Instr::BCond {
-            cond: *cond,
-            off: branch(labels, name, place),
-        }),
-        StmtKind::Bl(name) => Some(Instr::Bl {
-            off: branch(labels, name, place),
-        }),
-        _ => plain(kind),
+    match instruction(labels, kind, place, word) {
+        Some(i) => Some(encode(&i)),
+        None => None,
     }
 }
 
 /// What the linker puts into a branch, if anything: the kinds of `bl`, `b` and `b` with a condition (Arm ELF, IHI 0044).
-pub fn branch_link<'a>(labels: &Labels, kind: &'a StmtKind) -> Option<Link<'a>>
-    ensures { linked_now result ≡ branch_link (named_in labels.now) kind.now }
+pub fn branch_link(
+    alloc: Global,
+    labels: &Labels,
+    kind: &StmtKind,
+) -> Result<Option<Link>, AllocError>
+    ensures { IfOk result (λ link. link ≡ branch_link (named_in labels.now) kind.now) }
 {
     let (kind, name) = match kind {
         StmtKind::Bl(name) => (R_ARM_THM_CALL, name),
         StmtKind::B(name) => (R_ARM_THM_JUMP11, name),
         StmtKind::BCond { name, .. } => (R_ARM_THM_JUMP8, name),
-        _ => return None,
+        nameless_form!()
+        | reader_form!()
+        | StmtKind::Udf { .. }
+        | StmtKind::Barrier { .. }
+        | data_form!()
+        | StmtKind::Align(_)
+        | name_form!()
+        | bare_form!() => return Ok(None),
     };
     if text_place(labels, name).is_some() {
-        return None;
+        return Ok(None);
     }
-    Some(Link {
+    Ok(Some(Link {
         kind,
-        name,
+        name: copied(alloc, name)?,
         addend: -4,
-    })
+    }))
 }

@@ -4,39 +4,31 @@ ghost use Rattle.asm_layout.specs.Labels.{named_in};
 ghost use Rattle.asm_layout.specs.Words.{word_of};
 ghost use Rattle.asm_object.specs.Bytes.{byte_bytes, half_bytes, word_bytes};
 ghost use Rattle.asm_object.specs.Values.{held, low_or_zero, link_of, number};
-ghost use Rattle.asm_object.specs.Links.{linked_now};
 ghost use Rattle.asm_object.specs.Instructions.{branch_link};
-ghost use Rattle.asm_object.specs.Pieces.{relocs_of, word_relocs, words_bytes, udf_half, instruction_bytes, data_bytes, data_relocs};
+ghost use Rattle.asm_object.specs.Pieces.{relocs_of, word_relocs, words_bytes, udf_half, code_bytes_of, data_bytes, data_relocs};
 ghost use Rattle.asm_object.specs.Built.{part_with, no_part};
 
 use crate::bytes::{push_byte, push_code, push_half};
-use crate::code::{branch_link, instruction};
+use crate::code::{Coded, branch_link};
 use crate::object::{Octets, Reloc, Relocs};
 use crate::value::{Link, held, link_of, number};
 use asm_layout::labels::Labels;
 use asm_layout::place::{Place, Section};
-use asm_layout::walk::Pool;
-use asm_layout::word::{Word, copied, low_number, low_part, word_of};
+use asm_layout::word::{Word, Words, low_number, low_part, word_of};
+use asm_layout::{bare_form, branch_form, data_form, name_form, nameless_form, reader_form};
 use asm_read::{Expr, StmtKind};
 use std::alloc::{AllocError, Global};
-use thumb_encode::encode::encode;
 
 /// Adds what the linker fills at a place, if anything.
-fn push_link(
-    alloc: Global,
-    relocs: &mut Relocs,
-    at: Place,
-    link: Option<Link<'_>>,
-) -> Result<(), AllocError>
-    ensures { OnOk result (relocs.new ≡ relocs.old ++ relocs_of at (linked_now link.entry)) }
+fn push_link(relocs: &mut Relocs, at: Place, link: Option<Link>) -> Result<(), AllocError>
+    ensures { OnOk result (relocs.new ≡ relocs.old ++ relocs_of at link) }
 {
     if let Some(link) = link {
-        let name = copied(alloc, link.name)?;
         relocs.push(Reloc {
             section: at.section,
             offset: low_part(at.offset),
             kind: link.kind,
-            name,
+            name: link.name,
             addend: link.addend,
         })?;
     }
@@ -69,7 +61,14 @@ fn udf_half(kind: &StmtKind) -> Option<u32>
 {
     match kind {
         StmtKind::Udf { imm } => Some(0xde00 + u32::from(u8::try_from(*imm).unwrap_or(0))),
-        _ => None,
+        nameless_form!()
+        | reader_form!()
+        | branch_form!()
+        | StmtKind::Barrier { .. }
+        | data_form!()
+        | StmtKind::Align(_)
+        | name_form!()
+        | bare_form!() => None,
     }
 }
 
@@ -92,17 +91,11 @@ impl Part {
     }
 
     /// Adds a word at a place.
-    fn push_word(
-        &mut self,
-        alloc: Global,
-        labels: &Labels,
-        at: Place,
-        word: &Word,
-    ) -> Result<(), AllocError>
-        ensures { OnOk result (self.new ≡ part_with self.old (word_bytes (held (named_in labels.now) word.now)) (relocs_of at (link_of word.now))) }
+    fn push_word(&mut self, labels: &Labels, at: Place, word: Word) -> Result<(), AllocError>
+        ensures { OnOk result (self.new ≡ part_with self.old (word_bytes (held (named_in labels.now) word)) (relocs_of at (link_of word))) }
     {
-        self.bytes.push_word(held(labels, word))?;
-        push_link(alloc, &mut self.relocs, at, link_of(word))
+        self.bytes.push_word(held(labels, &word))?;
+        push_link(&mut self.relocs, at, link_of(word))
     }
 
     /// Adds the words of a list from a place on.
@@ -123,7 +116,7 @@ impl Part {
                 section: at.section,
                 offset,
             };
-            self.push_word(alloc, labels, place, &word)?;
+            self.push_word(labels, place, word)?;
             offset = offset.saturating_add(4);
         }
         Ok(())
@@ -131,24 +124,16 @@ impl Part {
 
     /// Adds the words of a pool from a place of the text on.
     #[tactic(auto, unfolding(crate::specs::Pieces::word_relocs))]
-    pub fn push_pool(
-        &mut self,
-        alloc: Global,
-        labels: &Labels,
-        from: u64,
-        pool: &Pool,
-    ) -> Result<(), AllocError>
-        ensures { OnOk result (self.new ≡ part_with self.old (words_bytes (named_in labels.now) pool.now) (word_relocs Section.Text from pool.now)) }
+    pub fn push_pool(&mut self, labels: &Labels, from: u64, words: Words) -> Result<(), AllocError>
+        ensures { OnOk result (self.new ≡ part_with self.old (words_bytes (named_in labels.now) words) (word_relocs Section.Text from words)) }
     {
         let mut offset = from;
-        for i in 0..pool.len() {
-            if let Some(word) = pool.get(i) {
-                let place = Place {
-                    section: Section::Text,
-                    offset,
-                };
-                self.push_word(alloc, labels, place, word)?;
-            }
+        for word in words.into_vec() {
+            let place = Place {
+                section: Section::Text,
+                offset,
+            };
+            self.push_word(labels, place, word)?;
             offset = offset.saturating_add(4);
         }
         Ok(())
@@ -174,29 +159,35 @@ impl Part {
                 self.bytes.push(0)
             }
             StmtKind::Space(n) => self.bytes.push_zeros(usize::try_from(*n).unwrap_or(0)),
-            _ => Ok(()),
+            nameless_form!()
+            | reader_form!()
+            | branch_form!()
+            | StmtKind::Udf { .. }
+            | StmtKind::Barrier { .. }
+            | StmtKind::Align(_)
+            | name_form!()
+            | bare_form!() => Ok(()),
         }
     }
 
-    /// Adds the bytes of an instruction at a place, where `word` is the place of its pool word.
+    /// Adds the bytes of an instruction at a place, where `code` is what the encoder says.
     pub fn push_instruction(
         &mut self,
         alloc: Global,
         labels: &Labels,
         at: Place,
-        word: u64,
         kind: &StmtKind,
+        code: Coded,
     ) -> Result<(), AllocError>
-        ensures { OnOk result (self.new ≡ part_with self.old (instruction_bytes (named_in labels.now) kind.now at.offset word) (relocs_of at (branch_link (named_in labels.now) kind.now))) }
+        ensures { OnOk result (self.new ≡ part_with self.old (code_bytes_of kind.now code) (relocs_of at (branch_link (named_in labels.now) kind.now))) }
     {
         if let Some(half) = udf_half(kind) {
             push_half(&mut self.bytes, half)?;
         }
-        if let Some(i) = instruction(labels, kind, at.offset, word) {
-            if let Ok(code) = encode(&i) {
-                push_code(&mut self.bytes, code)?;
-            }
+        match code {
+            Some(Ok(code)) => push_code(&mut self.bytes, code)?,
+            Some(Err(_)) | None => {}
         }
-        push_link(alloc, &mut self.relocs, at, branch_link(labels, kind))
+        push_link(&mut self.relocs, at, branch_link(alloc, labels, kind)?)
     }
 }

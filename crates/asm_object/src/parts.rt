@@ -3,16 +3,19 @@ ghost use Rattle.std.specs.Prelude.{◌≡◌, ◌<◌, ◌++◌, ◌∷◌, [],
 ghost use Rattle.asm_layout.specs.Labels.{named_in};
 ghost use Rattle.eh_list.specs.Bytes.{gap};
 ghost use Rattle.asm_object.specs.Bytes.{word_bytes};
-ghost use Rattle.asm_object.specs.Pieces.{place_at, words_piece, filling_piece, pool_pieces, table_pieces, instruction_piece, data_piece, set_pieces, own_piece, pieces_at, row_entry, row_of, new_rows};
+ghost use Rattle.asm_object.specs.Pieces.{place_at, words_piece, filling_piece, pool_pieces, table_pieces, code_piece, data_piece, put_pieces, set_pieces, own_piece_by, row_entry, row_of, put_rows};
 ghost use Rattle.asm_object.specs.Built.{marked, text_with, with_piece, with_pieces, no_sections};
 
 use crate::bytes::push_filling;
+use crate::code::Coded;
 use crate::object::{IndexRow, IndexRows, Mark, Marks, Octets, RowEntry};
 use crate::part::Part;
 use asm_layout::labels::Labels;
 use asm_layout::place::{Place, Section};
-use asm_layout::walk::{Pool, Walk, entry_at, is_instruction, multiple};
-use asm_layout::word::low_part;
+use asm_layout::placed::{PlacedFunction, PlacedPool, Puts};
+use asm_layout::walk::{entry_at, is_instruction, multiple};
+use asm_layout::word::{Words, low_part};
+use asm_layout::{bare_form, branch_form, data_form, name_form, nameless_form, reader_form};
 use asm_read::StmtKind;
 use asm_unwind::EntryWords;
 use eh_list::bytes::gap;
@@ -67,13 +70,13 @@ impl Marked {
         alloc: Global,
         labels: &Labels,
         at: Place,
-        word: u64,
         kind: &StmtKind,
+        code: Coded,
     ) -> Result<(), AllocError>
-        ensures { OnOk result (self.new ≡ text_with self.old (instruction_piece (named_in labels.now) kind.now at word)) }
+        ensures { OnOk result (self.new ≡ text_with self.old (code_piece (named_in labels.now) kind.now at code)) }
     {
         let before = self.part.bytes.len();
-        self.part.push_instruction(alloc, labels, at, word, kind)?;
+        self.part.push_instruction(alloc, labels, at, kind, code)?;
         self.mark(before, at.offset, true)
     }
 
@@ -88,26 +91,13 @@ impl Marked {
     }
 
     /// Adds the words of a pool.
-    fn push_pool(
-        &mut self,
-        alloc: Global,
-        labels: &Labels,
-        from: u64,
-        pool: &Pool,
-    ) -> Result<(), AllocError>
-        ensures { OnOk result (self.new ≡ text_with self.old (words_piece (named_in labels.now) (place_at Section.Text from) pool.now)) }
+    fn push_pool(&mut self, labels: &Labels, from: u64, words: Words) -> Result<(), AllocError>
+        ensures { OnOk result (self.new ≡ text_with self.old (words_piece (named_in labels.now) (place_at Section.Text from) words)) }
     {
         let before = self.part.bytes.len();
-        self.part.push_pool(alloc, labels, from, pool)?;
+        self.part.push_pool(labels, from, words)?;
         self.mark(before, from, false)
     }
-}
-
-/// Where a statement stands: the walk before it, and the place of its pool word, 0 without one.
-#[derive(Clone, Copy)]
-pub struct Stand<'a> {
-    pub walk: &'a Walk,
-    pub word: u64,
 }
 
 /// The sections of an object so far.
@@ -161,33 +151,33 @@ impl Sections {
         alloc: Global,
         labels: &Labels,
         at: Place,
-        word: u64,
         kind: &StmtKind,
+        code: Coded,
     ) -> Result<(), AllocError>
-        ensures { OnOk result (self.new ≡ with_piece self.old (instruction_piece (named_in labels.now) kind.now at word)) }
+        ensures { OnOk result (self.new ≡ with_piece self.old (code_piece (named_in labels.now) kind.now at code)) }
     {
         match at.section {
-            Section::Text => self.text.push_instruction(alloc, labels, at, word, kind),
-            Section::Rodata => self.rodata.push_instruction(alloc, labels, at, word, kind),
-            Section::Extab => self.extab.push_instruction(alloc, labels, at, word, kind),
-            Section::Init => self.init.push_instruction(alloc, labels, at, word, kind),
+            Section::Text => self.text.push_instruction(alloc, labels, at, kind, code),
+            Section::Rodata => self.rodata.push_instruction(alloc, labels, at, kind, code),
+            Section::Extab => self.extab.push_instruction(alloc, labels, at, kind, code),
+            Section::Init => self.init.push_instruction(alloc, labels, at, kind, code),
             Section::Bss => Ok(()),
         }
     }
 
-    /// Adds a statement's own bytes, where `word` is the place of its pool word.
-    fn push_own(
+    /// Adds a statement's own bytes, where `code` is what the encoder says.
+    pub fn push_own(
         &mut self,
         alloc: Global,
         labels: &Labels,
         at: Place,
-        word: u64,
         kind: &StmtKind,
+        code: Coded,
     ) -> Result<(), AllocError>
-        ensures { OnOk result (self.new ≡ with_piece self.old (own_piece (named_in labels.now) kind.now at word)) }
+        ensures { OnOk result (self.new ≡ with_piece self.old (own_piece_by (named_in labels.now) kind.now at code)) }
     {
         if is_instruction(kind) {
-            self.push_instruction(alloc, labels, at, word, kind)
+            self.push_instruction(alloc, labels, at, kind, code)
         } else {
             self.push_data(alloc, labels, at, kind)
         }
@@ -208,21 +198,17 @@ impl Sections {
         }
     }
 
-    /// Adds the pool that ends where the walk stands.
-    pub fn push_pool(
-        &mut self,
-        alloc: Global,
-        labels: &Labels,
-        walk: &Walk,
-    ) -> Result<(), AllocError>
-        ensures { OnOk result (self.new ≡ with_pieces self.old (pool_pieces (named_in labels.now) walk.now)) }
+    /// Adds a pool.
+    pub fn push_pool(&mut self, labels: &Labels, pool: PlacedPool) -> Result<(), AllocError>
+        ensures { OnOk result (self.new ≡ with_pieces self.old (pool_pieces (named_in labels.now) pool)) }
     {
-        if walk.pool.len() == 0 {
+        let PlacedPool { from, words } = pool;
+        if words.is_empty() {
             return Ok(());
         }
-        self.text.push_filling(walk.at.sizes.text, 4)?;
-        self.text
-            .push_pool(alloc, labels, walk.pool_place(), &walk.pool)
+        self.text.push_filling(from, 4)?;
+        let place = from.saturating_add(gap(from, 4));
+        self.text.push_pool(labels, place, words)
     }
 
     /// Adds the words of a function's table, at the next multiple of 4 behind a place of the exception tables.
@@ -234,54 +220,51 @@ impl Sections {
                 self.extab.bytes.push_zeros(gap(place, 4) as usize)?;
                 push_table_words(&mut self.extab.bytes, words.as_slice())
             }
-            _ => Ok(()),
+            EntryWords::CantUnwind | EntryWords::Inline(_) => Ok(()),
         }
     }
 
-    /// Adds what a statement fills, and the pool or table that stands where it does.
-    fn push_set(
+    /// Adds the pool or the table that a statement puts.
+    fn push_put(
         &mut self,
-        alloc: Global,
         labels: &Labels,
         entries: &[Option<EntryWords>],
-        walk: &Walk,
-        kind: &StmtKind,
+        puts: Puts,
     ) -> Result<(), AllocError>
-        ensures { OnOk result (self.new ≡ with_pieces self.old (set_pieces entries.now (named_in labels.now) walk.now kind.now)) }
+        ensures { OnOk result (self.new ≡ with_pieces self.old (put_pieces entries.now (named_in labels.now) puts)) }
+    {
+        match puts {
+            Puts::Pool(pool) => self.push_pool(labels, pool),
+            Puts::Function(function) => match entry_at(entries, function.number) {
+                Some(entry) => self.push_table(function.from, entry),
+                None => Ok(()),
+            },
+            Puts::Nothing => Ok(()),
+        }
+    }
+
+    /// Adds what a statement fills, and the pool or table that it puts.
+    pub fn push_set(
+        &mut self,
+        labels: &Labels,
+        entries: &[Option<EntryWords>],
+        at: Place,
+        kind: &StmtKind,
+        puts: Puts,
+    ) -> Result<(), AllocError>
+        ensures { OnOk result (self.new ≡ with_pieces self.old (set_pieces entries.now (named_in labels.now) kind.now at puts)) }
     {
         match kind {
-            StmtKind::Align(n) => self.push_filling(walk.at.here(), multiple(*n)),
-            StmtKind::Pool => {
-                if walk.at.section == Section::Text {
-                    self.push_pool(alloc, labels, walk)?;
-                }
-                Ok(())
-            }
-            StmtKind::FnStart => {
-                if !walk.at.inside {
-                    if let Some(entry) = entry_at(entries, walk.at.functions) {
-                        self.push_table(walk.at.sizes.extab, entry)?;
-                    }
-                }
-                Ok(())
-            }
-            _ => Ok(()),
+            StmtKind::Align(n) => self.push_filling(at, multiple(*n)),
+            nameless_form!()
+            | reader_form!()
+            | branch_form!()
+            | StmtKind::Udf { .. }
+            | StmtKind::Barrier { .. }
+            | data_form!()
+            | name_form!()
+            | bare_form!() => self.push_put(labels, entries, puts),
         }
-    }
-
-    /// Adds what a statement gives where it stands.
-    pub fn push(
-        &mut self,
-        alloc: Global,
-        labels: &Labels,
-        entries: &[Option<EntryWords>],
-        stand: Stand<'_>,
-        kind: &StmtKind,
-    ) -> Result<(), AllocError>
-        ensures { OnOk result (self.new ≡ with_pieces self.old (pieces_at entries.now (named_in labels.now) stand.entry.walk.now stand.entry.word kind.now)) }
-    {
-        self.push_set(alloc, labels, entries, stand.walk, kind)?;
-        self.push_own(alloc, labels, stand.walk.at.here(), stand.word, kind)
     }
 }
 
@@ -306,36 +289,32 @@ fn row_entry(entry: &EntryWords, table: u64) -> RowEntry
     }
 }
 
-/// Adds the row of a function that begins where the walk stands.
+/// Adds the row of the function that begins with a statement.
 pub fn push_row(
     rows: &mut IndexRows,
     entries: &[Option<EntryWords>],
-    walk: &Walk,
-    kind: &StmtKind,
+    puts: &Puts,
 ) -> Result<(), AllocError>
-    ensures { OnOk result (rows.new ≡ rows.old ++ new_rows entries.now walk.now kind.now) }
+    ensures { OnOk result (rows.new ≡ rows.old ++ put_rows entries.now puts.now) }
 {
-    match kind {
-        StmtKind::FnStart => {
-            if !walk.at.inside {
-                if let Some(entry) = entry_at(entries, walk.at.functions) {
-                    rows.push(row_of(walk, entry))?;
-                }
+    match puts {
+        Puts::Function(function) => {
+            if let Some(entry) = entry_at(entries, function.number) {
+                rows.push(row_of(*function, entry))?;
             }
             Ok(())
         }
-        _ => Ok(()),
+        Puts::Pool(_) | Puts::Nothing => Ok(()),
     }
 }
 
-/// The row of a function that begins where the walk stands.
-fn row_of(walk: &Walk, entry: &EntryWords) -> IndexRow
-    ensures { result ∷ [] ≡ row_of walk.now (Some entry.now) }
+/// The row of a function.
+fn row_of(function: PlacedFunction, entry: &EntryWords) -> IndexRow
+    ensures { result ∷ [] ≡ row_of function (Some entry.now) }
 {
-    let place = walk.at.sizes.extab;
-    let table = place.saturating_add(gap(place, 4));
+    let table = function.from.saturating_add(gap(function.from, 4));
     IndexRow {
-        offset: low_part(walk.at.sizes.text),
+        offset: low_part(function.start),
         entry: row_entry(entry, table),
     }
 }

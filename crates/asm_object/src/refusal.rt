@@ -2,20 +2,21 @@
 ghost use Rattle.std.specs.Prelude.{◌≡◌};
 ghost use Rattle.asm_layout.specs.Labels.{named_in};
 ghost use Rattle.asm_object.specs.Values.{number};
-ghost use Rattle.asm_object.specs.Refusals.{are_names_known, fits, fault_unless, encode_fault, is_pool_too_far, has_bytes, is_misplaced, refusal};
+ghost use Rattle.asm_object.specs.Instructions.{instruction, coded};
+ghost use Rattle.asm_object.specs.Refusals.{are_names_known, fits, fault_unless, coded_fault, encode_fault_by, is_pool_too_far, has_bytes, is_misplaced, refusal};
 
-use crate::code::{base, instruction, text_place};
+use crate::code::{Coded, base, text_place};
 use crate::value::{is_known, is_word_known, number};
 use asm_layout::fault::AsmWhat;
 use asm_layout::labels::Labels;
-use asm_layout::place::Section;
+use asm_layout::place::{Place, Section};
 use asm_layout::walk::is_instruction;
+use asm_layout::{bare_form, branch_form, name_form, nameless_form, reader_form};
 use asm_read::{Expr, StmtKind};
 use thumb_encode::code::EncodeFault;
-use thumb_encode::encode::encode;
 
 /// The most bytes from a `ldr` to its pool word.
-const MOST_TO_POOL: u64 = 1020;
+pub const MOST_TO_POOL: u64 = 1020;
 
 /// Whether the names of a statement may be used.
 fn are_names_known(labels: &Labels, kind: &StmtKind) -> bool
@@ -40,7 +41,14 @@ fn are_names_known(labels: &Labels, kind: &StmtKind) -> bool
                 .iter()
                 .all(|f| number(labels, f).is_some())
         }
-        _ => true,
+        nameless_form!()
+        | StmtKind::Barrier { .. }
+        | StmtKind::Udf { .. }
+        | StmtKind::Ascii(_)
+        | StmtKind::Asciz(_)
+        | StmtKind::Space(_)
+        | StmtKind::Align(_)
+        | bare_form!() => true,
     }
 }
 
@@ -62,9 +70,19 @@ fn fault_unless(holds: bool, fault: EncodeFault) -> Option<EncodeFault>
     if holds { None } else { Some(fault) }
 }
 
+/// Why an instruction has no code.
+fn coded_fault(code: &Coded) -> Option<EncodeFault>
+    ensures { result ≡ coded_fault code.now }
+{
+    match code {
+        Some(Err(fault)) => Some(*fault),
+        Some(Ok(_)) | None => None,
+    }
+}
+
 /// Why `encode` refuses the instruction of a statement, or a number doesn't fit.
-fn encode_fault(labels: &Labels, kind: &StmtKind, place: u64, word: u64) -> Option<EncodeFault>
-    ensures { result ≡ encode_fault (named_in labels.now) kind.now place word }
+fn encode_fault(labels: &Labels, kind: &StmtKind, code: &Coded) -> Option<EncodeFault>
+    ensures { result ≡ encode_fault_by (named_in labels.now) kind.now code.now }
 {
     match kind {
         StmtKind::Halves(fields) => fault_unless(
@@ -81,20 +99,28 @@ fn encode_fault(labels: &Labels, kind: &StmtKind, place: u64, word: u64) -> Opti
             EncodeFault::ImmediateRange,
         ),
         StmtKind::LdrPool { t, .. } => fault_unless(*t < 8, EncodeFault::RegisterRange),
-        _ => match instruction(labels, kind, place, word) {
-            Some(i) => encode(&i).err(),
-            None => None,
-        },
+        nameless_form!()
+        | StmtKind::Barrier { .. }
+        | StmtKind::Adr { .. }
+        | StmtKind::LdrLabel { .. }
+        | branch_form!() => coded_fault(code),
+        StmtKind::Words(_)
+        | StmtKind::Ascii(_)
+        | StmtKind::Asciz(_)
+        | StmtKind::Align(_)
+        | name_form!()
+        | bare_form!() => None,
     }
 }
 
-/// Whether a statement's pool word is too far from it.
-fn is_pool_too_far(kind: &StmtKind, section: Section, place: u64, word: u64) -> bool
-    ensures { result ≡ is_pool_too_far kind.now section place word }
+/// Whether a pool word is too far from the place of its `ldr`.
+fn is_pool_too_far(place: u64, word: Option<u64>) -> bool
+    ensures { result ≡ is_pool_too_far place word }
 {
-    matches!(kind, StmtKind::LdrPool { .. })
-        && section == Section::Text
-        && word.saturating_sub(base(place)) > MOST_TO_POOL
+    match word {
+        Some(word) => word.saturating_sub(base(place)) > MOST_TO_POOL,
+        None => false,
+    }
 }
 
 /// Whether a statement gives bytes of its own.
@@ -107,7 +133,15 @@ fn has_bytes(kind: &StmtKind) -> bool
             .is_empty(),
         StmtKind::Ascii(text) => !text.bytes().is_empty(),
         StmtKind::Asciz(_) => true,
-        _ => false,
+        nameless_form!()
+        | reader_form!()
+        | branch_form!()
+        | StmtKind::Udf { .. }
+        | StmtKind::Barrier { .. }
+        | StmtKind::Space(_)
+        | StmtKind::Align(_)
+        | name_form!()
+        | bare_form!() => false,
     }
 }
 
@@ -122,28 +156,29 @@ fn is_misplaced(kind: &StmtKind, section: Section) -> bool
     }
 }
 
-/// Why a statement is refused at a place, where `word` is the place of its pool word: the lowest refusal of an undefined
-/// name, an instruction or number, a pool and a section.
+/// Why a statement is refused at a place, where `word` is the place of its pool word and `code` what the encoder says: the
+/// lowest refusal of an undefined name, an instruction or number, a pool and a section.
 #[tactic(auto, unfolding(crate::specs::Refusals::refusal))]
 pub fn refusal(
     labels: &Labels,
     kind: &StmtKind,
-    section: Section,
-    place: u64,
-    word: u64,
+    at: Place,
+    word: Option<u64>,
+    code: &Coded,
 ) -> Option<AsmWhat>
-    ensures { result ≡ refusal (named_in labels.now) kind.now section place word }
+    requires { code.now ≡ coded (instruction (named_in labels.now) kind.now at.offset word) }
+    ensures { result ≡ refusal (named_in labels.now) kind.now at.section at.offset word }
 {
     if !are_names_known(labels, kind) {
         return Some(AsmWhat::UndefinedLocal);
     }
-    if let Some(fault) = encode_fault(labels, kind, place, word) {
+    if let Some(fault) = encode_fault(labels, kind, code) {
         return Some(AsmWhat::Encode(fault));
     }
-    if is_pool_too_far(kind, section, place, word) {
+    if is_pool_too_far(at.offset, word) {
         return Some(AsmWhat::PoolTooFar);
     }
-    if is_misplaced(kind, section) {
+    if is_misplaced(kind, at.section) {
         return Some(AsmWhat::Placement);
     }
     None

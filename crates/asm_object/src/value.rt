@@ -2,7 +2,6 @@
 ghost use Rattle.std.specs.Prelude.{◌≡◌, ◌^◌, pos, neg_ℤ, ◌<ℤ◌, IfSome};
 ghost use Rattle.asm_layout.specs.Labels.{named_in};
 ghost use Rattle.asm_object.specs.Values.{is_known, distance, is_word_known, number, held, signed, link_of};
-ghost use Rattle.asm_object.specs.Links.{linked_now};
 
 use crate::relocation::{R_ARM_ABS32, R_ARM_PREL31, R_ARM_REL32, R_ARM_TARGET2};
 use asm_layout::labels::Labels;
@@ -59,7 +58,8 @@ pub fn number(labels: &Labels, expr: &Expr) -> Option<i128>
             Some(distance) => Some(distance + i128::from(*n)),
             None => None,
         },
-        _ => None,
+        Expr::Of(_, _) | Expr::Prel31(_) | Expr::Prel31Ref(_) | Expr::Target2(_) | Expr::Rel(_) =>
+            None,
     }
 }
 
@@ -75,15 +75,15 @@ pub fn held(labels: &Labels, word: &Word) -> u32
             None => 0,
         },
         Word::Prel31Ref(_) => REFERENCE_MARK,
-        _ => 0,
+        Word::Of(_, _) | Word::Rel(_) | Word::Target2(_) | Word::Prel31(_) => 0,
     }
 }
 
-/// What the linker puts into a word: the kind of its relocation (Arm ELF, IHI 0044), the name and the addend.
-#[derive(Clone, Copy)]
-pub struct Link<'a> {
+/// What the linker puts into a field: the kind of its relocation (Arm ELF, IHI 0044), the name and the addend.
+#[derive(Drop)]
+pub struct Link {
     pub kind: u32,
-    pub name: &'a Name,
+    pub name: Name,
     pub addend: i32,
 }
 
@@ -98,13 +98,13 @@ fn signed(n: u32) -> i32
     }
 }
 
-/// What the linker puts into a word, if anything.
-pub fn link_of(word: &Word) -> Option<Link<'_>>
-    ensures { linked_now result ≡ link_of word.now }
+/// What the linker puts into a word, if anything; it takes the word's name.
+pub fn link_of(word: Word) -> Option<Link>
+    ensures { result ≡ link_of word }
 {
     let (kind, name, addend) = match word {
         Word::Num(_) | Word::Diff(_, _, _) => return None,
-        Word::Of(name, n) => (R_ARM_ABS32, name, signed(*n)),
+        Word::Of(name, n) => (R_ARM_ABS32, name, signed(n)),
         Word::Rel(name) => (R_ARM_REL32, name, 0),
         Word::Target2(name) => (R_ARM_TARGET2, name, 0),
         Word::Prel31(name) | Word::Prel31Ref(name) => (R_ARM_PREL31, name, 0),

@@ -22,9 +22,9 @@ use Rattle.asm_object.specs.declared.object.Object.{Object}
 use Rattle.asm_object.specs.declared.object.Reloc.{Reloc}
 use Rattle.asm_object.specs.declared.relocation.FieldKind.TheVariants.{Absolute}
 use Rattle.asm_object.specs.declared.relocation.TheConstants.{R_ARM_ABS32}
-use Rattle.asm_object.specs.Objects.{joined, refusals_from}
+use Rattle.asm_object.specs.Objects.{joined}
 use Rattle.asm_object.specs.ObjectLaw.{bytes_at}
-use Rattle.asm_object.specs.Pieces.{Piece, own_piece, pieces_at, pieces_from, word_place, word_relocs, relocs_in}
+use Rattle.asm_object.specs.Pieces.{Piece, own_piece, word_relocs, relocs_in, pieces_of}
 use Rattle.asm_object.specs.Refusals.{refusal, has_fields}
 use Rattle.asm_object.specs.Values.{signed}
 use Rattle.asm_object.proofs.PlaceLaws.{Fewer, none_parts, none_behind, refusal_parts, not_large, ordinary_sizes, law_of_ends, walks_on, earlier, split}
@@ -43,6 +43,9 @@ use Rattle.link_laws.specs.JoinedLaw.{word_offset, WordsAreSums}
 use Rattle.link_laws.proofs.Meanings.{law_of_meanings}
 use Rattle.link_laws.proofs.Labels.{begins_at, has_left, has_right, has_in}
 use Rattle.link_laws.proofs.Numbers.{in_image, address_small}
+use Rattle.asm_object.proofs.Statements.{walk_pieces}
+use Rattle.asm_layout.specs.Placing.{word_place, placed_from}
+use Rattle.asm_object.specs.Behind.{pieces_from, refusals_from}
 
 -- ---- the field of a word in its source
 
@@ -101,7 +104,7 @@ words_there : (entries : List (Option EntryWords)) (labels : List Named) (walk :
     → refusals_from entries labels walk (record { line = line; kind = statement.Words (front ++ expr.Of name n ∷ back) } ∷ more) ≡ []
     → is_too_large (sizes_with_pool (walk_behind entries walk (record { line = line; kind = statement.Words (front ++ expr.Of name n ∷ back) } ∷ more))) ≡ false
     → Words_there entries labels walk line front back name n more
-unfolding pieces_from refusals_from walk_behind
+unfolding pieces_of placed_from walk_behind
 words_there entries labels walk line front back name n more few r h =
     let exprs = front ++ expr.Of name n ∷ back in
     let kind = statement.Words exprs in
@@ -122,7 +125,7 @@ words_there entries labels walk line front back name n more few r h =
     record {
       given = not_there _ _ (some front (expr.Of name n) back) parts.1.1;
       field =
-          has_in (λ p. cond (same_section p.place.section s) p.relocs the_none) (pieces_at entries labels walk word kind ++ pieces_from entries labels after more) piece _
+          has_in (λ p. cond (same_section p.place.section s) p.relocs the_none) (walk_pieces entries labels walk word kind ++ pieces_from entries labels after more) piece _
           (record { before = []; after = pieces_from entries labels after more; split = refl }) (subst P (sym (itself s)) there);
     }
   where

@@ -21,15 +21,15 @@ use Rattle.asm_layout.specs.declared.place.Place.{Place}
 use Rattle.asm_layout.specs.declared.place.Section.TheVariants.{Text}
 use Rattle.asm_layout.specs.declared.walk.Walk.{Walk}
 use Rattle.asm_layout.specs.Functions.{entries_of, no_frame}
-use Rattle.asm_layout.specs.Labels.{Named, find, is_among, label_unless, new_labels, labels_from, labels_of, labelled}
+use Rattle.asm_layout.specs.Labels.{Named, find, is_among, label_unless, new_labels, labels_from, labels_of, labelled, labels_in}
 use Rattle.asm_layout.specs.Sizes.{size_in, is_instruction, is_too_large}
 use Rattle.asm_layout.specs.Walks.{start, next, here, same_section, coming_pool, walk_behind, sizes_with_pool}
 use Rattle.asm_object.specs.declared.object.Object.{Object}
 use Rattle.asm_object.specs.declared.object.ObjSymbol.{ObjSymbol}
 use Rattle.asm_object.specs.Instructions.{in_text, text_place, branch, branch_to, between, pc, base, literal, label_literal, literal_to}
-use Rattle.asm_object.specs.Objects.{joined, symbol_of, refusals_from}
+use Rattle.asm_object.specs.Objects.{joined, symbol_of}
 use Rattle.asm_object.specs.ObjectLaw.{symbol_place}
-use Rattle.asm_object.specs.Pieces.{Piece, place_at, own_piece, bytes_of_code, set_pieces, pieces_at, pieces_from, word_place, bytes_in}
+use Rattle.asm_object.specs.Pieces.{Piece, place_at, own_piece, bytes_of_code, bytes_in, pieces_of}
 use Rattle.asm_object.specs.Refusals.{encode_fault, refusal}
 use Rattle.asm_object.proofs.PlaceLaws.{Fewer, own_stands, none_parts, none_behind, refusal_parts, not_false, not_large, text_here, law_of_ends, law_of_bytes}
 use Rattle.asm_object.proofs.ObjectLaws.{IsTaken, taken, ends_small, entries_count}
@@ -39,6 +39,9 @@ use Rattle.source_laws.specs.MarkLaw.{text_behind}
 use Rattle.eh_link.proofs.Branches.{bl_means, b_means, b_cond_means, bl_is_small, b_is_small, b_cond_is_small}
 use Rattle.link_laws.specs.BranchLaw.{GoesTo, ReachesFromItsBase, Leads, BranchesLead, CondBranchesLead, CallsLead, AddressesLead, LoadsLead}
 use Rattle.link_laws.proofs.Codes.{Means, adr_means, load_means, code_there}
+use Rattle.asm_object.proofs.Statements.{walk_sets, walk_pieces}
+use Rattle.asm_layout.specs.Placing.{word_place, placed_from}
+use Rattle.asm_object.specs.Behind.{pieces_from, refusals_from}
 
 -- ---- labels that are found
 
@@ -63,7 +66,7 @@ found_or name labels _ place q rest e = inr e
 pub found_small : (entries : List (Option EntryWords)) (given labels : List Named) (walk : Walk) (stmts : List Stmt) (name : List ℕ) (q : Place) → Fewer entries
     → refusals_from entries given walk stmts ≡ [] → is_too_large (sizes_with_pool (walk_behind entries walk stmts)) ≡ false
     → find name (labels_from entries labels walk stmts) ≡ Some q → q.offset ≤ MOST_BYTES
-unfolding labels_from find refusals_from walk_behind
+unfolding labels_in placed_from find walk_behind
 found_small entries given labels walk [] name q few r h e = absurd (cc)
 found_small entries given labels walk (stmt ∷ more) name q few r h e =
     let after = next entries walk stmt.kind in
@@ -133,9 +136,9 @@ abbrev no_bytes : List ℕ
 no_bytes = []
 
 -- the bytes of a statement that has one piece, and of those behind it
-one_piece : (entries : List (Option EntryWords)) (labels : List Named) (walk : Walk) (kind : StmtKind) (rest : List Piece) (word : ℕ)
-    → set_pieces entries labels walk kind ≡ [] → same_section walk.at.section Text ≡ true
-    → bytes_in Text (pieces_at entries labels walk word kind ++ rest) ≡ (own_piece labels kind (here walk.at) word).bytes ++ bytes_in Text rest
+one_piece : (entries : List (Option EntryWords)) (labels : List Named) (walk : Walk) (kind : StmtKind) (rest : List Piece) (word : Option ℕ)
+    → walk_sets entries labels walk kind ≡ [] → same_section walk.at.section Text ≡ true
+    → bytes_in Text (walk_pieces entries labels walk word kind ++ rest) ≡ (own_piece labels kind (here walk.at) word).bytes ++ bytes_in Text rest
 one_piece entries labels walk kind rest word none text =
     let own = own_piece labels kind (here walk.at) word in
     ap (λ set. bytes_in Text ((set ++ own ∷ []) ++ rest)) none
@@ -144,14 +147,14 @@ one_piece entries labels walk kind rest word none text =
 -- what an instruction is in the pieces of its source
 record Placed (entries : List (Option EntryWords)) (labels : List Named) (walk : Walk) (stmt : Stmt) (more : List Stmt) : Type 0 where
   text : same_section walk.at.section Text ≡ true
-  word : ℕ
+  word : Option ℕ
   unfaulted : encode_fault labels stmt.kind (here walk.at).offset word ≡ None
   after : List ℕ
   bytes : bytes_in Text (pieces_from entries labels walk (stmt ∷ more)) ≡ (own_piece labels stmt.kind (here walk.at) word).bytes ++ after
 
 placed : (entries : List (Option EntryWords)) (labels : List Named) (walk : Walk) (stmt : Stmt) (more : List Stmt) → refusals_from entries labels walk (stmt ∷ more) ≡ []
-    → set_pieces entries labels walk stmt.kind ≡ [] → is_instruction stmt.kind ≡ true → Placed entries labels walk stmt more
-unfolding pieces_from refusals_from
+    → walk_sets entries labels walk stmt.kind ≡ [] → is_instruction stmt.kind ≡ true → Placed entries labels walk stmt more
+unfolding pieces_of placed_from walk_behind
 placed entries labels walk stmt more r none is =
     let word = word_place walk stmt.kind (coming_pool entries walk (stmt ∷ more)) in
     let own = none_parts stmt.line (refusal labels stmt.kind walk.at.section (here walk.at).offset word) (refusals_from entries labels (next entries walk stmt.kind) more) r in
@@ -168,13 +171,13 @@ placed entries labels walk stmt more r none is =
 record Stood (stmts before : List Stmt) (kind : StmtKind) (object : Object) : Type 0 where
   place_is : (here (behind stmts before).at).offset ≡ text_behind stmts before
   small : (here (behind stmts before).at).offset ≤ MOST_BYTES
-  word : ℕ
+  word : Option ℕ
   unfaulted : encode_fault (labels_of (entries_of stmts) stmts) kind (here (behind stmts before).at).offset word ≡ None
   after : List ℕ
   bytes : drop (here (behind stmts before).at).offset object.text ≡ (own_piece (labels_of (entries_of stmts) stmts) kind (here (behind stmts before).at) word).bytes ++ after
 
 stood : (stmts before more : List Stmt) (line : ℕ) (kind : StmtKind) (object : Object) → stmts ≡ before ++ record { line = line; kind = kind } ∷ more → length stmts < 2 ^ 64 → IsTaken stmts object
-    → set_pieces (entries_of stmts) (labels_of (entries_of stmts) stmts) (behind stmts before) kind ≡ [] → is_instruction kind ≡ true → Stood stmts before kind object
+    → walk_sets (entries_of stmts) (labels_of (entries_of stmts) stmts) (behind stmts before) kind ≡ [] → is_instruction kind ≡ true → Stood stmts before kind object
 stood stmts before more line kind object same few t none is =
     let entries = entries_of stmts in
     let labels = labels_of entries stmts in

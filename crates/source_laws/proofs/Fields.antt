@@ -18,28 +18,31 @@ use Rattle.asm_object.specs.declared.object.Object.{Object}
 use Rattle.asm_object.specs.declared.object.Reloc.{Reloc}
 use Rattle.asm_object.specs.ObjectLaw.{StandInOrder, relocs_at}
 use Rattle.asm_object.specs.Relocations.{field_size}
-use Rattle.asm_object.specs.Objects.{object_of, refusals_from}
-use Rattle.asm_object.specs.Pieces.{set_pieces, own_piece, pieces_at, pieces_from, word_place, relocs_in}
+use Rattle.asm_object.specs.Objects.{object_of}
+use Rattle.asm_object.specs.Pieces.{own_piece, relocs_in, pieces_of}
 use Rattle.asm_object.proofs.PlaceLaws.{earlier, split, none_behind, walks_on}
 use Rattle.asm_object.proofs.ObjectLaws.{taken, ends_small, entries_count, last_unlinked, start_unlinked, all_stand, earlier_stand, table_relocs}
 use Rattle.source_laws.specs.Functions.{HasNoBound, Function, source_of, directives_of, start_at, end_at}
 use Rattle.source_laws.specs.RowLaw.{behind}
 use Rattle.source_laws.proofs.Handlers.{table_end}
 use Rattle.source_laws.proofs.Standing.{at_start, own_entry}
+use Rattle.asm_object.proofs.Statements.{walk_sets, walk_pieces}
+use Rattle.asm_layout.specs.Placing.{word_place, placed_from}
+use Rattle.asm_object.specs.Behind.{pieces_from, refusals_from}
 
 abbrev the_none : List Reloc
 the_none = []
 
 start_relocs : (entries : List (Option EntryWords)) (labels : List Named) (walk : Walk) (line : ℕ) (more : List Stmt)
     → relocs_in Extab (pieces_from entries labels walk (start_at line ∷ more)) ≡ relocs_in Extab (pieces_from entries labels (next entries walk statement.FnStart) more)
-unfolding pieces_from
+unfolding pieces_of placed_from walk_behind
 start_relocs entries labels walk line more =
     let word = word_place walk statement.FnStart (coming_pool entries walk (start_at line ∷ more)) in
     let rest = pieces_from entries labels (next entries walk statement.FnStart) more in
-    flat_map-append (λ p. cond (same_section p.place.section Extab) p.relocs the_none) (pieces_at entries labels walk word statement.FnStart) rest
+    flat_map-append (λ p. cond (same_section p.place.section Extab) p.relocs the_none) (walk_pieces entries labels walk word statement.FnStart) rest
     ∙ ap (λ r. r ++ relocs_in Extab rest)
-    (last_unlinked Extab (set_pieces entries labels walk statement.FnStart) (own_piece labels statement.FnStart (here walk.at) word) refl
-    ∙ start_unlinked walk.at.inside walk.at.sizes.extab (entry_at entries walk.at.functions) Extab)
+    (last_unlinked Extab (walk_sets entries labels walk statement.FnStart) (own_piece labels statement.FnStart (here walk.at) word) refl
+    ∙ start_unlinked entries labels walk Extab)
 
 -- the fields of the exception tables around a function's table
 pub record FieldsAround (object : Object) (table end : ℕ) : Type 0 where

@@ -22,8 +22,8 @@ use Rattle.asm_layout.specs.Sizes.{sum_64, times, size_in, sizes_grown, table_si
 use Rattle.asm_layout.specs.Walks.{start, next, here, entry_at, same_section, is_empty, is_in_text, coming_pool, walk_behind, sizes_with_pool}
 use Rattle.eh_list.specs.Bytes.{gap, next_multiple}
 use Rattle.asm_object.specs.declared.object.Object.{Object}
-use Rattle.asm_object.specs.Objects.{joined, refusals_from}
-use Rattle.asm_object.specs.Pieces.{Piece, place_at, data_bytes, pieces_at, pieces_from, word_place, bytes_in}
+use Rattle.asm_object.specs.Objects.{joined}
+use Rattle.asm_object.specs.Pieces.{Piece, place_at, data_bytes, bytes_in, pieces_of}
 use Rattle.asm_object.proofs.PlaceLaws.{law_of_bytes, walks_on}
 use Rattle.asm_object.proofs.ObjectLaws.{IsTaken, taken, ends_small, entries_count}
 use Rattle.asm_object.proofs.LabelLaws.{small_behind}
@@ -33,6 +33,9 @@ use Rattle.source_laws.specs.HandlerLaw.{is_handler, handler_at, is_data, Handle
 use Rattle.source_laws.proofs.Frames.{or_parts}
 use Rattle.source_laws.proofs.Rows.{starts_at}
 use Rattle.source_laws.proofs.Standing.{at_start, in_text, own_entry}
+use Rattle.asm_object.proofs.Statements.{walk_pieces}
+use Rattle.asm_layout.specs.Placing.{word_place, placed_from}
+use Rattle.asm_object.specs.Behind.{pieces_from, refusals_from}
 
 -- ---- from the `.fnstart` to the first `.handlerdata` nothing more goes into the exception tables
 
@@ -93,11 +96,11 @@ and_parts true b e = (refl, e)
 and_parts false b e = absurd (true≢false (sym e))
 
 -- one statement of data in the exception tables
-pub record GivesData (entries : List (Option EntryWords)) (labels : List Named) (walk : Walk) (word : ℕ) (kind : StmtKind) : Type 0 where
-  pub bytes : bytes_in Extab (pieces_at entries labels walk word kind) ≡ cond (same_section walk.at.section Extab) (data_bytes labels kind) [] ++ []
+pub record GivesData (entries : List (Option EntryWords)) (labels : List Named) (walk : Walk) (word : Option ℕ) (kind : StmtKind) : Type 0 where
+  pub bytes : bytes_in Extab (walk_pieces entries labels walk word kind) ≡ cond (same_section walk.at.section Extab) (data_bytes labels kind) [] ++ []
   pub section : (next entries walk kind).at.section ≡ walk.at.section
 
-gives_data : (entries : List (Option EntryWords)) (labels : List Named) (walk : Walk) (word : ℕ) (kind : StmtKind) → is_data kind ≡ true → GivesData entries labels walk word kind
+gives_data : (entries : List (Option EntryWords)) (labels : List Named) (walk : Walk) (word : Option ℕ) (kind : StmtKind) → is_data kind ≡ true → GivesData entries labels walk word kind
 gives_data entries labels walk word (statement.Label name) e = record { bytes = refl; section = refl }
 gives_data entries labels walk word (statement.Words exprs) e = record { bytes = refl; section = refl }
 gives_data entries labels walk word (statement.Halves exprs) e = record { bytes = refl; section = refl }
@@ -110,7 +113,7 @@ gives_data entries labels walk word _ e = absurd (true≢false (sym e))
 data_there : (entries : List (Option EntryWords)) (labels : List Named) (walk : Walk) (own more : List Stmt) → walk.at.section ≡ Extab → list_all (λ s. is_data s.kind) own ≡ true
     → bytes_in Extab (pieces_from entries labels walk (own ++ more))
     ≡ flat_map (λ s. data_bytes labels s.kind) own ++ bytes_in Extab (pieces_from entries labels (walk_behind entries walk own) more)
-unfolding pieces_from walk_behind
+unfolding pieces_of placed_from walk_behind
 data_there entries labels walk [] more at e = refl
 data_there entries labels walk (stmt ∷ own) more at e =
     let parts = and_parts (is_data stmt.kind) (list_all (λ s. is_data s.kind) own) e in
@@ -118,7 +121,7 @@ data_there entries labels walk (stmt ∷ own) more at e =
     let gives = gives_data entries labels walk word stmt.kind parts.0 in
     let after = next entries walk stmt.kind in
     let f : Piece → List ℕ = λ p. cond (same_section p.place.section Extab) p.bytes no_bytes in
-    flat_map-append f (pieces_at entries labels walk word stmt.kind) (pieces_from entries labels after (own ++ more))
+    flat_map-append f (walk_pieces entries labels walk word stmt.kind) (pieces_from entries labels after (own ++ more))
     ∙ ap (λ b. b ++ bytes_in Extab (pieces_from entries labels after (own ++ more)))
     (gives.bytes ∙ append-nil _ ∙ ap (λ s. cond (same_section s Extab) (data_bytes labels stmt.kind) []) at)
     ∙ ap (λ b. data_bytes labels stmt.kind ++ b) (data_there entries labels after own more (gives.section ∙ at) parts.1)

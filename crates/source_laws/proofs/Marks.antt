@@ -20,13 +20,17 @@ use Rattle.eh_list.specs.Bytes.{gap, next_multiple}
 use Rattle.asm_object.specs.declared.object.Mark.{Mark}
 use Rattle.asm_object.specs.declared.object.Object.{Object}
 use Rattle.asm_object.specs.Bytes.{filling_bytes}
-use Rattle.asm_object.specs.Objects.{joined, refusals_from}
-use Rattle.asm_object.specs.Pieces.{Piece, shows, changes_to, mark_of, marks_from, place_at, filling_piece, words_piece, pool_pieces, table_pieces, set_pieces, own_piece, pieces_at, pieces_from, word_place, bytes_in}
+use Rattle.asm_object.specs.Objects.{joined}
+use Rattle.asm_object.specs.Pieces.{Piece, shows, changes_to, mark_of, marks_from, place_at, filling_piece, words_piece, pool_pieces, table_pieces, own_piece, bytes_in, put_pieces, pieces_of}
 use Rattle.asm_object.specs.Refusals.{refusal}
 use Rattle.asm_object.proofs.PlaceLaws.{Fewer, is_ordinary, ordinary_sets, own_stands, filled_length, none_parts, not_large, text_here, law_of_ends, law_of_places, earlier, split, walks_on, none_behind}
 use Rattle.asm_object.proofs.ObjectLaws.{IsTaken, taken, ends_small, entries_count}
 use Rattle.source_laws.specs.RowLaw.{behind}
 use Rattle.source_laws.specs.MarkLaw.{is_code, pool_at, text_behind, LastMarkSays, MarksTellCode, PoolsAreMarked, LastPoolsAreMarked}
+use Rattle.asm_object.proofs.Statements.{walk_sets, walk_pieces}
+use Rattle.asm_layout.specs.Placing.{word_place, placed_from, pool_here, pool_puts, function_here}
+use Rattle.asm_layout.specs.declared.placed.Puts.TheVariants as puts
+use Rattle.asm_object.specs.Behind.{pieces_from, refusals_from}
 
 -- ---- pieces of the text
 
@@ -247,7 +251,7 @@ table_tiles at place (Some entry.CantUnwind) = tt
 table_tiles at place (Some (entry.Inline word)) = tt
 table_tiles at place None = tt
 
-pool_tiles : (labels : List Named) (walk : Walk) → walk.at.sizes.text ≤ MOST_BYTES → Tiles walk.at.sizes.text (pool_pieces labels walk)
+pool_tiles : (labels : List Named) (walk : Walk) → walk.at.sizes.text ≤ MOST_BYTES → Tiles walk.at.sizes.text (pool_pieces labels (pool_here walk))
 pool_tiles labels walk small = by (is_empty walk.pool)
   where
     text : ℕ
@@ -260,16 +264,19 @@ pool_tiles labels walk small = by (is_empty walk.pool)
     by true = tt
     by false = ((λ e. refl), ((λ e. words_there walk.at.sizes.text small), tt))
 
-start_tiles : (at place : ℕ) (inside : Bool) (words : Option EntryWords) → Tiles at (cond inside [] (table_pieces place words))
-start_tiles at place true words = tt
-start_tiles at place false words = table_tiles at place words
+start_tiles : (entries : List (Option EntryWords)) (labels : List Named) (walk : Walk) (at : ℕ) → Tiles at (walk_sets entries labels walk statement.FnStart)
+start_tiles entries labels walk at = by walk.at.inside
+  where
+    by : (b : Bool) → Tiles at (put_pieces entries labels (cond b puts.Nothing (function_here walk.at)))
+    by true = tt
+    by false = table_tiles at walk.at.sizes.extab (entry_at entries walk.at.functions)
 
-ended_tiles : (labels : List Named) (walk : Walk) (b : Bool) → walk.at.sizes.text ≤ MOST_BYTES → Tiles walk.at.sizes.text (cond b (pool_pieces labels walk) [])
-ended_tiles labels walk true small = pool_tiles labels walk small
-ended_tiles labels walk false small = tt
+ended_tiles : (entries : List (Option EntryWords)) (labels : List Named) (walk : Walk) (b : Bool) → walk.at.sizes.text ≤ MOST_BYTES → Tiles walk.at.sizes.text (put_pieces entries labels (cond b (pool_puts walk) puts.Nothing))
+ended_tiles entries labels walk true small = pool_tiles labels walk small
+ended_tiles entries labels walk false small = tt
 
-special_tiles : (entries : List (Option EntryWords)) (labels : List Named) (walk : Walk) (word : ℕ) (kind : StmtKind) → walk.at.sizes.text ≤ MOST_BYTES → is_ordinary kind ≡ false
-    → Tiles walk.at.sizes.text (pieces_at entries labels walk word kind)
+special_tiles : (entries : List (Option EntryWords)) (labels : List Named) (walk : Walk) (word : Option ℕ) (kind : StmtKind) → walk.at.sizes.text ≤ MOST_BYTES → is_ordinary kind ≡ false
+    → Tiles walk.at.sizes.text (walk_pieces entries labels walk word kind)
 special_tiles entries labels walk word statement.Text small o = alone walk (own_piece labels statement.Text (here walk.at) word) (own_stands labels statement.Text (here walk.at) word)
 special_tiles entries labels walk word statement.Data small o = alone walk (own_piece labels statement.Data (here walk.at) word) (own_stands labels statement.Data (here walk.at) word)
 special_tiles entries labels walk word statement.Bss small o = alone walk (own_piece labels statement.Bss (here walk.at) word) (own_stands labels statement.Bss (here walk.at) word)
@@ -278,24 +285,24 @@ special_tiles entries labels walk word statement.FnEnd small o = alone walk (own
 special_tiles entries labels walk word statement.HandlerData small o =
     alone walk (own_piece labels statement.HandlerData (here walk.at) word) (own_stands labels statement.HandlerData (here walk.at) word)
 special_tiles entries labels walk word statement.FnStart small o =
-    hidden_last walk.at.sizes.text (set_pieces entries labels walk statement.FnStart) (own_piece labels statement.FnStart (here walk.at) word) refl
-    (start_tiles walk.at.sizes.text walk.at.sizes.extab walk.at.inside (entry_at entries walk.at.functions))
+    hidden_last walk.at.sizes.text (walk_sets entries labels walk statement.FnStart) (own_piece labels statement.FnStart (here walk.at) word) refl
+    (start_tiles entries labels walk walk.at.sizes.text)
 special_tiles entries labels walk word (statement.Align n) small o =
-    hidden_last walk.at.sizes.text (set_pieces entries labels walk (statement.Align n)) (own_piece labels (statement.Align n) (here walk.at) word) refl
+    hidden_last walk.at.sizes.text (walk_sets entries labels walk (statement.Align n)) (own_piece labels (statement.Align n) (here walk.at) word) refl
     (alone walk (filling_piece (here walk.at) (gap (here walk.at).offset (multiple n))) refl)
 special_tiles entries labels walk word statement.Pool small o =
-    hidden_last walk.at.sizes.text (set_pieces entries labels walk statement.Pool) (own_piece labels statement.Pool (here walk.at) word) refl
-    (ended_tiles labels walk (is_in_text walk.at) small)
+    hidden_last walk.at.sizes.text (walk_sets entries labels walk statement.Pool) (own_piece labels statement.Pool (here walk.at) word) refl
+    (ended_tiles entries labels walk (is_in_text walk.at) small)
 special_tiles entries labels walk word _ small o = absurd (true≢false o)
 
-tiles_at : (entries : List (Option EntryWords)) (labels : List Named) (walk : Walk) (word : ℕ) (kind : StmtKind) → walk.at.sizes.text ≤ MOST_BYTES
-    → Tiles walk.at.sizes.text (pieces_at entries labels walk word kind)
+tiles_at : (entries : List (Option EntryWords)) (labels : List Named) (walk : Walk) (word : Option ℕ) (kind : StmtKind) → walk.at.sizes.text ≤ MOST_BYTES
+    → Tiles walk.at.sizes.text (walk_pieces entries labels walk word kind)
 tiles_at entries labels walk word kind small = by (is_ordinary kind) refl
   where
     own : Piece
     own = own_piece labels kind (here walk.at) word
 
-    by : (b : Bool) → is_ordinary kind ≡ b → Tiles walk.at.sizes.text (pieces_at entries labels walk word kind)
+    by : (b : Bool) → is_ordinary kind ≡ b → Tiles walk.at.sizes.text (walk_pieces entries labels walk word kind)
     by true o =
         let P : List Piece → Type 0 = λ set. Tiles walk.at.sizes.text (set ++ own_piece labels kind (here walk.at) word ∷ []) in
         subst P (sym (ordinary_sets entries labels walk kind o)) (alone walk (own_piece labels kind (here walk.at) word) (own_stands labels kind (here walk.at) word))
@@ -314,14 +321,14 @@ small_here entries labels walk stmts few u =
 
 -- the pieces of a statement, and where the text has come to behind them
 record Onward (entries : List (Option EntryWords)) (labels : List Named) (walk : Walk) (stmt : Stmt) (more : List Stmt) : Type 0 where
-  word : ℕ
-  pieces : pieces_from entries labels walk (stmt ∷ more) ≡ pieces_at entries labels walk word stmt.kind ++ pieces_from entries labels (next entries walk stmt.kind) more
+  word : Option ℕ
+  pieces : pieces_from entries labels walk (stmt ∷ more) ≡ walk_pieces entries labels walk word stmt.kind ++ pieces_from entries labels (next entries walk stmt.kind) more
   unrefused : Unrefused entries labels (next entries walk stmt.kind) more
-  grown : walk.at.sizes.text + length (bytes_in Text (pieces_at entries labels walk word stmt.kind)) ≡ (next entries walk stmt.kind).at.sizes.text
+  grown : walk.at.sizes.text + length (bytes_in Text (walk_pieces entries labels walk word stmt.kind)) ≡ (next entries walk stmt.kind).at.sizes.text
 
 goes_on : (entries : List (Option EntryWords)) (labels : List Named) (walk : Walk) (stmt : Stmt) (more : List Stmt) → Fewer entries → Unrefused entries labels walk (stmt ∷ more)
     → Onward entries labels walk stmt more
-unfolding pieces_from refusals_from walk_behind
+unfolding pieces_of placed_from walk_behind
 goes_on entries labels walk stmt more few u =
     let after = next entries walk stmt.kind in
     let word = word_place walk stmt.kind (coming_pool entries walk (stmt ∷ more)) in
@@ -331,8 +338,8 @@ goes_on entries labels walk stmt more few u =
       pieces = refl;
       unrefused = (parts.1, u.1);
       grown =
-          behind_own walk.at.sizes.text (length (bytes_in Text (pieces_at entries labels walk word stmt.kind))) (length (bytes_in Text (pieces_from entries labels after more))) after.at.sizes.text _
-          (ap (λ n. walk.at.sizes.text + n) (sym (both (pieces_at entries labels walk word stmt.kind) (pieces_from entries labels after more)))
+          behind_own walk.at.sizes.text (length (bytes_in Text (walk_pieces entries labels walk word stmt.kind))) (length (bytes_in Text (pieces_from entries labels after more))) after.at.sizes.text _
+          (ap (λ n. walk.at.sizes.text + n) (sym (both (walk_pieces entries labels walk word stmt.kind) (pieces_from entries labels after more)))
           ∙ law_of_ends entries labels walk (stmt ∷ more) Text few u.0 u.1)
           (law_of_ends entries labels after more Text few parts.1 u.1);
     }
@@ -346,14 +353,14 @@ goes_on entries labels walk stmt more few u =
 
 tiles_from : (entries : List (Option EntryWords)) (labels : List Named) (walk : Walk) (stmts : List Stmt) → Fewer entries → Unrefused entries labels walk stmts
     → Tiles walk.at.sizes.text (pieces_from entries labels walk stmts)
-unfolding pieces_from
+unfolding pieces_of placed_from walk_behind
 tiles_from entries labels walk [] few u = pool_tiles labels walk (small_here entries labels walk [] few u)
 tiles_from entries labels walk (stmt ∷ more) few u =
     let on = goes_on entries labels walk stmt more few u in
     let P : List Piece → Type 0 = λ pieces. Tiles walk.at.sizes.text pieces in
     let Q : ℕ → Type 0 = λ n. Tiles n (pieces_from entries labels (next entries walk stmt.kind) more) in
     subst P (sym on.pieces)
-    (tiles_on walk.at.sizes.text (pieces_at entries labels walk on.word stmt.kind) (pieces_from entries labels (next entries walk stmt.kind) more)
+    (tiles_on walk.at.sizes.text (walk_pieces entries labels walk on.word stmt.kind) (pieces_from entries labels (next entries walk stmt.kind) more)
     (tiles_at entries labels walk on.word stmt.kind (small_here entries labels walk (stmt ∷ more) few u))
     (subst Q (sym on.grown) (tiles_from entries labels (next entries walk stmt.kind) more few on.unrefused)))
 
@@ -456,30 +463,30 @@ one_more stmts before stmt = ap (λ walk. walk.at.sizes.text) (walks_on (entries
 -- ---- a statement's own bytes
 
 -- a statement whose one piece is its own
-plain_marks : (entries : List (Option EntryWords)) (labels : List Named) (walk : Walk) (word : ℕ) (kind : StmtKind) (rest : List Piece) (object : Object) (offset : ℕ) (code : Bool)
-    → set_pieces entries labels walk kind ≡ [] → (own_piece labels kind (here walk.at) word).code ≡ code
-    → Standing object walk.at.sizes.text (pieces_at entries labels walk word kind ++ rest) → walk.at.sizes.text ≤ offset
-    → offset < walk.at.sizes.text + length (bytes_in Text (pieces_at entries labels walk word kind)) → LastMarkSays object.marks offset code
+plain_marks : (entries : List (Option EntryWords)) (labels : List Named) (walk : Walk) (word : Option ℕ) (kind : StmtKind) (rest : List Piece) (object : Object) (offset : ℕ) (code : Bool)
+    → walk_sets entries labels walk kind ≡ [] → (own_piece labels kind (here walk.at) word).code ≡ code
+    → Standing object walk.at.sizes.text (walk_pieces entries labels walk word kind ++ rest) → walk.at.sizes.text ≤ offset
+    → offset < walk.at.sizes.text + length (bytes_in Text (walk_pieces entries labels walk word kind)) → LastMarkSays object.marks offset code
 plain_marks entries labels walk word kind rest object offset code none is s h k =
     let own = own_piece labels kind (here walk.at) word in
-    let one : pieces_at entries labels walk word kind ≡ own ∷ [] = ap (λ set. set ++ own ∷ []) none in
+    let one : walk_pieces entries labels walk word kind ≡ own ∷ [] = ap (λ set. set ++ own ∷ []) none in
     let C : Bool → Type 0 = λ c. LastMarkSays object.marks offset c in
     subst C is
-    (told object walk.at.sizes.text (pieces_at entries labels walk word kind ++ rest) offset s [] own rest (ap (λ l. l ++ rest) one) (omega (arith, h))
+    (told object walk.at.sizes.text (walk_pieces entries labels walk word kind ++ rest) offset s [] own rest (ap (λ l. l ++ rest) one) (omega (arith, h))
     (omega (arith, k, ap (λ l. length (bytes_in Text l)) one, length-append (text_bytes own) no_bytes)))
 
-align_marks : (entries : List (Option EntryWords)) (labels : List Named) (walk : Walk) (word : ℕ) (n : ℤ) (rest : List Piece) (object : Object) (offset : ℕ)
-    → Standing object walk.at.sizes.text (pieces_at entries labels walk word (statement.Align n) ++ rest) → walk.at.sizes.text ≤ offset
-    → offset < walk.at.sizes.text + length (bytes_in Text (pieces_at entries labels walk word (statement.Align n))) → LastMarkSays object.marks offset true
+align_marks : (entries : List (Option EntryWords)) (labels : List Named) (walk : Walk) (word : Option ℕ) (n : ℤ) (rest : List Piece) (object : Object) (offset : ℕ)
+    → Standing object walk.at.sizes.text (walk_pieces entries labels walk word (statement.Align n) ++ rest) → walk.at.sizes.text ≤ offset
+    → offset < walk.at.sizes.text + length (bytes_in Text (walk_pieces entries labels walk word (statement.Align n))) → LastMarkSays object.marks offset true
 align_marks entries labels walk word n rest object offset s h k =
     let own = own_piece labels (statement.Align n) (here walk.at) word in
     let fill = filling_piece (here walk.at) (gap (here walk.at).offset (multiple n)) in
-    told object walk.at.sizes.text (pieces_at entries labels walk word (statement.Align n) ++ rest) offset s [] fill (own ∷ rest) refl (omega (arith, h))
+    told object walk.at.sizes.text (walk_pieces entries labels walk word (statement.Align n) ++ rest) offset s [] fill (own ∷ rest) refl (omega (arith, h))
     (omega (arith, k, length-append (text_bytes fill) (bytes_in Text (own ∷ [])), length-append (text_bytes own) no_bytes, bare_length own refl))
 
-own_marks : (entries : List (Option EntryWords)) (labels : List Named) (walk : Walk) (word : ℕ) (kind : StmtKind) (rest : List Piece) (object : Object) (offset : ℕ) (code : Bool)
-    → is_code kind ≡ Some code → Standing object walk.at.sizes.text (pieces_at entries labels walk word kind ++ rest) → walk.at.sizes.text ≤ offset
-    → offset < walk.at.sizes.text + length (bytes_in Text (pieces_at entries labels walk word kind)) → LastMarkSays object.marks offset code
+own_marks : (entries : List (Option EntryWords)) (labels : List Named) (walk : Walk) (word : Option ℕ) (kind : StmtKind) (rest : List Piece) (object : Object) (offset : ℕ) (code : Bool)
+    → is_code kind ≡ Some code → Standing object walk.at.sizes.text (walk_pieces entries labels walk word kind ++ rest) → walk.at.sizes.text ≤ offset
+    → offset < walk.at.sizes.text + length (bytes_in Text (walk_pieces entries labels walk word kind)) → LastMarkSays object.marks offset code
 own_marks entries labels walk word statement.FnStart rest object offset code e s h k = absurd (cc)
 own_marks entries labels walk word statement.Pool rest object offset code e s h k = absurd (cc)
 own_marks entries labels walk word (statement.Align n) rest object offset code e s h k =
@@ -506,8 +513,8 @@ next_there : (n : ℕ) → next_multiple n 4 ≡ n + gap n 4
 next_there n = omega arith
 
 pool_marks : (labels : List Named) (walk : Walk) (rest : List Piece) (object : Object) (offset : ℕ)
-    → Standing object walk.at.sizes.text (pool_pieces labels walk ++ rest) → walk.at.sizes.text ≤ offset
-    → offset < walk.at.sizes.text + length (bytes_in Text (pool_pieces labels walk)) → LastMarkSays object.marks offset (nat_lt offset (next_multiple walk.at.sizes.text 4))
+    → Standing object walk.at.sizes.text (pool_pieces labels (pool_here walk) ++ rest) → walk.at.sizes.text ≤ offset
+    → offset < walk.at.sizes.text + length (bytes_in Text (pool_pieces labels (pool_here walk))) → LastMarkSays object.marks offset (nat_lt offset (next_multiple walk.at.sizes.text 4))
 pool_marks labels walk rest object offset = by (is_empty walk.pool)
   where
     fill : Piece
@@ -537,15 +544,15 @@ pool_marks labels walk rest object offset = by (is_empty walk.pool)
     by true s h k = absurd (omega (arith, h, k))
     by false s h k = filled s h k (nat_lt offset (next_multiple walk.at.sizes.text 4)) refl
 
-ended_marks : (labels : List Named) (walk : Walk) (own : Piece) (rest : List Piece) (object : Object) (offset : ℕ) (b : Bool) → own.bytes ≡ []
-    → Standing object walk.at.sizes.text ((cond b (pool_pieces labels walk) [] ++ own ∷ []) ++ rest) → walk.at.sizes.text ≤ offset
-    → offset < walk.at.sizes.text + length (bytes_in Text (cond b (pool_pieces labels walk) [] ++ own ∷ []))
+ended_marks : (entries : List (Option EntryWords)) (labels : List Named) (walk : Walk) (own : Piece) (rest : List Piece) (object : Object) (offset : ℕ) (b : Bool) → own.bytes ≡ []
+    → Standing object walk.at.sizes.text ((put_pieces entries labels (cond b (pool_puts walk) puts.Nothing) ++ own ∷ []) ++ rest) → walk.at.sizes.text ≤ offset
+    → offset < walk.at.sizes.text + length (bytes_in Text (put_pieces entries labels (cond b (pool_puts walk) puts.Nothing) ++ own ∷ []))
     → LastMarkSays object.marks offset (nat_lt offset (next_multiple walk.at.sizes.text 4))
-ended_marks labels walk own rest object offset true none s h k =
+ended_marks entries labels walk own rest object offset true none s h k =
     let S : List Piece → Type 0 = λ l. Standing object walk.at.sizes.text l in
-    pool_marks labels walk (own ∷ rest) object offset (subst S (append_assoc (pool_pieces labels walk) (own ∷ []) rest) s) h
-    (omega (arith, k, both_bytes (pool_pieces labels walk) (own ∷ []), length-append (text_bytes own) no_bytes, bare_length own none))
-ended_marks labels walk own rest object offset false none s h k = absurd (omega (arith, h, k, length-append (text_bytes own) no_bytes, bare_length own none))
+    pool_marks labels walk (own ∷ rest) object offset (subst S (append_assoc (pool_pieces labels (pool_here walk)) (own ∷ []) rest) s) h
+    (omega (arith, k, both_bytes (pool_pieces labels (pool_here walk)) (own ∷ []), length-append (text_bytes own) no_bytes, bare_length own none))
+ended_marks entries labels walk own rest object offset false none s h k = absurd (omega (arith, h, k, length-append (text_bytes own) no_bytes, bare_length own none))
 
 pub law_of_pools : PoolsAreMarked
 law_of_pools before more line object offset few e h k =
@@ -557,12 +564,12 @@ law_of_pools before more line object offset few e h k =
     let at = cut stmts before (stmt ∷ more) object refl few (taken stmts object e) in
     let on = goes_on entries labels walk stmt more at.few at.unrefused in
     let S : List Piece → Type 0 = λ l. Standing object walk.at.sizes.text l in
-    ended_marks labels walk (own_piece labels statement.Pool (here walk.at) on.word) (pieces_from entries labels (next entries walk statement.Pool) more) object offset (is_in_text walk.at) refl
+    ended_marks entries labels walk (own_piece labels statement.Pool (here walk.at) on.word) (pieces_from entries labels (next entries walk statement.Pool) more) object offset (is_in_text walk.at) refl
     (subst S on.pieces at.standing) h (omega (arith, k, one_more stmts before stmt, on.grown))
 
-last_pieces : (entries : List (Option EntryWords)) (labels : List Named) (walk : Walk) → pieces_from entries labels walk [] ≡ pool_pieces labels walk ++ []
-unfolding pieces_from
-last_pieces entries labels walk = sym (append-nil (pool_pieces labels walk))
+last_pieces : (entries : List (Option EntryWords)) (labels : List Named) (walk : Walk) → pieces_from entries labels walk [] ≡ pool_pieces labels (pool_here walk) ++ []
+unfolding pieces_of placed_from walk_behind
+last_pieces entries labels walk = sym (append-nil (pool_pieces labels (pool_here walk)))
 
 pub law_of_last_pools : LastPoolsAreMarked
 law_of_last_pools stmts object offset few e h k =
@@ -573,4 +580,4 @@ law_of_last_pools stmts object offset few e h k =
     let S : List Piece → Type 0 = λ l. Standing object walk.at.sizes.text l in
     let last = subst S (last_pieces entries labels walk) at.standing in
     pool_marks labels walk [] object offset last h
-    (omega (arith, k, ap length last.text, both_bytes last.front (pool_pieces labels walk ++ []), last.place, ap (λ l. length (bytes_in Text l)) (append-nil (pool_pieces labels walk))))
+    (omega (arith, k, ap length last.text, both_bytes last.front (pool_pieces labels (pool_here walk) ++ []), last.place, ap (λ l. length (bytes_in Text l)) (append-nil (pool_pieces labels (pool_here walk)))))

@@ -17,9 +17,12 @@ use Rattle.asm_layout.specs.Functions.{Frame, no_frame, entries_from, entries_of
 use Rattle.asm_layout.specs.Sizes.{table_size, sizes_grown}
 use Rattle.asm_layout.specs.Walks.{start, next, entry_at, same_section, is_in_text, sizes_with_pool, walk_behind}
 use Rattle.asm_object.specs.declared.object.IndexRow.{IndexRow}
-use Rattle.asm_object.specs.Pieces.{row_of, new_rows, rows_from}
+use Rattle.asm_object.specs.Pieces.{row_of, put_rows}
 use Rattle.source_laws.specs.Functions.{starts_function, bounds_function, functions_in, start_at, end_at}
 use Rattle.source_laws.proofs.Frames.{Shape, which, goes_on, ended_with, closes, no_second, no_end, begun, plain_outside, taken_none}
+use Rattle.asm_layout.specs.Placing.{placed_from, pool_puts, function_at, function_here, puts_at}
+use Rattle.asm_layout.specs.declared.placed.Puts.TheVariants as puts
+use Rattle.asm_object.specs.Behind.{rows_from}
 
 -- ---- the walk
 
@@ -27,7 +30,7 @@ use Rattle.source_laws.proofs.Frames.{Shape, which, goes_on, ended_with, closes,
 pub record Keeps (entries : List (Option EntryWords)) (walk : Walk) (kind : StmtKind) : Type 0 where
   pub inside : (next entries walk kind).at.inside ≡ walk.at.inside
   pub functions : (next entries walk kind).at.functions ≡ walk.at.functions
-  pub rows : new_rows entries walk kind ≡ []
+  pub rows : put_rows entries (puts_at walk kind) ≡ []
   pub starts : starts_function kind ≡ false
 
 pub keeps : (entries : List (Option EntryWords)) (walk : Walk) (kind : StmtKind) → bounds_function kind ≡ false → Keeps entries walk kind
@@ -42,8 +45,12 @@ keeps entries walk statement.HandlerData e = record { inside = inside (same_sect
     functions : (b : Bool) → (cond b walk.at (record walk.at { section = Extab; left = Some walk.at.section })).functions ≡ walk.at.functions
     functions true = refl
     functions false = refl
-keeps entries walk statement.Pool e = record { inside = inside (is_in_text walk.at); functions = functions (is_in_text walk.at); rows = refl; starts = refl }
+keeps entries walk statement.Pool e = record { inside = inside (is_in_text walk.at); functions = functions (is_in_text walk.at); rows = rows (is_in_text walk.at); starts = refl }
   where
+    rows : (b : Bool) → put_rows entries (cond b (pool_puts walk) puts.Nothing) ≡ []
+    rows true = refl
+    rows false = refl
+
     inside : (b : Bool) → (cond b (record { at = record walk.at { sizes = sizes_with_pool walk }; pool = [] }) walk).at.inside ≡ walk.at.inside
     inside true = refl
     inside false = refl
@@ -162,9 +169,6 @@ opens entries false frame walk line more s =
 
 -- ---- one statement
 
-abbrev no_rows : List IndexRow
-no_rows = []
-
 abbrev pub one_if : StmtKind → ℕ
 one_if kind = cond (starts_function kind) 1 0
 
@@ -176,7 +180,7 @@ pub record Stepped (entries : List (Option EntryWords)) (walk : Walk) (stmt : St
   pub frame : Frame
   pub state : State entries opened frame (next entries walk stmt.kind) more
   pub functions : (next entries walk stmt.kind).at.functions ≡ walk.at.functions + one_if stmt.kind
-  pub rows : length (new_rows entries walk stmt.kind) ≡ one_if stmt.kind
+  pub rows : length (put_rows entries (puts_at walk stmt.kind)) ≡ one_if stmt.kind
 
 step_start : (entries : List (Option EntryWords)) (opened : Bool) (frame : Frame) (walk : Walk) (line : ℕ) (more : List Stmt) → State entries opened frame walk (start_at line ∷ more)
     → Stepped entries walk (start_at line) more
@@ -187,7 +191,7 @@ step_start entries opened frame walk line more s =
       frame = record { directives = unwind.FnStart ∷ []; start = Some line };
       state = open_now.state;
       functions = ap (λ (c : Cursor). c.functions) (starts_at entries walk open_now.closed open_now.few);
-      rows = ap (λ b. length (cond b no_rows (row_of walk (entry_at entries walk.at.functions)))) open_now.closed ∙ ap (λ o. length (row_of walk o)) open_now.entry;
+      rows = ap (λ b. length (put_rows entries (cond b puts.Nothing (function_here walk.at)))) open_now.closed ∙ ap (λ o. length (row_of (function_at walk.at) o)) open_now.entry;
     }
 
 step_end : (entries : List (Option EntryWords)) (opened : Bool) (frame : Frame) (walk : Walk) (line : ℕ) (more : List Stmt) → State entries opened frame walk (end_at line ∷ more)
@@ -283,7 +287,7 @@ pub record Reached (entries : List (Option EntryWords)) (walk : Walk) (before mo
 
 pub reach : (entries : List (Option EntryWords)) (opened : Bool) (frame : Frame) (walk : Walk) (before more : List Stmt) → State entries opened frame walk (before ++ more)
     → Reached entries walk before more
-unfolding walk_behind rows_from
+unfolding walk_behind placed_from
 reach entries opened frame walk [] more s = record { opened = opened; frame = frame; state = s; rows = refl }
 reach entries opened frame walk (stmt ∷ before) more s =
     let one = step entries opened frame walk stmt (before ++ more) s in
@@ -293,7 +297,7 @@ reach entries opened frame walk (stmt ∷ before) more s =
       frame = rest.frame;
       state = rest.state;
       rows =
-          length-append (new_rows entries walk stmt.kind) (rows_from entries (next entries walk stmt.kind) before)
+          length-append (put_rows entries (puts_at walk stmt.kind)) (rows_from entries (next entries walk stmt.kind) before)
           ∙ ap (λ n. n + length (rows_from entries (next entries walk stmt.kind) before)) one.rows
           ∙ ap (λ n. one_if stmt.kind + n) rest.rows
           ∙ sym (functions_more stmt before);
@@ -301,11 +305,11 @@ reach entries opened frame walk (stmt ∷ before) more s =
 
 pub rows_split : (entries : List (Option EntryWords)) (walk : Walk) (before more : List Stmt)
     → rows_from entries walk (before ++ more) ≡ rows_from entries walk before ++ rows_from entries (walk_behind entries walk before) more
-unfolding walk_behind rows_from
+unfolding walk_behind placed_from
 rows_split entries walk [] more = refl
 rows_split entries walk (stmt ∷ before) more =
-    ap (λ rows. new_rows entries walk stmt.kind ++ rows) (rows_split entries (next entries walk stmt.kind) before more)
-    ∙ sym (append_assoc (new_rows entries walk stmt.kind) (rows_from entries (next entries walk stmt.kind) before) (rows_from entries (walk_behind entries (next entries walk stmt.kind) before) more))
+    ap (λ rows. put_rows entries (puts_at walk stmt.kind) ++ rows) (rows_split entries (next entries walk stmt.kind) before more)
+    ∙ sym (append_assoc (put_rows entries (puts_at walk stmt.kind)) (rows_from entries (next entries walk stmt.kind) before) (rows_from entries (walk_behind entries (next entries walk stmt.kind) before) more))
 
 -- the beginning of a source
 pub begins : (stmts : List Stmt) → length stmts < 2 ^ 64 → unwind_faults_from no_frame stmts ≡ [] → State (entries_of stmts) false no_frame start stmts

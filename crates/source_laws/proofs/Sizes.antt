@@ -13,7 +13,7 @@ use Rattle.asm_layout.specs.declared.place.Section.{Section}
 use Rattle.asm_layout.specs.declared.place.Section.TheVariants.{Text, Rodata, Extab, Init, Bss}
 use Rattle.asm_layout.specs.declared.walk.Walk.{Walk}
 use Rattle.asm_layout.specs.Functions.{entries_of, no_frame}
-use Rattle.asm_layout.specs.Labels.{Named, find, new_labels, labels_from, labels_of, duplicates_from, size_between, size_by, size_from}
+use Rattle.asm_layout.specs.Labels.{Named, find, new_labels, labels_from, labels_of, duplicates_from, size_between, size_by, size_from, labels_in, size_said}
 use Rattle.asm_layout.specs.Walks.{start, next, here, same_section, walk_behind}
 use Rattle.asm_object.proofs.ObjectLaws.{taken, ends_small, entries_count}
 use Rattle.asm_object.proofs.LabelLaws.{new_there, label_there, small_behind}
@@ -21,6 +21,7 @@ use Rattle.source_laws.specs.RowLaw.{behind}
 use Rattle.source_laws.specs.SymbolLaw.{HasNone}
 use Rattle.source_laws.specs.SizeLaw.{is_size, label_at, size_at, SizesCountBytes, OthersHaveNoSize}
 use Rattle.source_laws.proofs.Symbols.{each_named}
+use Rattle.asm_layout.specs.Placing.{placed_from}
 
 -- ---- sizes
 
@@ -34,7 +35,7 @@ not_sized name labels size _ place e = refl
 
 unsized : (name : List ℕ) (entries : List (Option EntryWords)) (labels : List Named) (size : ℕ) (walk : Walk) (stmts : List Stmt) → HasNone (is_size name) stmts
     → size_from name entries labels size walk stmts ≡ size
-unfolding size_from
+unfolding size_said placed_from
 unsized name entries labels size walk [] e = refl
 unsized name entries labels size walk (stmt ∷ more) e =
     let parts = neither (is_size name stmt.kind) (list_any (λ s. is_size name s.kind) more) e in
@@ -50,7 +51,7 @@ size_behind name entries labels size walk stmt more =
 size_split : (name : List ℕ) (entries : List (Option EntryWords)) (labels : List Named) (size : ℕ) (walk : Walk) (front : List Stmt) (stmt : Stmt) (more : List Stmt)
     → size_from name entries labels size walk (front ++ stmt ∷ more)
     ≡ size_behind name entries (labels ++ labels_from entries labels walk front) (size_from name entries labels size walk front) (walk_behind entries walk front) stmt more
-unfolding size_from labels_from walk_behind
+unfolding size_said placed_from labels_in walk_behind
 size_split name entries labels size walk [] stmt more = ap (λ ls. size_behind name entries ls size walk stmt more) (sym (append-nil labels))
 size_split name entries labels size walk (x ∷ front) stmt more =
     let new = new_labels labels x.kind (here walk.at) in

@@ -38,8 +38,8 @@ use Rattle.asm_object.specs.declared.object.IndexRow.{IndexRow}
 use Rattle.asm_object.specs.declared.object.Object.{Object}
 use Rattle.asm_object.specs.declared.object.RowEntry.TheVariants as row
 use Rattle.asm_object.specs.Bytes.{word_bytes}
-use Rattle.asm_object.specs.Objects.{joined, object_of, refusals_from}
-use Rattle.asm_object.specs.Pieces.{Piece, place_at, pieces_from, bytes_in}
+use Rattle.asm_object.specs.Objects.{joined, object_of}
+use Rattle.asm_object.specs.Pieces.{Piece, place_at, bytes_in}
 use Rattle.asm_object.proofs.PlaceLaws.{law_of_places, earlier, split, walks_on}
 use Rattle.asm_object.proofs.ObjectLaws.{IsTaken, taken, ends_small, entries_count}
 use Rattle.source_laws.specs.Functions.{starts_function, bounds_function, HasNoBound, functions_in, directives_in, Function, source_of, directives_of, start_at, end_at}
@@ -48,6 +48,7 @@ use Rattle.source_laws.specs.SourceRowLaw.{EachRowIsAFunctions, RowsRise, LaterR
 use Rattle.source_laws.proofs.Frames.{Shape, or_parts, regroup, begins, goes_on, taken_directive}
 use Rattle.source_laws.proofs.Rows.{one_if, functions_more}
 use Rattle.source_laws.proofs.Standing.{at_start, law_of_rows, law_of_count, law_of_closing}
+use Rattle.asm_object.specs.Behind.{pieces_from, refusals_from}
 
 -- ---- the k-th `.fnstart`
 

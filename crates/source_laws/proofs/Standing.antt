@@ -22,8 +22,8 @@ use Rattle.eh_list.specs.Bytes.{gap, zeros, length-zeros, next_multiple}
 use Rattle.asm_object.specs.declared.object.IndexRow.{IndexRow}
 use Rattle.asm_object.specs.declared.object.Object.{Object}
 use Rattle.asm_object.specs.Bytes.{word_bytes}
-use Rattle.asm_object.specs.Objects.{joined, refusals_from}
-use Rattle.asm_object.specs.Pieces.{Piece, place_at, row_entry, row_of, rows_from, table_pieces, own_piece, pieces_from, word_place, bytes_in}
+use Rattle.asm_object.specs.Objects.{joined}
+use Rattle.asm_object.specs.Pieces.{Piece, place_at, row_entry, row_of, table_pieces, own_piece, bytes_in, put_pieces, put_rows, pieces_of}
 use Rattle.asm_object.specs.Refusals.{refusal}
 use Rattle.asm_object.proofs.PlaceLaws.{law_of_bytes, none_behind, none_parts, refusal_parts, not_false, walks_on}
 use Rattle.asm_object.proofs.ObjectLaws.{IsTaken, taken, ends_small, entries_count, same_is}
@@ -32,6 +32,9 @@ use Rattle.source_laws.specs.Functions.{HasNoBound, Function, directives_in, fun
 use Rattle.source_laws.specs.RowLaw.{behind, tables_from, entry_for, TableStands, RowsStandAtTheirFunctions, RowsAreOfFunctions, FunctionsAreClosed}
 use Rattle.source_laws.proofs.Frames.{ended_with, closed_behind}
 use Rattle.source_laws.proofs.Rows.{dropped_get, State, Opens, opens, reach, rows_split, begins}
+use Rattle.asm_layout.specs.Placing.{word_place, placed_from, function_at, function_here}
+use Rattle.asm_layout.specs.declared.placed.Puts.TheVariants as puts
+use Rattle.asm_object.specs.Behind.{pieces_from, refusals_from, rows_from}
 
 got_behind : {X : Type 0} (xs : List X) (x : X) (ys : List X) (n : ℕ) → length xs ≡ n → slice_get (xs ++ x ∷ ys) n ≡ Some x
 got_behind [] x ys zero e = refl
@@ -95,7 +98,7 @@ at_start stmts before line more object same few t =
 -- it stands in the text
 pub in_text : (entries : List (Option EntryWords)) (labels : List Named) (walk : Walk) (line : ℕ) (more : List Stmt) → refusals_from entries labels walk (start_at line ∷ more) ≡ []
     → walk.at.section ≡ Text
-unfolding refusals_from
+unfolding placed_from
 in_text entries labels walk line more r =
     let word = word_place walk statement.FnStart (coming_pool entries walk (start_at line ∷ more)) in
     let none = none_parts line (refusal labels statement.FnStart walk.at.section (here walk.at).offset word) (refusals_from entries labels (next entries walk statement.FnStart) more) r in
@@ -116,18 +119,12 @@ entry_there entry.CantUnwind place table e = refl
 entry_there (entry.Inline word) place table e = refl
 entry_there (entry.Table words) place table e = ap (λ n. entry_for (entry.Table words) n) e
 
-abbrev no_rows : List IndexRow
-no_rows = []
-
 start_rows : (entries : List (Option EntryWords)) (walk : Walk) (line : ℕ) (more : List Stmt) (words : EntryWords) → walk.at.inside ≡ false → entry_at entries walk.at.functions ≡ Some words
-    → rows_from entries walk (start_at line ∷ more) ≡ row_of walk (Some words) ++ rows_from entries (next entries walk statement.FnStart) more
-unfolding rows_from
+    → rows_from entries walk (start_at line ∷ more) ≡ row_of (function_at walk.at) (Some words) ++ rows_from entries (next entries walk statement.FnStart) more
+unfolding placed_from
 start_rows entries walk line more words closed is =
-    ap (λ b. cond b no_rows (row_of walk (entry_at entries walk.at.functions)) ++ rows_from entries (next entries walk statement.FnStart) more) closed
-    ∙ ap (λ o. row_of walk o ++ rows_from entries (next entries walk statement.FnStart) more) is
-
-abbrev no_pieces : List Piece
-no_pieces = []
+    ap (λ b. put_rows entries (cond b puts.Nothing (function_here walk.at)) ++ rows_from entries (next entries walk statement.FnStart) more) closed
+    ∙ ap (λ o. row_of (function_at walk.at) o ++ rows_from entries (next entries walk statement.FnStart) more) is
 
 abbrev no_bytes : List ℕ
 no_bytes = []
@@ -137,13 +134,13 @@ pub start_bytes : (entries : List (Option EntryWords)) (labels : List Named) (wa
     → entry_at entries walk.at.functions ≡ o
     → bytes_in Extab (pieces_from entries labels walk (start_at line ∷ more))
     ≡ bytes_in Extab (table_pieces walk.at.sizes.extab o) ++ bytes_in Extab (pieces_from entries labels (next entries walk statement.FnStart) more)
-unfolding pieces_from
+unfolding pieces_of placed_from walk_behind
 start_bytes entries labels walk line more o closed is =
     let word = word_place walk statement.FnStart (coming_pool entries walk (start_at line ∷ more)) in
     let rest = pieces_from entries labels (next entries walk statement.FnStart) more in
     let own = own_piece labels statement.FnStart (here walk.at) word in
     let f : Piece → List ℕ = λ p. cond (same_section p.place.section Extab) p.bytes no_bytes in
-    ap (λ b. bytes_in Extab ((cond b no_pieces (table_pieces walk.at.sizes.extab (entry_at entries walk.at.functions)) ++ own ∷ []) ++ rest)) closed
+    ap (λ b. bytes_in Extab ((put_pieces entries labels (cond b puts.Nothing (function_here walk.at)) ++ own ∷ []) ++ rest)) closed
     ∙ ap (λ t. bytes_in Extab ((table_pieces walk.at.sizes.extab t ++ own ∷ []) ++ rest)) is
     ∙ flat_map-append f (table_pieces walk.at.sizes.extab o ++ own ∷ []) rest
     ∙ ap (λ b. b ++ bytes_in Extab rest) (flat_map-append f (table_pieces walk.at.sizes.extab o) (own ∷ [])
@@ -206,7 +203,7 @@ table_at (entry.Table words) f object walk same closed is there =
     (ap (λ w. next entries w statement.FnStart) same ∙ sym (walks_on entries start f.before (start_at f.start_line ∷ [])))
 
 row_is : (walk : Walk) (words : EntryWords) → walk.at.sizes.text ≤ MOST_BYTES → walk.at.sizes.extab ≤ MOST_BYTES
-    → row_of walk (Some words) ≡ record { offset = walk.at.sizes.text; entry = entry_for words (next_multiple walk.at.sizes.extab 4) } ∷ []
+    → row_of (function_at walk.at) (Some words) ≡ record { offset = walk.at.sizes.text; entry = entry_for words (next_multiple walk.at.sizes.extab 4) } ∷ []
 row_is walk words text extab =
     ap (λ n. record { offset = n; entry = row_entry (sum_64 walk.at.sizes.extab (gap walk.at.sizes.extab 4)) words } ∷ []) (low_place walk.at.sizes.text text)
     ∙ ap (λ e. record { offset = walk.at.sizes.text; entry = e } ∷ []) (entry_there words _ _ (table_there walk.at.sizes.extab extab))

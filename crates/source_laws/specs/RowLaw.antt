@@ -15,7 +15,8 @@ use Rattle.asm_object.specs.declared.object.RowEntry.{RowEntry}
 use Rattle.asm_object.specs.declared.object.RowEntry.TheVariants as row
 use Rattle.asm_object.specs.Bytes.{word_bytes}
 use Rattle.asm_object.specs.Objects.{object_of}
-use Rattle.asm_object.specs.Pieces.{place_at, pieces_from, bytes_in}
+use Rattle.asm_object.specs.Pieces.{place_at, bytes_in}
+use Rattle.asm_object.specs.Behind.{pieces_from}
 use Rattle.source_laws.specs.Functions.{HasNoBound, Function, functions_in, source_of, directives_of, start_at, end_at}
 
 -- where a source has come to behind some of its statements

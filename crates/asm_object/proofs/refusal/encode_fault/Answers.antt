@@ -1,13 +1,11 @@
 use Rattle.std.proofs.Common.{◌≡◌, rules, tests, ◌∙◌, ap, sym}
 use Rattle.std.specs.List.{list_all}
-use Rattle.std.specs.Result.{result_err}
 use Rattle.std.proofs.lemmas.Iterator.{YieldsList-from_slice}
 use Rattle.std.proofs.lemmas.Iterator.Search.{all_from_yields_List}
 use Rattle.thumb_encode.specs.declared.code.EncodeFault.TheVariants.{ImmediateRange}
 use Rattle.asm_layout.specs.Labels.{named_in}
 use Rattle.asm_object.specs.Values.{number}
-use Rattle.asm_object.specs.Refusals.{fits, fault_unless, instruction_fault, encode_fault}
-use Rattle.asm_object.proofs.Unnamed.{fault_of_instruction}
+use Rattle.asm_object.specs.Refusals.{fits, fault_unless, encode_fault_by}
 use Rattle.asm_object.proofs.refusal.encode_fault.Goals as goal
 
 pub returns-in-Halves : goal.returns-in-Halves
@@ -16,7 +14,7 @@ returns-in-Halves c =
     let fit : c.all.result ≡ list_all (λ field. fits 32768 (number labels field)) c.in-Halves.fields =
     all_from_yields_List (λ field. fits 32768 (number labels field)) _ _ _ c.all.ensures.ran (YieldsList-from_slice c.in-Halves.fields cc) (λ x b q k. search (rules, tests)) in
     c.fault_unless.ensures ∙ ap (λ holds. fault_unless holds ImmediateRange) fit
-    ∙ ap (λ kind. encode_fault labels kind c.args.place c.args.word) (sym c.in-Halves.is)
+    ∙ ap (λ kind. encode_fault_by labels kind c.args.code.now) (sym c.in-Halves.is)
 
 pub returns-in-Bytes : goal.returns-in-Bytes
 returns-in-Bytes c =
@@ -24,11 +22,4 @@ returns-in-Bytes c =
     let fit : c.all-in-Bytes.result ≡ list_all (λ field. fits 128 (number labels field)) c.in-Bytes.fields =
     all_from_yields_List (λ field. fits 128 (number labels field)) _ _ _ c.all-in-Bytes.ensures.ran (YieldsList-from_slice c.in-Bytes.fields cc) (λ x b q k. search (rules, tests)) in
     c.fault_unless-in-Bytes.ensures ∙ ap (λ holds. fault_unless holds ImmediateRange) fit
-    ∙ ap (λ kind. encode_fault labels kind c.args.place c.args.word) (sym c.in-Bytes.is)
-
-pub returns-in-Some : goal.returns-in-Some
-returns-in-Some c =
-    let others = c.in_default in
-    c.err.ensures.value ∙ ap result_err c.encode.ensures.exact
-    ∙ ap instruction_fault (sym c.in-Some.is ∙ c.instruction.ensures)
-    ∙ fault_of_instruction _ _ c.args.place c.args.word others.not-LdrPool others.not-Udf others.not-Halves others.not-Bytes others.not-Space
+    ∙ ap (λ kind. encode_fault_by labels kind c.args.code.now) (sym c.in-Bytes.is)
