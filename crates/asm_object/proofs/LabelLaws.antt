@@ -12,6 +12,7 @@ use Rattle.asm_layout.specs.declared.fault.AsmWhat.TheVariants.{DuplicateLabel}
 use Rattle.asm_layout.specs.declared.place.Place.{Place}
 use Rattle.asm_layout.specs.declared.place.Section.{Section}
 use Rattle.asm_layout.specs.declared.walk.Walk.{Walk}
+use Rattle.asm_layout.specs.declared.walk.TheConstants.{MOST_BYTES}
 use Rattle.asm_layout.specs.Faults.{fault_at}
 use Rattle.asm_layout.specs.Functions.{entries_of, no_frame}
 use Rattle.asm_layout.specs.Labels.{Named, named, find, is_among, label_unless, new_labels, labels_from, labels_of, labelled, label_faults, names_behind, duplicates_from, labels_in}
@@ -146,19 +147,19 @@ symbols_find entries stmts name (label ∷ more) place e = by (same_bytes name l
         ap (λ (p : Place). Some (record { section = p.section; offset = p.offset % 2 ^ 32 })) same
     by false e h = h e
 
-small_place : (place : Place) → place.offset ≤ 1048576 → record { section = place.section; offset = place.offset % 2 ^ 32 } ≡ place
+small_place : (place : Place) → place.offset ≤ MOST_BYTES → record { section = place.section; offset = place.offset % 2 ^ 32 } ≡ place
 small_place place h = ap (λ n. record { section = place.section; offset = n }) (low place.offset h)
   where
-    low : (n : ℕ) → n ≤ 1048576 → n % 2 ^ 32 ≡ n
+    low : (n : ℕ) → n ≤ MOST_BYTES → n % 2 ^ 32 ≡ n
     low n h = omega (arith, h)
 
-within : (a x end : ℕ) → a + x ≡ end → end ≤ 1048576 → a ≤ 1048576
+within : (a x end : ℕ) → a + x ≡ end → end ≤ MOST_BYTES → a ≤ MOST_BYTES
 within a x end e h = omega (arith, e, h)
 
 -- the place behind statements, more of which follow, is small
 pub small_behind : (entries : List (Option EntryWords)) (labels : List Named) (before more : List Stmt) (section : Section) → length entries < 2 ^ 64
     → refusals_from entries labels start (before ++ more) ≡ [] → is_too_large (sizes_with_pool (walk_behind entries start (before ++ more))) ≡ false
-    → size_in (walk_behind entries start before).at.sizes section ≤ 1048576
+    → size_in (walk_behind entries start before).at.sizes section ≤ MOST_BYTES
 small_behind entries labels before more section few r h =
     let walk = walk_behind entries start before in
     let ends : is_too_large (sizes_with_pool (walk_behind entries walk more)) ≡ false = ap (λ w. is_too_large (sizes_with_pool w)) (sym (walks_on entries start before more)) ∙ h in

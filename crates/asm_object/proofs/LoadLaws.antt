@@ -16,6 +16,7 @@ use Rattle.thumb_encode.specs.Codes.{encoded_of}
 use Rattle.asm_unwind.specs.declared.entry.EntryWords.{EntryWords}
 use Rattle.asm_layout.specs.declared.walk.Sizes.{Sizes}
 use Rattle.asm_layout.specs.declared.walk.Walk.{Walk}
+use Rattle.asm_layout.specs.declared.walk.TheConstants.{MOST_BYTES}
 use Rattle.asm_layout.specs.declared.word.Word.{Word}
 use Rattle.asm_layout.specs.declared.word.Word.TheVariants as word
 use Rattle.asm_layout.specs.declared.place.Section.TheVariants.{Text}
@@ -136,7 +137,7 @@ regroup : (f a w b r : List ℕ) → f ++ (a ++ (w ++ b) ++ []) ++ r ≡ f ++ a 
 regroup f a w b r = simp (append-nil, append_assoc)
 
 pool_has : (labels : List Named) (walk : Walk) (word : Word) (at : ℕ) (rest all : List ℕ) → HasWord walk.pool word at
-    → (sizes_with_pool walk).text ≤ 1048576 → all ≡ bytes_in Text (pool_pieces labels (pool_here walk)) ++ rest
+    → (sizes_with_pool walk).text ≤ MOST_BYTES → all ≡ bytes_in Text (pool_pieces labels (pool_here walk)) ++ rest
     → WordThere labels walk.at.sizes.text (pool_place walk) all word at
 pool_has labels walk word at rest all h small is = by (is_empty walk.pool) refl small is
   where
@@ -150,7 +151,7 @@ pool_has labels walk word at rest all h small is = by (is_empty walk.pool) refl 
     words = ap (words_bytes labels) h.split ∙ flat_map-append (λ w. word_bytes (held labels w)) h.front (word ∷ h.back)
 
     by : (b : Bool) → is_empty walk.pool ≡ b
-        → (cond b walk.at.sizes (record walk.at.sizes { text = sum_64 walk.at.sizes.text (sum_64 (gap walk.at.sizes.text 4) (times (length walk.pool) 4)) })).text ≤ 1048576
+        → (cond b walk.at.sizes (record walk.at.sizes { text = sum_64 walk.at.sizes.text (sum_64 (gap walk.at.sizes.text 4) (times (length walk.pool) 4)) })).text ≤ MOST_BYTES
         → all ≡ bytes_in Text (cond b [] (filling_piece (place_at Text walk.at.sizes.text) (gap walk.at.sizes.text 4) ∷ words_piece labels (place_at Text (pool_place walk)) walk.pool ∷ [])) ++ rest
         → WordThere labels walk.at.sizes.text (pool_place walk) all word at
     by true e small is = absurd (true≢false (sym e ∙ filled))
@@ -162,7 +163,7 @@ pool_has labels walk word at rest all h small is = by (is_empty walk.pool) refl 
           (length-append (filling_bytes fill) (words_bytes labels h.front) ∙ ap (λ n. n + length (words_bytes labels h.front)) (filled_length fill) ∙ ap (λ n. fill + n) (words_length labels h.front));
     }
       where
-        placed : (text fill at front all before : ℕ) → at ≡ front → min (text + min (fill + min (all * 4) (2 ^ 64 - 1)) (2 ^ 64 - 1)) (2 ^ 64 - 1) ≤ 1048576 → before ≡ fill + front * 4
+        placed : (text fill at front all before : ℕ) → at ≡ front → min (text + min (fill + min (all * 4) (2 ^ 64 - 1)) (2 ^ 64 - 1)) (2 ^ 64 - 1) ≤ MOST_BYTES → before ≡ fill + front * 4
             → min (text + fill) (2 ^ 64 - 1) + at * 4 ≡ text + before
         placed text fill at front all before e h k = omega (arith, e, h, k)
 
@@ -194,7 +195,7 @@ in_both own rest = flat_map-append (λ p. cond (same_section p.place.section Tex
 
 stays : (entries : List (Option EntryWords)) (labels : List Named) (walk : Walk) (kind : StmtKind) (own rest : List Piece) (later end : ℕ) (word : Word) (at : ℕ) (b : Bool)
     → ends_pool walk kind ≡ b → (ends_pool walk kind ≡ true → bytes_in Text own ≡ bytes_in Text (pool_pieces labels (pool_here walk)))
-    → (next entries walk kind).at.sizes.text + length (bytes_in Text rest) ≡ end → walk.at.sizes.text + length (bytes_in Text (own ++ rest)) ≡ end → end ≤ 1048576
+    → (next entries walk kind).at.sizes.text + length (bytes_in Text rest) ≡ end → walk.at.sizes.text + length (bytes_in Text (own ++ rest)) ≡ end → end ≤ MOST_BYTES
     → HasWord walk.pool word at
     → (b ≡ false → WordThere labels (next entries walk kind).at.sizes.text later (bytes_in Text rest) word at)
     → WordThere labels walk.at.sizes.text (cond b (pool_place walk) later) (bytes_in Text (own ++ rest)) word at
@@ -203,7 +204,7 @@ stays entries labels walk kind own rest later end word at true e pool ends all l
     (small (next entries walk kind).at.sizes.text (sizes_with_pool walk).text (length (bytes_in Text rest)) end (ap (λ (z : Sizes). z.text) (ends_sizes entries walk kind e)) ends large)
     (in_both own rest ∙ ap (λ l. l ++ bytes_in Text rest) (pool e))
   where
-    small : (a b x end : ℕ) → a ≡ b → a + x ≡ end → end ≤ 1048576 → b ≤ 1048576
+    small : (a b x end : ℕ) → a ≡ b → a + x ≡ end → end ≤ MOST_BYTES → b ≤ MOST_BYTES
     small a b x end e h k = omega (arith, e, h, k)
 stays entries labels walk kind own rest later end word at false e pool ends all large there more =
     let h = more refl in
@@ -317,7 +318,7 @@ load_there entries labels walk line t value more whole few r h own rest =
           ∙ first_two _ _ has;
     }
   where
-    exact : (coming at text before after all end : ℕ) → coming + at * 4 ≡ text + before → all ≡ before + 4 + after → text + all ≡ end → end ≤ 1048576
+    exact : (coming at text before after all end : ℕ) → coming + at * 4 ≡ text + before → all ≡ before + 4 + after → text + all ≡ end → end ≤ MOST_BYTES
         → min (coming + min (at * 4) (2 ^ 64 - 1)) (2 ^ 64 - 1) ≡ text + before
     exact coming at text before after all end p l e h = omega (arith, p, l, e, h)
 

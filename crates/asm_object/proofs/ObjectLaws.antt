@@ -21,6 +21,7 @@ use Rattle.asm_layout.specs.declared.place.Section.{Section}
 use Rattle.asm_layout.specs.declared.place.Section.TheVariants.{Text, Rodata, Extab, Init, Bss}
 use Rattle.asm_layout.specs.declared.walk.Sizes.{Sizes}
 use Rattle.asm_layout.specs.declared.walk.Walk.{Walk}
+use Rattle.asm_layout.specs.declared.walk.TheConstants.{MOST_BYTES}
 use Rattle.asm_layout.specs.declared.word.Word.{Word}
 use Rattle.asm_layout.specs.declared.word.Word.TheVariants as word
 use Rattle.asm_layout.specs.Faults.{first_of_all, fault_if}
@@ -129,7 +130,7 @@ alone a relocs c h = rw append-nil h
 
 -- ---- words
 
-word_stands : (section : Section) (place : ℕ) (word : Word) → place ≤ 1048576 → StandInOrder place (relocs_of (place_at section place) (link_of word)) (place + 4)
+word_stands : (section : Section) (place : ℕ) (word : Word) → place ≤ MOST_BYTES → StandInOrder place (relocs_of (place_at section place) (link_of word)) (place + 4)
 word_stands section place (word.Num n) h = omega arith
 word_stands section place (word.Diff a b n) h = omega arith
 word_stands section place (word.Of name n) h = (omega (arith, h), omega (arith, h))
@@ -138,7 +139,7 @@ word_stands section place (word.Target2 name) h = (omega (arith, h), omega (arit
 word_stands section place (word.Prel31 name) h = (omega (arith, h), omega (arith, h))
 word_stands section place (word.Prel31Ref name) h = (omega (arith, h), omega (arith, h))
 
-words_stand : (section : Section) (place : ℕ) (words : List Word) → place + length words * 4 ≤ 1048576
+words_stand : (section : Section) (place : ℕ) (words : List Word) → place + length words * 4 ≤ MOST_BYTES
     → StandInOrder place (word_relocs section place words) (place + length words * 4)
 unfolding word_relocs
 words_stand section place [] h = omega arith
@@ -151,13 +152,13 @@ words_stand section place (word ∷ more) h =
 
 -- ---- one statement
 
-link_stands : (place : Place) (to : Option ℕ) (kind : ℕ) (name : List ℕ) (by : ℕ) → place.offset + by ≤ 1048576
+link_stands : (place : Place) (to : Option ℕ) (kind : ℕ) (name : List ℕ) (by : ℕ) → place.offset + by ≤ MOST_BYTES
     → StandInOrder place.offset (relocs_of place (linked_unless None kind name)) (place.offset + by)
     → StandInOrder place.offset (relocs_of place (linked_unless to kind name)) (place.offset + by)
 link_stands place (Some to) kind name by h k = omega arith
 link_stands place None kind name by h k = k
 
-own_stand : (labels : List Named) (kind : StmtKind) (place : Place) (word : Option ℕ) → place.offset + size kind ≤ 1048576
+own_stand : (labels : List Named) (kind : StmtKind) (place : Place) (word : Option ℕ) → place.offset + size kind ≤ MOST_BYTES
     → StandInOrder place.offset (own_piece labels kind place word).relocs (place.offset + size kind)
 own_stand labels (stmt.Words words) place word h =
     let count : length (map word_of words) ≡ length words = length-map words word_of in
@@ -172,14 +173,14 @@ own_stand labels (stmt.BCond c name) place word h =
     link_stands place (text_place labels name) 103 name 2 h (omega (arith, h), omega (arith, h))
 own_stand labels _ place word h = omega arith
 
-diagonal : (a by : ℕ) (relocs : List Reloc) → min (a + by) (2 ^ 64 - 1) ≤ 1048576 → (a + by ≤ 1048576 → StandInOrder a relocs (a + by))
+diagonal : (a by : ℕ) (relocs : List Reloc) → min (a + by) (2 ^ 64 - 1) ≤ MOST_BYTES → (a + by ≤ MOST_BYTES → StandInOrder a relocs (a + by))
     → StandInOrder a (relocs ++ []) (min (a + by) (2 ^ 64 - 1))
 diagonal a by relocs h k =
     let e : min (a + by) (2 ^ 64 - 1) ≡ a + by = omega (arith, h) in
     alone a relocs _ (between a a relocs (a + by) _ refl (sym e) (k (omega (arith, h))))
 
-grown_stand : (sizes : Sizes) (own s : Section) (by : ℕ) (relocs : List Reloc) → size_in (sizes_grown sizes own by) s ≤ 1048576
-    → (size_in sizes own + by ≤ 1048576 → StandInOrder (size_in sizes own) relocs (size_in sizes own + by))
+grown_stand : (sizes : Sizes) (own s : Section) (by : ℕ) (relocs : List Reloc) → size_in (sizes_grown sizes own by) s ≤ MOST_BYTES
+    → (size_in sizes own + by ≤ MOST_BYTES → StandInOrder (size_in sizes own) relocs (size_in sizes own + by))
     → StandInOrder (size_in sizes s) (cond (same_section own s) relocs [] ++ []) (size_in (sizes_grown sizes own by) s)
 grown_stand sizes Text Text by relocs h k = diagonal sizes.text by relocs h k
 grown_stand sizes Rodata Rodata by relocs h k = diagonal sizes.rodata by relocs h k
@@ -189,12 +190,12 @@ grown_stand sizes Bss Bss by relocs h k = diagonal sizes.bss by relocs h k
 grown_stand sizes _ _ by relocs h k = omega arith
 
 ordinary_stand : (entries : List (Option EntryWords)) (labels : List Named) (walk : Walk) (word : Option ℕ) (kind : StmtKind) (s : Section) → is_ordinary kind ≡ true
-    → size_in (next entries walk kind).at.sizes s ≤ 1048576
+    → size_in (next entries walk kind).at.sizes s ≤ MOST_BYTES
     → StandInOrder (size_in walk.at.sizes s) (relocs_in s (walk_pieces entries labels walk word kind)) (size_in (next entries walk kind).at.sizes s)
 ordinary_stand entries labels walk word kind s o h =
     let own = own_piece labels kind (here walk.at) word in
     let sizes = ordinary_sizes entries walk kind o in
-    let small : size_in (sizes_grown walk.at.sizes walk.at.section (size kind)) s ≤ 1048576 = omega (arith, h, ap (λ (z : Sizes). size_in z s) sizes) in
+    let small : size_in (sizes_grown walk.at.sizes walk.at.section (size kind)) s ≤ MOST_BYTES = omega (arith, h, ap (λ (z : Sizes). size_in z s) sizes) in
     let grown = grown_stand walk.at.sizes walk.at.section s (size kind) own.relocs small (own_stand labels kind (here walk.at) word) in
     let P : Place → Type 0 = λ place. StandInOrder (size_in walk.at.sizes s) (cond (same_section place.section s) own.relocs [] ++ []) (size_in (sizes_grown walk.at.sizes walk.at.section (size kind)) s) in
     let placed = subst P (sym (own_stands labels kind (here walk.at) word)) grown in
@@ -205,14 +206,14 @@ ordinary_stand entries labels walk word kind s o h =
 
 -- ---- pools
 
-pool_stands : (labels : List Named) (walk : Walk) (s : Section) → size_in (sizes_with_pool walk) s ≤ 1048576
+pool_stands : (labels : List Named) (walk : Walk) (s : Section) → size_in (sizes_with_pool walk) s ≤ MOST_BYTES
     → StandInOrder (size_in walk.at.sizes s) (relocs_in s (pool_pieces labels (pool_here walk))) (size_in (sizes_with_pool walk) s)
 pool_stands labels walk s h = by (is_empty walk.pool) s h
   where
     fill : ℕ
     fill = gap walk.at.sizes.text 4
 
-    words : min (walk.at.sizes.text + min (fill + min (length walk.pool * 4) (2 ^ 64 - 1)) (2 ^ 64 - 1)) (2 ^ 64 - 1) ≤ 1048576
+    words : min (walk.at.sizes.text + min (fill + min (length walk.pool * 4) (2 ^ 64 - 1)) (2 ^ 64 - 1)) (2 ^ 64 - 1) ≤ MOST_BYTES
         → StandInOrder walk.at.sizes.text (word_relocs Text (pool_place walk) walk.pool ++ []) (min (walk.at.sizes.text + min (fill + min (length walk.pool * 4) (2 ^ 64 - 1)) (2 ^ 64 - 1)) (2 ^ 64 - 1))
     words h =
         let at : pool_place walk ≡ walk.at.sizes.text + fill = omega (arith, h) in
@@ -223,7 +224,7 @@ pool_stands labels walk s h = by (is_empty walk.pool) s h
         (words_stand Text (pool_place walk) walk.pool (omega (arith, end, h)))))
 
     by : (b : Bool) (s : Section)
-        → size_in (cond b walk.at.sizes (sizes_grown walk.at.sizes Text (sum_64 (gap walk.at.sizes.text 4) (times (length walk.pool) 4)))) s ≤ 1048576
+        → size_in (cond b walk.at.sizes (sizes_grown walk.at.sizes Text (sum_64 (gap walk.at.sizes.text 4) (times (length walk.pool) 4)))) s ≤ MOST_BYTES
         → StandInOrder (size_in walk.at.sizes s)
         (relocs_in s (cond b [] (filling_piece (place_at Text walk.at.sizes.text) (gap walk.at.sizes.text 4) ∷ words_piece labels (place_at Text (pool_place walk)) walk.pool ∷ [])))
         (size_in (cond b walk.at.sizes (sizes_grown walk.at.sizes Text (sum_64 (gap walk.at.sizes.text 4) (times (length walk.pool) 4)))) s)
@@ -269,11 +270,11 @@ start_unlinked entries labels walk s = by walk.at.inside
     by true = refl
     by false = table_unlinked walk.at.sizes.extab (entry_at entries walk.at.functions) s
 
-grows : (a n x : ℕ) → SameEnd n (a + x) → n ≤ 1048576 → a ≤ n
+grows : (a n x : ℕ) → SameEnd n (a + x) → n ≤ MOST_BYTES → a ≤ n
 grows a n x e h = omega (arith, e, h)
 
 special_stand : (entries : List (Option EntryWords)) (labels : List Named) (walk : Walk) (word : Option ℕ) (kind : StmtKind) (s : Section) → Fewer entries → is_ordinary kind ≡ false
-    → size_in (next entries walk kind).at.sizes s ≤ 1048576
+    → size_in (next entries walk kind).at.sizes s ≤ MOST_BYTES
     → StandInOrder (size_in walk.at.sizes s) (relocs_in s (walk_pieces entries labels walk word kind)) (size_in (next entries walk kind).at.sizes s)
 special_stand entries labels walk word stmt.Text s few o h = none_stand _ _ _ (unlinked s (own_piece labels stmt.Text (here walk.at) word) [] refl) (omega arith)
 special_stand entries labels walk word stmt.Data s few o h = none_stand _ _ _ (unlinked s (own_piece labels stmt.Data (here walk.at) word) [] refl) (omega arith)
@@ -296,7 +297,7 @@ special_stand entries labels walk word stmt.Pool s few o h =
     let P : List Reloc → Type 0 = λ relocs. StandInOrder (size_in walk.at.sizes s) relocs (size_in (next entries walk stmt.Pool).at.sizes s) in
     subst P (sym (last_unlinked s (walk_sets entries labels walk stmt.Pool) (own_piece labels stmt.Pool (here walk.at) word) refl)) (ends (is_in_text walk.at) h)
   where
-    ends : (b : Bool) → size_in (cond b (record { at = record walk.at { sizes = sizes_with_pool walk }; pool = [] }) walk).at.sizes s ≤ 1048576
+    ends : (b : Bool) → size_in (cond b (record { at = record walk.at { sizes = sizes_with_pool walk }; pool = [] }) walk).at.sizes s ≤ MOST_BYTES
         → StandInOrder (size_in walk.at.sizes s) (relocs_in s (put_pieces entries labels (cond b (pool_puts walk) puts.Nothing)))
         (size_in (cond b (record { at = record walk.at { sizes = sizes_with_pool walk }; pool = [] }) walk).at.sizes s)
     ends true h = pool_stands labels walk s h
@@ -304,7 +305,7 @@ special_stand entries labels walk word stmt.Pool s few o h =
 special_stand entries labels walk word _ s few o h = absurd (true≢false o)
 
 statement_stands : (entries : List (Option EntryWords)) (labels : List Named) (walk : Walk) (word : Option ℕ) (kind : StmtKind) (s : Section) → Fewer entries
-    → size_in (next entries walk kind).at.sizes s ≤ 1048576
+    → size_in (next entries walk kind).at.sizes s ≤ MOST_BYTES
     → StandInOrder (size_in walk.at.sizes s) (relocs_in s (walk_pieces entries labels walk word kind)) (size_in (next entries walk kind).at.sizes s)
 statement_stands entries labels walk word kind s few h = by (is_ordinary kind) refl
   where
@@ -315,7 +316,7 @@ statement_stands entries labels walk word kind s few h = by (is_ordinary kind) r
 
 -- ---- all statements
 
-within : (a x end : ℕ) → a + x ≡ end → end ≤ 1048576 → a ≤ 1048576
+within : (a x end : ℕ) → a + x ≡ end → end ≤ MOST_BYTES → a ≤ MOST_BYTES
 within a x end e h = omega (arith, e, h)
 
 pub all_stand : (entries : List (Option EntryWords)) (labels : List Named) (walk : Walk) (stmts : List Stmt) (s : Section) → Fewer entries

@@ -26,6 +26,7 @@ use Rattle.asm_layout.specs.declared.place.Place.{Place}
 use Rattle.asm_layout.specs.declared.word.Word.{Word}
 use Rattle.asm_layout.specs.declared.walk.Sizes.{Sizes}
 use Rattle.asm_layout.specs.declared.walk.Walk.{Walk}
+use Rattle.asm_layout.specs.declared.walk.TheConstants.{MOST_BYTES}
 use Rattle.asm_layout.specs.Words.{word_of}
 use Rattle.asm_layout.specs.SameWords.{same_word}
 use Rattle.asm_layout.specs.Sizes.{sum_64, times, multiple, natural, is_instruction, sort_size, size, table_size, size_in, sizes_grown, is_too_large}
@@ -532,7 +533,7 @@ load_code t n h k m =
 rounded : (n : ℕ) → n + (4 - n % 4) % 4 ≡ (n + 3) / 4 * 4
 rounded n = omega arith
 
-word_there : (place text index pool word : ℕ) → place + 2 ≤ 1048576 → place + 2 ≤ text → pool ≡ sum_64 text (gap text 4)
+word_there : (place text index pool word : ℕ) → place + 2 ≤ MOST_BYTES → place + 2 ≤ text → pool ≡ sum_64 text (gap text 4)
     → word ≡ sum_64 pool (times index 4) → word - base place ≤ 1020 → (base place ≤ word) × ((word - base place) % 4 ≡ 0)
 word_there place text index pool word small behind p w near =
     let from : base place ≡ (place + 4) / 4 * 4 = omega arith in
@@ -558,7 +559,7 @@ text_grown sizes Text by e = refl
 text_grown sizes _ by e = absurd (true≢false (sym e))
 
 load_there : (t place index pool word text : ℕ) → nat_lt t 8 ≡ true → word ≡ sum_64 pool (times index 4) → nat_lt 1020 (word - base place) ≡ false
-    → place + 2 ≤ 1048576 → place + 2 ≤ text → pool ≡ sum_64 text (gap text 4) → result_err (encoded_of (LdrLit t (literal word place))) ≡ None
+    → place + 2 ≤ MOST_BYTES → place + 2 ≤ text → pool ≡ sum_64 text (gap text 4) → result_err (encoded_of (LdrLit t (literal word place))) ≡ None
 load_there t place index pool word text r w near small behind p =
     let close : word - base place ≤ 1020 = grind (arith, nat_tests) in
     let there = word_there place text index pool word small behind p w close in
@@ -567,7 +568,7 @@ load_there t place index pool word text r w near small behind p =
 
 pub loads : (entries : List (Option EntryWords)) (labels : List Named) (walk : Walk) (kind : StmtKind) (more : List Stmt) (word : Option ℕ)
     → word ≡ word_place walk kind (cond (ends_pool walk kind) (pool_place walk) (coming_pool entries (next entries walk kind) more))
-    → (sizes_with_pool (walk_behind entries (next entries walk kind) more)).text ≤ 1048576
+    → (sizes_with_pool (walk_behind entries (next entries walk kind) more)).text ≤ MOST_BYTES
     → refusal labels kind walk.at.section (here walk.at).offset word ≡ None → LoadHasCode labels kind (here walk.at).offset word
 loads entries labels walk (stmt.LdrPool t value) more word w small e l =
     let at = (here walk.at).offset in
@@ -577,7 +578,7 @@ loads entries labels walk (stmt.LdrPool t value) more word w small e l =
     let grows = text_grown walk.at.sizes walk.at.section 2 there in
     let ends = end_text entries (next entries walk (stmt.LdrPool t value)) more in
     let pool = pool_behind entries (next entries walk (stmt.LdrPool t value)) more in
-    let fits : size_in walk.at.sizes walk.at.section + 2 ≤ 1048576 = fit walk.at.sizes.text _ _ _ same grows ends small in
+    let fits : size_in walk.at.sizes walk.at.section + 2 ≤ MOST_BYTES = fit walk.at.sizes.text _ _ _ same grows ends small in
     let index = position_or_len (same_word (word_of value)) walk.pool in
     let coming = coming_pool entries (next entries walk (stmt.LdrPool t value)) more in
     let is : word ≡ Some (sum_64 coming (times index 4)) = w ∙ ap (λ b. option_map (sum_64 coming) (cond b (Some (times index 4)) None)) there in
@@ -586,10 +587,10 @@ loads entries labels walk (stmt.LdrPool t value) more word w small e l =
     (ap (λ o. is_pool_too_far at o) (sym is) ∙ parts.1.0)
     fits (reach walk.at.sizes.text _ _ _ same grows fits pool.behind) pool.begins
   where
-    fit : (a place b end : ℕ) → place ≡ a → b ≡ sum_64 a 2 → min b (2 ^ 64 - 1) ≤ end → end ≤ 1048576 → place + 2 ≤ 1048576
+    fit : (a place b end : ℕ) → place ≡ a → b ≡ sum_64 a 2 → min b (2 ^ 64 - 1) ≤ end → end ≤ MOST_BYTES → place + 2 ≤ MOST_BYTES
     fit a place b end p g h k = omega (arith, p, g, h, k)
 
-    reach : (a place b text : ℕ) → place ≡ a → b ≡ sum_64 a 2 → place + 2 ≤ 1048576 → min b (2 ^ 64 - 1) ≤ text → place + 2 ≤ text
+    reach : (a place b text : ℕ) → place ≡ a → b ≡ sum_64 a 2 → place + 2 ≤ MOST_BYTES → min b (2 ^ 64 - 1) ≤ text → place + 2 ≤ text
     reach a place b text p g h k = omega (arith, p, g, h, k)
 loads entries labels walk _ more word w small e l = absurd (true≢false (sym l))
 
@@ -603,7 +604,7 @@ both_count s some more =
     ap length (flat_map-append (λ p. cond (same_section p.place.section s) p.bytes the_none) some more) ∙ length-append (bytes_in s some) (bytes_in s more)
 
 counts : (entries : List (Option EntryWords)) (labels : List Named) (walk : Walk) (stmts : List Stmt) (s : Section) → Fewer entries
-    → refusals_from entries labels walk stmts ≡ [] → (sizes_with_pool (walk_behind entries walk stmts)).text ≤ 1048576
+    → refusals_from entries labels walk stmts ≡ [] → (sizes_with_pool (walk_behind entries walk stmts)).text ≤ MOST_BYTES
     → SameEnd (size_in (sizes_with_pool (walk_behind entries walk stmts)) s) (size_in walk.at.sizes s + length (bytes_in s (pieces_from entries labels walk stmts)))
 unfolding pieces_of placed_from walk_behind coming_pool
 counts entries labels walk [] s few r small = pool_counts labels walk s
@@ -620,25 +621,25 @@ or_parts_false : (a b : Bool) → (a || b) ≡ false → (a ≡ false) × (b ≡
 or_parts_false true b e = absurd (true≢false e)
 or_parts_false false b e = (refl, e)
 
-not_above : (n : ℕ) → nat_lt 1048576 n ≡ false → n ≤ 1048576
+not_above : (n : ℕ) → nat_lt MOST_BYTES n ≡ false → n ≤ MOST_BYTES
 not_above n e = grind (arith, nat_tests)
 
-pub not_large : (sizes : Sizes) (s : Section) → is_too_large sizes ≡ false → size_in sizes s ≤ 1048576
+pub not_large : (sizes : Sizes) (s : Section) → is_too_large sizes ≡ false → size_in sizes s ≤ MOST_BYTES
 not_large sizes s e = by s
   where
-    bss : ((nat_lt 1048576 sizes.text || nat_lt 1048576 sizes.rodata || nat_lt 1048576 sizes.extab || nat_lt 1048576 sizes.init) ≡ false) × (nat_lt 1048576 sizes.bss ≡ false)
+    bss : ((nat_lt MOST_BYTES sizes.text || nat_lt MOST_BYTES sizes.rodata || nat_lt MOST_BYTES sizes.extab || nat_lt MOST_BYTES sizes.init) ≡ false) × (nat_lt MOST_BYTES sizes.bss ≡ false)
     bss = or_parts_false _ _ e
 
-    init : ((nat_lt 1048576 sizes.text || nat_lt 1048576 sizes.rodata || nat_lt 1048576 sizes.extab) ≡ false) × (nat_lt 1048576 sizes.init ≡ false)
+    init : ((nat_lt MOST_BYTES sizes.text || nat_lt MOST_BYTES sizes.rodata || nat_lt MOST_BYTES sizes.extab) ≡ false) × (nat_lt MOST_BYTES sizes.init ≡ false)
     init = or_parts_false _ _ bss.0
 
-    extab : ((nat_lt 1048576 sizes.text || nat_lt 1048576 sizes.rodata) ≡ false) × (nat_lt 1048576 sizes.extab ≡ false)
+    extab : ((nat_lt MOST_BYTES sizes.text || nat_lt MOST_BYTES sizes.rodata) ≡ false) × (nat_lt MOST_BYTES sizes.extab ≡ false)
     extab = or_parts_false _ _ init.0
 
-    text : (nat_lt 1048576 sizes.text ≡ false) × (nat_lt 1048576 sizes.rodata ≡ false)
+    text : (nat_lt MOST_BYTES sizes.text ≡ false) × (nat_lt MOST_BYTES sizes.rodata ≡ false)
     text = or_parts_false _ _ extab.0
 
-    by : (s : Section) → size_in sizes s ≤ 1048576
+    by : (s : Section) → size_in sizes s ≤ MOST_BYTES
     by Text = not_above sizes.text text.0
     by Rodata = not_above sizes.rodata text.1
     by Extab = not_above sizes.extab extab.1
@@ -650,7 +651,7 @@ law_of_ends entries labels walk stmts s few r h =
     exact _ _ (counts entries labels walk stmts s few r (not_large (sizes_with_pool (walk_behind entries walk stmts)) Text h))
     (not_large (sizes_with_pool (walk_behind entries walk stmts)) s h)
   where
-    exact : (end all : ℕ) → SameEnd end all → end ≤ 1048576 → all ≡ end
+    exact : (end all : ℕ) → SameEnd end all → end ≤ MOST_BYTES → all ≡ end
     exact end all e h = omega (arith, e, h)
 
 pub walks_on : (entries : List (Option EntryWords)) (walk : Walk) (before more : List Stmt)

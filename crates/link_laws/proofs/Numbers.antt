@@ -8,7 +8,7 @@ use Rattle.asm_layout.specs.declared.place.Section.{Section}
 use Rattle.asm_layout.specs.declared.place.Section.TheVariants.{Text, Rodata, Extab, Init, Bss}
 use Rattle.asm_object.specs.declared.object.Object.{Object}
 use Rattle.elf_write.specs.declared.parts.ImageParts.{ImageParts}
-use Rattle.eh_link.specs.declared.places.TheConstants.{CODE_START}
+use Rattle.eh_link.specs.declared.places.TheConstants.{CODE_START, MOST_MEMORY}
 use Rattle.eh_link.specs.Placed.{Placed}
 use Rattle.eh_link.specs.Layout.{layout_of, code_size, data_size, address_in, placed_of}
 use Rattle.eh_link.specs.Fields.{part_in, filled_of}
@@ -134,10 +134,10 @@ pub address_small : (s : Section) (objects : List Object) (entry : List ℕ) (im
     → address_in s placed.at + length (part_in s (filled_of (placed_of objects) placed)) ≤ 0x400000
 address_small s objects entry image placed one e = by s
   where
-    fits : code_size (layout_of objects) + data_size (layout_of objects) ≤ 1048576
+    fits : code_size (layout_of objects) + data_size (layout_of objects) ≤ MOST_MEMORY
     fits = not_above _ (image_made objects entry image e).fits
       where
-        not_above : (n : ℕ) → nat_lt 1048576 n ≡ false → n ≤ 1048576
+        not_above : (n : ℕ) → nat_lt MOST_MEMORY n ≡ false → n ≤ MOST_MEMORY
         not_above n h = grind (arith, nat_tests)
 
     code : CODE_START + length (linked_code objects) ≤ 0x400000
