@@ -25,7 +25,7 @@ use Rattle.asm_object.proofs.ObjectLaws.{taken, ends_small, entries_count, last_
 use Rattle.source_laws.specs.Functions.{HasNoBound, Function, source_of, directives_of, start_at, end_at}
 use Rattle.source_laws.specs.RowLaw.{behind}
 use Rattle.source_laws.proofs.Handlers.{table_end}
-use Rattle.source_laws.proofs.Standing.{at_start, own_entry}
+use Rattle.source_laws.proofs.Standing.{fewer, at_start, own_entry}
 use Rattle.asm_object.proofs.Statements.{walk_sets, walk_pieces}
 use Rattle.asm_layout.specs.Placing.{word_place, placed_from}
 use Rattle.asm_object.specs.Behind.{pieces_from, refusals_from}
@@ -52,9 +52,6 @@ pub record FieldsAround (object : Object) (table end : ℕ) : Type 0 where
   pub split_there : relocs_at Extab object ≡ front ++ back
   pub before : StandInOrder 0 front table
   pub behind_it : StandInOrder end back last
-
-fewer : (a b : ℕ) → a ≤ b → b < 2 ^ 64 → a < 2 ^ 64
-fewer a b h k = omega (arith, h, k)
 
 order_later : (from : ℕ) (relocs : List Reloc) (a b : ℕ) → a ≤ b → StandInOrder from relocs a → StandInOrder from relocs b
 order_later from [] a b h s = omega (arith, h, s)

@@ -2,7 +2,7 @@
 -- each is taken up to the next `.fnend`.
 use Rattle.std.proofs.Common.{◌≡◌, ℕ, ◌⊎◌, inl, inr, Bool, true, false, cond, ◌&&◌, ◌||◌, not, List, [], ◌∷◌, ◌++◌, Option, Some, None, Result, Ok, Err, refl, sym, ap, ◌∙◌, append_assoc, append-nil, subst}
 use Rattle.std.specs.List.{list_any, cons_option}
-use Rattle.std.proofs.lemmas.Bool.{true≢false}
+use Rattle.std.proofs.lemmas.Bool.{true≢false, or_parts}
 use Rattle.std.proofs.lemmas.List.Folds.{list_any-append}
 use Rattle.asm_read.specs.declared.statement.Stmt.{Stmt}
 use Rattle.asm_read.specs.declared.statement.StmtKind.{StmtKind}
@@ -18,10 +18,6 @@ use Rattle.asm_layout.specs.Functions.{Frame, no_frame, directive_of, frame_behi
 use Rattle.asm_object.proofs.ObjectLaws.{both_none}
 use Rattle.source_laws.specs.Functions.{bounds_function, HasNoBound, directives_in, start_at, end_at}
 use Rattle.source_laws.specs.RowLaw.{IsClosed}
-
-pub or_parts : (a b : Bool) → (a || b) ≡ false → (a ≡ false) × (b ≡ false)
-or_parts true b e = absurd (true≢false e)
-or_parts false b e = (refl, e)
 
 -- ---- single directives
 

@@ -2,7 +2,7 @@
 use Rattle.asm_layout.specs.declared.walk.TheConstants.{MOST_BYTES}
 use Rattle.std.proofs.Common.{◌≡◌, ℕ, ◌+◌, ◌-◌, ◌*◌, ◌%◌, ◌^◌, ◌≤◌, ◌<◌, min, ◌&&◌, Bool, true, false, cond, List, [], ◌∷◌, ◌++◌, length, drop, flat_map, Option, Some, refl, sym, ap, ◌∙◌, arith, append_assoc, append-nil, subst}
 use Rattle.std.specs.List.{list_any, list_all}
-use Rattle.std.proofs.lemmas.Bool.{true≢false}
+use Rattle.std.proofs.lemmas.Bool.{true≢false, or_parts}
 use Rattle.std.proofs.lemmas.Grind.{flat_map-append}
 use Rattle.std.proofs.lemmas.List.Folds.{list_any-append}
 use Rattle.asm_read.specs.declared.statement.Stmt.{Stmt}
@@ -26,13 +26,13 @@ use Rattle.asm_object.specs.Objects.{joined}
 use Rattle.asm_object.specs.Pieces.{Piece, place_at, data_bytes, bytes_in, pieces_of}
 use Rattle.asm_object.proofs.PlaceLaws.{law_of_bytes, walks_on}
 use Rattle.asm_object.proofs.ObjectLaws.{IsTaken, taken, ends_small, entries_count}
+use Rattle.asm_object.proofs.LoadLaws.{and_true}
 use Rattle.asm_object.proofs.LabelLaws.{small_behind}
 use Rattle.source_laws.specs.Functions.{bounds_function, HasNoBound, Function, source_of, start_at, end_at}
 use Rattle.source_laws.specs.RowLaw.{behind}
 use Rattle.source_laws.specs.HandlerLaw.{is_handler, handler_at, is_data, Handler, HandlersStandBehindTheirTables}
-use Rattle.source_laws.proofs.Frames.{or_parts}
 use Rattle.source_laws.proofs.Rows.{starts_at}
-use Rattle.source_laws.proofs.Standing.{at_start, in_text, own_entry}
+use Rattle.source_laws.proofs.Standing.{fewer, at_start, in_text, own_entry}
 use Rattle.asm_object.proofs.Statements.{walk_pieces}
 use Rattle.asm_layout.specs.Placing.{word_place, placed_from}
 use Rattle.asm_object.specs.Behind.{pieces_from, refusals_from}
@@ -91,10 +91,6 @@ handler_here tables entries walk o =
 abbrev no_bytes : List ℕ
 no_bytes = []
 
-and_parts : (a b : Bool) → (a && b) ≡ true → (a ≡ true) × (b ≡ true)
-and_parts true b e = (refl, e)
-and_parts false b e = absurd (true≢false (sym e))
-
 -- one statement of data in the exception tables
 pub record GivesData (entries : List (Option EntryWords)) (labels : List Named) (walk : Walk) (word : Option ℕ) (kind : StmtKind) : Type 0 where
   pub bytes : bytes_in Extab (walk_pieces entries labels walk word kind) ≡ cond (same_section walk.at.section Extab) (data_bytes labels kind) [] ++ []
@@ -116,7 +112,7 @@ data_there : (entries : List (Option EntryWords)) (labels : List Named) (walk : 
 unfolding pieces_of placed_from walk_behind
 data_there entries labels walk [] more at e = refl
 data_there entries labels walk (stmt ∷ own) more at e =
-    let parts = and_parts (is_data stmt.kind) (list_all (λ s. is_data s.kind) own) e in
+    let parts = and_true (is_data stmt.kind) (list_all (λ s. is_data s.kind) own) e in
     let word = word_place walk stmt.kind (coming_pool entries walk (stmt ∷ own ++ more)) in
     let gives = gives_data entries labels walk word stmt.kind parts.0 in
     let after = next entries walk stmt.kind in
@@ -136,9 +132,6 @@ table_ends n words h = omega (arith, h)
 joined_extab : (stmts : List Stmt) → (joined stmts).extab ≡ bytes_in Extab (pieces_from (entries_of stmts) (labels_of (entries_of stmts) stmts) start stmts)
 unfolding joined
 joined_extab stmts = refl
-
-fewer : (a b : ℕ) → a ≤ b → b < 2 ^ 64 → a < 2 ^ 64
-fewer a b h k = omega (arith, h, k)
 
 abbrev up_to : Function → List Stmt → ℕ → List Stmt
 up_to f code line = f.before ++ start_at f.start_line ∷ (code ++ handler_at line ∷ [])

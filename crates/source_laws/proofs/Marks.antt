@@ -26,6 +26,7 @@ use Rattle.asm_object.specs.Refusals.{refusal}
 use Rattle.asm_object.proofs.PlaceLaws.{Fewer, is_ordinary, ordinary_sets, own_stands, filled_length, none_parts, not_large, text_here, law_of_ends, law_of_places, earlier, split, walks_on, none_behind}
 use Rattle.asm_object.proofs.ObjectLaws.{IsTaken, taken, ends_small, entries_count}
 use Rattle.source_laws.specs.RowLaw.{behind}
+use Rattle.source_laws.proofs.Standing.{fewer}
 use Rattle.source_laws.specs.MarkLaw.{is_code, pool_at, text_behind, LastMarkSays, MarksTellCode, PoolsAreMarked, LastPoolsAreMarked}
 use Rattle.asm_object.proofs.Statements.{walk_sets, walk_pieces}
 use Rattle.asm_layout.specs.Placing.{word_place, placed_from, pool_here, pool_puts, function_here}
@@ -405,9 +406,6 @@ joined_marks stmts = refl
 joined_text : (stmts : List Stmt) → (joined stmts).text ≡ bytes_in Text (pieces_from (entries_of stmts) (labels_of (entries_of stmts) stmts) start stmts)
 unfolding joined
 joined_text stmts = refl
-
-fewer : (a b : ℕ) → a ≤ b → b < 2 ^ 64 → a < 2 ^ 64
-fewer a b h k = omega (arith, h, k)
 
 record Cut (stmts before more : List Stmt) (object : Object) : Type 0 where
   few : Fewer (entries_of stmts)

@@ -2,7 +2,7 @@
 use Rattle.asm_layout.specs.declared.walk.TheConstants.{MOST_BYTES}
 use Rattle.std.proofs.Common.{◌≡◌, ℕ, ◌-◌, ◌%◌, ◌^◌, ◌≤◌, ◌<◌, ◌||◌, Bool, true, false, cond, List, [], ◌∷◌, ◌++◌, Option, Some, refl, sym, ap, ◌∙◌, arith, append-nil, append_assoc, subst}
 use Rattle.std.specs.List.{list_any}
-use Rattle.std.proofs.lemmas.Bool.{true≢false}
+use Rattle.std.proofs.lemmas.Bool.{or_parts}
 use Rattle.std.proofs.lemmas.Cmp.{nat_list_eq_equiv}
 use Rattle.asm_read.specs.declared.statement.Stmt.{Stmt}
 use Rattle.asm_read.specs.declared.statement.StmtKind.{StmtKind}
@@ -20,14 +20,11 @@ use Rattle.asm_object.proofs.LabelLaws.{new_there, label_there, small_behind}
 use Rattle.source_laws.specs.RowLaw.{behind}
 use Rattle.source_laws.specs.SymbolLaw.{HasNone}
 use Rattle.source_laws.specs.SizeLaw.{is_size, label_at, size_at, SizesCountBytes, OthersHaveNoSize}
+use Rattle.source_laws.proofs.Standing.{fewer}
 use Rattle.source_laws.proofs.Symbols.{each_named}
 use Rattle.asm_layout.specs.Placing.{placed_from}
 
 -- ---- sizes
-
-neither : (a b : Bool) → (a || b) ≡ false → (a ≡ false) × (b ≡ false)
-neither true b e = absurd (true≢false e)
-neither false b e = (refl, e)
 
 not_sized : (name : List ℕ) (labels : List Named) (size : ℕ) (kind : StmtKind) (place : Place) → is_size name kind ≡ false → size_by name labels size kind place ≡ size
 not_sized name labels size (Size other) place e = ap (λ b. cond b (size_between (find name labels) place) size) e
@@ -38,7 +35,7 @@ unsized : (name : List ℕ) (entries : List (Option EntryWords)) (labels : List 
 unfolding size_said placed_from
 unsized name entries labels size walk [] e = refl
 unsized name entries labels size walk (stmt ∷ more) e =
-    let parts = neither (is_size name stmt.kind) (list_any (λ s. is_size name s.kind) more) e in
+    let parts = or_parts (is_size name stmt.kind) (list_any (λ s. is_size name s.kind) more) e in
     let after = labels ++ new_labels labels stmt.kind (here walk.at) in
     ap (λ n. size_from name entries after n (next entries walk stmt.kind) more) (not_sized name labels size stmt.kind (here walk.at) parts.0)
     ∙ unsized name entries after size (next entries walk stmt.kind) more parts.1
@@ -77,9 +74,6 @@ own_size name labels size label end found same =
     ap (λ b. cond b (size_between (find name labels) end) size) (nat_list_eq_equiv.refl name)
     ∙ ap (λ o. size_between o end) found
     ∙ ap (λ b. cond b (end.offset - label.offset) 0) (same_there label.section end.section same)
-
-fewer : (a b : ℕ) → a ≤ b → b < 2 ^ 64 → a < 2 ^ 64
-fewer a b h k = omega (arith, h, k)
 
 low : (a b : ℕ) → a ≤ MOST_BYTES → (a - b) % 2 ^ 32 ≡ a - b
 low a b h = omega (arith, h)

@@ -2,7 +2,7 @@
 use Rattle.std.proofs.Common.{◌≡◌, ℕ, zero, suc, ◌+◌, ◌/◌, ◌%◌, ◌^◌, ◌≤◌, ◌<◌, ◌==◌, ◌&&◌, ◌||◌, ◌⊎◌, inl, inr, not, Bool, true, false, cond, List, [], ◌∷◌, ◌++◌, length, drop, flat_map, All, Option, Some, None, Result, Ok, Err, refl, sym, ap, ◌∙◌, arith, append_assoc, append-nil, length-append, length-drop, get_or, subst}
 use Rattle.std.specs.Prelude.{slice_get}
 use Rattle.std.specs.List.{list_any, cons_option}
-use Rattle.std.proofs.lemmas.Bool.{true≢false, eqb-true}
+use Rattle.std.proofs.lemmas.Bool.{true≢false, or_parts, eqb-true}
 use Rattle.std.proofs.lemmas.Bool.Decides.{nat_tests}
 use Rattle.std.proofs.lemmas.Grind.{flat_map-append}
 use Rattle.std.proofs.lemmas.List.Elements.{All-nil, All-cons, All-head, All-tail, All-from_get_or}
@@ -45,9 +45,9 @@ use Rattle.asm_object.proofs.ObjectLaws.{IsTaken, taken, ends_small, entries_cou
 use Rattle.source_laws.specs.Functions.{starts_function, bounds_function, HasNoBound, functions_in, directives_in, Function, source_of, directives_of, start_at, end_at}
 use Rattle.source_laws.specs.RowLaw.{behind, entry_for, TableStands, HasItsRow}
 use Rattle.source_laws.specs.SourceRowLaw.{EachRowIsAFunctions, RowsRise, LaterRowsBeginBehind, HasShortList, HaveShortLists, LiesIn, RowLies, RowsLieInTheirObjects}
-use Rattle.source_laws.proofs.Frames.{Shape, or_parts, regroup, begins, goes_on, taken_directive}
+use Rattle.source_laws.proofs.Frames.{Shape, regroup, begins, goes_on, taken_directive}
 use Rattle.source_laws.proofs.Rows.{one_if, functions_more}
-use Rattle.source_laws.proofs.Standing.{at_start, law_of_rows, law_of_count, law_of_closing}
+use Rattle.source_laws.proofs.Standing.{fewer, at_start, law_of_rows, law_of_count, law_of_closing}
 use Rattle.asm_object.specs.Behind.{pieces_from, refusals_from}
 
 -- ---- the k-th `.fnstart`
@@ -128,9 +128,6 @@ law_of_functions stmts object k few e h =
     }
 
 -- ---- places rise
-
-fewer : (a b : ℕ) → a ≤ b → b < 2 ^ 64 → a < 2 ^ 64
-fewer a b h k = omega (arith, h, k)
 
 abbrev no_bytes : List ℕ
 no_bytes = []

@@ -62,7 +62,7 @@ joined_extab : (stmts : List Stmt) → (joined stmts).extab ≡ bytes_in Extab (
 unfolding joined
 joined_extab stmts = refl
 
-fewer : (a b : ℕ) → a ≤ b → b < 2 ^ 64 → a < 2 ^ 64
+pub fewer : (a b : ℕ) → a ≤ b → b < 2 ^ 64 → a < 2 ^ 64
 fewer a b h k = omega (arith, h, k)
 
 pub at_start : (stmts before : List Stmt) (line : ℕ) (more : List Stmt) (object : Object) → stmts ≡ before ++ start_at line ∷ more → length stmts < 2 ^ 64

@@ -1,7 +1,7 @@
 -- The last `.type` of a name says whether its symbol is a function, and a `.global` makes it global.
 use Rattle.std.proofs.Common.{◌≡◌, ℕ, ◌||◌, Bool, true, false, cond, List, [], ◌∷◌, ◌++◌, map, All, refl, sym, ap, ◌∙◌, subst}
 use Rattle.std.specs.List.{list_any}
-use Rattle.std.proofs.lemmas.Bool.{true≢false}
+use Rattle.std.proofs.lemmas.Bool.{or_parts}
 use Rattle.std.proofs.lemmas.Cmp.{nat_list_eq_equiv}
 use Rattle.std.proofs.lemmas.List.Elements.{All-nil, All-cons}
 use Rattle.eh_word.specs.Names.{same_bytes}
@@ -38,10 +38,6 @@ each_named Holds stmts name object is h =
     let P : List ObjSymbol → Type 0 = λ symbols. All (λ symbol. same_bytes name symbol.name ≡ true → Holds symbol) symbols in
     subst P (sym (ap (λ (o : Object). o.symbols) is ∙ joined_symbols stmts)) (each_label Holds stmts name (labels_of (entries_of stmts) stmts) h)
 
-neither : (a b : Bool) → (a || b) ≡ false → (a ≡ false) × (b ≡ false)
-neither true b e = absurd (true≢false e)
-neither false b e = (refl, e)
-
 -- ---- `.type`
 
 not_typed : (name : List ℕ) (function : Bool) (kind : StmtKind) → is_type name kind ≡ false → typed_by name function kind ≡ function
@@ -53,7 +49,7 @@ untyped : (name : List ℕ) (function : Bool) (stmts : List Stmt) → HasNone (i
 unfolding function_from
 untyped name function [] e = refl
 untyped name function (stmt ∷ more) e =
-    let parts = neither (is_type name stmt.kind) (list_any (λ s. is_type name s.kind) more) e in
+    let parts = or_parts (is_type name stmt.kind) (list_any (λ s. is_type name s.kind) more) e in
     ap (λ f. function_from name f more) (not_typed name function stmt.kind parts.0) ∙ untyped name function more parts.1
 
 type_behind : (name : List ℕ) (function : Bool) (before more : List Stmt) (line : ℕ) (kind : StmtKind)
