@@ -16,22 +16,15 @@ use Rattle.asm_layout.specs.Words.{word_of}
 use Rattle.asm_layout.specs.SameWords.{same_word}
 use Rattle.asm_layout.specs.Sizes.{sum_64, times}
 use Rattle.asm_layout.specs.Labels.{stmt_of}
-use Rattle.asm_layout.specs.Walks.{next, cursor_behind, is_empty, is_in_text, ends_pool, pool_with, pool_place, pools_if, pools_from, coming_pool, sizes_with_pool}
-use Rattle.asm_layout.specs.Placing.{word_offset, word_place, pool_here, function_here, function_puts, puts_at, stood_at, stood_from, placed_at, placed_from, moved_word, moved, has_words, puts_pool, places_behind, resolved, with_word}
+use Rattle.asm_layout.specs.Walks.{next, cursor_behind, is_empty, is_in_text, ends_pool, pool_with, pool_behind, pool_place, pools_if, pools_from, coming_pool, sizes_with_pool}
+use Rattle.asm_layout.specs.Placing.{word_offset, word_place, pool_here, function_here, function_puts, puts_at, stood_at, stood_from, placed_at, placed_from, moved_word, moved, has_words, puts_pool, places_behind, resolved}
 
 -- ---- one statement
 
 -- behind a statement that is no `.pool`
 pub next_else : (entries : List (Option EntryWords)) (walk : Walk) (kind : StmtKind) → (kind ≡ Pool → ⊥)
-    → record (with_word walk kind) { at = cursor_behind entries (with_word walk kind).at kind } ≡ next entries walk kind
+    → record { at = cursor_behind entries walk.at kind; pool = pool_behind walk kind } ≡ next entries walk kind
 next_else entries walk Pool other = absurd (other refl)
-next_else entries walk (LdrPool t value) other = by (is_in_text walk.at)
-  where
-    by : (b : Bool)
-        → record (cond b (record walk { pool = pool_with walk.pool (word_of value) }) walk) { at = cursor_behind entries (cond b (record walk { pool = pool_with walk.pool (word_of value) }) walk).at (LdrPool t value) }
-        ≡ record { at = cursor_behind entries walk.at (LdrPool t value); pool = cond b (pool_with walk.pool (word_of value)) walk.pool }
-    by true = refl
-    by false = refl
 next_else entries walk _ other = refl
 
 pub puts_else : (walk : Walk) (kind : StmtKind) → (kind ≡ Pool → ⊥) → function_puts walk.at kind ≡ puts_at walk kind

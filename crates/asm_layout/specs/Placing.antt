@@ -15,7 +15,7 @@ use Rattle.asm_layout.specs.PlacedStmt.{PlacedStmt}
 use Rattle.asm_layout.specs.Words.{word_of}
 use Rattle.asm_layout.specs.SameWords.{same_word}
 use Rattle.asm_layout.specs.Sizes.{sum_64, times}
-use Rattle.asm_layout.specs.Walks.{start, next, here, is_empty, is_in_text, pool_with, coming_pool, walk_behind}
+use Rattle.asm_layout.specs.Walks.{start, next, here, is_in_text, coming_pool, walk_behind}
 
 -- how far behind the start of its pool the word of a statement stands; only in the text is there a pool
 abbrev pub word_offset : Walk → StmtKind → Option ℕ
@@ -97,7 +97,8 @@ moved pools placed = record placed { word = moved_word pools placed.word }
 
 abbrev pub has_words : Puts → Bool
 has_words (puts.Pool pool) = not (length pool.words == 0)
-has_words _ = false
+has_words (puts.Function _) = false
+has_words puts.Nothing = false
 
 abbrev pub puts_pool : PlacedStmt → Bool
 puts_pool placed = has_words placed.puts
@@ -112,9 +113,3 @@ unfoldable pub resolved : List ℕ → List PlacedStmt → List PlacedStmt
 resolved pools [] = []
 resolved pools (placed ∷ more) =
     moved pools placed ∷ resolved (places_behind pools (puts_pool placed)) more
-
--- a walk that has put a statement's pool word into its pool
-abbrev pub with_word : Walk → StmtKind → Walk
-with_word walk (stmt.LdrPool _ value) =
-    if is_in_text walk.at then record walk { pool = pool_with walk.pool (word_of value) } else walk
-with_word walk _ = walk

@@ -1,14 +1,14 @@
 -- How many bytes statements have, and where sections end (docs/objects.md). Sums stop at 2^64 - 1, far above what a section may have.
-use Rattle.std.specs.Prelude.{ℕ, ◌+◌, ◌-◌, ◌*◌, ◌^◌, ◌||◌, ℤ, pos, negsuc, Bool, true, false, nat_lt, min, if◌then◌else◌, length, Option, Some}
+use Rattle.std.specs.Prelude.{ℕ, ◌+◌, ◌-◌, ◌*◌, ◌^◌, ◌||◌, ℤ, pos, negsuc, Bool, nat_lt, min, if◌then◌else◌, length, Option, Some, None, is_some}
 use Rattle.eh_list.specs.Bytes.{gap}
 use Rattle.asm_read.specs.declared.statement.StmtKind.{StmtKind}
-use Rattle.asm_read.specs.declared.statement.StmtKind.TheVariants as stmt
 use Rattle.asm_unwind.specs.declared.entry.EntryWords.{EntryWords}
 use Rattle.asm_unwind.specs.declared.entry.EntryWords.TheVariants as entry
 use Rattle.asm_layout.specs.declared.place.Section.{Section}
 use Rattle.asm_layout.specs.declared.place.Section.TheVariants.{Text, Rodata, Extab, Init, Bss}
 use Rattle.asm_layout.specs.declared.walk.Sizes.{Sizes}
 use Rattle.asm_layout.specs.declared.walk.TheConstants.{MOST_BYTES}
+use Rattle.asm_layout.specs.Sorts.{Given, WordsOf, HalvesOf, BytesOf, AsciiOf, AscizOf, ZerosOf, Sort, CodeOf, DataOf, Filling, AboutName, Bare, sort_of, operation}
 
 abbrev pub sum_64 : ℕ → ℕ → ℕ
 sum_64 a b = min (a + b) (2 ^ 64 - 1)
@@ -28,49 +28,38 @@ natural (pos n) = n
 natural (negsuc n) = 0
 
 abbrev pub is_instruction : StmtKind → Bool
-is_instruction (stmt.Label _) = false
-is_instruction stmt.Text = false
-is_instruction stmt.Data = false
-is_instruction stmt.Bss = false
-is_instruction stmt.Rodata = false
-is_instruction (stmt.Global _) = false
-is_instruction (stmt.TypeFunction _) = false
-is_instruction (stmt.TypeObject _) = false
-is_instruction (stmt.Size _) = false
-is_instruction (stmt.Words _) = false
-is_instruction (stmt.Halves _) = false
-is_instruction (stmt.Bytes _) = false
-is_instruction (stmt.Ascii _) = false
-is_instruction (stmt.Asciz _) = false
-is_instruction (stmt.Space _) = false
-is_instruction (stmt.Align _) = false
-is_instruction stmt.Pool = false
-is_instruction stmt.FnStart = false
-is_instruction stmt.FnEnd = false
-is_instruction (stmt.Save _) = false
-is_instruction (stmt.Pad _) = false
-is_instruction (stmt.SetFp _ _) = false
-is_instruction stmt.CantUnwind = false
-is_instruction (stmt.PersonalityIndex _) = false
-is_instruction stmt.HandlerData = false
-is_instruction _ = true
+is_instruction kind = is_some (operation kind)
 
--- the bytes of a statement that doesn't look at its place: `bl` and the barriers have two halfwords
+abbrev pub data_size : Given → ℕ
+data_size (WordsOf words) = times (length words) 4
+data_size (HalvesOf halves) = times (length halves) 2
+data_size (BytesOf bytes) = times (length bytes) 1
+data_size (AsciiOf text) = times (length text) 1
+data_size (AscizOf text) = sum_64 (times (length text) 1) 1
+data_size (ZerosOf n) = natural n
+
+-- the bytes of a sort, by what `.align n` fills
+abbrev pub sort_size : (ℤ → ℕ) → Sort → ℕ
+sort_size fills (CodeOf bytes _) = bytes
+sort_size fills (DataOf d) = data_size d
+sort_size fills (Filling n) = fills n
+sort_size fills (AboutName _) = 0
+sort_size fills Bare = 0
+
+-- the bytes of a statement at a place: `.align` fills up to a multiple
+abbrev pub size_at : ℕ → StmtKind → ℕ
+size_at place kind = sort_size (λ n. gap place (multiple n)) (sort_of kind)
+
+-- the bytes that a statement has wherever it stands
 abbrev pub size : StmtKind → ℕ
-size (stmt.Words words) = times (length words) 4
-size (stmt.Halves halves) = times (length halves) 2
-size (stmt.Bytes bytes) = times (length bytes) 1
-size (stmt.Ascii text) = times (length text) 1
-size (stmt.Asciz text) = sum_64 (times (length text) 1) 1
-size (stmt.Space n) = natural n
-size (stmt.Bl _) = 4
-size (stmt.Barrier _) = 4
-size kind = if is_instruction kind then 2 else 0
+size kind = sort_size (λ n. 0) (sort_of kind)
 
 -- the bytes that a function's table takes behind a place of the exception tables
 abbrev pub table_size : ℕ → Option EntryWords → ℕ
 table_size place (Some (entry.Table words)) = sum_64 (gap place 4) (times (length words) 4)
-table_size place _ = 0
+table_size place (Some entry.CantUnwind) = 0
+table_size place (Some (entry.Inline _)) = 0
+table_size place None = 0
 
 abbrev pub size_in : Sizes → Section → ℕ
 size_in sizes Text = sizes.text

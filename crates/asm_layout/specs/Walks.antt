@@ -15,7 +15,7 @@ use Rattle.asm_layout.specs.declared.walk.Cursor.{Cursor}
 use Rattle.asm_layout.specs.declared.walk.Walk.{Walk}
 use Rattle.asm_layout.specs.Words.{word_of}
 use Rattle.asm_layout.specs.SameWords.{same_word}
-use Rattle.asm_layout.specs.Sizes.{sum_64, times, multiple, size, table_size, size_in, sizes_grown}
+use Rattle.asm_layout.specs.Sizes.{sum_64, times, size_at, table_size, size_in, sizes_grown}
 
 abbrev pub same_section : Section → Section → Bool
 same_section Text Text = true
@@ -77,8 +77,7 @@ cursor_behind entries at stmt.Rodata = within at Rodata
 cursor_behind entries at stmt.FnStart = started entries at
 cursor_behind entries at stmt.FnEnd = ended at
 cursor_behind entries at stmt.HandlerData = handling at
-cursor_behind entries at (stmt.Align n) = grown at (gap (size_in at.sizes at.section) (multiple n))
-cursor_behind entries at kind = grown at (size kind)
+cursor_behind entries at kind = grown at (size_at (size_in at.sizes at.section) kind)
 
 abbrev pub is_empty : List Word → Bool
 is_empty words = length words == 0
@@ -105,15 +104,16 @@ ends_pool walk _ = false
 abbrev pub pool_with : List Word → Word → List Word
 pool_with pool word = insert_key same_word pool word
 
+-- the pool behind a statement that ends none
+abbrev pub pool_behind : Walk → StmtKind → List Word
+pool_behind walk (stmt.LdrPool _ value) = if is_in_text walk.at then pool_with walk.pool (word_of value) else walk.pool
+pool_behind walk _ = walk.pool
+
 -- behind a statement
 abbrev pub next : List (Option EntryWords) → Walk → StmtKind → Walk
 next entries walk stmt.Pool =
     if is_in_text walk.at then record { at = record walk.at { sizes = sizes_with_pool walk }; pool = [] } else walk
-next entries walk (stmt.LdrPool t value) = record {
-  at = cursor_behind entries walk.at (stmt.LdrPool t value);
-  pool = if is_in_text walk.at then pool_with walk.pool (word_of value) else walk.pool;
-}
-next entries walk kind = record walk { at = cursor_behind entries walk.at kind }
+next entries walk kind = record { at = cursor_behind entries walk.at kind; pool = pool_behind walk kind }
 
 -- where the walk stands behind statements
 unfoldable pub walk_behind : List (Option EntryWords) → Walk → List Stmt → Walk

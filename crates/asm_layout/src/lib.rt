@@ -10,6 +10,7 @@ pub mod labels;
 pub mod layout;
 pub mod place;
 pub mod placed;
+mod sort;
 pub mod walk;
 pub mod word;
 

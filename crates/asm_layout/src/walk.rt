@@ -1,15 +1,16 @@
 //! The walk over statements: where the next one stands, and the pool that is to come (docs/objects.md).
 ghost use Rattle.std.specs.Prelude.{◌≡◌, ◌<◌, [], Some, option_map, length, IfOk, OnOk, OnErr};
 ghost use Rattle.std.specs.List.{position_or_len};
-ghost use Rattle.asm_layout.specs.Sizes.{times, multiple, size, is_instruction, size_in, sizes_grown, is_too_large, table_size};
+ghost use Rattle.asm_layout.specs.Sizes.{times, multiple, size_at, is_instruction, size_in, sizes_grown, is_too_large, table_size};
 ghost use Rattle.asm_layout.specs.SameWords.{same_word};
 ghost use Rattle.asm_read.specs.declared.statement.StmtKind.TheVariants.{Pool as ForPool};
-ghost use Rattle.asm_layout.specs.Walks.{entry_at, here, start, started, ended, handling, within, grown, cursor_behind, pool_with, ends_pool, pool_place, sizes_with_pool, next};
-ghost use Rattle.asm_layout.specs.Placing.{word_offset, pool_here, function_puts, puts_at, stood_at, with_word};
+ghost use Rattle.asm_layout.specs.Walks.{entry_at, here, start, started, ended, handling, within, grown, cursor_behind, pool_with, pool_behind, ends_pool, pool_place, sizes_with_pool, next};
+ghost use Rattle.asm_layout.specs.Placing.{word_offset, pool_here, function_puts, puts_at, stood_at};
 
 use crate::place::{Place, Section};
 use crate::placed::{PlacedFunction, PlacedPool, PlacedStmt, Puts};
 use crate::word::{Word, Words, word_of};
+use crate::{bare_form, branch_form, data_form, name_form, nameless_form, reader_form};
 use asm_read::{Stmt, StmtKind};
 use asm_unwind::EntryWords;
 use eh_list::bytes::gap;
@@ -98,20 +99,25 @@ fn times(len: usize, size: u64) -> u64
     (len as u64).saturating_mul(size)
 }
 
-/// The bytes of a statement that doesn't look at its place.
-pub fn size(kind: &StmtKind) -> u64
-    ensures { result ≡ size kind.now }
+/// The bytes of a statement at a place: `bl` and the barriers have two halfwords, `.align` fills up to a multiple.
+fn size_at(place: u64, kind: &StmtKind) -> u64
+    ensures { result ≡ size_at place kind.now }
 {
     match kind {
+        nameless_form!()
+        | reader_form!()
+        | StmtKind::B(_)
+        | StmtKind::BCond { .. }
+        | StmtKind::Udf { .. } => 2,
+        StmtKind::Bl(_) | StmtKind::Barrier { .. } => 4,
         StmtKind::Words(words) => times(words.as_slice().len(), 4),
         StmtKind::Halves(halves) => times(halves.as_slice().len(), 2),
         StmtKind::Bytes(bytes) => times(bytes.as_slice().len(), 1),
         StmtKind::Ascii(text) => times(text.bytes().len(), 1),
         StmtKind::Asciz(text) => times(text.bytes().len(), 1).saturating_add(1),
         StmtKind::Space(n) => u64::try_from(*n).unwrap_or(0),
-        StmtKind::Bl(_) | StmtKind::Barrier { .. } => 4,
-        _ if is_instruction(kind) => 2,
-        _ => 0,
+        StmtKind::Align(n) => gap(place, multiple(*n)),
+        name_form!() | bare_form!() => 0,
     }
 }
 
@@ -119,34 +125,14 @@ pub fn size(kind: &StmtKind) -> u64
 pub fn is_instruction(kind: &StmtKind) -> bool
     ensures { result ≡ is_instruction kind.now }
 {
-    !matches!(
-        kind,
-        StmtKind::Label(_)
-            | StmtKind::Text
-            | StmtKind::Data
-            | StmtKind::Bss
-            | StmtKind::Rodata
-            | StmtKind::Global(_)
-            | StmtKind::TypeFunction(_)
-            | StmtKind::TypeObject(_)
-            | StmtKind::Size(_)
-            | StmtKind::Words(_)
-            | StmtKind::Halves(_)
-            | StmtKind::Bytes(_)
-            | StmtKind::Ascii(_)
-            | StmtKind::Asciz(_)
-            | StmtKind::Space(_)
-            | StmtKind::Align(_)
-            | StmtKind::Pool
-            | StmtKind::FnStart
-            | StmtKind::FnEnd
-            | StmtKind::Save { .. }
-            | StmtKind::Pad(_)
-            | StmtKind::SetFp { .. }
-            | StmtKind::CantUnwind
-            | StmtKind::PersonalityIndex(_)
-            | StmtKind::HandlerData
-    )
+    match kind {
+        nameless_form!()
+        | reader_form!()
+        | branch_form!()
+        | StmtKind::Udf { .. }
+        | StmtKind::Barrier { .. } => true,
+        data_form!() | StmtKind::Align(_) | name_form!() | bare_form!() => false,
+    }
 }
 
 /// Where the next statement stands.
@@ -292,8 +278,7 @@ impl Cursor {
             StmtKind::FnStart => self.started(entries),
             StmtKind::FnEnd => self.ended(),
             StmtKind::HandlerData => self.handling(),
-            StmtKind::Align(n) => self.grown(gap(self.place(), multiple(*n))),
-            _ => self.grown(size(kind)),
+            _ => self.grown(size_at(self.place(), kind)),
         }
     }
 }
@@ -411,7 +396,7 @@ impl Walk {
     /// How far behind the start of its pool the word of a statement stands; it goes last where it isn't there.
     fn put_word(&mut self, alloc: Global, kind: &StmtKind) -> Result<Option<u64>, AllocError>
         ensures word { IfOk result (λ word. word ≡ word_offset self.old kind.now) }
-        ensures walk { OnOk result (self.new ≡ with_word self.old kind.now) }
+        ensures walk { OnOk result (self.new ≡ record self.old { pool = pool_behind self.old kind.now }) }
     {
         match kind {
             StmtKind::LdrPool { value, .. } => {

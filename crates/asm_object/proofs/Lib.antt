@@ -5,7 +5,6 @@ pub mod BuiltLemmas
 pub mod GivenLemmas
 pub mod ObjectLemmas
 pub mod PlaceLaws
-mod Unnamed
 pub mod ObjectLaws
 pub mod LabelLaws
 pub mod LoadLaws

@@ -1,5 +1,5 @@
 -- Where a statement stands is the number of bytes of its section before it.
-use Rattle.std.proofs.Common.{◌≡◌, ℕ, pos, negsuc, ◌-ℤ◌, zero, suc, ◌+◌, ◌-◌, ◌*◌, ◌/◌, ◌%◌, ◌^◌, ◌≤◌, ◌<◌, min, ◌==◌, ◌&&◌, ◌||◌, not, nat_lt, Bool, true, false, cond, List, [], ◌∷◌, ◌++◌, length, drop, map, flat_map, replicate, Option, Some, None, option_map, unwrap_or, Result, Ok, Err, refl, sym, ap, ◌∙◌, arith, append_assoc, length-append}
+use Rattle.std.proofs.Common.{◌≡◌, ℕ, pos, negsuc, ◌-ℤ◌, zero, suc, ◌+◌, ◌-◌, ◌*◌, ◌/◌, ◌%◌, ◌^◌, ◌≤◌, ◌<◌, min, ◌==◌, ◌&&◌, ◌||◌, not, nat_lt, Bool, true, false, cond, List, [], ◌∷◌, ◌++◌, length, drop, map, flat_map, replicate, Option, Some, None, is_some, option_map, unwrap_or, Result, Ok, Err, refl, sym, ap, ◌∙◌, arith, append_assoc, length-append}
 use Rattle.std.specs.Result.{result_err}
 use Rattle.std.specs.List.{position_or_len}
 use Rattle.std.proofs.lemmas.Bool.{true≢false, le-ltb}
@@ -28,7 +28,7 @@ use Rattle.asm_layout.specs.declared.walk.Sizes.{Sizes}
 use Rattle.asm_layout.specs.declared.walk.Walk.{Walk}
 use Rattle.asm_layout.specs.Words.{word_of}
 use Rattle.asm_layout.specs.SameWords.{same_word}
-use Rattle.asm_layout.specs.Sizes.{sum_64, times, multiple, natural, is_instruction, size, table_size, size_in, sizes_grown, is_too_large}
+use Rattle.asm_layout.specs.Sizes.{sum_64, times, multiple, natural, is_instruction, sort_size, size, table_size, size_in, sizes_grown, is_too_large}
 use Rattle.eh_list.specs.Bytes.{gap, zeros, length-zeros}
 use Rattle.asm_layout.specs.Walks.{start, next, here, pool_place, ended, handling, started, entry_at, same_section, is_empty, is_in_text, ends_pool, walk_behind, coming_pool, sizes_with_pool}
 use Rattle.asm_layout.specs.declared.fault.AsmFault.{AsmFault}
@@ -37,10 +37,11 @@ use Rattle.asm_layout.specs.declared.fault.AsmWhat.TheVariants.{UndefinedLocal, 
 use Rattle.asm_layout.specs.Labels.{Named}
 use Rattle.asm_object.specs.Bytes.{byte_bytes, half_bytes, word_bytes, code_bytes, fillers, filling_bytes}
 use Rattle.asm_object.specs.Values.{number, held, low_or_zero}
-use Rattle.asm_object.specs.Instructions.{offset, base, literal, literal_to, unsigned, add_eight, is_above_seven, instruction}
-use Rattle.asm_object.specs.Pieces.{Piece, instruction_piece, data_piece, place_at, words_piece, words_bytes, bytes_of_code, bytes_of_instruction, filling_piece, pool_pieces, table_pieces, own_piece, bytes_in, put_pieces, pieces_of}
+use Rattle.asm_layout.specs.Sorts.{Operation, Nameless, Undefined, LdrValue, BlTo, WordsOf, HalvesOf, BytesOf, AsciiOf, AscizOf, ZerosOf, Sort, CodeOf, DataOf, offset, unsigned, add_eight, is_above_seven, sort_of, operation_in, given_in}
+use Rattle.asm_object.specs.Instructions.{base, literal, literal_to, made, coded, operation_link}
+use Rattle.asm_object.specs.Pieces.{Piece, instruction_piece, data_piece, place_at, relocs_of, words_piece, words_bytes, bytes_of_code, bytes_of_coded, bytes_of_instruction, bytes_of_half, undefined_half, given_bytes, given_relocs, filling_piece, pool_pieces, table_pieces, own_piece, bytes_in, put_pieces, pieces_of}
 use Rattle.asm_object.specs.PlaceLaw.{SectionsEndBehindTheirBytes, PlacesCountTheBytesBefore, BytesStandAtTheirPlaces}
-use Rattle.asm_object.specs.Refusals.{instruction_fault, encode_fault, fault_unless, encode_or, is_pool_too_far, is_misplaced, are_names_known, refusal}
+use Rattle.asm_object.specs.Refusals.{instruction_fault, sort_fault, encode_fault, fault_unless, encode_or, is_pool_too_far, is_misplaced, are_names_known, refusal}
 use Rattle.asm_object.specs.Objects.{faults_at}
 use Rattle.asm_object.proofs.Statements.{walk_sets, walk_pieces}
 use Rattle.asm_layout.specs.Placing.{word_place, placed_from, pool_here, pool_puts, function_here}
@@ -127,19 +128,18 @@ gives (B off) = field_gives 2 (target_field (2 ^ 11) off) _ (λ field. refl)
 gives (Bl off) = field_gives 4 (target_field (2 ^ 24) off) bl_code (λ field. refl)
 gives (Barrier op option) = refused_gives 4 (nat_lt 2 op) RegisterRange _ (refused_gives 4 (nat_lt 15 option) ImmediateRange _ (record { has = λ e. refl }))
 
-compare_gives : (b : Bool) (i j : Instr) (n : ℕ) → width i ≡ n → width j ≡ n → result_err (encoded_of (cond b i j)) ≡ None → length (bytes_of_code (encoded_of (cond b i j))) ≡ n
-compare_gives true i j n h k e = (gives i).has e ∙ h
-compare_gives false i j n h k e = (gives j).has e ∙ k
-
 -- ---- bytes of statements
 
-abbrev pub is_load : StmtKind → Bool
-is_load (stmt.LdrPool _ _) = true
-is_load _ = false
+abbrev pub loads_value : Sort → Bool
+loads_value (CodeOf _ (LdrValue _ _)) = true
+loads_value _ = false
+
+abbrev pub HasLoadCode : List Named → Sort → ℕ → Option ℕ → Type 0
+HasLoadCode labels sort place word = loads_value sort ≡ true → instruction_fault (made labels (operation_in sort) place word) ≡ None
 
 -- a load from the pool has a code, which its refusals do not ask for
 abbrev pub LoadHasCode : List Named → StmtKind → ℕ → Option ℕ → Type 0
-LoadHasCode labels kind place word = is_load kind ≡ true → instruction_fault (instruction labels kind place word) ≡ None
+LoadHasCode labels kind place word = HasLoadCode labels (sort_of kind) place word
 
 abbrev pub SameEnd : ℕ → ℕ → Type 0
 SameEnd a b = min a (2 ^ 64 - 1) ≡ min b (2 ^ 64 - 1)
@@ -172,58 +172,57 @@ has_code : (o : Option Instr) (n : ℕ) → width_of o ≡ n → instruction_fau
 has_code (Some i) n h e = ap (λ k. min k (2 ^ 64 - 1)) (sym ((gives i).has e ∙ h))
 has_code None n h e = ap (λ k. min k (2 ^ 64 - 1)) (sym h)
 
+-- an instruction has so many bytes
+abbrev operation_size : Operation → ℕ
+operation_size (Nameless i) = width i
+operation_size (BlTo name) = 4
+operation_size _ = 2
+
+abbrev IsSized : Sort → Type 0
+IsSized (CodeOf bytes operation) = operation_size operation ≡ bytes
+IsSized _ = zero ≡ zero
+
+either_half : (b : Bool) (i j : Instr) → width i ≡ 2 → width j ≡ 2 → width (cond b i j) ≡ 2
+either_half true i j h k = h
+either_half false i j h k = k
+
+-- as its line in the table says
+sized : (kind : StmtKind) → IsSized (sort_of kind)
+sized (stmt.CmpReg n m) = either_half (nat_lt n 8 && nat_lt m 8) (Alu 10 n m) (CmpHigh n m) refl refl
+sized (stmt.AddSubThree sub d n imm) = either_half (is_above_seven imm && (d == n)) (add_eight sub d imm) (AddSubImm3 sub d n (unsigned imm)) refl refl
+sized _ = refl
+
+-- a statement's own piece, by its sort
+abbrev piece_of : List Named → Sort → Place → Option ℕ → Piece
+piece_of labels sort place word = cond (is_some (operation_in sort))
+    (record {
+      place = place;
+      code = true;
+      bytes = bytes_of_half (undefined_half (operation_in sort)) ++ bytes_of_coded (coded (made labels (operation_in sort) place.offset word));
+      relocs = relocs_of place (operation_link labels (operation_in sort));
+    })
+    (record { place = place; code = false; bytes = given_bytes labels (given_in sort); relocs = given_relocs (given_in sort) place })
+
+sort_counts : (labels : List Named) (sort : Sort) (place : Place) (word : Option ℕ) → IsSized sort → HasLoadCode labels sort place.offset word
+    → sort_fault labels sort (coded (made labels (operation_in sort) place.offset word)) ≡ None → SameEnd (sort_size (λ n. 0) sort) (length (piece_of labels sort place word).bytes)
+sort_counts labels (CodeOf bytes (Undefined imm)) place word z load e = ap (λ k. min k (2 ^ 64 - 1)) (sym z)
+sort_counts labels (CodeOf bytes (LdrValue t value)) place word z load e = has_code (Some (LdrLit t (literal_to word place.offset))) bytes z (load refl)
+sort_counts labels (CodeOf bytes operation) place word z load e = has_code (made labels (Some operation) place.offset word) bytes z e
+sort_counts labels (DataOf (WordsOf words)) place word z load e =
+    capped (length words * 4) (length (words_bytes labels (map word_of words))) (words_length labels (map word_of words) ∙ ap (λ n. n * 4) (length-map words word_of))
+sort_counts labels (DataOf (HalvesOf halves)) place word z load e =
+    capped (length halves * 2) _ (each_has (λ half. half_bytes (low_or_zero (number labels half))) 2 (λ half. refl) halves)
+sort_counts labels (DataOf (BytesOf bytes)) place word z load e =
+    capped (length bytes * 1) _ (each_has (λ byte. byte_bytes (low_or_zero (number labels byte))) 1 (λ byte. refl) bytes)
+sort_counts labels (DataOf (AsciiOf text)) place word z load e = capped (length text * 1) (length text) (omega arith)
+sort_counts labels (DataOf (AscizOf text)) place word z load e = omega (arith, length-append text (0 ∷ []))
+sort_counts labels (DataOf (ZerosOf n)) place word z load e = ap (λ k. min k (2 ^ 64 - 1)) (sym (length-zeros (natural n)))
+sort_counts labels _ place word z load e = refl
+
 -- a statement has as many bytes as are counted for it
 own_size : (labels : List Named) (kind : StmtKind) (place : Place) (word : Option ℕ) → LoadHasCode labels kind place.offset word
     → encode_fault labels kind place.offset word ≡ None → SameEnd (size kind) (length (own_piece labels kind place word).bytes)
-own_size labels (stmt.Words words) place word load e =
-    capped (length words * 4) (length (words_bytes labels (map word_of words))) (words_length labels (map word_of words) ∙ ap (λ n. n * 4) (length-map words word_of))
-own_size labels (stmt.Halves halves) place word load e =
-    capped (length halves * 2) _ (each_has (λ half. half_bytes (low_or_zero (number labels half))) 2 (λ half. refl) halves)
-own_size labels (stmt.Bytes bytes) place word load e =
-    capped (length bytes * 1) _ (each_has (λ byte. byte_bytes (low_or_zero (number labels byte))) 1 (λ byte. refl) bytes)
-own_size labels (stmt.Ascii text) place word load e = capped (length text * 1) (length text) (omega arith)
-own_size labels (stmt.Asciz text) place word load e = omega (arith, length-append text (0 ∷ []))
-own_size labels (stmt.Space n) place word load e = ap (λ k. min k (2 ^ 64 - 1)) (sym (length-zeros (natural n)))
-own_size labels (stmt.Udf imm) place word load e = refl
-own_size labels (stmt.LdrPool t value) place word load e = has_code (instruction labels (stmt.LdrPool t value) place.offset word) 2 refl (load refl)
-own_size labels (stmt.CmpReg n m) place word load e =
-    ap (λ k. min k (2 ^ 64 - 1)) (sym (compare_gives (nat_lt n 8 && nat_lt m 8) (Alu 10 n m) (CmpHigh n m) 2 refl refl e))
-own_size labels (stmt.AddSubThree sub d n imm) place word load e =
-    ap (λ k. min k (2 ^ 64 - 1)) (sym (compare_gives (is_above_seven imm && (d == n)) (add_eight sub d imm) (AddSubImm3 sub d n (unsigned imm)) 2 refl refl e))
-own_size labels (stmt.MovsImm d imm) place word load e = has_code (instruction labels (stmt.MovsImm d imm) place.offset word) 2 refl e
-own_size labels (stmt.MovsReg d m) place word load e = has_code (instruction labels (stmt.MovsReg d m) place.offset word) 2 refl e
-own_size labels (stmt.Mov d m) place word load e = has_code (instruction labels (stmt.Mov d m) place.offset word) 2 refl e
-own_size labels (stmt.CmpImm n imm) place word load e = has_code (instruction labels (stmt.CmpImm n imm) place.offset word) 2 refl e
-own_size labels (stmt.AddSubTwo sub d imm) place word load e = has_code (instruction labels (stmt.AddSubTwo sub d imm) place.offset word) 2 refl e
-own_size labels (stmt.AddSubReg sub d n m) place word load e = has_code (instruction labels (stmt.AddSubReg sub d n m) place.offset word) 2 refl e
-own_size labels (stmt.AddReg d m) place word load e = has_code (instruction labels (stmt.AddReg d m) place.offset word) 2 refl e
-own_size labels (stmt.AddRdSp d off) place word load e = has_code (instruction labels (stmt.AddRdSp d off) place.offset word) 2 refl e
-own_size labels (stmt.AddSp off) place word load e = has_code (instruction labels (stmt.AddSp off) place.offset word) 2 refl e
-own_size labels (stmt.SubSp off) place word load e = has_code (instruction labels (stmt.SubSp off) place.offset word) 2 refl e
-own_size labels (stmt.ShiftImm op d m n) place word load e = has_code (instruction labels (stmt.ShiftImm op d m n) place.offset word) 2 refl e
-own_size labels (stmt.Alu op d m) place word load e = has_code (instruction labels (stmt.Alu op d m) place.offset word) 2 refl e
-own_size labels (stmt.Rsbs d m) place word load e = has_code (instruction labels (stmt.Rsbs d m) place.offset word) 2 refl e
-own_size labels (stmt.MemImm op t n off) place word load e = has_code (instruction labels (stmt.MemImm op t n off) place.offset word) 2 refl e
-own_size labels (stmt.MemReg op t n m) place word load e = has_code (instruction labels (stmt.MemReg op t n m) place.offset word) 2 refl e
-own_size labels (stmt.MemSp loads t off) place word load e = has_code (instruction labels (stmt.MemSp loads t off) place.offset word) 2 refl e
-own_size labels (stmt.Push list) place word load e = has_code (instruction labels (stmt.Push list) place.offset word) 2 refl e
-own_size labels (stmt.Pop list) place word load e = has_code (instruction labels (stmt.Pop list) place.offset word) 2 refl e
-own_size labels (stmt.Stm n list) place word load e = has_code (instruction labels (stmt.Stm n list) place.offset word) 2 refl e
-own_size labels (stmt.LdmBack n list) place word load e = has_code (instruction labels (stmt.LdmBack n list) place.offset word) 2 refl e
-own_size labels (stmt.Ldm n list) place word load e = has_code (instruction labels (stmt.Ldm n list) place.offset word) 2 refl e
-own_size labels (stmt.Extend op d m) place word load e = has_code (instruction labels (stmt.Extend op d m) place.offset word) 2 refl e
-own_size labels (stmt.Rev op d m) place word load e = has_code (instruction labels (stmt.Rev op d m) place.offset word) 2 refl e
-own_size labels (stmt.Bx m) place word load e = has_code (instruction labels (stmt.Bx m) place.offset word) 2 refl e
-own_size labels (stmt.Blx m) place word load e = has_code (instruction labels (stmt.Blx m) place.offset word) 2 refl e
-own_size labels (stmt.Svc imm) place word load e = has_code (instruction labels (stmt.Svc imm) place.offset word) 2 refl e
-own_size labels (stmt.Hint n) place word load e = has_code (instruction labels (stmt.Hint n) place.offset word) 2 refl e
-own_size labels (stmt.Barrier op) place word load e = has_code (instruction labels (stmt.Barrier op) place.offset word) 4 refl e
-own_size labels (stmt.Adr d name) place word load e = has_code (instruction labels (stmt.Adr d name) place.offset word) 2 refl e
-own_size labels (stmt.LdrLabel t name) place word load e = has_code (instruction labels (stmt.LdrLabel t name) place.offset word) 2 refl e
-own_size labels (stmt.B name) place word load e = has_code (instruction labels (stmt.B name) place.offset word) 2 refl e
-own_size labels (stmt.BCond c name) place word load e = has_code (instruction labels (stmt.BCond c name) place.offset word) 2 refl e
-own_size labels (stmt.Bl name) place word load e = has_code (instruction labels (stmt.Bl name) place.offset word) 4 refl e
-own_size labels _ place word load e = refl
+own_size labels kind place word load e = sort_counts labels (sort_of kind) place word (sized kind) load e
 
 -- ---- sizes behind pieces
 

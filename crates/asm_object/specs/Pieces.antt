@@ -1,7 +1,6 @@
 -- The bytes of statements, each piece at its place, and what the linker fills in them (docs/objects.md, "Sections and places").
 use Rattle.std.specs.Prelude.{ℕ, ◌+◌, ◌%◌, ◌^◌, ◌==◌, ◌&&◌, not, ℤ, pos, negsuc, Bool, true, false, nat_lt, if◌then◌else◌, List, [], ◌∷◌, ◌++◌, map, flat_map, length, Option, Some, None, Result, Ok, Err}
 use Rattle.asm_read.specs.declared.statement.StmtKind.{StmtKind}
-use Rattle.asm_read.specs.declared.statement.StmtKind.TheVariants as stmt
 use Rattle.asm_unwind.specs.declared.entry.EntryWords.{EntryWords}
 use Rattle.asm_unwind.specs.declared.entry.EntryWords.TheVariants as entry
 use Rattle.thumb_isa.specs.declared.instr.Instr.{Instr}
@@ -18,6 +17,7 @@ use Rattle.asm_layout.specs.declared.place.Place.{Place}
 use Rattle.asm_layout.specs.declared.word.Word.{Word}
 use Rattle.asm_layout.specs.Words.{word_of}
 use Rattle.asm_layout.specs.Sizes.{sum_64, multiple, natural, is_instruction}
+use Rattle.asm_layout.specs.Sorts.{Operation, Nameless, Undefined, AdrOf, LdrOf, LdrValue, BTo, BCondTo, BlTo, Given, WordsOf, HalvesOf, BytesOf, AsciiOf, AscizOf, ZerosOf, Sort, CodeOf, DataOf, Filling, AboutName, Bare, sort_of, operation, given}
 use Rattle.eh_list.specs.Bytes.{gap, zeros}
 use Rattle.asm_object.specs.Bytes.{byte_bytes, half_bytes, word_bytes, code_bytes, filling_bytes}
 use Rattle.asm_layout.specs.declared.placed.PlacedFunction.{PlacedFunction}
@@ -87,7 +87,9 @@ pool_pieces labels pool =
 abbrev pub table_pieces : ℕ → Option EntryWords → List Piece
 table_pieces place (Some (entry.Table words)) =
     bytes_piece (place_at Extab place) false (zeros (gap place 4) ++ flat_map word_bytes words) ∷ []
-table_pieces place _ = []
+table_pieces place (Some entry.CantUnwind) = []
+table_pieces place (Some (entry.Inline _)) = []
+table_pieces place None = []
 
 abbrev pub bytes_of_code : Result Code EncodeFault → List ℕ
 bytes_of_code (Ok code) = code_bytes code
@@ -105,9 +107,19 @@ low_byte_or_zero (pos n) = if nat_lt n 256 then n else 0
 low_byte_or_zero (negsuc n) = 0
 
 -- the halfword of `udf`, which is no instruction of the encoder's
+abbrev pub undefined_half : Option Operation → Option ℕ
+undefined_half None = None
+undefined_half (Some (Nameless _)) = None
+undefined_half (Some (Undefined imm)) = Some (0xde00 + low_byte_or_zero imm)
+undefined_half (Some (AdrOf _ _)) = None
+undefined_half (Some (LdrOf _ _)) = None
+undefined_half (Some (LdrValue _ _)) = None
+undefined_half (Some (BTo _)) = None
+undefined_half (Some (BCondTo _ _)) = None
+undefined_half (Some (BlTo _)) = None
+
 abbrev pub udf_half : StmtKind → Option ℕ
-udf_half (stmt.Udf imm) = Some (0xde00 + low_byte_or_zero imm)
-udf_half _ = None
+udf_half kind = undefined_half (operation kind)
 
 abbrev pub bytes_of_half : Option ℕ → List ℕ
 bytes_of_half None = []
@@ -128,20 +140,31 @@ code_piece labels kind place code = record {
 abbrev pub instruction_piece : List Named → StmtKind → Place → Option ℕ → Piece
 instruction_piece labels kind place word = code_piece labels kind place (coded (instruction labels kind place.offset word))
 
--- the bytes of a statement that is data
-abbrev pub data_bytes : List Named → StmtKind → List ℕ
-data_bytes labels (stmt.Words exprs) = words_bytes labels (map word_of exprs)
-data_bytes labels (stmt.Halves exprs) = flat_map (λ expr. half_bytes (low_or_zero (number labels expr))) exprs
-data_bytes labels (stmt.Bytes exprs) = flat_map (λ expr. byte_bytes (low_or_zero (number labels expr))) exprs
-data_bytes labels (stmt.Ascii text) = text
-data_bytes labels (stmt.Asciz text) = text ++ 0 ∷ []
-data_bytes labels (stmt.Space n) = zeros (natural n)
-data_bytes labels _ = []
+-- the bytes of data
+abbrev pub given_bytes : List Named → Option Given → List ℕ
+given_bytes labels None = []
+given_bytes labels (Some (WordsOf exprs)) = words_bytes labels (map word_of exprs)
+given_bytes labels (Some (HalvesOf exprs)) = flat_map (λ expr. half_bytes (low_or_zero (number labels expr))) exprs
+given_bytes labels (Some (BytesOf exprs)) = flat_map (λ expr. byte_bytes (low_or_zero (number labels expr))) exprs
+given_bytes labels (Some (AsciiOf text)) = text
+given_bytes labels (Some (AscizOf text)) = text ++ 0 ∷ []
+given_bytes labels (Some (ZerosOf n)) = zeros (natural n)
 
--- the relocations of a statement that is data: those of its words
+abbrev pub data_bytes : List Named → StmtKind → List ℕ
+data_bytes labels kind = given_bytes labels (given kind)
+
+-- the relocations of data: those of its words
+abbrev pub given_relocs : Option Given → Place → List Reloc
+given_relocs None place = []
+given_relocs (Some (WordsOf exprs)) place = word_relocs place.section place.offset (map word_of exprs)
+given_relocs (Some (HalvesOf _)) place = []
+given_relocs (Some (BytesOf _)) place = []
+given_relocs (Some (AsciiOf _)) place = []
+given_relocs (Some (AscizOf _)) place = []
+given_relocs (Some (ZerosOf _)) place = []
+
 abbrev pub data_relocs : StmtKind → Place → List Reloc
-data_relocs (stmt.Words exprs) place = word_relocs place.section place.offset (map word_of exprs)
-data_relocs _ place = []
+data_relocs kind place = given_relocs (given kind) place
 
 abbrev pub data_piece : List Named → StmtKind → Place → Piece
 data_piece labels kind place = record {
@@ -158,10 +181,17 @@ put_pieces entries labels (puts.Function function) =
     table_pieces function.from (entry_at entries function.number)
 put_pieces entries labels puts.Nothing = []
 
--- what a statement fills, and the pool or table that it puts
+-- what a statement of a sort fills, or what it puts, as only `.align` fills
+abbrev pub filled_or : Sort → Place → List Piece → List Piece
+filled_or (CodeOf _ _) place put = put
+filled_or (DataOf _) place put = put
+filled_or (Filling n) place put = filling_piece place (gap place.offset (multiple n)) ∷ []
+filled_or (AboutName _) place put = put
+filled_or Bare place put = put
+
+-- what a statement fills, or the pool or table that it puts
 abbrev pub set_pieces : List (Option EntryWords) → List Named → StmtKind → Place → Puts → List Piece
-set_pieces entries labels (stmt.Align n) place put = filling_piece place (gap place.offset (multiple n)) ∷ []
-set_pieces entries labels _ place put = put_pieces entries labels put
+set_pieces entries labels kind place put = filled_or (sort_of kind) place (put_pieces entries labels put)
 
 -- a statement's own bytes, where the encoder says of it what it says
 abbrev pub own_piece_by : List Named → StmtKind → Place → Option (Result Code EncodeFault) → Piece
@@ -229,7 +259,8 @@ row_of function (Some words) = record {
 -- the row of the function that a statement begins
 abbrev pub put_rows : List (Option EntryWords) → Puts → List IndexRow
 put_rows entries (puts.Function function) = row_of function (entry_at entries function.number)
-put_rows entries _ = []
+put_rows entries (puts.Pool _) = []
+put_rows entries puts.Nothing = []
 
 -- the rows of functions in the order of the text
 abbrev pub rows_of : List (Option EntryWords) → List PlacedStmt → List IndexRow

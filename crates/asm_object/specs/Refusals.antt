@@ -14,28 +14,43 @@ use Rattle.asm_layout.specs.declared.place.Section.TheVariants.{Text, Bss}
 use Rattle.asm_layout.specs.declared.fault.AsmWhat.{AsmWhat}
 use Rattle.asm_layout.specs.declared.fault.AsmWhat.TheVariants.{UndefinedLocal, Encode, PoolTooFar, Placement}
 use Rattle.asm_layout.specs.Sizes.{is_instruction}
+use Rattle.asm_layout.specs.Sorts.{Operation, Nameless, Undefined, AdrOf, LdrOf, LdrValue, BTo, BCondTo, BlTo, Given, WordsOf, HalvesOf, BytesOf, AsciiOf, AscizOf, ZerosOf, Sort, CodeOf, DataOf, Filling, AboutName, Bare, sort_of, given}
 use Rattle.asm_layout.specs.Walks.{same_section}
 use Rattle.asm_layout.specs.Labels.{Named}
 use Rattle.asm_object.specs.Values.{is_known, is_word_known, number}
 use Rattle.asm_object.specs.declared.refusal.TheConstants.{MOST_TO_POOL}
 use Rattle.asm_object.specs.Instructions.{text_place, base, instruction, coded}
 
+-- the names of an instruction may be used
+abbrev pub are_operands_known : List Named → Operation → Bool
+are_operands_known labels (Nameless _) = true
+are_operands_known labels (Undefined _) = true
+are_operands_known labels (AdrOf _ name) = is_some (text_place labels name)
+are_operands_known labels (LdrOf _ name) = is_some (text_place labels name)
+are_operands_known labels (LdrValue _ value) = is_word_known labels value
+are_operands_known labels (BTo name) = is_known labels name
+are_operands_known labels (BCondTo _ name) = is_known labels name
+are_operands_known labels (BlTo name) = is_known labels name
+
+-- the names of data may be used
+abbrev pub are_fields_known : List Named → Given → Bool
+are_fields_known labels (WordsOf words) = list_all (is_word_known labels) words
+are_fields_known labels (HalvesOf fields) = list_all (λ field. is_some (number labels field)) fields
+are_fields_known labels (BytesOf fields) = list_all (λ field. is_some (number labels field)) fields
+are_fields_known labels (AsciiOf _) = true
+are_fields_known labels (AscizOf _) = true
+are_fields_known labels (ZerosOf _) = true
+
+abbrev pub is_sort_known : List Named → Sort → Bool
+is_sort_known labels (CodeOf _ operation) = are_operands_known labels operation
+is_sort_known labels (DataOf d) = are_fields_known labels d
+is_sort_known labels (Filling _) = true
+is_sort_known labels (AboutName name) = is_known labels name
+is_sort_known labels Bare = true
+
 -- the names of a statement may be used
 abbrev pub are_names_known : List Named → StmtKind → Bool
-are_names_known labels (stmt.Adr _ name) = is_some (text_place labels name)
-are_names_known labels (stmt.LdrLabel _ name) = is_some (text_place labels name)
-are_names_known labels (stmt.LdrPool _ value) = is_word_known labels value
-are_names_known labels (stmt.B name) = is_known labels name
-are_names_known labels (stmt.BCond _ name) = is_known labels name
-are_names_known labels (stmt.Bl name) = is_known labels name
-are_names_known labels (stmt.Global name) = is_known labels name
-are_names_known labels (stmt.TypeFunction name) = is_known labels name
-are_names_known labels (stmt.TypeObject name) = is_known labels name
-are_names_known labels (stmt.Size name) = is_known labels name
-are_names_known labels (stmt.Words words) = list_all (is_word_known labels) words
-are_names_known labels (stmt.Halves fields) = list_all (λ field. is_some (number labels field)) fields
-are_names_known labels (stmt.Bytes fields) = list_all (λ field. is_some (number labels field)) fields
-are_names_known labels _ = true
+are_names_known labels kind = is_sort_known labels (sort_of kind)
 
 -- a number from -half to 2 * half - 1
 abbrev pub fits : ℕ → Option ℤ → Bool
@@ -61,17 +76,35 @@ abbrev pub is_natural : ℤ → Bool
 is_natural (pos n) = true
 is_natural (negsuc n) = false
 
--- why the instruction has no code, or a number doesn't fit its field, where the encoder says of it what it says. Of
--- `ldr rt, =value` the register alone counts
+-- why an instruction has no code, where the encoder says of it what it says. Of `ldr rt, =value` the register alone counts
+abbrev pub operation_fault : Operation → Option (Result Code EncodeFault) → Option EncodeFault
+operation_fault (Nameless _) code = coded_fault code
+operation_fault (Undefined imm) code = fault_unless (is_from_zero_to 255 imm) ImmediateRange
+operation_fault (AdrOf _ _) code = coded_fault code
+operation_fault (LdrOf _ _) code = coded_fault code
+operation_fault (LdrValue t _) code = fault_unless (nat_lt t 8) RegisterRange
+operation_fault (BTo _) code = coded_fault code
+operation_fault (BCondTo _ _) code = coded_fault code
+operation_fault (BlTo _) code = coded_fault code
+
+-- why a number doesn't fit its field
+abbrev pub data_fault : List Named → Given → Option EncodeFault
+data_fault labels (WordsOf _) = None
+data_fault labels (HalvesOf fields) = fault_unless (list_all (λ field. fits 32768 (number labels field)) fields) ImmediateRange
+data_fault labels (BytesOf fields) = fault_unless (list_all (λ field. fits 128 (number labels field)) fields) ImmediateRange
+data_fault labels (AsciiOf _) = None
+data_fault labels (AscizOf _) = None
+data_fault labels (ZerosOf n) = fault_unless (is_natural n) ImmediateRange
+
+abbrev pub sort_fault : List Named → Sort → Option (Result Code EncodeFault) → Option EncodeFault
+sort_fault labels (CodeOf _ operation) code = operation_fault operation code
+sort_fault labels (DataOf d) code = data_fault labels d
+sort_fault labels (Filling _) code = None
+sort_fault labels (AboutName _) code = None
+sort_fault labels Bare code = None
+
 abbrev pub encode_fault_by : List Named → StmtKind → Option (Result Code EncodeFault) → Option EncodeFault
-encode_fault_by labels (stmt.Halves fields) code =
-    fault_unless (list_all (λ field. fits 32768 (number labels field)) fields) ImmediateRange
-encode_fault_by labels (stmt.Bytes fields) code =
-    fault_unless (list_all (λ field. fits 128 (number labels field)) fields) ImmediateRange
-encode_fault_by labels (stmt.Space n) code = fault_unless (is_natural n) ImmediateRange
-encode_fault_by labels (stmt.Udf imm) code = fault_unless (is_from_zero_to 255 imm) ImmediateRange
-encode_fault_by labels (stmt.LdrPool t _) code = fault_unless (nat_lt t 8) RegisterRange
-encode_fault_by labels kind code = coded_fault code
+encode_fault_by labels kind code = sort_fault labels (sort_of kind) code
 
 abbrev pub encode_fault : List Named → StmtKind → ℕ → Option ℕ → Option EncodeFault
 encode_fault labels kind place word = encode_fault_by labels kind (coded (instruction labels kind place word))
@@ -84,14 +117,18 @@ is_pool_too_far place None = false
 abbrev pub has_fields : List Expr → Bool
 has_fields fields = not (length fields == 0)
 
--- a statement gives bytes of its own
+-- data gives bytes, and not zeros alone
+abbrev pub has_bytes_in : Option Given → Bool
+has_bytes_in None = false
+has_bytes_in (Some (WordsOf fields)) = has_fields fields
+has_bytes_in (Some (HalvesOf fields)) = has_fields fields
+has_bytes_in (Some (BytesOf fields)) = has_fields fields
+has_bytes_in (Some (AsciiOf text)) = not (length text == 0)
+has_bytes_in (Some (AscizOf _)) = true
+has_bytes_in (Some (ZerosOf _)) = false
+
 abbrev pub has_bytes : StmtKind → Bool
-has_bytes (stmt.Words fields) = has_fields fields
-has_bytes (stmt.Halves fields) = has_fields fields
-has_bytes (stmt.Bytes fields) = has_fields fields
-has_bytes (stmt.Ascii text) = not (length text == 0)
-has_bytes (stmt.Asciz text) = true
-has_bytes _ = false
+has_bytes kind = has_bytes_in (given kind)
 
 abbrev pub starts_function : StmtKind → Bool
 starts_function stmt.FnStart = true

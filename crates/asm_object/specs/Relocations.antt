@@ -18,9 +18,12 @@ kind_of number =
 
 -- how many bytes a field has
 abbrev pub width : FieldKind → ℕ
+width Absolute = 4
+width Relative = 4
+width Prel31 = 4
+width Call = 4
 width Jump = 2
 width CondJump = 2
-width _ = 4
 
 -- how many bytes the field of a relocation has; none where its kind changes nothing
 abbrev pub field_size : Reloc → ℕ

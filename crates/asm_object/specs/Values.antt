@@ -41,7 +41,11 @@ plus None n = None
 abbrev pub number : List Named → Expr → Option ℤ
 number labels (expr.Num n) = Some n
 number labels (expr.Diff a b n) = plus (distance labels a b) n
-number labels _ = None
+number labels (expr.Of _ _) = None
+number labels (expr.Prel31 _) = None
+number labels (expr.Prel31Ref _) = None
+number labels (expr.Target2 _) = None
+number labels (expr.Rel _) = None
 
 abbrev pub low_or_zero : Option ℤ → ℕ
 low_or_zero (Some n) = low_word n
@@ -51,8 +55,11 @@ low_or_zero None = 0
 abbrev pub held : List Named → Word → ℕ
 held labels (word.Num n) = n
 held labels (word.Diff a b n) = low_or_zero (plus (distance labels a b) (pos n))
+held labels (word.Of _ _) = 0
+held labels (word.Rel _) = 0
+held labels (word.Target2 _) = 0
+held labels (word.Prel31 _) = 0
 held labels (word.Prel31Ref _) = REFERENCE_MARK
-held labels _ = 0
 
 -- a number modulo 2^32 as a signed number
 abbrev pub signed : ℕ → ℤ

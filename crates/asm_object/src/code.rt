@@ -1,13 +1,15 @@
 //! The instructions of statements, and where their labels lead (docs/objects.md; DDI 0419).
 ghost use Rattle.std.specs.Prelude.{◌≡◌, IfOk};
 ghost use Rattle.asm_layout.specs.Labels.{named_in};
-ghost use Rattle.asm_object.specs.Instructions.{unsigned, offset, compare, add_eight, add_three, plain, pc, base, between, text_place, branch, literal, literal_to, label_literal, instruction, coded, branch_link};
+ghost use Rattle.asm_layout.specs.Sorts.{unsigned, offset, compare, add_eight, add_three};
+ghost use Rattle.asm_object.specs.Instructions.{pc, base, between, text_place, branch, literal, literal_to, label_literal, instruction, coded, branch_link};
 
 use crate::relocation::{R_ARM_THM_CALL, R_ARM_THM_JUMP8, R_ARM_THM_JUMP11};
 use crate::value::Link;
 use asm_layout::labels::Labels;
 use asm_layout::place::{Place, Section};
 use asm_layout::word::copied;
+use asm_layout::{bare_form, data_form, name_form, nameless_form, reader_form};
 use asm_read::StmtKind;
 use eh_word::Name;
 use std::alloc::{AllocError, Global};
@@ -27,106 +29,6 @@ fn offset(n: i64) -> i32
     ensures { result ≡ offset n }
 {
     i32::try_from(n).unwrap_or(i32::MAX)
-}
-
-/// The instruction of a statement without a name; None for one with a name or a pool word, for `udf` and for directives.
-fn plain(kind: &StmtKind) -> Option<Instr>
-    ensures { result ≡ plain kind.now }
-{
-    Some(match kind {
-        StmtKind::MovsImm { d, imm } => Instr::Imm8 {
-            op: 0,
-            d: *d,
-            imm: unsigned(*imm),
-        },
-        StmtKind::MovsReg { d, m } => Instr::ShiftImm {
-            op: 0,
-            d: *d,
-            m: *m,
-            n: 0,
-        },
-        StmtKind::Mov { d, m } => Instr::MovHigh { d: *d, m: *m },
-        StmtKind::CmpImm { n, imm } => Instr::Imm8 {
-            op: 1,
-            d: *n,
-            imm: unsigned(*imm),
-        },
-        StmtKind::CmpReg { n, m } => compare(*n, *m),
-        StmtKind::AddSubTwo { sub, d, imm } => add_eight(*sub, *d, *imm),
-        StmtKind::AddSubReg { sub, d, n, m } => Instr::AddSubReg {
-            sub: *sub,
-            d: *d,
-            n: *n,
-            m: *m,
-        },
-        StmtKind::AddSubThree { sub, d, n, imm } => add_three(*sub, *d, *n, *imm),
-        StmtKind::AddReg { d, m } => Instr::AddHigh { d: *d, m: *m },
-        StmtKind::AddRdSp { d, off } => Instr::AddRdSp {
-            d: *d,
-            off: offset(*off),
-        },
-        StmtKind::AddSp { off } => Instr::AddSp { off: offset(*off) },
-        StmtKind::SubSp { off } => Instr::SubSp { off: offset(*off) },
-        StmtKind::ShiftImm { op, d, m, n } => Instr::ShiftImm {
-            op: *op,
-            d: *d,
-            m: *m,
-            n: unsigned(*n),
-        },
-        StmtKind::Alu { op, d, m } => Instr::Alu {
-            op: *op,
-            d: *d,
-            m: *m,
-        },
-        StmtKind::Rsbs { d, m } => Instr::Alu {
-            op: 9,
-            d: *d,
-            m: *m,
-        },
-        StmtKind::MemImm { op, t, n, off } => Instr::MemImm {
-            op: *op,
-            t: *t,
-            n: *n,
-            off: offset(*off),
-        },
-        StmtKind::MemReg { op, t, n, m } => Instr::MemReg {
-            op: *op,
-            t: *t,
-            n: *n,
-            m: *m,
-        },
-        StmtKind::MemSp { load, t, off } => Instr::MemSp {
-            load: *load,
-            t: *t,
-            off: offset(*off),
-        },
-        StmtKind::Push { list } => Instr::Push { list: *list },
-        StmtKind::Pop { list } => Instr::Pop { list: *list },
-        StmtKind::Stm { n, list } => Instr::Stm { n: *n, list: *list },
-        StmtKind::LdmBack { n, list } => Instr::Ldm { n: *n, list: *list },
-        StmtKind::Ldm { n, list } => Instr::Ldm { n: *n, list: *list },
-        StmtKind::Extend { op, d, m } => Instr::Extend {
-            op: *op,
-            d: *d,
-            m: *m,
-        },
-        StmtKind::Rev { op, d, m } => Instr::Rev {
-            op: *op,
-            d: *d,
-            m: *m,
-        },
-        StmtKind::Bx { m } => Instr::Bx { m: *m },
-        StmtKind::Blx { m } => Instr::Blx { m: *m },
-        StmtKind::Svc { imm } => Instr::Svc {
-            imm: unsigned(*imm),
-        },
-        StmtKind::Hint { n } => Instr::Hint { n: *n },
-        StmtKind::Barrier { op } => Instr::Barrier {
-            op: *op,
-            option: 15,
-        },
-        _ => return None,
-    })
 }
 
 /// `cmp` of two registers: the form of low registers where both are.
@@ -244,31 +146,124 @@ fn word_literal(word: Option<u64>, place: u64) -> i32
 fn instruction(labels: &Labels, kind: &StmtKind, place: u64, word: Option<u64>) -> Option<Instr>
     ensures { result ≡ instruction (named_in labels.now) kind.now place word }
 {
-    match kind {
-        StmtKind::Adr { d, name } => Some(Instr::Adr {
+    Some(match kind {
+        StmtKind::MovsImm { d, imm } => Instr::Imm8 {
+            op: 0,
+            d: *d,
+            imm: unsigned(*imm),
+        },
+        StmtKind::MovsReg { d, m } => Instr::ShiftImm {
+            op: 0,
+            d: *d,
+            m: *m,
+            n: 0,
+        },
+        StmtKind::Mov { d, m } => Instr::MovHigh { d: *d, m: *m },
+        StmtKind::CmpImm { n, imm } => Instr::Imm8 {
+            op: 1,
+            d: *n,
+            imm: unsigned(*imm),
+        },
+        StmtKind::CmpReg { n, m } => compare(*n, *m),
+        StmtKind::AddSubTwo { sub, d, imm } => add_eight(*sub, *d, *imm),
+        StmtKind::AddSubReg { sub, d, n, m } => Instr::AddSubReg {
+            sub: *sub,
+            d: *d,
+            n: *n,
+            m: *m,
+        },
+        StmtKind::AddSubThree { sub, d, n, imm } => add_three(*sub, *d, *n, *imm),
+        StmtKind::AddReg { d, m } => Instr::AddHigh { d: *d, m: *m },
+        StmtKind::AddRdSp { d, off } => Instr::AddRdSp {
+            d: *d,
+            off: offset(*off),
+        },
+        StmtKind::AddSp { off } => Instr::AddSp { off: offset(*off) },
+        StmtKind::SubSp { off } => Instr::SubSp { off: offset(*off) },
+        StmtKind::ShiftImm { op, d, m, n } => Instr::ShiftImm {
+            op: *op,
+            d: *d,
+            m: *m,
+            n: unsigned(*n),
+        },
+        StmtKind::Alu { op, d, m } => Instr::Alu {
+            op: *op,
+            d: *d,
+            m: *m,
+        },
+        StmtKind::Rsbs { d, m } => Instr::Alu {
+            op: 9,
+            d: *d,
+            m: *m,
+        },
+        StmtKind::MemImm { op, t, n, off } => Instr::MemImm {
+            op: *op,
+            t: *t,
+            n: *n,
+            off: offset(*off),
+        },
+        StmtKind::MemReg { op, t, n, m } => Instr::MemReg {
+            op: *op,
+            t: *t,
+            n: *n,
+            m: *m,
+        },
+        StmtKind::MemSp { load, t, off } => Instr::MemSp {
+            load: *load,
+            t: *t,
+            off: offset(*off),
+        },
+        StmtKind::Push { list } => Instr::Push { list: *list },
+        StmtKind::Pop { list } => Instr::Pop { list: *list },
+        StmtKind::Stm { n, list } => Instr::Stm { n: *n, list: *list },
+        StmtKind::LdmBack { n, list } => Instr::Ldm { n: *n, list: *list },
+        StmtKind::Ldm { n, list } => Instr::Ldm { n: *n, list: *list },
+        StmtKind::Extend { op, d, m } => Instr::Extend {
+            op: *op,
+            d: *d,
+            m: *m,
+        },
+        StmtKind::Rev { op, d, m } => Instr::Rev {
+            op: *op,
+            d: *d,
+            m: *m,
+        },
+        StmtKind::Bx { m } => Instr::Bx { m: *m },
+        StmtKind::Blx { m } => Instr::Blx { m: *m },
+        StmtKind::Svc { imm } => Instr::Svc {
+            imm: unsigned(*imm),
+        },
+        StmtKind::Hint { n } => Instr::Hint { n: *n },
+        StmtKind::Barrier { op } => Instr::Barrier {
+            op: *op,
+            option: 15,
+        },
+        StmtKind::Adr { d, name } => Instr::Adr {
             d: *d,
             off: label_literal(labels, name, place),
-        }),
-        StmtKind::LdrLabel { t, name } => Some(Instr::LdrLit {
+        },
+        StmtKind::LdrLabel { t, name } => Instr::LdrLit {
             t: *t,
             off: label_literal(labels, name, place),
-        }),
-        StmtKind::LdrPool { t, .. } => Some(Instr::LdrLit {
+        },
+        StmtKind::LdrPool { t, .. } => Instr::LdrLit {
             t: *t,
             off: word_literal(word, place),
-        }),
-        StmtKind::B(name) => Some(Instr::B {
+        },
+        StmtKind::B(name) => Instr::B {
             off: branch(labels, name, place),
-        }),
-        StmtKind::BCond { cond, name } => Some(Instr::BCond {
+        },
+        StmtKind::BCond { cond, name } => Instr::BCond {
             cond: *cond,
             off: branch(labels, name, place),
-        }),
-        StmtKind::Bl(name) => Some(Instr::Bl {
+        },
+        StmtKind::Bl(name) => Instr::Bl {
             off: branch(labels, name, place),
-        }),
-        _ => plain(kind),
-    }
+        },
+        StmtKind::Udf { .. } | data_form!() | StmtKind::Align(_) | name_form!() | bare_form!() => {
+            return None;
+        }
+    })
 }
 
 /// What the encoder says of an instruction: its code, or why it has none; None where there is no instruction.
@@ -296,7 +291,14 @@ pub fn branch_link(
         StmtKind::Bl(name) => (R_ARM_THM_CALL, name),
         StmtKind::B(name) => (R_ARM_THM_JUMP11, name),
         StmtKind::BCond { name, .. } => (R_ARM_THM_JUMP8, name),
-        _ => return Ok(None),
+        nameless_form!()
+        | reader_form!()
+        | StmtKind::Udf { .. }
+        | StmtKind::Barrier { .. }
+        | data_form!()
+        | StmtKind::Align(_)
+        | name_form!()
+        | bare_form!() => return Ok(None),
     };
     if text_place(labels, name).is_some() {
         return Ok(None);

@@ -15,6 +15,7 @@ use crate::value::{Link, held, link_of, number};
 use asm_layout::labels::Labels;
 use asm_layout::place::{Place, Section};
 use asm_layout::word::{Word, Words, low_number, low_part, word_of};
+use asm_layout::{bare_form, branch_form, data_form, name_form, nameless_form, reader_form};
 use asm_read::{Expr, StmtKind};
 use std::alloc::{AllocError, Global};
 
@@ -60,7 +61,14 @@ fn udf_half(kind: &StmtKind) -> Option<u32>
 {
     match kind {
         StmtKind::Udf { imm } => Some(0xde00 + u32::from(u8::try_from(*imm).unwrap_or(0))),
-        _ => None,
+        nameless_form!()
+        | reader_form!()
+        | branch_form!()
+        | StmtKind::Barrier { .. }
+        | data_form!()
+        | StmtKind::Align(_)
+        | name_form!()
+        | bare_form!() => None,
     }
 }
 
@@ -151,7 +159,14 @@ impl Part {
                 self.bytes.push(0)
             }
             StmtKind::Space(n) => self.bytes.push_zeros(usize::try_from(*n).unwrap_or(0)),
-            _ => Ok(()),
+            nameless_form!()
+            | reader_form!()
+            | branch_form!()
+            | StmtKind::Udf { .. }
+            | StmtKind::Barrier { .. }
+            | StmtKind::Align(_)
+            | name_form!()
+            | bare_form!() => Ok(()),
         }
     }
 

@@ -15,6 +15,7 @@ use asm_layout::place::{Place, Section};
 use asm_layout::placed::{PlacedFunction, PlacedPool, Puts};
 use asm_layout::walk::{entry_at, is_instruction, multiple};
 use asm_layout::word::{Words, low_part};
+use asm_layout::{bare_form, branch_form, data_form, name_form, nameless_form, reader_form};
 use asm_read::StmtKind;
 use asm_unwind::EntryWords;
 use eh_list::bytes::gap;
@@ -219,7 +220,7 @@ impl Sections {
                 self.extab.bytes.push_zeros(gap(place, 4) as usize)?;
                 push_table_words(&mut self.extab.bytes, words.as_slice())
             }
-            _ => Ok(()),
+            EntryWords::CantUnwind | EntryWords::Inline(_) => Ok(()),
         }
     }
 
@@ -255,7 +256,14 @@ impl Sections {
     {
         match kind {
             StmtKind::Align(n) => self.push_filling(at, multiple(*n)),
-            _ => self.push_put(labels, entries, puts),
+            nameless_form!()
+            | reader_form!()
+            | branch_form!()
+            | StmtKind::Udf { .. }
+            | StmtKind::Barrier { .. }
+            | data_form!()
+            | name_form!()
+            | bare_form!() => self.push_put(labels, entries, puts),
         }
     }
 }

@@ -11,6 +11,7 @@ use asm_layout::fault::AsmWhat;
 use asm_layout::labels::Labels;
 use asm_layout::place::{Place, Section};
 use asm_layout::walk::is_instruction;
+use asm_layout::{bare_form, branch_form, name_form, nameless_form, reader_form};
 use asm_read::{Expr, StmtKind};
 use thumb_encode::code::EncodeFault;
 
@@ -40,7 +41,14 @@ fn are_names_known(labels: &Labels, kind: &StmtKind) -> bool
                 .iter()
                 .all(|f| number(labels, f).is_some())
         }
-        _ => true,
+        nameless_form!()
+        | StmtKind::Barrier { .. }
+        | StmtKind::Udf { .. }
+        | StmtKind::Ascii(_)
+        | StmtKind::Asciz(_)
+        | StmtKind::Space(_)
+        | StmtKind::Align(_)
+        | bare_form!() => true,
     }
 }
 
@@ -91,7 +99,17 @@ fn encode_fault(labels: &Labels, kind: &StmtKind, code: &Coded) -> Option<Encode
             EncodeFault::ImmediateRange,
         ),
         StmtKind::LdrPool { t, .. } => fault_unless(*t < 8, EncodeFault::RegisterRange),
-        _ => coded_fault(code),
+        nameless_form!()
+        | StmtKind::Barrier { .. }
+        | StmtKind::Adr { .. }
+        | StmtKind::LdrLabel { .. }
+        | branch_form!() => coded_fault(code),
+        StmtKind::Words(_)
+        | StmtKind::Ascii(_)
+        | StmtKind::Asciz(_)
+        | StmtKind::Align(_)
+        | name_form!()
+        | bare_form!() => None,
     }
 }
 
@@ -115,7 +133,15 @@ fn has_bytes(kind: &StmtKind) -> bool
             .is_empty(),
         StmtKind::Ascii(text) => !text.bytes().is_empty(),
         StmtKind::Asciz(_) => true,
-        _ => false,
+        nameless_form!()
+        | reader_form!()
+        | branch_form!()
+        | StmtKind::Udf { .. }
+        | StmtKind::Barrier { .. }
+        | StmtKind::Space(_)
+        | StmtKind::Align(_)
+        | name_form!()
+        | bare_form!() => false,
     }
 }
 

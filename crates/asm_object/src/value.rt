@@ -58,7 +58,8 @@ pub fn number(labels: &Labels, expr: &Expr) -> Option<i128>
             Some(distance) => Some(distance + i128::from(*n)),
             None => None,
         },
-        _ => None,
+        Expr::Of(_, _) | Expr::Prel31(_) | Expr::Prel31Ref(_) | Expr::Target2(_) | Expr::Rel(_) =>
+            None,
     }
 }
 
@@ -74,7 +75,7 @@ pub fn held(labels: &Labels, word: &Word) -> u32
             None => 0,
         },
         Word::Prel31Ref(_) => REFERENCE_MARK,
-        _ => 0,
+        Word::Of(_, _) | Word::Rel(_) | Word::Target2(_) | Word::Prel31(_) => 0,
     }
 }
 

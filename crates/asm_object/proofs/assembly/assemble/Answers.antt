@@ -50,13 +50,13 @@ returns c =
     first_fault stmts entries layout.labels layout.placed.items c.in_ok-functions.functions.first layout.duplicate layout.too_large c.first_of.result c.first_of-first.result gathered.first
     known labels placed c.in_ok-functions.ensures.first duplicate too_large two three all in
     let none : gathered.first ≡ None = cc (c.in-None.is, gathered.first-is) in
-    let no_fault : gathered.field-0.first ≡ None = cc (none, gathered.first-is) in
+    let none_there : gathered.field-0.first ≡ None = cc (none, gathered.first-is) in
     let is : first_of_all None (faults_of stmts) ≡ None = cc (first, none) in
     let last : layout.last ≡ last_pool entries start stmts = cc (layout.last-is, layout.ensures.last) in
     let bss : layout.bss ≡ (walk_behind entries start stmts).at.sizes.bss = cc (layout.bss-is, layout.ensures.bss) in
     let sections : gathered.sections ≡ with_pieces no_sections (pieces_of entries (named_in layout.labels) layout.placed.items layout.last) =
-    cc (gathered.ensures.sections no_fault, gathered.sections-is, c.labels.view_is, layout.labels-is, layout.placed-is, layout.last-is) in
-    let rows : gathered.rows ≡ rows_of entries layout.placed.items = cc (gathered.ensures.rows no_fault, gathered.rows-is, layout.placed-is) in
+    cc (gathered.ensures.sections none_there, gathered.sections-is, c.labels.view_is, layout.labels-is, layout.placed-is, layout.last-is) in
+    let rows : gathered.rows ≡ rows_of entries layout.placed.items = cc (gathered.ensures.rows none_there, gathered.rows-is, layout.placed-is) in
     let object : c.in_ok-object-in-None.field-0 ≡ object_built gathered.sections gathered.rows layout.labels layout.bss =
     cc (c.in_ok-object-in-None.ensures, c.labels.view_is, layout.labels-is, layout.bss-is, gathered.sections-is, gathered.rows-is) in
     taken stmts entries layout.labels layout.placed.items layout.last gathered.sections gathered.rows layout.bss c.in_ok-object-in-None.field-0 is known labels placed last sections rows bss object

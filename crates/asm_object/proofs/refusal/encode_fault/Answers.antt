@@ -6,7 +6,6 @@ use Rattle.thumb_encode.specs.declared.code.EncodeFault.TheVariants.{ImmediateRa
 use Rattle.asm_layout.specs.Labels.{named_in}
 use Rattle.asm_object.specs.Values.{number}
 use Rattle.asm_object.specs.Refusals.{fits, fault_unless, encode_fault_by}
-use Rattle.asm_object.proofs.Unnamed.{fault_of_code}
 use Rattle.asm_object.proofs.refusal.encode_fault.Goals as goal
 
 pub returns-in-Halves : goal.returns-in-Halves
@@ -24,8 +23,3 @@ returns-in-Bytes c =
     all_from_yields_List (λ field. fits 128 (number labels field)) _ _ _ c.all-in-Bytes.ensures.ran (YieldsList-from_slice c.in-Bytes.fields cc) (λ x b q k. search (rules, tests)) in
     c.fault_unless-in-Bytes.ensures ∙ ap (λ holds. fault_unless holds ImmediateRange) fit
     ∙ ap (λ kind. encode_fault_by labels kind c.args.code.now) (sym c.in-Bytes.is)
-
-pub returns-in_default : goal.returns-in_default
-returns-in_default c =
-    let others = c.in_default in
-    c.coded_fault.ensures ∙ fault_of_code _ _ _ others.not-LdrPool others.not-Udf others.not-Halves others.not-Bytes others.not-Space

@@ -1,0 +1,164 @@
+-- What each statement is to the assembler (docs/source-language.md; Armv6-M Architecture Reference Manual, DDI 0419). Every form of a
+-- statement has its own line in `sort_of`. Its bytes, its names and its code are said of sorts, and of each sort.
+use Rattle.std.specs.Prelude.{ℕ, ◌^◌, ◌==◌, ◌&&◌, ℤ, pos, negsuc, Bool, false, nat_lt, if◌then◌else◌, List, Option, Some, None}
+use Rattle.asm_read.specs.declared.statement.Expr.{Expr}
+use Rattle.asm_read.specs.declared.statement.StmtKind.{StmtKind}
+use Rattle.asm_read.specs.declared.statement.StmtKind.TheVariants as stmt
+use Rattle.thumb_isa.specs.declared.instr.Instr.{Instr}
+use Rattle.thumb_isa.specs.declared.instr.Instr.TheVariants.{ShiftImm, AddSubReg, AddSubImm3, Imm8, Alu, AddHigh, CmpHigh, MovHigh, Bx, Blx, MemReg, MemImm, MemSp, AddRdSp, AddSp, SubSp, Extend, Rev, Push, Pop, Hint, Stm, Ldm, Svc, Barrier}
+
+-- an instruction of a source
+pub data Operation : Type 0 where
+  -- one that names nothing
+  Nameless : Instr → Operation
+  -- `udf #imm`, which the encoder does not have
+  Undefined : ℤ → Operation
+  -- `adr rd, name`
+  AdrOf : (d : ℕ) (name : List ℕ) → Operation
+  -- `ldr rt, name`
+  LdrOf : (t : ℕ) (name : List ℕ) → Operation
+  -- `ldr rt, =value`
+  LdrValue : (t : ℕ) (value : Expr) → Operation
+  -- `b name`
+  BTo : (name : List ℕ) → Operation
+  -- `beq name` and the other conditions
+  BCondTo : (cond : ℕ) (name : List ℕ) → Operation
+  -- `bl name`
+  BlTo : (name : List ℕ) → Operation
+
+-- data of a source
+pub data Given : Type 0 where
+  WordsOf : List Expr → Given
+  HalvesOf : List Expr → Given
+  BytesOf : List Expr → Given
+  AsciiOf : List ℕ → Given
+  AscizOf : List ℕ → Given
+  -- `.space n`
+  ZerosOf : ℤ → Given
+
+pub data Sort : Type 0 where
+  -- an instruction of so many bytes
+  CodeOf : (bytes : ℕ) (operation : Operation) → Sort
+  DataOf : Given → Sort
+  -- `.align n`
+  Filling : ℤ → Sort
+  -- a directive that says something of a name
+  AboutName : List ℕ → Sort
+  -- a statement that gives no bytes and uses no name
+  Bare : Sort
+
+-- a number as a field without sign takes it; one too large for every field where it isn't one of 32 bits
+abbrev pub unsigned : ℤ → ℕ
+unsigned (pos n) = if nat_lt n (2 ^ 32) then n else 0xffffffff
+unsigned (negsuc n) = 0xffffffff
+
+-- a number as an offset's field takes it; one too large for every field where it isn't one of 32 bits
+abbrev pub offset : ℤ → ℤ
+offset (pos n) = if nat_lt n (2 ^ 31) then pos n else pos 0x7fffffff
+offset (negsuc n) = if nat_lt n (2 ^ 31) then negsuc n else pos 0x7fffffff
+
+-- `cmp` of two registers: the form of low registers where both are
+abbrev pub compare : ℕ → ℕ → Instr
+compare n m = if nat_lt n 8 && nat_lt m 8 then Alu 10 n m else CmpHigh n m
+
+-- `adds` and `subs` with eight bits
+abbrev pub add_eight : Bool → ℕ → ℤ → Instr
+add_eight sub d imm = Imm8 (if sub then 3 else 2) d (unsigned imm)
+
+abbrev pub is_above_seven : ℤ → Bool
+is_above_seven (pos n) = nat_lt 7 n
+is_above_seven (negsuc n) = false
+
+-- `adds` and `subs` of three operands: with three bits up to 7, and above with eight where both registers are one
+abbrev pub add_three : Bool → ℕ → ℕ → ℤ → Instr
+add_three sub d n imm = if is_above_seven imm && (d == n) then add_eight sub d imm else AddSubImm3 sub d n (unsigned imm)
+
+-- an instruction of one halfword that names nothing
+abbrev pub half : Instr → Sort
+half i = CodeOf 2 (Nameless i)
+
+abbrev pub sort_of : StmtKind → Sort
+sort_of (stmt.Label _) = Bare
+sort_of (stmt.MovsImm d imm) = half (Imm8 0 d (unsigned imm))
+sort_of (stmt.MovsReg d m) = half (ShiftImm 0 d m 0)
+sort_of (stmt.Mov d m) = half (MovHigh d m)
+sort_of (stmt.CmpImm n imm) = half (Imm8 1 n (unsigned imm))
+sort_of (stmt.CmpReg n m) = half (compare n m)
+sort_of (stmt.AddSubTwo sub d imm) = half (add_eight sub d imm)
+sort_of (stmt.AddSubReg sub d n m) = half (AddSubReg sub d n m)
+sort_of (stmt.AddSubThree sub d n imm) = half (add_three sub d n imm)
+sort_of (stmt.AddReg d m) = half (AddHigh d m)
+sort_of (stmt.AddRdSp d off) = half (AddRdSp d (offset off))
+sort_of (stmt.AddSp off) = half (AddSp (offset off))
+sort_of (stmt.SubSp off) = half (SubSp (offset off))
+sort_of (stmt.ShiftImm op d m n) = half (ShiftImm op d m (unsigned n))
+sort_of (stmt.Alu op d m) = half (Alu op d m)
+sort_of (stmt.Rsbs d m) = half (Alu 9 d m)
+sort_of (stmt.Adr d name) = CodeOf 2 (AdrOf d name)
+sort_of (stmt.LdrLabel t name) = CodeOf 2 (LdrOf t name)
+sort_of (stmt.LdrPool t value) = CodeOf 2 (LdrValue t value)
+sort_of (stmt.MemImm op t n off) = half (MemImm op t n (offset off))
+sort_of (stmt.MemReg op t n m) = half (MemReg op t n m)
+sort_of (stmt.MemSp load t off) = half (MemSp load t (offset off))
+sort_of (stmt.Push list) = half (Push list)
+sort_of (stmt.Pop list) = half (Pop list)
+sort_of (stmt.Stm n list) = half (Stm n list)
+sort_of (stmt.LdmBack n list) = half (Ldm n list)
+sort_of (stmt.Ldm n list) = half (Ldm n list)
+sort_of (stmt.Extend op d m) = half (Extend op d m)
+sort_of (stmt.Rev op d m) = half (Rev op d m)
+sort_of (stmt.B name) = CodeOf 2 (BTo name)
+sort_of (stmt.BCond cond name) = CodeOf 2 (BCondTo cond name)
+sort_of (stmt.Bl name) = CodeOf 4 (BlTo name)
+sort_of (stmt.Bx m) = half (Bx m)
+sort_of (stmt.Blx m) = half (Blx m)
+sort_of (stmt.Svc imm) = half (Svc (unsigned imm))
+sort_of (stmt.Udf imm) = CodeOf 2 (Undefined imm)
+sort_of (stmt.Hint n) = half (Hint n)
+sort_of (stmt.Barrier op) = CodeOf 4 (Nameless (Barrier op 15))
+sort_of stmt.Text = Bare
+sort_of stmt.Data = Bare
+sort_of stmt.Bss = Bare
+sort_of stmt.Rodata = Bare
+sort_of (stmt.Global name) = AboutName name
+sort_of (stmt.TypeFunction name) = AboutName name
+sort_of (stmt.TypeObject name) = AboutName name
+sort_of (stmt.Size name) = AboutName name
+sort_of (stmt.Words words) = DataOf (WordsOf words)
+sort_of (stmt.Halves halves) = DataOf (HalvesOf halves)
+sort_of (stmt.Bytes bytes) = DataOf (BytesOf bytes)
+sort_of (stmt.Ascii text) = DataOf (AsciiOf text)
+sort_of (stmt.Asciz text) = DataOf (AscizOf text)
+sort_of (stmt.Space n) = DataOf (ZerosOf n)
+sort_of (stmt.Align n) = Filling n
+sort_of stmt.Pool = Bare
+sort_of stmt.FnStart = Bare
+sort_of stmt.FnEnd = Bare
+sort_of (stmt.Save _) = Bare
+sort_of (stmt.Pad _) = Bare
+sort_of (stmt.SetFp _ _) = Bare
+sort_of stmt.CantUnwind = Bare
+sort_of (stmt.PersonalityIndex _) = Bare
+sort_of stmt.HandlerData = Bare
+
+abbrev pub operation_in : Sort → Option Operation
+operation_in (CodeOf _ operation) = Some operation
+operation_in (DataOf _) = None
+operation_in (Filling _) = None
+operation_in (AboutName _) = None
+operation_in Bare = None
+
+-- the instruction that a statement is
+abbrev pub operation : StmtKind → Option Operation
+operation kind = operation_in (sort_of kind)
+
+abbrev pub given_in : Sort → Option Given
+given_in (CodeOf _ _) = None
+given_in (DataOf given) = Some given
+given_in (Filling _) = None
+given_in (AboutName _) = None
+given_in Bare = None
+
+-- the data that a statement is
+abbrev pub given : StmtKind → Option Given
+given kind = given_in (sort_of kind)

@@ -1,0 +1,99 @@
+//! The forms of statements by their sorts, for matches over all of them: each form stands in exactly one of these patterns, or is
+//! `udf`, a barrier or `.align` (`specs/Sorts.antt`; docs/source-language.md). A match names `StmtKind` in scope.
+
+/// An instruction of one halfword that names nothing, but for `udf`.
+#[macro_export]
+macro_rules! nameless_form {
+    () => {
+        StmtKind::MovsImm { .. }
+            | StmtKind::MovsReg { .. }
+            | StmtKind::Mov { .. }
+            | StmtKind::CmpImm { .. }
+            | StmtKind::CmpReg { .. }
+            | StmtKind::AddSubTwo { .. }
+            | StmtKind::AddSubReg { .. }
+            | StmtKind::AddSubThree { .. }
+            | StmtKind::AddReg { .. }
+            | StmtKind::AddRdSp { .. }
+            | StmtKind::AddSp { .. }
+            | StmtKind::SubSp { .. }
+            | StmtKind::ShiftImm { .. }
+            | StmtKind::Alu { .. }
+            | StmtKind::Rsbs { .. }
+            | StmtKind::MemImm { .. }
+            | StmtKind::MemReg { .. }
+            | StmtKind::MemSp { .. }
+            | StmtKind::Push { .. }
+            | StmtKind::Pop { .. }
+            | StmtKind::Stm { .. }
+            | StmtKind::LdmBack { .. }
+            | StmtKind::Ldm { .. }
+            | StmtKind::Extend { .. }
+            | StmtKind::Rev { .. }
+            | StmtKind::Bx { .. }
+            | StmtKind::Blx { .. }
+            | StmtKind::Svc { .. }
+            | StmtKind::Hint { .. }
+    };
+}
+
+/// An instruction that names a label of the text or a value.
+#[macro_export]
+macro_rules! reader_form {
+    () => {
+        StmtKind::Adr { .. } | StmtKind::LdrLabel { .. } | StmtKind::LdrPool { .. }
+    };
+}
+
+/// An instruction that branches to a name.
+#[macro_export]
+macro_rules! branch_form {
+    () => {
+        StmtKind::B(_) | StmtKind::BCond { .. } | StmtKind::Bl(_)
+    };
+}
+
+/// Data.
+#[macro_export]
+macro_rules! data_form {
+    () => {
+        StmtKind::Words(_)
+            | StmtKind::Halves(_)
+            | StmtKind::Bytes(_)
+            | StmtKind::Ascii(_)
+            | StmtKind::Asciz(_)
+            | StmtKind::Space(_)
+    };
+}
+
+/// A directive that says something of a name.
+#[macro_export]
+macro_rules! name_form {
+    () => {
+        StmtKind::Global(_)
+            | StmtKind::TypeFunction(_)
+            | StmtKind::TypeObject(_)
+            | StmtKind::Size(_)
+    };
+}
+
+/// A statement that gives no bytes and uses no name.
+#[macro_export]
+macro_rules! bare_form {
+    () => {
+        StmtKind::Label(_)
+            | StmtKind::Text
+            | StmtKind::Data
+            | StmtKind::Bss
+            | StmtKind::Rodata
+            | StmtKind::Pool
+            | StmtKind::FnStart
+            | StmtKind::FnEnd
+            | StmtKind::Save { .. }
+            | StmtKind::Pad(_)
+            | StmtKind::SetFp { .. }
+            | StmtKind::CantUnwind
+            | StmtKind::PersonalityIndex(_)
+            | StmtKind::HandlerData
+    };
+}
