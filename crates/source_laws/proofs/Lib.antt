@@ -7,3 +7,4 @@ pub mod Fields
 pub mod Marks
 pub mod Symbols
 pub mod Sizes
+pub mod Room

@@ -5,3 +5,4 @@ pub mod SourceRowLaw
 pub mod MarkLaw
 pub mod SymbolLaw
 pub mod SizeLaw
+pub mod RoomLaw

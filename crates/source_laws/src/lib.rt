@@ -8,6 +8,7 @@ ghost use Rattle.source_laws.specs.SourceRowLaw.{EachRowIsAFunctions, RowsRise, 
 ghost use Rattle.source_laws.specs.MarkLaw.{MarksTellCode, PoolsAreMarked, LastPoolsAreMarked};
 ghost use Rattle.source_laws.specs.SymbolLaw.{FunctionsAreTyped, ObjectsAreTyped, OthersAreNoFunctions, GlobalsAreGlobal, OthersAreLocal};
 ghost use Rattle.source_laws.specs.SizeLaw.{SizesCountBytes, OthersHaveNoSize};
+ghost use Rattle.source_laws.specs.RoomLaw.{AlignsReachMultiples, ZeroedDataIsCounted};
 
 use asm_read::{Stmt, StmtKind};
 
@@ -61,6 +62,13 @@ pub fn symbols_are_described()
 pub fn sizes_count_bytes()
     ensures sizes { SizesCountBytes }
     ensures others { OthersHaveNoSize }
+{}
+
+/// An `.align n` goes on to the next multiple of 2^n of its section, and the zeroed data of an object ends where its source has come to in
+/// `.bss`.
+pub fn room_is_as_given()
+    ensures aligns { AlignsReachMultiples }
+    ensures zeroed { ZeroedDataIsCounted }
 {}
 
 /// A register list has 16 bits.
