@@ -8,16 +8,14 @@ use Rattle.asm_read.specs.declared.statement.StmtKind.{StmtKind}
 use Rattle.asm_read.specs.declared.statement.StmtKind.TheVariants.{LdrPool, Pool, FnStart}
 use Rattle.asm_unwind.specs.declared.entry.EntryWords.{EntryWords}
 use Rattle.asm_layout.specs.declared.word.Word.{Word}
-use Rattle.asm_layout.specs.declared.placed.Puts.{Puts}
 use Rattle.asm_layout.specs.declared.placed.Puts.TheVariants as puts
 use Rattle.asm_layout.specs.declared.walk.Walk.{Walk}
-use Rattle.asm_layout.specs.PlacedStmt.{PlacedStmt}
 use Rattle.asm_layout.specs.Words.{word_of}
 use Rattle.asm_layout.specs.SameWords.{same_word}
 use Rattle.asm_layout.specs.Sizes.{sum_64, times}
 use Rattle.asm_layout.specs.Labels.{stmt_of}
 use Rattle.asm_layout.specs.Walks.{next, cursor_behind, is_empty, is_in_text, ends_pool, pool_with, pool_behind, pool_place, pools_if, pools_from, coming_pool, sizes_with_pool}
-use Rattle.asm_layout.specs.Placing.{word_offset, word_place, pool_here, function_here, function_puts, puts_at, stood_at, stood_from, placed_at, placed_from, moved_word, moved, has_words, puts_pool, places_behind, resolved}
+use Rattle.asm_layout.specs.Placing.{word_offset, word_place, pool_here, function_here, function_puts, puts_at, stood_at, stood_from, placed_at, placed_from, moved_word, has_words, places_behind, resolved}
 
 -- ---- one statement
 

@@ -1,5 +1,5 @@
 -- What the parts of an object stand for, piece by piece (docs/objects.md).
-use Rattle.std.specs.Prelude.{ℕ, ◌==◌, ◌%◌, ◌^◌, map, not, Bool, if◌then◌else◌, List, [], ◌∷◌, ◌++◌, fold, length, Some, None}
+use Rattle.std.specs.Prelude.{ℕ, ◌==◌, ◌%◌, ◌^◌, map, not, Bool, if◌then◌else◌, List, [], ◌++◌, fold, length, Some, None}
 use Rattle.asm_layout.specs.declared.place.Section.{Section}
 use Rattle.asm_layout.specs.declared.place.Section.TheVariants.{Text, Rodata, Extab, Init, Bss}
 use Rattle.asm_object.specs.declared.object.Reloc.{Reloc}

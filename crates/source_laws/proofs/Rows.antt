@@ -16,7 +16,6 @@ use Rattle.asm_layout.specs.declared.walk.Walk.{Walk}
 use Rattle.asm_layout.specs.Functions.{Frame, no_frame, entries_from, entries_of, unwind_faults_from}
 use Rattle.asm_layout.specs.Sizes.{table_size, sizes_grown}
 use Rattle.asm_layout.specs.Walks.{start, next, entry_at, same_section, is_in_text, sizes_with_pool, walk_behind}
-use Rattle.asm_object.specs.declared.object.IndexRow.{IndexRow}
 use Rattle.asm_object.specs.Pieces.{row_of, put_rows}
 use Rattle.source_laws.specs.Functions.{starts_function, bounds_function, functions_in, start_at, end_at}
 use Rattle.source_laws.proofs.Frames.{Shape, which, goes_on, ended_with, closes, no_second, no_end, begun, plain_outside, taken_none}

@@ -1,4 +1,4 @@
-use Rattle.std.proofs.Common.{◌≡◌, inr, sym, ◌∙◌, map, [], None, Some}
+use Rattle.std.proofs.Common.{◌≡◌, inr, ◌∙◌, map, [], None, Some}
 use Rattle.asm_layout.specs.Faults.{first_of, first_of_all}
 use Rattle.asm_layout.specs.Functions.{entries_of}
 use Rattle.asm_layout.specs.Labels.{named_in, labels_of, labelled, duplicates_from, too_large_from}
