@@ -1,7 +1,7 @@
 -- The first line of a source that isn't read, and where it stops.
-use Rattle.std.proofs.Common.{◌≡◌, ◌⊎◌, inl, inr, ℕ, ◌+◌, Bool, true, false, ◌&&◌, if◌then◌else◌, List, [], ◌∷◌, Option, Some, None, Result, Ok, Err, refl, ap, sym}
+use Rattle.std.proofs.Common.{◌≡◌, ◌⊎◌, inl, inr, ℕ, zero, suc, ◌+◌, ◌<◌, ◌≤◌, Bool, true, false, ◌&&◌, if◌then◌else◌, List, [], ◌∷◌, Option, Some, None, Result, Ok, Err, refl, ap, sym, subst, ◌∙◌, arith}
 use Rattle.std.specs.Prelude.{nat_lt}
-use Rattle.std.proofs.lemmas.Bool.{ltb-true}
+use Rattle.std.proofs.lemmas.Bool.{ltb-true, ltb-false}
 use Rattle.asm_read.specs.declared.fault.SourceFault.{SourceFault}
 use Rattle.asm_read.specs.declared.token.Kind.{Kind}
 use Rattle.asm_read.specs.declared.token.Kind.TheVariants as kind
@@ -13,11 +13,11 @@ use Rattle.asm_read.specs.declared.read.TheConstants.{MOST_LINES}
 use Rattle.asm_read.specs.declared.statement.Stmt.{Stmt}
 use Rattle.asm_read.specs.Tokens.{token_at}
 use Rattle.asm_read.specs.Fault.{fault_at}
-use Rattle.asm_read.specs.Operands.{◌>>=◌, span, is_mark_of}
+use Rattle.asm_read.specs.Operands.{◌>>=◌, span, is_mark_of, mark_at}
 use Rattle.asm_read.specs.Plans.{statement_at, is_word, plan, plan_of, not_plain_at, too_long, earlier, stop_of, unless, line_plan}
 use Rattle.asm_read.specs.Reading.{lines_of, line_as, line_of, then_added, excess, read_lines, read_of}
-use Rattle.asm_text.specs.Stops.{StatementBegins, IsStopAt, IsLineStop, IsRefused, FirstRefused, StopsAtTheFirst}
-use Rattle.asm_text.proofs.Stopped.{mark_there, name_there}
+use Rattle.asm_text.specs.Stops.{LabelEnds, StatementBegins, IsStopAt, CanStop, IsLineStop, IsRefused, FirstRefused, StopsAtTheFirst}
+use Rattle.asm_text.proofs.Stopped.{mark_there, mark_end, mark_kind, name_there, name_token}
 use Rattle.asm_text.proofs.Stopping.{statement_stops}
 
 -- ---- a line
@@ -34,61 +34,190 @@ is_colon : (a b : Bool) → (a && b) ≡ true → b ≡ true
 is_colon true b h = h
 is_colon false b h = cc
 
+and_so : (a b : Bool) → a ≡ true → b ≡ true → (a && b) ≡ false → ⊥
+and_so true b e f h = cc
+and_so false b e f h = cc
+
+-- where no colon stands behind a name there is no label
+no_label : (source : List ℕ) → (is_word (token_at source 0).kind && is_mark_of 58 (token_at source (token_at source 0).end).kind) ≡ false → (behind : ℕ) → LabelEnds source behind → ⊥
+no_label source n behind x =
+    let named = name_token source 0 x.0 x.1 in
+    let colon = subst (λ at. mark_at 58 source at ≡ Ok behind) named.1 x.2 in
+    and_so (is_word (token_at source 0).kind) (is_mark_of 58 (token_at source (token_at source 0).end).kind) (ap is_word named.0) (mark_kind 58 source (token_at source 0).end behind colon) n
+
 by_label : (source : List ℕ) (s : Stop) (b : Bool) →
     let token = token_at source 0 in
     let colon = token_at source token.end in
-    (is_word token.kind && is_mark_of 58 colon.kind) ≡ b → (if b then (statement_at source colon.end >>= (λ x. Ok (plan (Some (span token.start token.end)) x))) else (statement_at source 0 >>= (λ x. Ok (plan None x)))) ≡ Err s → (from : ℕ) × StatementBegins source from × IsStopAt source from s
+    (is_word token.kind && is_mark_of 58 colon.kind) ≡ b → (if b then (statement_at source colon.end >>= (λ x. Ok (plan (Some (span token.start token.end)) x))) else (statement_at source 0 >>= (λ x. Ok (plan None x)))) ≡ Err s → (from : ℕ) × StatementBegins source from × (statement_at source from ≡ Err s) × IsStopAt source from s
 by_label source s true e h =
     let token = token_at source 0 in
-    let colon = token_at source token.end in (
+    let colon = token_at source token.end in
+    let stops = unplanned (statement_at source colon.end) (Some (span token.start token.end)) s h in (
       colon.end,
       inr (span token.start token.end, name_there source 0 (is_name_kind token.kind (is_mark_of 58 colon.kind) e), mark_there 58 source token.end (is_colon (is_word token.kind) (is_mark_of 58 colon.kind) e)),
-      statement_stops source colon.end s (unplanned (statement_at source colon.end) (Some (span token.start token.end)) s h),
+      stops,
+      statement_stops source colon.end s stops,
     )
-by_label source s false e h = (0, inl refl, statement_stops source 0 s (unplanned (statement_at source 0) None s h))
+by_label source s false e h =
+    let stops = unplanned (statement_at source 0) None s h in
+    (0, inl (refl, no_label source e), stops, statement_stops source 0 s stops)
 
-plan_stops : (source : List ℕ) (s : Stop) → plan_of source ≡ Err s → (from : ℕ) × StatementBegins source from × IsStopAt source from s
+plan_stops : (source : List ℕ) (s : Stop) → plan_of source ≡ Err s → CanStop 2 source s
 unfolding plan_of
 plan_stops source s h =
     by_label source s (is_word (token_at source 0).kind && is_mark_of 58 (token_at source (token_at source 0).end).kind) refl h
 
-stop_or_plan : (q : Option Stop) (p : Result Plan Stop) (s : Stop) → unless q p ≡ Err s → (q ≡ Some s) ⊎ (p ≡ Err s)
-stop_or_plan None p s h = inr h
-stop_or_plan (Some t) p s h = let q : t ≡ s = cc in inl (ap (λ x. Some x) q)
+-- a line's statement begins at one place
+begins_by : (source : List ℕ) (from : ℕ) (b : Bool) →
+    let token = token_at source 0 in
+    let colon = token_at source token.end in
+    (is_word token.kind && is_mark_of 58 colon.kind) ≡ b → StatementBegins source from → from ≡ (if b then colon.end else 0)
+begins_by source from true e (inl x) =
+    let token = token_at source 0 in
+    let colon = token_at source token.end in
+    absurd (x.1 colon.end (span token.start token.end, name_there source 0 (is_name_kind token.kind (is_mark_of 58 colon.kind) e), mark_there 58 source token.end (is_colon (is_word token.kind) (is_mark_of 58 colon.kind) e)))
+begins_by source from true e (inr x) =
+    let named = name_token source 0 x.0 x.1 in
+    mark_end 58 source (token_at source 0).end from (subst (λ at. mark_at 58 source at ≡ Ok from) named.1 x.2)
+begins_by source from false e (inl x) = x.0
+begins_by source from false e (inr x) = absurd (no_label source e from x)
 
-earlier_by : (a b s : Stop) (c : Bool) → (if c then Some b else Some a) ≡ Some s → (Some a ≡ Some s) ⊎ (Some b ≡ Some s)
-earlier_by a b s true h = inr h
-earlier_by a b s false h = inl h
+stop_by : (source : List ℕ) (t : Stop) (b : Bool) →
+    let token = token_at source 0 in
+    let colon = token_at source token.end in
+    statement_at source (if b then colon.end else 0) ≡ Err t → (if b then (statement_at source colon.end >>= (λ x. Ok (plan (Some (span token.start token.end)) x))) else (statement_at source 0 >>= (λ x. Ok (plan None x)))) ≡ Err t
+stop_by source t true h =
+    let token = token_at source 0 in
+    ap (λ r. r >>= (λ x. Ok (plan (Some (span token.start token.end)) x))) h
+stop_by source t false h = ap (λ r. r >>= (λ x. Ok (plan None x))) h
 
-one_of : (a b : Option Stop) (s : Stop) → earlier a b ≡ Some s → (a ≡ Some s) ⊎ (b ≡ Some s)
-one_of None b s h = inr h
-one_of (Some x) None s h = inl h
-one_of (Some x) (Some y) s h = earlier_by x y s (nat_lt y.at x.at) h
+plan_stopped : (source : List ℕ) (t : Stop) → CanStop 2 source t → plan_of source ≡ Err t
+unfolding plan_of
+plan_stopped source t x =
+    let b = is_word (token_at source 0).kind && is_mark_of 58 (token_at source (token_at source 0).end).kind in
+    stop_by source t b (sym (ap (statement_at source) (begins_by source x.0 b refl x.1)) ∙ x.2)
+
+-- ---- the first of a line's stops
+
+stopped_by_two : (p : Result Plan Stop) (x t s : Stop) (c : Bool) → unless (if c then Some t else Some x) p ≡ Err s → (if c then Some t else Some x) ≡ Some s
+stopped_by_two p x t s true h = let q : t ≡ s = cc in ap (λ y. Some y) q
+stopped_by_two p x t s false h = let q : x ≡ s = cc in ap (λ y. Some y) q
+
+stopped_so : (q : Option Stop) (p : Result Plan Stop) (s : Stop) → unless (earlier q (stop_of p)) p ≡ Err s → earlier q (stop_of p) ≡ Some s
+stopped_so None (Ok p) s h = cc
+stopped_so (Some x) (Ok p) s h = let q : x ≡ s = cc in ap (λ y. Some y) q
+stopped_so None (Err t) s h = let q : t ≡ s = cc in ap (λ y. Some y) q
+stopped_so (Some x) (Err t) s h = stopped_by_two (Err t) x t s (nat_lt t.at x.at) h
 
 plan_stop : (p : Result Plan Stop) (s : Stop) → stop_of p ≡ Some s → p ≡ Err s
 plan_stop (Ok p) s h = cc
 plan_stop (Err t) s h = let q : t ≡ s = cc in ap (λ x. Err x) q
 
-of_plan : (source : List ℕ) (s : Stop) → plan_of source ≡ Err s → IsLineStop source s
-of_plan source s h = inr (inr (plan_stops source s h))
+-- the earlier of two is one of them, and no later than the other
+abbrev Nearer : Option Stop → Option Stop → Stop → Type 0
+Nearer a b s =
+    ((a ≡ Some s) × ((t : Stop) → b ≡ Some t → s.at ≤ t.at)) ⊎ ((b ≡ Some s) × ((t : Stop) → a ≡ Some t → s.at < t.at))
 
-of_line : (source : List ℕ) (s : Stop) → (not_plain_at 0 source ≡ Some s) ⊎ (too_long source ≡ Some s) → IsLineStop source s
-of_line source s (inl e) = inl e
-of_line source s (inr e) = inr (inl e)
+nearer_by : (x y s : Stop) (c : Bool) → nat_lt y.at x.at ≡ c → (if c then Some y else Some x) ≡ Some s → Nearer (Some x) (Some y) s
+nearer_by x y s true n h =
+    inr (
+      h,
+      λ t e.
+          let q = ap (λ (z : Stop). z.at) (let r : y ≡ s = cc in r) in
+          let r = ap (λ (z : Stop). z.at) (let r : x ≡ t = cc in r) in
+          let l = ltb-true y.at x.at n in
+          omega arith,
+    )
+nearer_by x y s false n h =
+    inl (
+      h,
+      λ t e.
+          let q = ap (λ (z : Stop). z.at) (let r : x ≡ s = cc in r) in
+          let r = ap (λ (z : Stop). z.at) (let r : y ≡ t = cc in r) in
+          let l = ltb-false y.at x.at n in
+          omega arith,
+    )
 
-of_stops : (source : List ℕ) (s : Stop) → (earlier (not_plain_at 0 source) (too_long source) ≡ Some s) ⊎ (stop_of (plan_of source) ≡ Some s) → IsLineStop source s
-of_stops source s (inl e) = of_line source s (one_of (not_plain_at 0 source) (too_long source) s e)
-of_stops source s (inr e) = of_plan source s (plan_stop (plan_of source) s e)
+nearer : (a b : Option Stop) (s : Stop) → earlier a b ≡ Some s → Nearer a b s
+nearer None b s h = inr (h, λ t e. cc)
+nearer (Some x) None s h = inl (h, λ t e. cc)
+nearer (Some x) (Some y) s h = nearer_by x y s (nat_lt y.at x.at) refl h
 
-of_all : (source : List ℕ) (s : Stop) → (earlier (earlier (not_plain_at 0 source) (too_long source)) (stop_of (plan_of source)) ≡ Some s) ⊎ (plan_of source ≡ Err s) → IsLineStop source s
-of_all source s (inl e) =
-    of_stops source s (one_of (earlier (not_plain_at 0 source) (too_long source)) (stop_of (plan_of source)) s e)
-of_all source s (inr e) = of_plan source s e
+at_most_by : (x y t : Stop) (c : Bool) → nat_lt y.at x.at ≡ c → (Some x ≡ Some t) ⊎ (Some y ≡ Some t) → (u : Stop) × ((if c then Some y else Some x) ≡ Some u) × (u.at ≤ t.at)
+at_most_by x y t true n (inl e) =
+    (y, refl, let r = ap (λ (z : Stop). z.at) (let r : x ≡ t = cc in r) in let l = ltb-true y.at x.at n in omega arith)
+at_most_by x y t true n (inr e) =
+    (y, refl, let r = ap (λ (z : Stop). z.at) (let r : y ≡ t = cc in r) in omega arith)
+at_most_by x y t false n (inl e) =
+    (x, refl, let r = ap (λ (z : Stop). z.at) (let r : x ≡ t = cc in r) in omega arith)
+at_most_by x y t false n (inr e) =
+    (x, refl, let r = ap (λ (z : Stop). z.at) (let r : y ≡ t = cc in r) in let l = ltb-false y.at x.at n in omega arith)
+
+at_most : (a b : Option Stop) (t : Stop) → (a ≡ Some t) ⊎ (b ≡ Some t) → (u : Stop) × (earlier a b ≡ Some u) × (u.at ≤ t.at)
+at_most None b t (inl e) = cc
+at_most None b t (inr e) = (t, e, omega arith)
+at_most (Some x) None t (inl e) = (t, e, omega arith)
+at_most (Some x) None t (inr e) = cc
+at_most (Some x) (Some y) t e = at_most_by x y t (nat_lt y.at x.at) refl e
+
+-- before, or at one place for no later a reason
+abbrev IsBefore : ℕ → Stop → ℕ → Stop → Type 0
+IsBefore n s m t = (s.at < t.at) ⊎ ((s.at ≡ t.at) × (n ≤ m))
+
+before_by : (n m : ℕ) (s t : Stop) (c : Bool) → nat_lt s.at t.at ≡ c → s.at ≤ t.at → n ≤ m → IsBefore n s m t
+before_by n m s t true e h k = inl (ltb-true s.at t.at e)
+before_by n m s t false e h k = inr (let l = ltb-false s.at t.at e in omega arith, k)
+
+before : (n m : ℕ) (s t : Stop) → s.at ≤ t.at → n ≤ m → IsBefore n s m t
+before n m s t h k = before_by n m s t (nat_lt s.at t.at) refl h k
+
+same_stop : (a : Option Stop) (s t : Stop) → a ≡ Some s → a ≡ Some t → s.at ≡ t.at
+same_stop a s t e f = ap (λ (z : Stop). z.at) (let q : s ≡ t = cc in q)
+
+same_refusal : (p : Result Plan Stop) (s t : Stop) → p ≡ Err s → p ≡ Err t → s.at ≡ t.at
+same_refusal p s t e f = ap (λ (z : Stop). z.at) (let q : s ≡ t = cc in q)
+
+byte_first : (source : List ℕ) (s : Stop) → not_plain_at 0 source ≡ Some s → ((t : Stop) → too_long source ≡ Some t → s.at ≤ t.at) → ((t : Stop) → stop_of (plan_of source) ≡ Some t → s.at ≤ t.at) → (m : ℕ) (t : Stop) → CanStop m source t → IsBefore 0 s m t
+byte_first source s e f g zero t h = inr (same_stop (not_plain_at 0 source) s t e h, omega arith)
+byte_first source s e f g (suc zero) t h = before 0 1 s t (f t h) (omega arith)
+byte_first source s e f g (suc (suc zero)) t h = before 0 2 s t (g t (ap stop_of (plan_stopped source t h))) (omega arith)
+byte_first source s e f g (suc (suc (suc m))) t h = absurd h
+
+length_first : (source : List ℕ) (s : Stop) → too_long source ≡ Some s → ((t : Stop) → not_plain_at 0 source ≡ Some t → s.at < t.at) → ((t : Stop) → stop_of (plan_of source) ≡ Some t → s.at ≤ t.at) → (m : ℕ) (t : Stop) → CanStop m source t → IsBefore 1 s m t
+length_first source s e f g zero t h = inl (f t h)
+length_first source s e f g (suc zero) t h = inr (same_stop (too_long source) s t e h, omega arith)
+length_first source s e f g (suc (suc zero)) t h = before 1 2 s t (g t (ap stop_of (plan_stopped source t h))) (omega arith)
+length_first source s e f g (suc (suc (suc m))) t h = absurd h
+
+statement_first : (source : List ℕ) (s : Stop) → plan_of source ≡ Err s → ((t : Stop) → earlier (not_plain_at 0 source) (too_long source) ≡ Some t → s.at < t.at) → (m : ℕ) (t : Stop) → CanStop m source t → IsBefore 2 s m t
+statement_first source s e f zero t h =
+    let u = at_most (not_plain_at 0 source) (too_long source) t (inl h) in
+    let l = f u.0 u.1 in
+    let k = u.2 in
+    inl (omega arith)
+statement_first source s e f (suc zero) t h =
+    let u = at_most (not_plain_at 0 source) (too_long source) t (inr h) in
+    let l = f u.0 u.1 in
+    let k = u.2 in
+    inl (omega arith)
+statement_first source s e f (suc (suc zero)) t h =
+    inr (same_refusal (plan_of source) s t e (plan_stopped source t h), omega arith)
+statement_first source s e f (suc (suc (suc m))) t h = absurd h
+
+of_front : (source : List ℕ) (s : Stop) → Nearer (not_plain_at 0 source) (too_long source) s → ((t : Stop) → stop_of (plan_of source) ≡ Some t → s.at ≤ t.at) → IsLineStop source s
+of_front source s (inl x) g = (0, x.0, λ m t h. byte_first source s x.0 x.1 g m t h)
+of_front source s (inr x) g = (1, x.0, λ m t h. length_first source s x.0 x.1 g m t h)
+
+of_stops : (source : List ℕ) (s : Stop) → Nearer (earlier (not_plain_at 0 source) (too_long source)) (stop_of (plan_of source)) s → IsLineStop source s
+of_stops source s (inl x) = of_front source s (nearer (not_plain_at 0 source) (too_long source) s x.0) x.1
+of_stops source s (inr x) =
+    let e = plan_stop (plan_of source) s x.0 in
+    (2, plan_stops source s e, λ m t h. statement_first source s e x.1 m t h)
 
 line_stops : (source : List ℕ) (s : Stop) → line_plan source ≡ Err s → IsLineStop source s
 unfolding line_plan
 line_stops source s h =
-    of_all source s (stop_or_plan (earlier (earlier (not_plain_at 0 source) (too_long source)) (stop_of (plan_of source))) (plan_of source) s h)
+    of_stops source s (nearer (earlier (not_plain_at 0 source) (too_long source)) (stop_of (plan_of source)) s (stopped_so (earlier (not_plain_at 0 source) (too_long source)) (plan_of source) s h))
 
 by_plan : (number : ℕ) (source : List ℕ) (fault : SourceFault) (r : Result Plan Stop) → line_plan source ≡ r → line_as number source r ≡ Err fault → IsRefused number source fault
 by_plan number source fault (Ok p) e h = cc

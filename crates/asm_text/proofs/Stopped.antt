@@ -109,7 +109,7 @@ pub mark_there : (b : ℕ) (source : List ℕ) (from : ℕ) → is_mark_of b (to
 unfolding mark_at
 mark_there b source from e = ap (λ c. past_if c (token_at source from)) e
 
-mark_end : (b : ℕ) (source : List ℕ) (from at : ℕ) → mark_at b source from ≡ Ok at → at ≡ (token_at source from).end
+pub mark_end : (b : ℕ) (source : List ℕ) (from at : ℕ) → mark_at b source from ≡ Ok at → at ≡ (token_at source from).end
 unfolding mark_at
 mark_end b source from at h = past_end (is_mark_of b (token_at source from).kind) (token_at source from) at h
 
@@ -122,6 +122,14 @@ mark_after b source from at h =
 mark_not : (b : ℕ) (source : List ℕ) (from at : ℕ) → is_mark_of b (token_at source from).kind ≡ false → mark_at b source from ≡ Ok at → ⊥
 unfolding mark_at
 mark_not b source from at n h = past_not (is_mark_of b (token_at source from).kind) (token_at source from) at n h
+
+past_is : (b : Bool) (t : Token) (at : ℕ) → past_if b t ≡ Ok at → b ≡ true
+past_is true t at h = refl
+past_is false t at h = cc
+
+pub mark_kind : (b : ℕ) (source : List ℕ) (from at : ℕ) → mark_at b source from ≡ Ok at → is_mark_of b (token_at source from).kind ≡ true
+unfolding mark_at
+mark_kind b source from at h = past_is (is_mark_of b (token_at source from).kind) (token_at source from) at h
 
 -- a mark is no other
 other_mark : (b c : ℕ) (k : Kind) → is_mark_of b k ≡ true → (c == b) ≡ false → is_mark_of c k ≡ false
@@ -149,7 +157,7 @@ name_is : (t : Token) (k : Kind) (s : Span) → name_span t k ≡ Ok s → (k �
 name_is t kind.Word s h = (refl, ap (λ (x : Span). x.end) (sym (let q : span t.start t.end ≡ s = cc in q)))
 name_is t k s h = cc
 
-name_token : (source : List ℕ) (from : ℕ) (s : Span) → name_at source from ≡ Ok s → ((token_at source from).kind ≡ kind.Word) × (s.end ≡ (token_at source from).end)
+pub name_token : (source : List ℕ) (from : ℕ) (s : Span) → name_at source from ≡ Ok s → ((token_at source from).kind ≡ kind.Word) × (s.end ≡ (token_at source from).end)
 unfolding name_at
 name_token source from s h = name_is (token_at source from) (token_at source from).kind s h
 

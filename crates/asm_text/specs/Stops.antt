@@ -24,7 +24,7 @@ use Rattle.asm_read.specs.Expressions.{relation_of, listed_at}
 use Rattle.asm_read.specs.Fits.{fresh, piece_at}
 use Rattle.asm_read.specs.Patterns.{pieces_of}
 use Rattle.asm_read.specs.Forms.{TableRow, rows}
-use Rattle.asm_read.specs.Plans.{unknown, not_plain_at, too_long}
+use Rattle.asm_read.specs.Plans.{unknown, statement_at, not_plain_at, too_long}
 use Rattle.asm_read.specs.Fault.{fault_at}
 use Rattle.asm_read.specs.Reading.{lines_of, line_of, excess, read_of}
 
@@ -155,16 +155,26 @@ IsStopAt source from s =
     ⊎ (((token.kind ≡ Word) × IsUnknown (name_of source token) × (s.at ≡ token.start) × (s.what ≡ unknown (name_of source token)))
     ⊎ ((token.kind ≡ Word) × IsFarthest (name_of source token) source token.end s))
 
--- where a line's statement begins: at its front, or behind the colon of a label
-abbrev pub StatementBegins : List ℕ → ℕ → Type 0
-StatementBegins source from =
-    (from ≡ 0) ⊎ ((label : Span) × (name_at source 0 ≡ Ok label) × (mark_at 58 source label.end ≡ Ok from))
+-- a label stands at the front of a line, and ends behind its colon
+abbrev pub LabelEnds : List ℕ → ℕ → Type 0
+LabelEnds source behind = (label : Span) × (name_at source 0 ≡ Ok label) × (mark_at 58 source label.end ≡ Ok behind)
 
--- a line stops at a byte that may stand in none, behind its last byte that may, or where its statement does
+-- where a line's statement begins: behind its label, or at its front where it has none
+abbrev pub StatementBegins : List ℕ → ℕ → Type 0
+StatementBegins source from = ((from ≡ 0) × ((behind : ℕ) → LabelEnds source behind → ⊥)) ⊎ LabelEnds source from
+
+-- what a line can be refused for, in this order at one place: a byte that may stand in none, its length, its statement
+abbrev pub CanStop : ℕ → List ℕ → Stop → Type 0
+CanStop zero source s = not_plain_at 0 source ≡ Some s
+CanStop (suc zero) source s = too_long source ≡ Some s
+CanStop (suc (suc zero)) source s =
+    (from : ℕ) × StatementBegins source from × (statement_at source from ≡ Err s) × IsStopAt source from s
+CanStop (suc (suc (suc n))) source s = ⊥
+
+-- a line stops at the first place at which it can, there for the first reason
 abbrev pub IsLineStop : List ℕ → Stop → Type 0
 IsLineStop source s =
-    (not_plain_at 0 source ≡ Some s)
-    ⊎ ((too_long source ≡ Some s) ⊎ ((from : ℕ) × StatementBegins source from × IsStopAt source from s))
+    (n : ℕ) × CanStop n source s × ((m : ℕ) (t : Stop) → CanStop m source t → (s.at < t.at) ⊎ ((s.at ≡ t.at) × (n ≤ m)))
 
 -- a line with a number is refused: where it stops, or as one line too many
 abbrev pub IsRefused : ℕ → List ℕ → SourceFault → Type 0
