@@ -45,7 +45,7 @@ marks_there layout all symbol h =
     (has_left (flat_map mark_symbols all ++ words_between (aligned layout.text_end) layout.rodata_end) (words_between (aligned layout.rodata_end) layout.extab_end) symbol
     (has_left (flat_map mark_symbols all) (words_between (aligned layout.text_end) layout.rodata_end) symbol h)))
 
-mapped : (at : Addresses) (mark : Mark) → mark_symbol at mark ≡ mapping_at at.text mark
+pub mapped : (at : Addresses) (mark : Mark) → mark_symbol at mark ≡ mapping_at at.text mark
 mapped at mark = by mark.code refl
   where
     by : (b : Bool) → mark.code ≡ b → mark_symbol at mark ≡ mapping_at at.text mark
@@ -68,7 +68,7 @@ law_of_marks objects entry image placed one mark e there =
 
 -- ---- the entry
 
-has_one : (objects : List Object) (entry : List ℕ) (image : ImageParts) → linked objects entry ≡ Ok image → has_entry entry objects ≡ true
+pub has_one : (objects : List Object) (entry : List ℕ) (image : ImageParts) → linked objects entry ≡ Ok image → has_entry entry objects ≡ true
 unfolding linked
 has_one objects entry image e = by _ (has_entry entry objects) (none_there (undefined_of objects objects) Undefined _ image (none_there (duplicate_of objects) Duplicate _ image e).1).1
   where

@@ -1,122 +1,37 @@
 -- What a statement gives stands at its place in its section, with its fields among those of the object, and no other field in it.
 use Rattle.asm_layout.specs.declared.walk.TheConstants.{MOST_BYTES}
-use Rattle.std.proofs.Common.{◌≡◌, ℕ, ◌+◌, ◌≤◌, ◌<◌, ◌^◌, not, Bool, true, false, cond, List, [], ◌∷◌, ◌++◌, length, drop, map, Option, Some, None, refl, sym, ap, ◌∙◌, arith, length-append, subst}
+use Rattle.std.proofs.Common.{◌≡◌, ℕ, ◌+◌, ◌≤◌, ◌<◌, ◌^◌, not, Bool, true, false, cond, List, [], ◌∷◌, ◌++◌, length, drop, Option, Some, None, refl, sym, ap, ◌∙◌, arith, length-append, subst}
 use Rattle.std.proofs.lemmas.Bool.{true≢false}
 use Rattle.std.proofs.lemmas.Grind.{flat_map-append}
 use Rattle.asm_read.specs.declared.statement.Stmt.{Stmt}
 use Rattle.asm_read.specs.declared.statement.StmtKind.{StmtKind}
-use Rattle.asm_read.specs.declared.statement.StmtKind.TheVariants as statement
 use Rattle.asm_unwind.specs.declared.entry.EntryWords.{EntryWords}
-use Rattle.asm_unwind.specs.declared.entry.EntryWords.TheVariants as entry
 use Rattle.thumb_encode.specs.declared.code.EncodeFault.{EncodeFault}
 use Rattle.asm_layout.specs.declared.fault.AsmWhat.TheVariants.{UndefinedLocal, PoolTooFar, Placement}
 use Rattle.asm_layout.specs.declared.place.Place.{Place}
 use Rattle.asm_layout.specs.declared.place.Section.{Section}
 use Rattle.asm_layout.specs.declared.place.Section.TheVariants.{Text, Rodata, Extab, Init, Bss}
 use Rattle.asm_layout.specs.declared.walk.Walk.{Walk}
-use Rattle.asm_layout.specs.declared.word.Word.{Word}
 use Rattle.asm_layout.specs.Functions.{entries_of, no_frame}
 use Rattle.asm_layout.specs.Labels.{Named, labels_of}
-use Rattle.asm_layout.specs.Sizes.{size_in, is_instruction, is_too_large, sum_64}
-use Rattle.eh_list.specs.Bytes.{gap}
-use Rattle.asm_layout.specs.Walks.{start, next, here, entry_at, same_section, is_empty, is_in_text, coming_pool, pool_place, walk_behind, sizes_with_pool}
-use Rattle.asm_layout.specs.Words.{word_of}
+use Rattle.asm_layout.specs.Sizes.{size_in, is_too_large}
+use Rattle.asm_layout.specs.Walks.{start, next, here, same_section, coming_pool, walk_behind, sizes_with_pool}
 use Rattle.asm_object.specs.declared.object.Object.{Object}
 use Rattle.asm_object.specs.declared.object.Reloc.{Reloc}
-use Rattle.asm_object.specs.Instructions.{branch_link}
-use Rattle.asm_object.specs.Objects.{joined, refusals_from}
+use Rattle.asm_object.specs.Objects.{joined}
 use Rattle.asm_object.specs.ObjectLaw.{StandInOrder, bytes_at}
-use Rattle.asm_object.specs.Pieces.{Piece, place_at, relocs_of, word_relocs, data_relocs, filling_piece, words_piece, pool_pieces, table_pieces, set_pieces, own_piece, instruction_piece, data_piece, pieces_at, pieces_from, word_place, bytes_in, relocs_in}
+use Rattle.asm_object.specs.Pieces.{Piece, own_piece, bytes_in, relocs_in, pieces_of}
 use Rattle.asm_object.specs.Refusals.{are_names_known, encode_fault, encode_or, is_pool_too_far, is_misplaced, refusal}
 use Rattle.asm_object.specs.Relocations.{field_size}
-use Rattle.asm_object.specs.Values.{Linked, link_of}
 use Rattle.asm_object.proofs.PlaceLaws.{Fewer, earlier, law_of_bytes, law_of_ends, none_behind, none_parts, not_large, own_stands, refusal_parts, split, walks_on}
-use Rattle.asm_object.proofs.ObjectLaws.{IsTaken, all_stand, earlier_stand, ends_small, entries_count, same_is}
+use Rattle.asm_object.proofs.ObjectLaws.{IsTaken, OfSection, AllOwn, of_in, all_own, all_stand, earlier_stand, ends_small, entries_count, same_is}
 use Rattle.eh_link.specs.FieldLaw.{IsInNoField}
 use Rattle.source_laws.specs.RowLaw.{behind}
 use Rattle.link_laws.specs.LabelLaw.{Has}
 use Rattle.link_laws.proofs.Labels.{has_left, has_right}
-
--- ---- relocations are of their pieces' sections
-
-abbrev pub Of : Section → List Reloc → Type 0
-Of section [] = Unit {0}
-Of section (reloc ∷ more) = (reloc.section ≡ section) × Of section more
-
-of_both : (section : Section) (xs ys : List Reloc) → Of section xs → Of section ys → Of section (xs ++ ys)
-of_both section [] ys h k = k
-of_both section (x ∷ xs) ys h k = (h.0, of_both section xs ys h.1 k)
-
-of_link : (place : Place) (link : Option Linked) → Of place.section (relocs_of place link)
-of_link place None = tt
-of_link place (Some link) = (refl, tt)
-
-of_words : (section : Section) (offset : ℕ) (words : List Word) → Of section (word_relocs section offset words)
-unfolding word_relocs
-of_words section offset [] = tt
-of_words section offset (word ∷ more) =
-    of_both section (relocs_of (place_at section offset) (link_of word)) (word_relocs section (sum_64 offset 4) more) (of_link (place_at section offset) (link_of word)) (of_words section (sum_64 offset 4) more)
-
-abbrev pub AllOwn : List Piece → Type 0
-AllOwn [] = Unit {0}
-AllOwn (piece ∷ more) = Of piece.place.section piece.relocs × AllOwn more
-
-all_both : (xs ys : List Piece) → AllOwn xs → AllOwn ys → AllOwn (xs ++ ys)
-all_both [] ys h k = k
-all_both (x ∷ xs) ys h k = (h.0, all_both xs ys h.1 k)
-
-data_own : (kind : StmtKind) (place : Place) → Of place.section (data_relocs kind place)
-data_own (statement.Words exprs) place = of_words place.section place.offset (map word_of exprs)
-data_own _ place = tt
-
-own_own : (labels : List Named) (kind : StmtKind) (place : Place) (word : ℕ) → Of (own_piece labels kind place word).place.section (own_piece labels kind place word).relocs
-own_own labels kind place word = by (is_instruction kind)
-  where
-    by : (b : Bool) → Of (cond b (instruction_piece labels kind place word) (data_piece labels kind place)).place.section (cond b (instruction_piece labels kind place word) (data_piece labels kind place)).relocs
-    by true = of_link place (branch_link labels kind)
-    by false = data_own kind place
-
-pool_own : (labels : List Named) (walk : Walk) → AllOwn (pool_pieces labels walk)
-pool_own labels walk = by (is_empty walk.pool)
-  where
-    by : (b : Bool) → AllOwn (cond b [] (filling_piece (place_at Text walk.at.sizes.text) (gap walk.at.sizes.text 4) ∷ words_piece labels (place_at Text (pool_place walk)) walk.pool ∷ []))
-    by true = tt
-    by false = (tt, (of_words Text (pool_place walk) walk.pool, tt))
-
-table_own : (b : Bool) (place : ℕ) (entry : Option EntryWords) → AllOwn (cond b [] (table_pieces place entry))
-table_own true place entry = tt
-table_own false place (Some (entry.Table words)) = (tt, tt)
-table_own false place (Some entry.CantUnwind) = tt
-table_own false place (Some (entry.Inline word)) = tt
-table_own false place None = tt
-
-set_own : (entries : List (Option EntryWords)) (labels : List Named) (walk : Walk) (kind : StmtKind) → AllOwn (set_pieces entries labels walk kind)
-set_own entries labels walk (statement.Align n) = (tt, tt)
-set_own entries labels walk statement.Pool = by (is_in_text walk.at)
-  where
-    by : (b : Bool) → AllOwn (cond b (pool_pieces labels walk) [])
-    by true = pool_own labels walk
-    by false = tt
-set_own entries labels walk statement.FnStart = table_own walk.at.inside walk.at.sizes.extab (entry_at entries walk.at.functions)
-set_own entries labels walk _ = tt
-
-pub all_own : (entries : List (Option EntryWords)) (labels : List Named) (walk : Walk) (stmts : List Stmt) → AllOwn (pieces_from entries labels walk stmts)
-unfolding pieces_from
-all_own entries labels walk [] = pool_own labels walk
-all_own entries labels walk (stmt ∷ more) =
-    let word = word_place walk stmt.kind (coming_pool entries walk (stmt ∷ more)) in
-    all_both (pieces_at entries labels walk word stmt.kind) (pieces_from entries labels (next entries walk stmt.kind) more)
-    (all_both (set_pieces entries labels walk stmt.kind) (own_piece labels stmt.kind (here walk.at) word ∷ []) (set_own entries labels walk stmt.kind) (own_own labels stmt.kind (here walk.at) word, tt))
-    (all_own entries labels (next entries walk stmt.kind) more)
-
-of_in : (s : Section) (pieces : List Piece) → AllOwn pieces → Of s (relocs_in s pieces)
-of_in s [] h = tt
-of_in s (piece ∷ more) h =
-    of_both s (cond (same_section piece.place.section s) piece.relocs []) (relocs_in s more) (by (same_section piece.place.section s) refl) (of_in s more h.1)
-  where
-    by : (b : Bool) → same_section piece.place.section s ≡ b → Of s (cond b piece.relocs [])
-    by true e = let P : Section → Type 0 = λ t. Of t piece.relocs in subst P (same_is piece.place.section s e) h.0
-    by false e = tt
+use Rattle.asm_object.proofs.Statements.{walk_sets}
+use Rattle.asm_layout.specs.Placing.{word_place, placed_from}
+use Rattle.asm_object.specs.Behind.{pieces_from, refusals_from}
 
 -- ---- bytes in no field
 
@@ -127,9 +42,9 @@ outside_behind : (j at end : ℕ) → j < at → at ≤ end → end ≤ j → �
 outside_behind j at end h k l = omega (arith, h, k, l)
 
 -- in none of another section
-none_elsewhere : (t s : Section) (relocs : List Reloc) (j : ℕ) → Of t relocs → same_section t s ≡ false → IsInNoField s j relocs
+none_elsewhere : (t s : Section) (relocs : List Reloc) (j : ℕ) → OfSection t relocs → same_section t s ≡ false → IsInNoField s j relocs
 none_elsewhere t s [] j h e = tt
-none_elsewhere t s (reloc ∷ more) j h e = ((λ f. true≢false (sym f.here ∙ ap (λ u. same_section u s) h.0 ∙ e)), none_elsewhere t s more j h.1 e)
+none_elsewhere t s (reloc ∷ more) j h e = ((λ f. true≢false (sym f.here ∙ ap (λ u. same_section u s) h.0.there ∙ e)), none_elsewhere t s more j h.1 e)
 
 -- in none that stands behind it
 pub none_behind_it : (s : Section) (from : ℕ) (relocs : List Reloc) (end j : ℕ) → StandInOrder from relocs end → j < from → IsInNoField s j relocs
@@ -169,7 +84,7 @@ itself Init = refl
 itself Bss = refl
 
 record There (entries : List (Option EntryWords)) (labels : List Named) (walk : Walk) (stmt : Stmt) (more : List Stmt) : Type 0 where
-  word : ℕ
+  word : Option ℕ
   word_is : word ≡ word_place walk stmt.kind (coming_pool entries walk (stmt ∷ more))
   known : are_names_known labels stmt.kind ≡ true
   unfaulted : encode_fault labels stmt.kind (here walk.at).offset word ≡ None
@@ -177,18 +92,18 @@ record There (entries : List (Option EntryWords)) (labels : List Named) (walk : 
   pieces : pieces_from entries labels walk (stmt ∷ more) ≡ own_piece labels stmt.kind (here walk.at) word ∷ pieces_from entries labels (next entries walk stmt.kind) more
   later : refusals_from entries labels (next entries walk stmt.kind) more ≡ []
 
-names_known : (labels : List Named) (kind : StmtKind) (section : Section) (place word : ℕ) → refusal labels kind section place word ≡ None → are_names_known labels kind ≡ true
+names_known : (labels : List Named) (kind : StmtKind) (section : Section) (place : ℕ) (word : Option ℕ) → refusal labels kind section place word ≡ None → are_names_known labels kind ≡ true
 unfolding refusal
-names_known labels kind section place word e = by (are_names_known labels kind) (encode_fault labels kind place word) (is_pool_too_far kind section place word) (is_misplaced kind section) e
+names_known labels kind section place word e = by (are_names_known labels kind) (encode_fault labels kind place word) (is_pool_too_far place word) (is_misplaced kind section) e
   where
     by : (k : Bool) (fault : Option EncodeFault) (far misplaced : Bool)
         → cond (not k) (Some UndefinedLocal) (encode_or fault (cond far (Some PoolTooFar) (cond misplaced (Some Placement) None))) ≡ None → k ≡ true
     by true fault far misplaced e = refl
     by false fault far misplaced e = absurd (cc)
 
-there : (entries : List (Option EntryWords)) (labels : List Named) (walk : Walk) (stmt : Stmt) (more : List Stmt) → set_pieces entries labels walk stmt.kind ≡ []
+there : (entries : List (Option EntryWords)) (labels : List Named) (walk : Walk) (stmt : Stmt) (more : List Stmt) → walk_sets entries labels walk stmt.kind ≡ []
     → refusals_from entries labels walk (stmt ∷ more) ≡ [] → There entries labels walk stmt more
-unfolding pieces_from refusals_from
+unfolding pieces_of placed_from walk_behind
 there entries labels walk stmt more none r =
     let word = word_place walk stmt.kind (coming_pool entries walk (stmt ∷ more)) in
     let own = none_parts stmt.line (refusal labels stmt.kind walk.at.section (here walk.at).offset word) (refusals_from entries labels (next entries walk stmt.kind) more) r in
@@ -314,7 +229,7 @@ none_of_section s pieces j own h =
 pub record Given (stmts before : List Stmt) (kind : StmtKind) (object : Object) : Type 0 where
   pub in_place : is_misplaced kind (behind stmts before).at.section ≡ false
   pub has_bytes : same_section (behind stmts before).at.section Bss ≡ false
-  pub word : ℕ
+  pub word : Option ℕ
   pub rest : List Stmt
   pub rest_is : stmts ≡ before ++ rest
   pub word_is : word ≡ word_place (behind stmts before) kind (coming_pool (entries_of stmts) (behind stmts before) rest)
@@ -337,7 +252,7 @@ fewer a b h k = omega (arith, h, k)
 
 -- a statement that is data or an instruction, in a section that has bytes
 pub given : (stmts before more : List Stmt) (line : ℕ) (kind : StmtKind) (object : Object) → stmts ≡ before ++ record { line = line; kind = kind } ∷ more → length stmts < 2 ^ 64 → IsTaken stmts object
-    → set_pieces (entries_of stmts) (labels_of (entries_of stmts) stmts) (behind stmts before) kind ≡ []
+    → walk_sets (entries_of stmts) (labels_of (entries_of stmts) stmts) (behind stmts before) kind ≡ []
     → (is_misplaced kind (behind stmts before).at.section ≡ false → same_section (behind stmts before).at.section Bss ≡ false) → Given stmts before kind object
 given stmts before more line kind object same few t none has =
     let entries = entries_of stmts in

@@ -3,11 +3,13 @@ pub mod Leading
 pub mod Meanings
 pub mod Labels
 pub mod Numbers
-pub mod Joined
 pub mod Filled
 pub mod Given
 pub mod Said
+pub mod Joined
 pub mod Ways
 pub mod Entries
+pub mod Symbols
+pub mod Rights
 pub mod Pools
 pub mod Texts

@@ -1,7 +1,7 @@
 -- A `ldr rt, =value` of a source loads what the value says.
 use Rattle.asm_layout.specs.declared.walk.TheConstants.{MOST_BYTES}
-use Rattle.std.proofs.Common.{◌≡◌, ℕ, ℤ, pos, negsuc, suc, ◌+◌, ◌-◌, ◌*◌, ◌/◌, ◌%◌, ◌^◌, ◌≤◌, ◌<◌, ◌-ℤ◌, ◌==◌, ◌&&◌, ◌||◌, min, not, nat_lt, Bool, true, false, cond, List, [], ◌∷◌, ◌++◌, length, drop, take, Option, Some, None, Result, Ok, Err, refl, sym, ap, ◌∙◌, arith, append-nil, append_assoc, length-append, length-drop, subst}
-use Rattle.std.specs.List.{list_any, position_or_len}
+use Rattle.std.proofs.Common.{◌≡◌, ℕ, ℤ, pos, negsuc, suc, ◌+◌, ◌-◌, ◌*◌, ◌/◌, ◌%◌, ◌^◌, ◌≤◌, ◌<◌, ◌-ℤ◌, ◌==◌, min, not, nat_lt, Bool, true, false, cond, List, [], ◌∷◌, ◌++◌, length, drop, take, Option, Some, None, option_map, Result, Ok, Err, refl, sym, ap, ◌∙◌, arith, append-nil, length-append, length-drop, subst}
+use Rattle.std.specs.List.{position_or_len}
 use Rattle.std.specs.Result.{result_err}
 use Rattle.std.proofs.lemmas.Bool.{true≢false}
 use Rattle.std.proofs.lemmas.Bool.Decides.{nat_tests}
@@ -11,7 +11,6 @@ use Rattle.std.proofs.lemmas.List.{length-take}
 use Rattle.std.proofs.Math.Seq.{take-append_seam}
 use Rattle.byteorder.specs.Endian.{little_number}
 use Rattle.byteorder.specs.Numbers.{little_from-bytes, little_from-take, little_number-reads_back}
-use Rattle.eh_word.specs.Names.{same_bytes}
 use Rattle.asm_read.specs.declared.statement.Expr.{Expr}
 use Rattle.asm_read.specs.declared.statement.Stmt.{Stmt}
 use Rattle.asm_read.specs.declared.statement.StmtKind.{StmtKind}
@@ -27,26 +26,25 @@ use Rattle.asm_layout.specs.declared.place.Section.TheVariants.{Text}
 use Rattle.asm_layout.specs.declared.walk.Sizes.{Sizes}
 use Rattle.asm_layout.specs.declared.walk.Walk.{Walk}
 use Rattle.asm_layout.specs.declared.word.Word.{Word}
-use Rattle.asm_layout.specs.declared.word.Word.TheVariants as word
 use Rattle.asm_layout.specs.Functions.{entries_of, no_frame}
 use Rattle.asm_layout.specs.Labels.{Named, labels_of}
 use Rattle.asm_layout.specs.SameWords.{same_word}
 use Rattle.asm_layout.specs.Sizes.{sum_64, times, size_in, is_too_large}
 use Rattle.asm_layout.specs.Walks.{start, next, here, same_section, is_empty, is_in_text, ends_pool, pool_place, pool_with, coming_pool, sizes_with_pool, walk_behind}
 use Rattle.asm_layout.specs.Words.{word_of}
-use Rattle.asm_layout.proofs.LayoutLaws.{same_bytes-true}
 use Rattle.asm_object.specs.declared.object.Object.{Object}
 use Rattle.asm_object.specs.declared.object.Reloc.{Reloc}
 use Rattle.asm_object.specs.Bytes.{word_bytes, half_bytes, code_bytes}
-use Rattle.asm_object.specs.Instructions.{base, literal}
-use Rattle.asm_object.specs.Objects.{joined, refusals_from}
+use Rattle.asm_object.specs.Instructions.{base, literal, literal_to}
+use Rattle.asm_object.specs.Objects.{joined}
 use Rattle.asm_object.specs.ObjectLaw.{StandInOrder, bytes_at}
-use Rattle.asm_object.specs.Pieces.{Piece, place_at, bytes_of_code, word_relocs, filling_piece, words_piece, pool_pieces, set_pieces, own_piece, pieces_at, pieces_from, word_place, bytes_in, relocs_in}
-use Rattle.asm_object.specs.Refusals.{refusal}
-use Rattle.asm_object.specs.Values.{Linked, held, link_of}
-use Rattle.asm_object.proofs.LoadLaws.{law_of_loads as law_of_read_words}
+use Rattle.asm_object.specs.Pieces.{Piece, place_at, bytes_of_code, word_relocs, filling_piece, words_piece, pool_pieces, own_piece, bytes_in, relocs_in, put_pieces, pieces_of}
+use Rattle.asm_object.specs.Refusals.{instruction_fault, refusal}
+use Rattle.asm_object.specs.declared.value.Link.{Link}
+use Rattle.asm_object.specs.Values.{held, link_of}
+use Rattle.asm_object.proofs.LoadLaws.{HasWord, and_true, put_there, pool_keeps, ends_sizes, law_of_loads as law_of_read_words}
 use Rattle.asm_object.proofs.PlaceLaws.{Fewer, earlier, gives, law_of_ends, loads, none_behind, none_parts, not_large, split, walks_on}
-use Rattle.asm_object.proofs.ObjectLaws.{IsTaken, taken, all_stand, earlier_stand, ends_small, entries_count, last_unlinked}
+use Rattle.asm_object.proofs.ObjectLaws.{IsTaken, taken, all_own, all_stand, earlier_stand, ends_small, entries_count, last_unlinked}
 use Rattle.eh_link.specs.FieldLaw.{IsInNoField}
 use Rattle.eh_link.specs.Layout.{address_in}
 use Rattle.eh_link.proofs.Words.{Reads}
@@ -56,63 +54,17 @@ use Rattle.link_laws.specs.LabelLaw.{Has}
 use Rattle.link_laws.specs.FilledLaw.{DecodesAt}
 use Rattle.link_laws.specs.PoolLaw.{LoadsReadValues}
 use Rattle.link_laws.proofs.Codes.{literal_is, load_means, no_literal}
-use Rattle.link_laws.proofs.Given.{all_own, has_of_section, joined_relocs, none_before_it, none_behind_it, none_in_both, none_of_section}
+use Rattle.link_laws.proofs.Given.{has_of_section, joined_relocs, none_before_it, none_behind_it, none_in_both, none_of_section}
 use Rattle.link_laws.proofs.Labels.{begins_at, has_left, has_right}
 use Rattle.link_laws.proofs.Leading.{coded, minus_small, reaches}
 use Rattle.link_laws.proofs.Said.{field_at, word_clear, word_says, words_have}
 use Rattle.link_laws.proofs.Ways.{given_in_text, own_decodes, place_in, place_is, text_aligned, text_begins, text_small}
+use Rattle.asm_object.proofs.Statements.{walk_sets, walk_pieces}
+use Rattle.asm_layout.specs.Placing.{word_place, placed_from, pool_here, pool_puts}
+use Rattle.asm_layout.specs.declared.placed.Puts.TheVariants as puts
+use Rattle.asm_object.specs.Behind.{pieces_from, refusals_from}
 
 -- ---- a word in its pool
-
-and_true : (a b : Bool) → (a && b) ≡ true → (a ≡ true) × (b ≡ true)
-and_true true b e = (refl, e)
-and_true false b e = absurd (true≢false (sym e))
-
-same_number : (m n : ℕ) → (m == n) ≡ true → m ≡ n
-same_number m n e = grind (arith, nat_tests)
-
-same_words : (v w : Word) → same_word v w ≡ true → v ≡ w
-same_words (word.Num m) (word.Num n) e = ap (λ k. word.Num k) (same_number m n e)
-same_words (word.Of a m) (word.Of b n) e =
-    let parts = and_true (same_bytes a b) (m == n) e in
-    ap (λ x. word.Of x m) (same_bytes-true a b parts.0) ∙ ap (λ k. word.Of b k) (same_number m n parts.1)
-same_words (word.Diff a c m) (word.Diff b d n) e =
-    let parts = and_true (same_bytes a b && same_bytes c d) (m == n) e in
-    let names = and_true (same_bytes a b) (same_bytes c d) parts.0 in
-    ap (λ x. word.Diff x c m) (same_bytes-true a b names.0) ∙ ap (λ x. word.Diff b x m) (same_bytes-true c d names.1) ∙ ap (λ k. word.Diff b d k) (same_number m n parts.1)
-same_words (word.Prel31 a) (word.Prel31 b) e = ap (λ x. word.Prel31 x) (same_bytes-true a b e)
-same_words (word.Prel31Ref a) (word.Prel31Ref b) e = ap (λ x. word.Prel31Ref x) (same_bytes-true a b e)
-same_words (word.Target2 a) (word.Target2 b) e = ap (λ x. word.Target2 x) (same_bytes-true a b e)
-same_words (word.Rel a) (word.Rel b) e = ap (λ x. word.Rel x) (same_bytes-true a b e)
-same_words _ _ e = absurd (true≢false (sym e))
-
--- a pool has a word behind so many others
-record HasWord (pool : List Word) (word : Word) (at : ℕ) : Type 0 where
-  front : List Word
-  back : List Word
-  split : pool ≡ front ++ word ∷ back
-  place : at ≡ length front
-
-abbrev no_words : List Word
-no_words = []
-
-put_there : (pool : List Word) (word : Word) → HasWord (pool_with pool word) word (position_or_len (same_word word) pool)
-put_there [] word = record { front = []; back = []; split = refl; place = refl }
-put_there (x ∷ xs) word = by (same_word word x) refl (put_there xs word)
-  where
-    further : (b : Bool) → cond b (x ∷ xs) (x ∷ xs ++ word ∷ []) ≡ x ∷ cond b xs (xs ++ word ∷ [])
-    further true = refl
-    further false = refl
-
-    by : (b : Bool) → same_word word x ≡ b → HasWord (pool_with xs word) word (position_or_len (same_word word) xs)
-        → HasWord (cond (b || list_any (same_word word) xs) (x ∷ xs) (x ∷ xs ++ word ∷ [])) word (cond (not b) (1 + position_or_len (same_word word) xs) 0)
-    by true e h = record { front = []; back = xs; split = ap (λ w. w ∷ xs) (sym (same_words word x e)); place = refl }
-    by false e h = record {
-      front = x ∷ h.front;
-      back = h.back;
-      split = further (list_any (same_word word) xs) ∙ ap (λ l. x ∷ l) h.split;
-      place = omega (arith, h.place);
-    }
 
 not_none : (n : ℕ) → 0 < n → (n == 0) ≡ false
 not_none n h = grind (arith, nat_tests)
@@ -120,37 +72,11 @@ not_none n h = grind (arith, nat_tests)
 filled_pool : (pool : List Word) (word : Word) (at : ℕ) → HasWord pool word at → is_empty pool ≡ false
 filled_pool pool word at h = ap is_empty h.split ∙ not_none (length (h.front ++ word ∷ h.back)) (omega (arith, length-append h.front (word ∷ h.back)))
 
--- a pool without an end goes on
-pool_keeps : (entries : List (Option EntryWords)) (walk : Walk) (kind : StmtKind) (word : Word) (at : ℕ) → ends_pool walk kind ≡ false
-    → HasWord walk.pool word at → HasWord (next entries walk kind).pool word at
-pool_keeps entries walk statement.Pool word at e h = by (is_in_text walk.at) refl
-  where
-    by : (b : Bool) → is_in_text walk.at ≡ b → HasWord (cond b (record { at = record walk.at { sizes = sizes_with_pool walk }; pool = no_words }) walk).pool word at
-    by true t = absurd (ended (is_in_text walk.at) (is_empty walk.pool) t (filled_pool walk.pool word at h) e)
-      where
-        ended : (in_text empty : Bool) → in_text ≡ true → empty ≡ false → (in_text && not empty) ≡ false → ⊥
-        ended true false t f e = true≢false e
-        ended true true t f e = true≢false f
-        ended false empty t f e = true≢false (sym t)
-    by false t = h
-pool_keeps entries walk (statement.LdrPool t value) word at e h = by (is_in_text walk.at) (list_any (same_word (word_of value)) walk.pool)
-  where
-    by : (b c : Bool) → HasWord (cond b (cond c walk.pool (walk.pool ++ word_of value ∷ [])) walk.pool) word at
-    by false c = h
-    by true true = h
-    by true false = record {
-      front = h.front;
-      back = h.back ++ word_of value ∷ [];
-      split = ap (λ l. l ++ word_of value ∷ []) h.split ∙ append_assoc h.front (word ∷ h.back) (word_of value ∷ []);
-      place = h.place;
-    }
-pool_keeps entries walk _ word at e h = h
-
 -- ---- its field, or none
 
 -- what pieces have for a word at a place of the text: its field where the linker fills it, and else no field in its four bytes
 record Held (relocs : List Reloc) (word : Word) (place : ℕ) : Type 0 where
-  field : (link : Linked) → link_of word ≡ Some link → Has relocs (field_at Text place link)
+  field : (link : Link) → link_of word ≡ Some link → Has relocs (field_at Text place link)
   clear : link_of word ≡ None → (j : ℕ) → place ≤ j → j < place + 4 → IsInNoField Text j relocs
 
 held_in_words : (from : ℕ) (pool : List Word) (word : Word) (at : ℕ) → HasWord pool word at → from + 4 * length pool ≤ MOST_BYTES → Held (word_relocs Text from pool) word (from + 4 * at)
@@ -180,7 +106,7 @@ the_none = []
 
 -- in the pool that ends here
 held_in_pool : (labels : List Named) (walk : Walk) (word : Word) (at : ℕ) → HasWord walk.pool word at → (sizes_with_pool walk).text ≤ MOST_BYTES
-    → Held (relocs_in Text (pool_pieces labels walk)) word (pool_place walk + 4 * at)
+    → Held (relocs_in Text (pool_pieces labels (pool_here walk))) word (pool_place walk + 4 * at)
 held_in_pool labels walk word at h small = by (is_empty walk.pool) (filled_pool walk.pool word at h) small
   where
     ends : (text fill count : ℕ) → sum_64 text (sum_64 fill (times count 4)) ≤ MOST_BYTES → sum_64 text fill + 4 * count ≤ MOST_BYTES
@@ -209,10 +135,10 @@ no_bytes = []
 
 one_by_one : (entries : List (Option EntryWords)) (labels : List Named) (walk : Walk) (stmt : Stmt) (more : List Stmt)
     → length (bytes_in Text (pieces_from entries labels walk (stmt ∷ more)))
-    ≡ length (bytes_in Text (pieces_at entries labels walk (word_place walk stmt.kind (coming_pool entries walk (stmt ∷ more))) stmt.kind)) + length (bytes_in Text (pieces_from entries labels (next entries walk stmt.kind) more))
-unfolding pieces_from
+    ≡ length (bytes_in Text (walk_pieces entries labels walk (word_place walk stmt.kind (coming_pool entries walk (stmt ∷ more))) stmt.kind)) + length (bytes_in Text (pieces_from entries labels (next entries walk stmt.kind) more))
+unfolding pieces_of placed_from walk_behind
 one_by_one entries labels walk stmt more =
-    let own = pieces_at entries labels walk (word_place walk stmt.kind (coming_pool entries walk (stmt ∷ more))) stmt.kind in
+    let own = walk_pieces entries labels walk (word_place walk stmt.kind (coming_pool entries walk (stmt ∷ more))) stmt.kind in
     let rest = pieces_from entries labels (next entries walk stmt.kind) more in
     ap length (flat_map-append (λ p. cond (same_section p.place.section Text) p.bytes no_bytes) own rest) ∙ length-append (bytes_in Text own) (bytes_in Text rest)
 
@@ -235,7 +161,7 @@ onward entries labels walk stmt more few r later h =
     record {
       rises =
           grows walk.at.sizes.text after.at.sizes.text
-          (length (bytes_in Text (pieces_at entries labels walk (word_place walk stmt.kind (coming_pool entries walk (stmt ∷ more))) stmt.kind)))
+          (length (bytes_in Text (walk_pieces entries labels walk (word_place walk stmt.kind (coming_pool entries walk (stmt ∷ more))) stmt.kind)))
           (length (bytes_in Text (pieces_from entries labels after more))) end (ap (λ n. walk.at.sizes.text + n) (sym count) ∙ whole) rest;
       small = within after.at.sizes.text (length (bytes_in Text (pieces_from entries labels after more))) end rest most;
     }
@@ -246,34 +172,29 @@ onward entries labels walk stmt more few r later h =
 -- the relocations of a statement's pieces and of those behind it
 relocs_on : (entries : List (Option EntryWords)) (labels : List Named) (walk : Walk) (stmt : Stmt) (more : List Stmt)
     → relocs_in Text (pieces_from entries labels walk (stmt ∷ more))
-    ≡ relocs_in Text (pieces_at entries labels walk (word_place walk stmt.kind (coming_pool entries walk (stmt ∷ more))) stmt.kind) ++ relocs_in Text (pieces_from entries labels (next entries walk stmt.kind) more)
-unfolding pieces_from
+    ≡ relocs_in Text (walk_pieces entries labels walk (word_place walk stmt.kind (coming_pool entries walk (stmt ∷ more))) stmt.kind) ++ relocs_in Text (pieces_from entries labels (next entries walk stmt.kind) more)
+unfolding pieces_of placed_from walk_behind
 relocs_on entries labels walk stmt more =
-    flat_map-append (λ p. cond (same_section p.place.section Text) p.relocs the_none) (pieces_at entries labels walk (word_place walk stmt.kind (coming_pool entries walk (stmt ∷ more))) stmt.kind)
+    flat_map-append (λ p. cond (same_section p.place.section Text) p.relocs the_none) (walk_pieces entries labels walk (word_place walk stmt.kind (coming_pool entries walk (stmt ∷ more))) stmt.kind)
     (pieces_from entries labels (next entries walk stmt.kind) more)
 
 -- those of one statement end where the text has come to behind it
 own_end : (entries : List (Option EntryWords)) (labels : List Named) (walk : Walk) (stmt : Stmt) (more : List Stmt) → Fewer entries
     → refusals_from entries labels walk (stmt ∷ more) ≡ [] → is_too_large (sizes_with_pool (walk_behind entries walk (stmt ∷ more))) ≡ false
-    → StandInOrder walk.at.sizes.text (relocs_in Text (pieces_at entries labels walk (word_place walk stmt.kind (coming_pool entries walk (stmt ∷ more))) stmt.kind)) (next entries walk stmt.kind).at.sizes.text
+    → StandInOrder walk.at.sizes.text (relocs_in Text (walk_pieces entries labels walk (word_place walk stmt.kind (coming_pool entries walk (stmt ∷ more))) stmt.kind)) (next entries walk stmt.kind).at.sizes.text
 unfolding earlier walk_behind
 own_end entries labels walk stmt more few r h =
-    let own = pieces_at entries labels walk (word_place walk stmt.kind (coming_pool entries walk (stmt ∷ more))) stmt.kind in
+    let own = walk_pieces entries labels walk (word_place walk stmt.kind (coming_pool entries walk (stmt ∷ more))) stmt.kind in
     let P : List Piece → Type 0 = λ l. StandInOrder walk.at.sizes.text (relocs_in Text l) (next entries walk stmt.kind).at.sizes.text in
     subst P (append-nil own) (earlier_stand entries labels walk (stmt ∷ []) more Text few r h)
 
 -- the pieces of a `.pool` in the text are those of its pool
-ends_relocs : (entries : List (Option EntryWords)) (labels : List Named) (walk : Walk) (word : ℕ) (kind : StmtKind) → ends_pool walk kind ≡ true
-    → relocs_in Text (pieces_at entries labels walk word kind) ≡ relocs_in Text (pool_pieces labels walk)
+ends_relocs : (entries : List (Option EntryWords)) (labels : List Named) (walk : Walk) (word : Option ℕ) (kind : StmtKind) → ends_pool walk kind ≡ true
+    → relocs_in Text (walk_pieces entries labels walk word kind) ≡ relocs_in Text (pool_pieces labels (pool_here walk))
 ends_relocs entries labels walk word statement.Pool e =
-    last_unlinked Text (set_pieces entries labels walk statement.Pool) (own_piece labels statement.Pool (here walk.at) word) refl
-    ∙ ap (λ b. relocs_in Text (cond b (pool_pieces labels walk) [])) (and_true (is_in_text walk.at) (not (is_empty walk.pool)) e).0
+    last_unlinked Text (walk_sets entries labels walk statement.Pool) (own_piece labels statement.Pool (here walk.at) word) refl
+    ∙ ap (λ b. relocs_in Text (put_pieces entries labels (cond b (pool_puts walk) puts.Nothing))) (and_true (is_in_text walk.at) (not (is_empty walk.pool)) e).0
 ends_relocs entries labels walk word _ e = absurd (true≢false (sym e))
-
-ends_sizes : (entries : List (Option EntryWords)) (walk : Walk) (kind : StmtKind) → ends_pool walk kind ≡ true → (next entries walk kind).at.sizes ≡ sizes_with_pool walk
-ends_sizes entries walk statement.Pool e =
-    ap (λ b. (cond b (record { at = record walk.at { sizes = sizes_with_pool walk }; pool = no_words }) walk).at.sizes) (and_true (is_in_text walk.at) (not (is_empty walk.pool)) e).0
-ends_sizes entries walk _ e = absurd (true≢false (sym e))
 
 -- a word of the pool that begins at the pool's place ends within the text with the pool
 pool_end : (walk : Walk) (word : Word) (at : ℕ) → HasWord walk.pool word at → (sizes_with_pool walk).text ≤ MOST_BYTES → pool_place walk + 4 * at + 4 ≤ (sizes_with_pool walk).text
@@ -303,7 +224,7 @@ unfolding coming_pool
 coming_is entries walk stmt more = refl
 
 abbrev OfOne : List (Option EntryWords) → List Named → Walk → Stmt → List Stmt → List Reloc
-OfOne entries labels walk stmt more = relocs_in Text (pieces_at entries labels walk (word_place walk stmt.kind (coming_pool entries walk (stmt ∷ more))) stmt.kind)
+OfOne entries labels walk stmt more = relocs_in Text (walk_pieces entries labels walk (word_place walk stmt.kind (coming_pool entries walk (stmt ∷ more))) stmt.kind)
 
 abbrev OfRest : List (Option EntryWords) → List Named → Walk → Stmt → List Stmt → List Reloc
 OfRest entries labels walk stmt more = relocs_in Text (pieces_from entries labels (next entries walk stmt.kind) more)
@@ -366,7 +287,7 @@ comes_later entries labels walk stmt more word at e on order ih =
 comes : (entries : List (Option EntryWords)) (labels : List Named) (walk : Walk) (stmts : List Stmt) (word : Word) (at : ℕ) → Fewer entries
     → refusals_from entries labels walk stmts ≡ [] → is_too_large (sizes_with_pool (walk_behind entries walk stmts)) ≡ false → walk.at.sizes.text ≤ MOST_BYTES → HasWord walk.pool word at
     → Comes entries labels walk stmts word at
-unfolding pieces_from refusals_from walk_behind coming_pool
+unfolding pieces_of placed_from walk_behind coming_pool
 comes entries labels walk [] word at few r h small there = record {
   later = pool_later walk small;
   small = below_end (pool_place walk + 4 * at) (sizes_with_pool walk).text (pool_end walk word at there (not_large (sizes_with_pool walk) Text h)) (not_large (sizes_with_pool walk) Text h);
@@ -454,7 +375,7 @@ load_at line t value = record { line = line; kind = statement.LdrPool t value }
 -- what a load has in the pieces of its source: its own code, and its word's field behind it
 record Loaded (entries : List (Option EntryWords)) (labels : List Named) (walk : Walk) (line t : ℕ) (value : Expr) (more : List Stmt) : Type 0 where
   place : ℕ
-  place_is : place ≡ word_place walk (statement.LdrPool t value) (coming_pool entries walk (load_at line t value ∷ more))
+  place_is : Some place ≡ word_place walk (statement.LdrPool t value) (coming_pool entries walk (load_at line t value ∷ more))
   behind_it : walk.at.sizes.text ≤ place
   small : place ≤ MOST_BYTES
   held : Held (relocs_in Text (pieces_from entries labels walk (load_at line t value ∷ more))) (word_of value) place
@@ -463,21 +384,23 @@ record Loaded (entries : List (Option EntryWords)) (labels : List Named) (walk :
 loaded : (entries : List (Option EntryWords)) (labels : List Named) (walk : Walk) (line t : ℕ) (value : Expr) (more : List Stmt) → Fewer entries
     → refusals_from entries labels walk (load_at line t value ∷ more) ≡ [] → is_too_large (sizes_with_pool (walk_behind entries walk (load_at line t value ∷ more))) ≡ false
     → same_section walk.at.section Text ≡ true → Loaded entries labels walk line t value more
-unfolding pieces_from refusals_from walk_behind coming_pool
+unfolding pieces_of placed_from walk_behind coming_pool
 loaded entries labels walk line t value more few r h text =
     let kind = statement.LdrPool t value in
     let stmt = load_at line t value in
     let after = next entries walk kind in
     let coming = coming_pool entries after more in
     let at = position_or_len (same_word (word_of value)) walk.pool in
-    let place = word_place walk kind coming in
-    let parts = none_parts line (refusal labels kind walk.at.section (here walk.at).offset place) (refusals_from entries labels after more) r in
+    let word = word_place walk kind coming in
+    let place = sum_64 coming (times at 4) in
+    let named : word ≡ Some place = ap (λ b. option_map (sum_64 coming) (cond b (Some (times at 4)) None)) text in
+    let parts = none_parts line (refusal labels kind walk.at.section (here walk.at).offset word) (refusals_from entries labels after more) r in
     let on = onward entries labels walk stmt more few r parts.1 h in
     let W : Bool → Type 0 = λ b. HasWord (cond b (pool_with walk.pool (word_of value)) walk.pool) (word_of value) at in
     let put : HasWord after.pool (word_of value) at = subst W (sym text) (put_there walk.pool (word_of value)) in
     let c = comes entries labels after more (word_of value) at few parts.1 h on.small put in
     let low : coming + 4 * at ≤ MOST_BYTES = c.small in
-    let is : place ≡ coming + 4 * at = ap (λ b. cond b (sum_64 coming (times at 4)) 0) text ∙ exact coming at low in
+    let is : place ≡ coming + 4 * at = exact coming at low in
     let own = OfOne entries labels walk stmt more in
     let rest = OfRest entries labels walk stmt more in
     let both : Held (own ++ rest) (word_of value) (coming + 4 * at) =
@@ -487,11 +410,13 @@ loaded entries labels walk line t value more few r h text =
     let P : List Reloc → Type 0 = λ l. Held l (word_of value) (coming + 4 * at) in
     record {
       place = place;
-      place_is = refl;
+      place_is = sym named;
       behind_it = omega (arith, is, on.rises, c.later);
       small = omega (arith, is, low);
       held = subst H (sym is) (subst P (sym (relocs_on entries labels walk stmt more)) both);
-      coded = loads entries labels walk kind more place refl (not_large (sizes_with_pool (walk_behind entries after more)) Text h) parts.0 refl;
+      coded =
+          ap (λ o. instruction_fault (Some (LdrLit t (literal_to o (here walk.at).offset)))) (sym named)
+          ∙ loads entries labels walk kind more word refl (not_large (sizes_with_pool (walk_behind entries after more)) Text h) parts.0 refl;
     }
   where
     exact : (coming at : ℕ) → coming + 4 * at ≤ MOST_BYTES → sum_64 coming (times at 4) ≡ coming + 4 * at
@@ -530,7 +455,7 @@ cancelled (x ∷ xs) ys zs e = let rest : xs ++ ys ≡ xs ++ zs = cc in cancelle
 -- the word's place in an accepted source, what the object's fields are there, and the instruction's code
 record InSource (stmts before more : List Stmt) (line t : ℕ) (value : Expr) (object : Object) : Type 0 where
   own : Loaded (entries_of stmts) (labels_of (entries_of stmts) stmts) (behind stmts before) line t value more
-  field : (link : Linked) → link_of (word_of value) ≡ Some link → Has object.relocs (field_at Text own.place link)
+  field : (link : Link) → link_of (word_of value) ≡ Some link → Has object.relocs (field_at Text own.place link)
   clear : link_of (word_of value) ≡ None → (j : ℕ) → own.place ≤ j → j < own.place + 4 → IsInNoField Text j object.relocs
   whole : length object.text ≤ MOST_BYTES
 
@@ -594,8 +519,8 @@ law_of_pools objects entry image placed one before more line t value few accepte
     let read = law_of_read_words before more line t value placed.object few accepted in
     let instruction = LdrLit t (literal l.place place) in
     let rest : n.own.rest ≡ load_at line t value ∷ more = cancelled before n.own.rest (load_at line t value ∷ more) (sym n.own.rest_is) in
-    let word : n.own.word ≡ l.place = n.own.word_is ∙ ap (λ x. word_place (behind stmts before) kind (coming_pool (entries_of stmts) (behind stmts before) x)) rest ∙ sym l.place_is in
-    let bytes : (own_piece labels kind (here (behind stmts before).at) n.own.word).bytes ≡ bytes_of_code (encoded_of instruction) = ap (λ w. bytes_of_code (encoded_of (LdrLit t (literal w place)))) word in
+    let word : n.own.word ≡ Some l.place = n.own.word_is ∙ ap (λ x. word_place (behind stmts before) kind (coming_pool (entries_of stmts) (behind stmts before) x)) rest ∙ sym l.place_is in
+    let bytes : (own_piece labels kind (here (behind stmts before).at) n.own.word).bytes ≡ bytes_of_code (encoded_of instruction) = ap (λ w. bytes_of_code (encoded_of (LdrLit t (literal_to w place)))) word in
     let low : place ≤ MOST_BYTES = omega (arith, n.own.small) in
     let code = coded (encoded_of instruction) l.coded in
     let size : length (bytes_of_code (encoded_of instruction)) ≡ 2 = (gives instruction).has l.coded in

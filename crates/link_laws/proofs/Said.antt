@@ -40,7 +40,8 @@ use Rattle.asm_object.specs.ObjectLaw.{symbol_place, bytes_at}
 use Rattle.asm_object.specs.Pieces.{place_at, relocs_of, word_relocs, words_bytes, own_piece}
 use Rattle.asm_object.specs.Refusals.{has_fields}
 use Rattle.asm_object.specs.Relocations.{kind_of}
-use Rattle.asm_object.specs.Values.{Linked, between_places, distance, is_word_known, held, link_of, low_or_zero, number, plus, signed}
+use Rattle.asm_object.specs.declared.value.Link.{Link}
+use Rattle.asm_object.specs.Values.{between_places, distance, is_word_known, held, link_of, low_or_zero, number, plus, signed}
 use Rattle.asm_object.proofs.ObjectLaws.{IsTaken, taken, ends_small, entries_count, same_is}
 use Rattle.elf_write.specs.declared.parts.ImageParts.{ImageParts}
 use Rattle.eh_link.specs.FieldLaw.{IsInNoField}
@@ -122,7 +123,7 @@ words_count (x ∷ exprs) = ap suc (words_count exprs)
 
 -- ---- the fields of a `.word`
 
-abbrev pub field_at : Section → ℕ → Linked → Reloc
+abbrev pub field_at : Section → ℕ → Link → Reloc
 field_at section offset link = record { section = section; offset = offset; kind = link.kind; name = link.name; addend = link.addend }
 
 next_low : (offset count : ℕ) → offset + 4 * suc count ≤ MOST_BYTES → sum_64 offset 4 + 4 * count ≤ MOST_BYTES
@@ -131,7 +132,7 @@ next_low offset count h = omega (arith, h)
 next_is : (offset count : ℕ) → offset + 4 * suc count ≤ MOST_BYTES → sum_64 offset 4 + 4 * count ≡ offset + 4 * suc count
 next_is offset count h = omega (arith, h)
 
-pub words_have : (section : Section) (offset : ℕ) (front : List Word) (value : Word) (back : List Word) (link : Linked) → offset + 4 * length front ≤ MOST_BYTES → link_of value ≡ Some link
+pub words_have : (section : Section) (offset : ℕ) (front : List Word) (value : Word) (back : List Word) (link : Link) → offset + 4 * length front ≤ MOST_BYTES → link_of value ≡ Some link
     → Has (word_relocs section offset (front ++ value ∷ back)) (field_at section (offset + 4 * length front) link)
 unfolding word_relocs
 words_have section offset [] value back link h e = record {
@@ -338,7 +339,7 @@ word_clears w none j from below =
     (omega (arith, own.small, count, ap length split, words_count (values w)))
     (omega (arith, from, words_count w.front)) (omega (arith, below, words_count w.front))))
 
-word_field : (w : Wording) (link : Linked) → link_of (word_of w.value) ≡ Some link → Has w.placed.object.relocs (field_at (section_of w) (place_of w) link)
+word_field : (w : Wording) (link : Link) → link_of (word_of w.value) ≡ Some link → Has w.placed.object.relocs (field_at (section_of w) (place_of w) link)
 word_field w link e =
     let own = word_given w in
     let offset = (here (behind (source w) w.before).at).offset in
@@ -383,7 +384,7 @@ pub record WordHere (objects : List Object) (entry : List ℕ) (image : ImagePar
   pub has_bytes : same_section s Bss ≡ false
   pub known : is_word_known (labels_of (entries_of stmts) stmts) value ≡ true
   pub reads : (x : ℕ) → held (labels_of (entries_of stmts) stmts) (word_of value) ≡ x → Reads 4 (bytes_at s placed.object) k (x % 256 ^ 4)
-  pub field : (link : Linked) → link_of (word_of value) ≡ Some link → Has placed.object.relocs (field_at s k link)
+  pub field : (link : Link) → link_of (word_of value) ≡ Some link → Has placed.object.relocs (field_at s k link)
   pub clear : link_of (word_of value) ≡ None → (j : ℕ) → k ≤ j → j < k + 4 → IsInNoField s j placed.object.relocs
 
 -- a word that the linker doesn't fill
@@ -394,7 +395,7 @@ plain_word objects entry image placed one stmts s k value w x none e =
     number_stays s objects entry image placed one 4 k (x % 256 ^ 4) w.made (omega arith) w.has_bytes (w.reads x e) (w.clear none)
 
 -- what the field of a word says, by its kind
-filled_word : (objects : List Object) (entry : List ℕ) (image : ImageParts) (placed : Placed) (one : IsOneOf objects placed) (stmts : List Stmt) (s : Section) (k : ℕ) (value : Expr) (kind : FieldKind) (link : Linked)
+filled_word : (objects : List Object) (entry : List ℕ) (image : ImageParts) (placed : Placed) (one : IsOneOf objects placed) (stmts : List Stmt) (s : Section) (k : ℕ) (value : Expr) (kind : FieldKind) (link : Link)
     → WordHere objects entry image placed one stmts s k value → link_of (word_of value) ≡ Some link → kind_of link.kind ≡ Some kind
     → MeansSo objects placed link.name (λ meaning. FieldSays kind meaning link.addend (bytes_at s placed.object) k image (address_in s placed.at + k))
 filled_word objects entry image placed one stmts s k value kind link w e is =

@@ -1,9 +1,10 @@
--- The bytes of texts are in the image.
-use Rattle.std.proofs.Common.{◌≡◌, ℕ, suc, ◌+◌, ◌-◌, ◌*◌, ◌≤◌, ◌<◌, ◌==◌, not, true, List, [], ◌∷◌, ◌++◌, length, drop, Ok, refl, sym, ap, ◌∙◌, arith, append_assoc, length-append, length-drop, subst}
+-- The bytes of texts are in the image, and zeros for those of a space.
+use Rattle.std.proofs.Common.{◌≡◌, ℕ, pos, zero, suc, ◌+◌, ◌-◌, ◌*◌, ◌≤◌, ◌<◌, ◌==◌, not, true, List, [], ◌∷◌, ◌++◌, length, drop, Ok, refl, sym, ap, ◌∙◌, arith, append_assoc, length-append, length-drop, subst}
 use Rattle.std.proofs.lemmas.Bool.Decides.{nat_tests}
 use Rattle.std.proofs.lemmas.List.{drop-drop}
 use Rattle.std.proofs.Math.Seq.{drop-append_seam}
 use Rattle.byteorder.specs.Endian.{little_number}
+use Rattle.eh_list.specs.Bytes.{zeros, length-zeros}
 use Rattle.asm_read.specs.declared.statement.Stmt.{Stmt}
 use Rattle.asm_read.specs.declared.statement.StmtKind.{StmtKind}
 use Rattle.asm_read.specs.declared.statement.StmtKind.TheVariants as statement
@@ -25,7 +26,7 @@ use Rattle.eh_link.proofs.Words.{Reads}
 use Rattle.source_laws.specs.RowLaw.{behind}
 use Rattle.link_laws.specs.MeaningLaw.{IsOneOf}
 use Rattle.link_laws.specs.JoinedLaw.{NumberAt}
-use Rattle.link_laws.specs.SaidLaw.{SaysThere, TextsSay, ZeroedTextsSay}
+use Rattle.link_laws.specs.SaidLaw.{SaysThere, TextsSay, ZeroedTextsSay, SpacesSay}
 use Rattle.link_laws.proofs.Given.{Given, given}
 use Rattle.link_laws.proofs.Labels.{begins_at}
 use Rattle.link_laws.proofs.Said.{not_there, number_stays}
@@ -89,3 +90,21 @@ law_of_zeroed_texts objects entry image placed one before more line text front b
     let stmts = before ++ record { line = line; kind = statement.Asciz text } ∷ more in
     let own = given stmts before more line (statement.Asciz text) placed.object refl few (taken stmts placed.object accepted) refl (λ h. h) in
     byte_says objects entry image placed one stmts before (statement.Asciz text) front back byte made own refl e
+
+-- ---- `.space`
+
+zeros_split : (count offset : ℕ) → offset < count → (rest : ℕ) × (zeros count ≡ zeros offset ++ 0 ∷ zeros rest)
+unfolding zeros
+zeros_split zero offset h = absurd (omega (arith, h))
+zeros_split (suc count) zero h = (count, refl)
+zeros_split (suc count) (suc offset) h =
+    let later = zeros_split count offset (omega (arith, h)) in
+    (later.0, ap (λ l. 0 ∷ l) later.1)
+
+pub law_of_spaces : SpacesSay
+law_of_spaces objects entry image placed one before more line count offset inside outside few accepted made =
+    let stmts = before ++ record { line = line; kind = statement.Space (pos count) } ∷ more in
+    let own = given stmts before more line (statement.Space (pos count)) placed.object refl few (taken stmts placed.object accepted) refl (λ h. outside) in
+    let cut = zeros_split count offset inside in
+    let P : ℕ → Type 0 = λ n. SaysThere objects placed one stmts before n (λ address. NumberAt 1 image address 0) in
+    subst P (length-zeros offset) (byte_says objects entry image placed one stmts before (statement.Space (pos count)) (zeros offset) (zeros cut.0) 0 made own refl cut.1)

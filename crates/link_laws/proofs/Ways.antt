@@ -38,11 +38,12 @@ use Rattle.asm_object.specs.Bytes.{code_bytes}
 use Rattle.asm_object.specs.Instructions.{in_text, text_place, between, pc, branch, branch_to as branch_offset, literal, literal_to, linked_unless}
 use Rattle.asm_object.specs.Objects.{symbol_of, object_of}
 use Rattle.asm_object.specs.ObjectLaw.{bytes_at}
-use Rattle.asm_object.specs.Pieces.{own_piece, bytes_of_code, relocs_of, set_pieces}
+use Rattle.asm_object.specs.Pieces.{own_piece, bytes_of_code, relocs_of}
 use Rattle.asm_object.specs.Refusals.{is_misplaced}
 use Rattle.asm_object.specs.Relocations.{kind_of}
 use Rattle.asm_object.proofs.ObjectLaws.{IsTaken, taken, ends_small, entries_count, same_is}
 use Rattle.asm_object.proofs.PlaceLaws.{not_false, text_here}
+use Rattle.asm_object.proofs.Statements.{walk_sets}
 use Rattle.elf_write.specs.declared.parts.ImageParts.{ImageParts}
 use Rattle.eh_link.specs.declared.names.Meaning.{Meaning}
 use Rattle.eh_link.specs.declared.places.Addresses.{Addresses}
@@ -340,7 +341,7 @@ linked_leads kind name objects entry image placed one stmts before instruction n
 -- an instruction stands in the text
 pub given_in_text : (stmts before more : List Stmt) (line : ℕ) (kind : StmtKind) (name : List ℕ) (objects : List Object) (entry : List ℕ) (image : ImageParts) (placed : Placed) (one : IsOneOf objects placed)
     → stmts ≡ before ++ record { line = line; kind = kind } ∷ more → length stmts < 2 ^ 64 → object_of stmts ≡ Ok placed.object → linked objects entry ≡ Ok image
-    → set_pieces (entries_of stmts) (labels_of (entries_of stmts) stmts) (behind stmts before) kind ≡ [] → ((s : Section) → is_misplaced kind s ≡ not (same_section s Text))
+    → walk_sets (entries_of stmts) (labels_of (entries_of stmts) stmts) (behind stmts before) kind ≡ [] → ((s : Section) → is_misplaced kind s ≡ not (same_section s Text))
     → Naming kind name objects entry image placed one stmts before
 given_in_text stmts before more line kind name objects entry image placed one same few accepted made none placed_so =
     let s = (behind stmts before).at.section in

@@ -6,4 +6,6 @@ pub mod FilledLaw
 pub mod SaidLaw
 pub mod WayLaw
 pub mod EntryLaw
+pub mod SymbolsLaw
+pub mod RightsLaw
 pub mod PoolLaw

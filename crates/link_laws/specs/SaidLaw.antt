@@ -1,13 +1,14 @@
 -- What the image that sources link to has for what they give: at the address of each expression of a `.word`, `.half` or `.byte` the value
 -- that it says, and of a text its bytes (docs/objects.md, "Names"; docs/linking.md, "Relocations").
-use Rattle.std.specs.Prelude.{◌≡◌, ℕ, ℤ, pos, ◌+◌, ◌*◌, ◌%◌, ◌^◌, ◌<◌, ◌+ℤ◌, ◌-ℤ◌, List, [], ◌∷◌, ◌++◌, length, Some, Ok}
+use Rattle.std.specs.Prelude.{◌≡◌, ℕ, ℤ, pos, ◌+◌, ◌*◌, ◌%◌, ◌^◌, ◌<◌, ◌+ℤ◌, ◌-ℤ◌, false, List, [], ◌∷◌, ◌++◌, length, Some, Ok}
 use Rattle.asm_read.specs.declared.statement.Expr.{Expr}
 use Rattle.asm_read.specs.declared.statement.Expr.TheVariants as expr
 use Rattle.asm_read.specs.declared.statement.Stmt.{Stmt}
 use Rattle.asm_read.specs.declared.statement.StmtKind.{StmtKind}
 use Rattle.asm_read.specs.declared.statement.StmtKind.TheVariants as statement
 use Rattle.asm_layout.specs.declared.place.Place.{Place}
-use Rattle.asm_layout.specs.Walks.{here}
+use Rattle.asm_layout.specs.declared.place.Section.TheVariants.{Bss}
+use Rattle.asm_layout.specs.Walks.{here, same_section}
 use Rattle.asm_layout.specs.Words.{low_word}
 use Rattle.asm_object.specs.declared.object.Object.{Object}
 use Rattle.asm_object.specs.Objects.{object_of}
@@ -110,3 +111,13 @@ TextsSay = EachByteSays statement.Ascii (λ text. text)
 -- behind the text of an `.asciz` a zero byte
 abbrev pub ZeroedTextsSay : Type 0
 ZeroedTextsSay = EachByteSays statement.Asciz (λ text. text ++ 0 ∷ [])
+
+-- each byte of a `.space` is a zero, where the section has bytes in the image
+abbrev pub SpacesSay : Type 0
+SpacesSay =
+    (objects : List Object) (entry : List ℕ) (image : ImageParts) (placed : Placed) (one : IsOneOf objects placed)
+    (before more : List Stmt) (line count offset : ℕ)
+    → let stmts = before ++ record { line = line; kind = statement.Space (pos count) } ∷ more in
+    offset < count → same_section (behind stmts before).at.section Bss ≡ false
+    → length stmts < 2 ^ 64 → object_of stmts ≡ Ok placed.object → linked objects entry ≡ Ok image
+    → SaysThere objects placed one stmts before offset (λ address. NumberAt 1 image address 0)

@@ -7,8 +7,10 @@ ghost use Rattle.link_laws.specs.MeaningLaw.{NamesHaveMeanings};
 ghost use Rattle.link_laws.specs.LabelLaw.{LabelsAreSymbols, MeaningsAreOfLabels};
 ghost use Rattle.link_laws.specs.JoinedLaw.{WordsAreSums};
 ghost use Rattle.link_laws.specs.FilledLaw.{FieldsAreFilled};
-ghost use Rattle.link_laws.specs.SaidLaw.{WordsSay, HalvesSay, BytesSay, TextsSay, ZeroedTextsSay};
+ghost use Rattle.link_laws.specs.SaidLaw.{WordsSay, HalvesSay, BytesSay, TextsSay, ZeroedTextsSay, SpacesSay};
 ghost use Rattle.link_laws.specs.EntryLaw.{MarksAreMapped, EntriesAreFunctions};
+ghost use Rattle.link_laws.specs.SymbolsLaw.{DataIsMarked, IndexesAreMarked, NoOtherSymbols};
+ghost use Rattle.link_laws.specs.RightsLaw.{SegmentsHaveRights};
 ghost use Rattle.link_laws.specs.PoolLaw.{LoadsReadValues};
 ghost use Rattle.link_laws.specs.WayLaw.{JumpsLeadTo, CondJumpsLeadTo, CallsLeadTo, AddressesLeadTo, LoadsLeadTo};
 
@@ -49,13 +51,15 @@ pub fn fields_are_filled()
 
 /// In the image that sources link to, the word at the address of each expression of a `.word` is what the expression says, and so are the
 /// halfwords and bytes of a `.half` and a `.byte`: a number, how far one label stands behind another, or what the name means, in the
-/// relation to the word's own address that the source asks for. The bytes of a text are there, and behind an `.asciz` a zero byte.
+/// relation to the word's own address that the source asks for. The bytes of a text are there, and behind an `.asciz` a zero byte; those of a
+/// `.space` are zeros.
 pub fn numbers_are_as_given()
     ensures words { WordsSay }
     ensures halves { HalvesSay }
     ensures bytes { BytesSay }
     ensures texts { TextsSay }
     ensures zeroed { ZeroedTextsSay }
+    ensures spaces { SpacesSay }
 {}
 
 /// In the image that sources link to, each branch, `adr` and `ldr rt, name` leads to what its name means there, whether the assembler or the
@@ -74,6 +78,19 @@ pub fn names_lead_to_what_they_mean()
 pub fn marks_and_entry_are_of_objects()
     ensures marks { MarksAreMapped }
     ensures entry { EntriesAreFunctions }
+{}
+
+/// Where one of the objects has read-only data or exception tables, `$d` stands in the image at the start of the first object's part of
+/// them, and always at the start of the index. Each other symbol is that of a label whose name isn't local, or of a mark.
+pub fn symbols_are_of_objects()
+    ensures parts { DataIsMarked }
+    ensures index { IndexesAreMarked }
+    ensures others { NoOtherSymbols }
+{}
+
+/// The segment of an image with the texts may be run and not written, and any other one written and not run.
+pub fn code_is_apart()
+    ensures { SegmentsHaveRights }
 {}
 
 /// In the image that sources link to, `ldr rt, =value` loads what the value says: the word at the address to which the core comes from
