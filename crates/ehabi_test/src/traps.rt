@@ -434,14 +434,112 @@ throw 38000080 1D 00000000
     },
 ];
 
+/// Further values of the same traps, and what comes behind a throw.
+static BEHIND: [Run; 8] = [
+    Run {
+        lines: &[".save {r4, lr}; push {r4, lr}; movs r0, #0; str r0, [r0]; pop {r4, pc}"],
+        status: 5,
+        wrote: "\n-- trace\n-- trap Unmapped 00000000 at 00008004\n",
+    },
+    Run {
+        lines: &[
+            ".save {r4, lr}; push {r4, lr}; mov r0, sp; subs r0, #7; strh r0, [r0, #0]; pop {r4, pc}",
+        ],
+        status: 5,
+        wrote: "\n-- trace\n-- trap Unaligned 3FFFFFE9 at 00008006\n",
+    },
+    Run {
+        lines: &[".save {r4, lr}; push {r4, lr}; movs r0, #0; subs r0, #1; svc #16; pop {r4, pc}"],
+        status: 5,
+        wrote: "\n-- trace\n-- trap TooBig FFFFFFFF at 00008006\n",
+    },
+    // what is caught can't be given back; what has ended can't end again; a handler is no cleanup
+    Run {
+        lines: &[
+            ".save {r4, lr}; push {r4, lr}; .Lb: bl f; .Le: pop {r4, pc}; .Lp: svc #19; svc #17; udf #0;",
+            CATCHES,
+        ],
+        status: 5,
+        wrote: "
+-- trace
+throw 38000080 i 07000000
+catch main+8 sp 3FFFFFF0 object 38000080
+-- trap BadObject 38000080 at 0000800A
+",
+    },
+    Run {
+        lines: &[
+            ".save {r4, lr}; push {r4, lr}; .Lb: bl f; .Le: pop {r4, pc}; .Lp: svc #19; svc #20; svc #20; udf #0;",
+            CATCHES,
+        ],
+        status: 5,
+        wrote: "
+-- trace
+throw 38000080 i 07000000
+catch main+8 sp 3FFFFFF0 object 38000080
+-- trap NoCaught 00000000 at 0000800C
+",
+    },
+    Run {
+        lines: &[
+            ".save {r4, lr}; push {r4, lr}; .Lb: bl f; .Le: pop {r4, pc}; .Lp: svc #22; udf #0;",
+            CATCHES,
+        ],
+        status: 5,
+        wrote: "
+-- trace
+throw 38000080 i 07000000
+catch main+8 sp 3FFFFFF0 object 38000080
+-- trap NoCleanup 00000000 at 00008008
+",
+    },
+    // a cleanup gives back the frame that it was entered in
+    Run {
+        lines: &[
+            ".save {r4, lr}; push {r4, lr}; .pad #8; sub sp, #8; .Lb: bl f; .Le: add sp, #8; pop {r4, pc}; \
+             .Lc: add sp, #8; udf #0",
+            CLEANS,
+        ],
+        status: 5,
+        wrote: "
+-- trace
+throw 38000080 i 07000000
+cleanup main+C sp 3FFFFFE8
+-- trap SpInCleanup 3FFFFFF0 at 0000800C
+",
+    },
+    // a catch of everything reads nothing of the object; thrown again, it comes to a catch that has to
+    Run {
+        lines: &[
+            ".save {r4, lr}; push {r4, lr}; .Lb: bl g; .Le: pop {r4, pc}; .Lp: udf #0; .personalityindex 0; .handlerdata; \
+             .half .Le-.Lb+1, .Lb-main; .word .Lp(prel31), _ZTI1A(target2), 0; .fnend; .type g, %function; g: .fnstart; \
+             .save {r4, lr}; push {r4, lr}; movs r0, #4; svc #16; ldr r1, =_ZTI1D; .Lf: svc #18; .Lt: udf #0; \
+             .Lq: svc #19; svc #21; udf #0; .section .rodata; \
+             _ZTI1A: .word _ZTVN10__cxxabiv117__class_type_infoE+8, .La; \
+             _ZTI1D: .word _ZTVN10__cxxabiv121__vmi_class_type_infoE+8, .Ld, 0, 1, _ZTI1A, 0xFFFFF403; \
+             .La: .asciz \"1A\"; .Ld: .asciz \"1D\"; .text; .personalityindex 0; .handlerdata; \
+             .half .Lt-.Lf+1, .Lf-g; .word .Lq(prel31), 0xFFFFFFFF, 0;",
+        ],
+        status: 5,
+        wrote: "
+-- trace
+throw 38000080 1D 00000000
+catch g+C sp 3FFFFFE8 object 38000080
+rethrow 38000080 1D 00000000
+-- trap ObjectRead FFFFFFF4 at 00008018
+",
+    },
+];
+
 #[test]
 fn traps(rt: HostRuntime) -> Result<(), Fail> {
     let alloc = rt.alloc();
-    let tables: [(&str, &[Run]); 4] = [
+    let tables: [(&str, &[Run]); 5] = [
         ("instruction", &INSTRUCTIONS),
         ("store", &SAVED),
         ("way", &WAYS),
         ("gate", &GATES),
+        ("further", &BEHIND),
     ];
     for (what, rows) in tables {
         for (number, row) in rows.iter().enumerate() {
