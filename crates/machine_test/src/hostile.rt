@@ -592,17 +592,6 @@ fn told_of(core: &Core) -> (u32, u32, u32) {
     (core.regs.r[0], core.globals.caught, core.globals.cleanup)
 }
 
-fn row_does<C: Checked, B: Bus>(
-    alloc: Global,
-    machine: &mut Machine<C, B>,
-    ty: u32,
-    row: &Row,
-) -> Attempt {
-    let call = (row.gate, row.given, ty);
-    let (caught, cleanup) = row.heads;
-    gate_does(alloc, machine, call, row.words, two_heads(caught, cleanup))
-}
-
 /// The first event of a throw of an object whose word says that it is larger than any.
 fn event_of_large(alloc: Global, code: &Open, ty: u32) -> Result<Option<(EventKind, u32)>, Fail> {
     let regs = at_gate(THROW_GATE, OBJECT, ty);
@@ -643,7 +632,10 @@ fn hostile_rows(rt: HostRuntime) -> Result<(), Fail> {
     let code = opened(&image, &types, 0).ok_or("no index")?;
     let mut machine = from_parts(alloc, &code)?;
     for (number, row) in ROWS.iter().enumerate() {
-        let attempt = row_does(alloc, &mut machine, ty, row);
+        let call = (row.gate, row.given, ty);
+        let (caught, cleanup) = row.heads;
+        let heads = two_heads(caught, cleanup);
+        let attempt = gate_does(alloc, &mut machine, call, row.words, heads);
         assert_eq!(rt; attempt.end, row.end, "row {number}");
         assert_eq!(rt; told_of(&attempt.behind), row.behind, "row {number}");
         assert!(rt; is_well(row.gate, &attempt), "row {number}");
