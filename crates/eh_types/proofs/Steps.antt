@@ -24,6 +24,7 @@ use Rattle.eh_types.specs.Meant.{Among, types_of, pointees, bases_by, Reached, r
 use Rattle.eh_types.specs.Reading.{paths_of, IsDone, IsFrame, Leads, is_on, Stacked, Reading}
 use Rattle.eh_types.proofs.Paths.{sum_same, paths_more, paths_settle}
 use Rattle.eh_types.proofs.Meaning.{among_left, among_right, among_either, is_there, there_is}
+use Rattle.eh_types.specs.declared.types.TheConstants.{NAME_LIMIT}
 
 test_same : (x : ℕ) → nat_eq x x ≡ true
 test_same x = grind (arith, nat_tests)
@@ -49,9 +50,9 @@ judged_row image a (Some w) (Some name) r e = by_write (w || name.1) e
     by_length true f = absurd cc
     by_length false f = let same : row_named image a name.0 ≡ r = cc in rw (← same) (refl, refl)
 
-    by_write : (b : Bool) → cond b (Err (Writable a)) (cond (nat_lt 1024 (length name.0)) (Err (NameTooLong a)) (Ok (row_named image a name.0))) ≡ Ok r → (r.at ≡ a) × (r.kind ≡ kind_at image a)
+    by_write : (b : Bool) → cond b (Err (Writable a)) (cond (nat_lt NAME_LIMIT (length name.0)) (Err (NameTooLong a)) (Ok (row_named image a name.0))) ≡ Ok r → (r.at ≡ a) × (r.kind ≡ kind_at image a)
     by_write true f = absurd cc
-    by_write false f = by_length (nat_lt 1024 (length name.0)) f
+    by_write false f = by_length (nat_lt NAME_LIMIT (length name.0)) f
 
 pub row_is : (image : Image) (a : ℕ) (r : Row) → type_at image a ≡ Ok r → (r.at ≡ a) × (r.kind ≡ kind_at image a)
 unfolding type_at
@@ -67,10 +68,10 @@ judged_fault image roots a (Some w) (Some name) fault h t e = by_write (w || nam
     by_length true u f = let same : NameTooLong a ≡ fault = cc in rw (← same) (h, u)
     by_length false u f = absurd cc
 
-    by_write : (b : Bool) → type_at image a ≡ cond b (Err (Writable a)) (cond (nat_lt 1024 (length name.0)) (Err (NameTooLong a)) (Ok (row_named image a name.0)))
-        → cond b (Err (Writable a)) (cond (nat_lt 1024 (length name.0)) (Err (NameTooLong a)) (Ok (row_named image a name.0))) ≡ Err fault → Shows image roots fault
+    by_write : (b : Bool) → type_at image a ≡ cond b (Err (Writable a)) (cond (nat_lt NAME_LIMIT (length name.0)) (Err (NameTooLong a)) (Ok (row_named image a name.0)))
+        → cond b (Err (Writable a)) (cond (nat_lt NAME_LIMIT (length name.0)) (Err (NameTooLong a)) (Ok (row_named image a name.0))) ≡ Err fault → Shows image roots fault
     by_write true u f = let same : Writable a ≡ fault = cc in rw (← same) (h, u)
-    by_write false u f = by_length (nat_lt 1024 (length name.0)) u f
+    by_write false u f = by_length (nat_lt NAME_LIMIT (length name.0)) u f
 
 -- a fault of words is shown by a type that is reached
 pub fault_shown : (image : Image) (roots : List ℕ) (a : ℕ) (fault : TypeFault) → Reached image roots a → type_at image a ≡ Err fault → Shows image roots fault

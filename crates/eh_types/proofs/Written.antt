@@ -12,6 +12,7 @@ use Rattle.eh_types.specs.Words.{has, word, is_word, is_written, joined, words_f
 use Rattle.eh_types.specs.Types.{base_by, offset_in, kind_at, word_count, judged, row_named, type_at}
 use Rattle.eh_types.specs.Laws.{IsOffset, high_bits, bit, base_flags, IsNamed}
 use Rattle.eh_types.proofs.Steps.{row_is}
+use Rattle.eh_types.specs.declared.types.TheConstants.{NAME_LIMIT}
 
 -- ---- bases
 
@@ -55,7 +56,7 @@ bases_are_read b fits =
 record Read (image : Image) (a : ℕ) (r : Row) : Type 0 where
   pub words : words_from image.segments a (word_count image.segments a (kind_at image a)) ≡ Some false
   pub name : name_at image.segments (word image.segments (a + 4)) ≡ Some (r.name, false)
-  pub short : length r.name ≤ 1024
+  pub short : length r.name ≤ NAME_LIMIT
 
 not_less : (x y : ℕ) → nat_lt x y ≡ false → y ≤ x
 not_less x y h = grind (arith, nat_tests)
@@ -66,7 +67,7 @@ paired write text = (text, write)
 record Judged (words : Option Bool) (name : Option (List ℕ × Bool)) (r : Row) : Type 0 where
   pub words_read : words ≡ Some false
   pub name_read : name ≡ Some (r.name, false)
-  pub short : length r.name ≤ 1024
+  pub short : length r.name ≤ NAME_LIMIT
 
 judged_read : (image : Image) (a : ℕ) (words : Option Bool) (name : Option (List ℕ × Bool)) (r : Row) → judged image a words name ≡ Ok r → Judged words name r
 unfolding row_named
@@ -74,12 +75,12 @@ judged_read image a None name r e = absurd cc
 judged_read image a (Some w) None r e = absurd cc
 judged_read image a (Some true) (Some (text, v)) r e = absurd cc
 judged_read image a (Some false) (Some (text, true)) r e = absurd cc
-judged_read image a (Some false) (Some (text, false)) r e = by_length (nat_lt 1024 (length text)) refl e
+judged_read image a (Some false) (Some (text, false)) r e = by_length (nat_lt NAME_LIMIT (length text)) refl e
   where
-    by_length : (b : Bool) → nat_lt 1024 (length text) ≡ b → cond b (Err (NameTooLong a)) (Ok (row_named image a text)) ≡ Ok r
+    by_length : (b : Bool) → nat_lt NAME_LIMIT (length text) ≡ b → cond b (Err (NameTooLong a)) (Ok (row_named image a text)) ≡ Ok r
         → Judged (Some false) (Some (text, false)) r
     by_length true t f = absurd cc
-    by_length false t f = let same : row_named image a text ≡ r = cc in rw (← same) (record { words_read = refl; name_read = refl; short = not_less 1024 (length text) t })
+    by_length false t f = let same : row_named image a text ≡ r = cc in rw (← same) (record { words_read = refl; name_read = refl; short = not_less NAME_LIMIT (length text) t })
 
 read_of : (image : Image) (a : ℕ) (r : Row) → type_at image a ≡ Ok r → Read image a r
 unfolding type_at
@@ -170,7 +171,7 @@ named_text a s name e = by_has (has 1 a s) e
     by_has true f = by_text (text_of (drop (a - s.start) s.bytes)) refl f
     by_has false f = absurd cc
 
-named_in : (segments : List Segment) (a : ℕ) (name : List ℕ) (o : Option Segment) → find (has 1 a) segments ≡ o → named a o ≡ Some (name, false) → length name ≤ 1024 → IsNamed segments a name
+named_in : (segments : List Segment) (a : ℕ) (name : List ℕ) (o : Option Segment) → find (has 1 a) segments ≡ o → named a o ≡ Some (name, false) → length name ≤ NAME_LIMIT → IsNamed segments a name
 named_in segments a name None f e short = absurd cc
 named_in segments a name (Some s) f e short =
     let found = named_text a s name e in

@@ -11,6 +11,7 @@ use Rattle.elf_image.specs.Image.{Image, image_with, size_refusal, build_refusal
 use Rattle.elf_image.specs.declared.fault.ImageFault.{ImageFault}
 use Rattle.elf_image.specs.declared.fault.ImageFault.TheVariants.{TooLarge, OutOfMemory}
 use Rattle.elf_image.specs.declared.format.ProgramHeader.{ProgramHeader}
+use Rattle.elf_image.specs.declared.limits.TheConstants.{MEMORY_LIMIT, SEGMENT_LIMIT, SYMBOL_LIMIT}
 
 three_none : (o p q : Option ImageFault) → first_of (o ∷ p ∷ q ∷ []) ≡ None → (p ≡ None) × (q ≡ None)
 three_none None None None h = (refl, refl)
@@ -59,7 +60,7 @@ module _ (bytes : List ℕ) (fault : ImageFault) where
 
 pub refused_size : (bytes : List ℕ) → header_refusal bytes ≡ None → table_refusal bytes ≡ None → segment_refusal bytes (file_loads bytes) ≡ None
     → index_refusal (file_indexes bytes) (file_segments bytes) ≡ None → tables_refusal bytes (file_tables bytes) ≡ None
-    → (nat_lt 1048576 (sum_by (λ s. s.size) (file_segments bytes)) || nat_lt 1024 (length (file_segments bytes)) || nat_lt 65536 (symbol_count (file_table bytes))) ≡ true
+    → (nat_lt MEMORY_LIMIT (sum_by (λ s. s.size) (file_segments bytes)) || nat_lt SEGMENT_LIMIT (length (file_segments bytes)) || nat_lt SYMBOL_LIMIT (symbol_count (file_table bytes))) ≡ true
     → image_of bytes ≡ Err TooLarge
 unfolding image_of refusal_of size_refusal
 refused_size bytes a b c d e h = rw (a, b, c, d, e, h) refl
@@ -123,7 +124,7 @@ pub record Ready (bytes : List ℕ) (segments : List Segment) (index : ℕ × Li
   pub symbols_are : symbols ≡ file_symbols bytes
   pub field_is : field ≡ entry_field bytes
 
-no_size : (segments : List Segment) (symbols : ℕ) → (nat_lt 1048576 (sum_by (λ s. s.size) segments) || nat_lt 1024 (length segments) || nat_lt 65536 symbols) ≡ false
+no_size : (segments : List Segment) (symbols : ℕ) → (nat_lt MEMORY_LIMIT (sum_by (λ s. s.size) segments) || nat_lt SEGMENT_LIMIT (length segments) || nat_lt SYMBOL_LIMIT symbols) ≡ false
     → size_refusal segments symbols ≡ None
 unfolding size_refusal
 no_size segments symbols h = rw h refl
@@ -131,7 +132,7 @@ no_size segments symbols h = rw h refl
 pub ready : (bytes : List ℕ) (headers : List ProgramHeader) (segments : List Segment) (index : ℕ × List ℕ) (table strings : List ℕ) (symbols : List Symbol) (field : ℕ)
     → Known bytes headers segments → index_refusal (filter is_index headers) segments ≡ None → index ≡ index_of (filter is_index headers) segments
     → tables_refusal bytes (file_tables bytes) ≡ None → table ≡ file_table bytes → strings ≡ strings_in bytes (file_tables bytes)
-    → (nat_lt 1048576 (sum_by (λ s. s.size) segments) || nat_lt 1024 (length segments) || nat_lt 65536 (length table / 16)) ≡ false
+    → (nat_lt MEMORY_LIMIT (sum_by (λ s. s.size) segments) || nat_lt SEGMENT_LIMIT (length segments) || nat_lt SYMBOL_LIMIT (length table / 16)) ≡ false
     → symbols ≡ symbols_of table strings → field ≡ entry_field bytes → Ready bytes segments index symbols field
 ready bytes headers segments index table strings symbols field k i index_is t table_is strings_are size symbols_are field_is = record {
   header = k.header;

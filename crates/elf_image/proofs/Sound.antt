@@ -21,6 +21,7 @@ use Rattle.elf_image.proofs.Lookups.{both_true}
 use Rattle.elf_image.proofs.Starts.{functions_are, functions_within, functions_rising}
 use Rattle.elf_image.proofs.Marking.{marks_rising, marks_decide}
 use Rattle.elf_image.proofs.Accepted.{Accepted, accepted_from, loaded_from, segments_as}
+use Rattle.elf_image.specs.declared.limits.TheConstants.{MEMORY_LIMIT, SEGMENT_LIMIT, SYMBOL_LIMIT}
 
 -- ---- names
 
@@ -115,16 +116,16 @@ none_passes true fault h = absurd cc
 none_passes false fault h = refl
 
 pub record Sized (segments : List Segment) : Type 0 where
-  pub memory : sum_by (λ s. s.size) segments ≤ 1048576
-  pub count : length segments ≤ 1024
+  pub memory : sum_by (λ s. s.size) segments ≤ MEMORY_LIMIT
+  pub count : length segments ≤ SEGMENT_LIMIT
 
 sized : (segments : List Segment) (n : ℕ) → size_refusal segments n ≡ None → Sized segments
 unfolding size_refusal
 sized segments n h =
-    let t = none_passes (nat_lt 1048576 (sum_by (λ (s : Segment). s.size) segments) || nat_lt 1024 (length segments) || nat_lt 65536 n) TooLarge h in
-    let p = both_false (nat_lt 1048576 (sum_by (λ (s : Segment). s.size) segments) || nat_lt 1024 (length segments)) (nat_lt 65536 n) t in
-    let q = both_false (nat_lt 1048576 (sum_by (λ (s : Segment). s.size) segments)) (nat_lt 1024 (length segments)) p.0 in
-    record { memory = at_most (sum_by (λ (s : Segment). s.size) segments) 1048576 q.0; count = at_most (length segments) 1024 q.1 }
+    let t = none_passes (nat_lt MEMORY_LIMIT (sum_by (λ (s : Segment). s.size) segments) || nat_lt SEGMENT_LIMIT (length segments) || nat_lt SYMBOL_LIMIT n) TooLarge h in
+    let p = both_false (nat_lt MEMORY_LIMIT (sum_by (λ (s : Segment). s.size) segments) || nat_lt SEGMENT_LIMIT (length segments)) (nat_lt SYMBOL_LIMIT n) t in
+    let q = both_false (nat_lt MEMORY_LIMIT (sum_by (λ (s : Segment). s.size) segments)) (nat_lt SEGMENT_LIMIT (length segments)) p.0 in
+    record { memory = at_most (sum_by (λ (s : Segment). s.size) segments) MEMORY_LIMIT q.0; count = at_most (length segments) SEGMENT_LIMIT q.1 }
 
 counted : (functions : List Function) → count_refusal functions ≡ None → length functions ≤ 4096
 unfolding count_refusal
@@ -149,7 +150,7 @@ two_none (Some f) p h = absurd cc
 
 -- ---- the image of these parts is sound
 
-pub sound_parts : (field : ℕ) (segments : List Segment) (index : ℕ × List ℕ) (symbols : List Symbol) → RiseFrom 0 segments → sum_by (λ (s : Segment). s.size) segments ≤ 1048576 → length segments ≤ 1024
+pub sound_parts : (field : ℕ) (segments : List Segment) (index : ℕ × List ℕ) (symbols : List Symbol) → RiseFrom 0 segments → sum_by (λ (s : Segment). s.size) segments ≤ MEMORY_LIMIT → length segments ≤ SEGMENT_LIMIT
     → IndexStands segments index.0 index.1 → All HasPlainName symbols → build_refusal field (functions_of segments symbols) ≡ None → IsSound (image_with field segments index symbols)
 unfolding image_with
 sound_parts field segments index symbols rise memory count stands plain h =
@@ -210,7 +211,7 @@ accepted_parts field functions h e = both_accepted (count_refusal functions) (en
     few false e = refl
 
 pub sound_built : (field : ℕ) (segments : List Segment) (start : ℕ) (bytes : List ℕ) (symbols : List Symbol) (functions : List Function) (marks : List (ℕ × Bool)) (all : List Named)
-    → RiseFrom 0 segments → sum_by (λ (s : Segment). s.size) segments ≤ 1048576 → length segments ≤ 1024 → IndexStands segments start bytes → All HasPlainName symbols
+    → RiseFrom 0 segments → sum_by (λ (s : Segment). s.size) segments ≤ MEMORY_LIMIT → length segments ≤ SEGMENT_LIMIT → IndexStands segments start bytes → All HasPlainName symbols
     → length functions ≤ 4096 → entry_refusal field functions ≡ None → functions ≡ functions_of segments symbols → marks ≡ marks_of symbols → all ≡ named_of segments symbols
     → IsSound (record { entry = field - 1; segments = segments; functions = functions; marks = marks; symbols = all; index_start = start; index_bytes = bytes })
 unfolding image_with

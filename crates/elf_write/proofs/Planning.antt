@@ -10,6 +10,7 @@ use Rattle.elf_write.specs.Layout.{word, aligned, bit, contents, program_bytes, 
 use Rattle.elf_write.specs.declared.parts.OwnSegment.{OwnSegment}
 use Rattle.elf_write.specs.declared.parts.ImageParts.{ImageParts}
 use Rattle.elf_write.proofs.Layouts.{length_zeros, length_rows}
+use Rattle.elf_image.specs.declared.limits.TheConstants.{SEGMENT_LIMIT}
 
 pub length_program : (kind offset address file_size memory_size flags : ℕ) → length (program_bytes (program kind offset address file_size memory_size flags)) ≡ 32
 unfolding program_bytes word
@@ -37,7 +38,7 @@ bit_most : (b : Bool) → bit b 1 ≤ 1
 bit_most true = omega arith
 bit_most false = omega arith
 
-pub few_programs : (at : ℕ) (parts : ImageParts) → length parts.segments ≤ 1024 → length (program_rows at parts.segments ++ index_row at parts) < 2 ^ 20
+pub few_programs : (at : ℕ) (parts : ImageParts) → length parts.segments ≤ SEGMENT_LIMIT → length (program_rows at parts.segments ++ index_row at parts) < 2 ^ 20
 few_programs at parts h = omega (arith, length_programs at parts, bit_most (has_index parts))
 
 length_last : length last_names ≡ 26
@@ -75,29 +76,29 @@ test_most x y h = grind (arith, nat_tests)
 test_less : (x y : ℕ) → y < x → nat_le x y ≡ false
 test_less x y h = grind (arith, nat_tests)
 
-pub many_segments : (parts : ImageParts) → 1024 < length parts.segments → written_of parts ≡ Err TooLarge
+pub many_segments : (parts : ImageParts) → SEGMENT_LIMIT < length parts.segments → written_of parts ≡ Err TooLarge
 unfolding written_of is_too_long
-many_segments parts h = rw (test_gt 1024 (length parts.segments) h) refl
+many_segments parts h = rw (test_gt SEGMENT_LIMIT (length parts.segments) h) refl
 
-pub long_file : (parts : ImageParts) → length parts.segments ≤ 1024 → 2 ^ 32 ≤ file_end (plan_of parts) → written_of parts ≡ Err TooLarge
+pub long_file : (parts : ImageParts) → length parts.segments ≤ SEGMENT_LIMIT → 2 ^ 32 ≤ file_end (plan_of parts) → written_of parts ≡ Err TooLarge
 unfolding written_of is_too_long
-long_file parts few h = rw (test_le (length parts.segments) 1024 few, test_most (2 ^ 32) (file_end (plan_of parts)) h) refl
+long_file parts few h = rw (test_le (length parts.segments) SEGMENT_LIMIT few, test_most (2 ^ 32) (file_end (plan_of parts)) h) refl
 
-pub written_is : (parts : ImageParts) → length parts.segments ≤ 1024 → file_end (plan_of parts) < 2 ^ 32 → written_of parts ≡ if_read (layout_of parts) (is_read (image_of (layout_of parts)))
+pub written_is : (parts : ImageParts) → length parts.segments ≤ SEGMENT_LIMIT → file_end (plan_of parts) < 2 ^ 32 → written_of parts ≡ if_read (layout_of parts) (is_read (image_of (layout_of parts)))
 unfolding written_of is_too_long
-written_is parts few h = rw (test_le (length parts.segments) 1024 few, test_less (2 ^ 32) (file_end (plan_of parts)) h) refl
+written_is parts few h = rw (test_le (length parts.segments) SEGMENT_LIMIT few, test_less (2 ^ 32) (file_end (plan_of parts)) h) refl
 
 layout_is : (parts : ImageParts) (p : Plan) (bytes : List ℕ) → p ≡ plan_of parts → bytes ≡ joined p → bytes ≡ layout_of parts
 unfolding layout_of
 layout_is parts p bytes e h = h ∙ ap (λ (q : Plan). joined q) e
 
-pub written_bytes : (parts : ImageParts) (p : Plan) (bytes : List ℕ) → length parts.segments ≤ 1024 → p ≡ plan_of parts → file_end p < 2 ^ 32 → bytes ≡ joined p
+pub written_bytes : (parts : ImageParts) (p : Plan) (bytes : List ℕ) → length parts.segments ≤ SEGMENT_LIMIT → p ≡ plan_of parts → file_end p < 2 ^ 32 → bytes ≡ joined p
     → is_read (image_of bytes) ≡ None → written_of parts ≡ Ok bytes
 written_bytes parts p bytes few e short h read =
     let whole = layout_is parts p bytes e h in
     written_is parts few (rw e at short) ∙ rw (← whole) (rw read refl)
 
-pub written_fault : (parts : ImageParts) (p : Plan) (bytes : List ℕ) (fault : ImageFault) → length parts.segments ≤ 1024 → p ≡ plan_of parts → file_end p < 2 ^ 32 → bytes ≡ joined p
+pub written_fault : (parts : ImageParts) (p : Plan) (bytes : List ℕ) (fault : ImageFault) → length parts.segments ≤ SEGMENT_LIMIT → p ≡ plan_of parts → file_end p < 2 ^ 32 → bytes ≡ joined p
     → is_read (image_of bytes) ≡ Some fault → written_of parts ≡ Err fault
 written_fault parts p bytes fault few e short h read =
     let whole = layout_is parts p bytes e h in

@@ -23,6 +23,7 @@ use Rattle.elf_write.proofs.Programs.{headers_of, headers_back, index_headers, i
 use Rattle.elf_write.proofs.Sections.{head, sections_back, tables_back}
 use Rattle.elf_write.proofs.Table.{table_back}
 use Rattle.elf_write.proofs.Loads.{loads_back}
+use Rattle.elf_image.specs.declared.limits.TheConstants.{SEGMENT_LIMIT}
 
 -- ---- the shape of the file
 
@@ -84,7 +85,7 @@ pub record Reads (p : Plan) (bytes : List ℕ) : Type 0 where
 step : (n m : ℕ) (bytes piece rest : List ℕ) → drop n bytes ≡ piece ++ rest → m ≡ n + length piece → (drop n bytes ≡ piece ++ drop m bytes) × (drop m bytes ≡ rest)
 step n m bytes piece rest h e = let later = behind n m bytes piece rest h e in (rw later h, later)
 
-reads : (p : Plan) (bytes : List ℕ) → IsWord p.entry → IsWord (file_end p) → p.segment_total ≤ 1024 → length p.programs / 32 < 2 ^ 16 → bytes ≡ file_header p ++ behind_header p → Reads p bytes
+reads : (p : Plan) (bytes : List ℕ) → IsWord p.entry → IsWord (file_end p) → p.segment_total ≤ SEGMENT_LIMIT → length p.programs / 32 < 2 ^ 16 → bytes ≡ file_header p ++ behind_header p → Reads p bytes
 reads p bytes entry short few programs e =
     let six : List ℕ = padding (names_end p) ++ sections_of p in
     let five : List ℕ = p.names ++ six in
@@ -125,11 +126,11 @@ at_most a b h = grind (arith, nat_tests)
 below : (a b : ℕ) → nat_le a b ≡ false → b < a
 below a b h = grind (arith, nat_tests)
 
-not_long : (parts : ImageParts) → is_too_long parts ≡ false → (length parts.segments ≤ 1024) × (file_end (plan_of parts) < 2 ^ 32)
+not_long : (parts : ImageParts) → is_too_long parts ≡ false → (length parts.segments ≤ SEGMENT_LIMIT) × (file_end (plan_of parts) < 2 ^ 32)
 unfolding is_too_long
 not_long parts h =
-    let both = both_false (nat_lt 1024 (length parts.segments)) (nat_le (2 ^ 32) (file_end (plan_of parts))) h in
-    (at_most 1024 (length parts.segments) both.0, below (2 ^ 32) (file_end (plan_of parts)) both.1)
+    let both = both_false (nat_lt SEGMENT_LIMIT (length parts.segments)) (nat_le (2 ^ 32) (file_end (plan_of parts))) h in
+    (at_most SEGMENT_LIMIT (length parts.segments) both.0, below (2 ^ 32) (file_end (plan_of parts)) both.1)
 
 bit_one : (b : Bool) → bit b 1 ≤ 1
 bit_one true = omega arith
@@ -139,7 +140,7 @@ program_number : (parts : ImageParts) → length (plan_of parts).programs / 32 �
 unfolding plan_of
 program_number parts = omega (arith, length_programs (base_of parts) parts)
 
-file_reads : (parts : ImageParts) → AreParts parts → length parts.segments ≤ 1024 → IsWord (file_end (plan_of parts)) → Reads (plan_of parts) (layout_of parts)
+file_reads : (parts : ImageParts) → AreParts parts → length parts.segments ≤ SEGMENT_LIMIT → IsWord (file_end (plan_of parts)) → Reads (plan_of parts) (layout_of parts)
 unfolding layout_of plan_of
 file_reads parts are few short =
     reads (plan_of parts) (joined (plan_of parts)) are.entry short few (omega (arith, program_number parts, bit_one (has_index parts))) (shape (plan_of parts))
@@ -195,7 +196,7 @@ table_head parts = head 2 (table_at (plan_of parts)) (length (plan_of parts).tab
 strings_head : ImageParts → SectionHeader
 strings_head parts = head 3 (strings_at (plan_of parts)) (length (plan_of parts).strings) 0
 
-tables_are : (parts : ImageParts) (bytes : List ℕ) → length parts.segments ≤ 1024 → Reads (plan_of parts) bytes → IsWord (file_end (plan_of parts))
+tables_are : (parts : ImageParts) (bytes : List ℕ) → length parts.segments ≤ SEGMENT_LIMIT → Reads (plan_of parts) bytes → IsWord (file_end (plan_of parts))
     → file_tables bytes ≡ Some (table_head parts, strings_head parts)
 unfolding plan_of sections_of table_head strings_head
 tables_are parts bytes few r short =
@@ -219,7 +220,7 @@ strings_fit : (parts : ImageParts) → IsWord (file_end (plan_of parts)) → IsW
 unfolding plan_of
 strings_fit parts short = omega (arith, short)
 
-symbols_are : (parts : ImageParts) (bytes : List ℕ) → AreParts parts → length parts.segments ≤ 1024 → Reads (plan_of parts) bytes → IsWord (file_end (plan_of parts))
+symbols_are : (parts : ImageParts) (bytes : List ℕ) → AreParts parts → length parts.segments ≤ SEGMENT_LIMIT → Reads (plan_of parts) bytes → IsWord (file_end (plan_of parts))
     → file_symbols bytes ≡ symbols_of_parts parts
 unfolding plan_of table_head strings_head
 symbols_are parts bytes are few r short =

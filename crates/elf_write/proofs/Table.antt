@@ -13,6 +13,7 @@ use Rattle.elf_write.specs.declared.parts.SymbolKind.TheVariants as kind
 use Rattle.elf_write.specs.declared.parts.ImageParts.{ImageParts}
 use Rattle.elf_write.proofs.Layouts.{length_rows, length_zeros}
 use Rattle.elf_write.proofs.Symbols.{Fits, symbols_back}
+use Rattle.elf_image.specs.declared.limits.TheConstants.{SEGMENT_LIMIT}
 
 position_step : (b : Bool) (i limit : ℕ) (o : Option ℕ) → i < limit → unwrap_or o 0xfff1 < limit → unwrap_or (cond b (Some i) o) 0xfff1 < limit
 position_step true i limit o h more = h
@@ -22,10 +23,10 @@ position_small : (p : OwnSegment → Bool) (i : ℕ) (xs : List OwnSegment) → 
 position_small p i [] h = omega arith
 position_small p i (x ∷ xs) h = position_step (p x) i (2 ^ 16) (position_from p (i + 1) xs) (omega arith) (position_small p (i + 1) xs (omega arith))
 
-section_small : (segments : List OwnSegment) (value : ℕ) → length segments ≤ 1024 → section_of segments value < 2 ^ 16
+section_small : (segments : List OwnSegment) (value : ℕ) → length segments ≤ SEGMENT_LIMIT → section_of segments value < 2 ^ 16
 section_small segments value h = position_small (λ s. nat_le s.start value && nat_le value (s.start + s.size)) 1 segments (omega arith)
 
-row_fits : (segments : List OwnSegment) (s : OwnSymbol) (k : SymbolKind) → length segments ≤ 1024 → HasNoZero s.name → IsWord s.value → IsWord s.size → Fits (symbol_row_of segments s k)
+row_fits : (segments : List OwnSegment) (s : OwnSymbol) (k : SymbolKind) → length segments ≤ SEGMENT_LIMIT → HasNoZero s.name → IsWord s.value → IsWord s.size → Fits (symbol_row_of segments s k)
 row_fits segments s kind.Function few name value size = record { name = name; value = omega arith; size = size; section = section_small segments s.value few }
 row_fits segments s kind.Object few name value size = record { name = name; value = value; size = size; section = section_small segments s.value few }
 row_fits segments s kind.Code few name value size = record { name = ((λ e. omega arith), ((λ e. omega arith), tt)); value = value; size = omega arith; section = section_small segments s.value few }
@@ -37,12 +38,12 @@ all_step segments true s more one others zero d inside = one
 all_step segments true s more one others (suc k) d inside = others k d (omega arith)
 all_step segments false s more one others k d inside = others k d inside
 
-rows_fit : (wanted : Bool) (segments : List OwnSegment) (xs : List OwnSymbol) → length segments ≤ 1024 → SymbolsFit xs → All Fits (wanted_rows wanted segments xs)
+rows_fit : (wanted : Bool) (segments : List OwnSegment) (xs : List OwnSymbol) → length segments ≤ SEGMENT_LIMIT → SymbolsFit xs → All Fits (wanted_rows wanted segments xs)
 rows_fit wanted segments [] few fit = λ k d inside. absurd (omega arith)
 rows_fit wanted segments (s ∷ xs) few fit =
     all_step segments (is_wanted wanted s.kind) s (filter (λ s. is_wanted wanted s.kind) xs) (row_fits segments s s.kind few fit.0 fit.1 fit.2) (rows_fit wanted segments xs few fit.3)
 
-table_fits : (parts : ImageParts) → AreParts parts → length parts.segments ≤ 1024 → All Fits (table_of parts)
+table_fits : (parts : ImageParts) → AreParts parts → length parts.segments ≤ SEGMENT_LIMIT → All Fits (table_of parts)
 table_fits parts are few =
     All-append Fits (wanted_rows true parts.segments parts.symbols) (wanted_rows false parts.segments parts.symbols)
     (rows_fit true parts.segments parts.symbols few are.symbols) (rows_fit false parts.segments parts.symbols few are.symbols)
@@ -61,7 +62,7 @@ rows_count xs =
     let all : length (zeros 16 ++ symbol_rows 1 xs) ≡ 16 + 16 * length xs = omega (arith, length-append (zeros 16) (symbol_rows 1 xs), length_zeros 16, length_rows 1 xs) in
     rw all (omega arith)
 
-pub table_back : (parts : ImageParts) → AreParts parts → length parts.segments ≤ 1024 → IsWord (length (strings_of (table_of parts)))
+pub table_back : (parts : ImageParts) → AreParts parts → length parts.segments ≤ SEGMENT_LIMIT → IsWord (length (strings_of (table_of parts)))
     → symbols_of (zeros 16 ++ symbol_rows 1 (table_of parts)) (strings_of (table_of parts)) ≡ symbols_of_parts parts
 unfolding symbols_of
 table_back parts are few small =

@@ -1,6 +1,7 @@
 //! The segments of a file with their headers, and the sections that name them (docs/elf.md).
 ghost use Rattle.std.specs.Prelude.{◌≡◌, ◌+◌, ◌-◌, ◌*◌, ◌^◌, ◌<◌, ◌≤◌, [], ◌∷◌, ◌++◌, length, nat_le, ◌&&◌, OnOk, IfOk};
 ghost use Rattle.elf_write.specs.Layout.{load_header, segment_row, word, half, aligned, padding, bit, contents, program_bytes, program_rows, place_of, decimal, segment_name, segment_names, last_names, section_names, section_bytes, section_rows};
+ghost use Rattle.elf_image.specs.declared.limits.TheConstants.{SEGMENT_LIMIT};
 
 use crate::parts::OwnSegment;
 use crate::rows::{aligned, put_padding, put_word};
@@ -176,7 +177,7 @@ fn put_last_names(out: &mut Vec<u8>) -> Result<(), AllocError>
 /// The names of the sections, each closed by a zero byte, behind a zero byte.
 #[tactic(auto, using(crate::proofs::Layouts::layouts))]
 pub(crate) fn section_names(alloc: Global, segments: &[OwnSegment]) -> Result<Vec<u8>, AllocError>
-    requires { length segments.now ≤ 1024 }
+    requires { length segments.now ≤ SEGMENT_LIMIT }
     ensures { IfOk result (λ v. v.items ≡ section_names segments.now) }
 {
     let mut out = Vec::new(alloc);
@@ -252,7 +253,7 @@ pub(crate) fn section_rows(
     segments: &[OwnSegment],
 ) -> Result<Vec<u8>, AllocError>
     requires fits { base + length (contents base segments.now) < 2 ^ 32 }
-    requires count { length segments.now ≤ 1024 }
+    requires count { length segments.now ≤ SEGMENT_LIMIT }
     ensures { IfOk result (λ v. v.items ≡ section_rows 0 1 base segments.now) }
 {
     let mut out = Vec::new(alloc);

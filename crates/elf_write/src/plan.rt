@@ -1,6 +1,7 @@
 //! The pieces of a file: where they stand, and the file that joins them (docs/elf.md).
 ghost use Rattle.std.specs.Prelude.{◌≡◌, ◌+◌, ◌-◌, ◌*◌, ◌/◌, ◌%◌, ◌^◌, ◌<◌, ◌≤◌, [], ◌∷◌, ◌++◌, length, OnOk, IfOk, IfSome, IfNone};
 ghost use Rattle.elf_write.specs.Layout.{strings_row, Plan as Pieces, ArePlaces, word, half, padding, identity, header_sizes, file_header, sections_of, joined, contents_end, table_at, strings_at, names_at, names_end, sections_at, file_end};
+ghost use Rattle.elf_image.specs.declared.limits.TheConstants.{SEGMENT_LIMIT};
 
 use crate::layout::{ABI_FLAGS, SectionRow, put_section};
 use crate::rows::{put_half, put_padding, put_word};
@@ -96,7 +97,7 @@ fn put_identity(out: &mut Vec<u8>) -> Result<(), AllocError>
 #[tactic(auto, using(std::proofs::lemmas::List::append_assoc), unfolding(crate::specs::Layout::header_sizes))]
 fn put_header_sizes(out: &mut Vec<u8>, p: &Plan) -> Result<(), AllocError>
     requires programs { length p.now.programs < 2 ^ 20 }
-    requires segments { p.now.segment_total ≤ 1024 }
+    requires segments { p.now.segment_total ≤ SEGMENT_LIMIT }
     ensures { OnOk result (out.new.items ≡ out.old.items ++ header_sizes p.now) }
 {
     put_half(out, FILE_HEADER_SIZE as u16)?;
@@ -113,7 +114,7 @@ fn put_header_sizes(out: &mut Vec<u8>, p: &Plan) -> Result<(), AllocError>
 #[tactic(auto, using(std::proofs::lemmas::List::append_assoc), unfolding(crate::specs::Layout::file_header))]
 fn put_file_header(out: &mut Vec<u8>, p: &Plan, at: Places) -> Result<(), AllocError>
     requires programs { length p.now.programs < 2 ^ 20 }
-    requires segments { p.now.segment_total ≤ 1024 }
+    requires segments { p.now.segment_total ≤ SEGMENT_LIMIT }
     requires places { ArePlaces p.now at }
     ensures { OnOk result (out.new.items ≡ out.old.items ++ file_header p.now) }
 {
@@ -146,7 +147,7 @@ fn strings_row(name: u32, offset: u32, size: u32) -> SectionRow
 fn put_sections(out: &mut Vec<u8>, p: &Plan, at: Places) -> Result<(), AllocError>
     requires fits { file_end p.now < 2 ^ 32 }
     requires named { 26 ≤ length p.now.names }
-    requires segments { p.now.segment_total ≤ 1024 }
+    requires segments { p.now.segment_total ≤ SEGMENT_LIMIT }
     requires places { ArePlaces p.now at }
     ensures { OnOk result (out.new.items ≡ out.old.items ++ sections_of p.now) }
 {
@@ -179,7 +180,7 @@ pub(crate) fn join(alloc: Global, p: &Plan, at: Places) -> Result<Vec<u8>, Alloc
     requires fits { file_end p.now < 2 ^ 32 }
     requires programs { length p.now.programs < 2 ^ 20 }
     requires named { 26 ≤ length p.now.names }
-    requires segments { p.now.segment_total ≤ 1024 }
+    requires segments { p.now.segment_total ≤ SEGMENT_LIMIT }
     requires places { ArePlaces p.now at }
     ensures { IfOk result (λ v. v.items ≡ joined p.now) }
 {

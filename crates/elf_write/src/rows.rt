@@ -3,6 +3,7 @@ ghost use Rattle.std.specs.Prelude.{◌≡◌, ◌≢◌, ◌+◌, ◌-◌, ◌*
 ghost use Rattle.eh_list.specs.Bytes.{zeros};
 ghost use Rattle.elf_image.specs.declared.symbol.TheConstants.{SYMBOL_SIZE};
 ghost use Rattle.elf_write.specs.Layout.{word, half, aligned, padding, is_mapping, section_of, symbol_row_of, rows_of, is_wanted, wanted_rows, closed, name_offset, symbol_bytes, symbol_rows, strings_of, contents, program_bytes, program_rows, place_of};
+ghost use Rattle.elf_image.specs.declared.limits.TheConstants.{SEGMENT_LIMIT};
 
 use crate::layout::SHN_ABS;
 use crate::parts::{OwnSegment, OwnSymbol, SymbolKind};
@@ -42,7 +43,7 @@ pub(crate) fn put_padding(out: &mut Vec<u8>, at: usize) -> Result<(), AllocError
 
 /// The number of the section of the first segment that a value lies in or at the end of.
 fn section_of(segments: &[OwnSegment], value: u32) -> u16
-    requires { length segments.now ≤ 1024 }
+    requires { length segments.now ≤ SEGMENT_LIMIT }
     ensures { result ≡ section_of segments.now value }
 {
     let mut number = 1;
@@ -56,7 +57,7 @@ fn section_of(segments: &[OwnSegment], value: u32) -> u16
 }
 
 fn symbol_row<'a>(segments: &[OwnSegment], s: &'a OwnSymbol) -> Symbol<'a>
-    requires { length segments.now ≤ 1024 }
+    requires { length segments.now ≤ SEGMENT_LIMIT }
     ensures { result ≡ symbol_row_of segments.now s.now s.now.kind }
 {
     let section = section_of(segments, s.value);
@@ -93,7 +94,7 @@ pub(crate) fn push_rows<'a>(
     symbols: &'a [OwnSymbol],
     mapping: bool,
 ) -> Result<(), AllocError>
-    requires { length segments.now ≤ 1024 }
+    requires { length segments.now ≤ SEGMENT_LIMIT }
     ensures { OnOk result (rows.new.items ≡ rows.old.items ++ wanted_rows mapping segments.now symbols.now) }
 {
     for s in symbols {
