@@ -1,6 +1,6 @@
 -- One event, from what the parts of a call have done.
 use Rattle.std.specs.Prelude.{MatchOption}
-use Rattle.std.proofs.Common.{◌≡◌, ℕ, nat_lt, List, [], Bool, true, false, Option, Some, None, IfSome, Result, Ok, Err, refl, sym, ap, subst, ◌∙◌}
+use Rattle.std.proofs.Common.{◌≡◌, ℕ, ◌≤◌, nat_lt, List, [], Bool, true, false, Option, Some, None, IfSome, Result, Ok, Err, refl, sym, ap, subst, ◌∙◌, arith}
 use Rattle.std.specs.Bool.{OnFalse, OnTrue}
 use Rattle.std.proofs.KnownBytes.{Appends-nil}
 use Rattle.event_runs.specs.Runs.{Event, Goes, Ends, GoesOn, Fails, EndsBy}
@@ -11,6 +11,7 @@ use Rattle.thumb_core.specs.declared.regs.Regs.{Regs}
 use Rattle.thumb_core.specs.declared.regs.Stepped.{Stepped}
 use Rattle.thumb_core.specs.declared.regs.Stepped.TheVariants.{Done, Call, Return, Gate, Trap}
 use Rattle.thumb_core.specs.declared.ends.End.{End}
+use Rattle.thumb_core.specs.declared.ends.End.TheVariants.{ReadFault, WriteFault}
 use Rattle.eh_gates.specs.declared.state.Turned.{Turned}
 use Rattle.eh_gates.specs.declared.state.Turned.TheVariants.{Went, Ended}
 use Rattle.elf_image.specs.Image.{Image}
@@ -19,7 +20,7 @@ use Rattle.eh_gates.specs.State.{State, Outcome, guide_of}
 use Rattle.eh_gates.specs.Gates.{gate_of}
 use Rattle.eh_machine.specs.Program.{Program, guide}
 use Rattle.eh_machine.specs.Machine.{Passed, passed, event_of, in_state, gated, acted, onward, machine_event, gate_fails, passed_fails, may_fail, with_pc_of}
-use Rattle.eh_machine.specs.Turns.{TurnedOnce}
+use Rattle.eh_machine.specs.Turns.{TurnedOnce, IsCounted, CountsFaults}
 
 event_is : (p : Program) (s : State) (r : Passed) (input : List ℕ) → r ≡ passed p s → machine_event p s input ≡ onward p s r input
 unfolding machine_event
@@ -144,3 +145,19 @@ as_gate p s t what number is e = let one : Stepped → Passed = λ w. (Ok w, t) 
 
 pub ok_gate : (what : Stepped) (number : ℕ) → what ≡ Gate number → ◌≡◌ {A = Result Stepped End} (Ok what) (Ok (Gate number))
 ok_gate what number is = ap Ok is
+
+-- ---- the counts of faults
+
+-- one that stayed, where no fault of it ended the call
+stays : (failed : Type 0) (n : ℕ) → (failed → ⊥) → IsCounted failed n n
+stays failed n never = record { rose = λ f. absurd (never f); later = omega arith; kept = λ h. refl }
+
+-- whatever ended the call was no fault of the outside, and nothing was counted
+pub calm : (IsEnd : End → Type 0) (read wrote : ℕ) → ((end : End) → IsEnd end → is_fault end ≡ false) → CountsFaults IsEnd read read wrote wrote
+calm IsEnd read wrote inside = record {
+  input = stays (IsEnd ReadFault) read (λ e. let h = inside ReadFault e in cc);
+  out = stays (IsEnd WriteFault) wrote (λ e. let h = inside WriteFault e in cc);
+}
+
+pub calm_went : (read wrote : ℕ) → CountsFaults (λ end. Went ≡ Ended end) read read wrote wrote
+calm_went read wrote = calm (λ end. Went ≡ Ended end) read wrote (λ end e. went_ended end _ e)

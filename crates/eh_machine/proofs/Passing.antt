@@ -36,7 +36,7 @@ use Rattle.eh_trace.specs.Trace.{Trace}
 use Rattle.eh_gates.specs.declared.state.Core.{Core}
 use Rattle.eh_gates.specs.State.{State, state_of, reg}
 use Rattle.eh_machine.specs.Program.{Program}
-use Rattle.eh_machine.specs.Passes.{Passes}
+use Rattle.eh_machine.specs.Passes.{Passes, Tried}
 use Rattle.eh_machine.specs.Machine.{Passed, leaves_cleanup, way_end, refusal, tests, settled, settled_at, freed_below, saved_words, tested, stepped, checked, passed, with_pc_of}
 
 -- ---- what a call has done, by its end
@@ -69,6 +69,16 @@ module _ (p : Program) (before : Core) (m : Memory) (after : Core) (new : Memory
       → ((number : ℕ) (events : Trace) → ◌≡◌ {A = Result Stepped End} (Ok what) (Ok (Gate number)) → with_pc_of (state_of after new events) before.regs.pc ≡ state_of before m events)
       → Passes p before m (Ok what) after new
   went_on what does gate = record { does = does; inside = tt; gate = gate }
+
+  -- an instruction that was tried and done
+  pub was_done : Passes p before m (Ok Done) after new → Tried p before m true after new
+  was_done h = record { done = λ e. h; left = λ e. absurd (cc) }
+
+-- what a call has done behind one that changed nothing
+pub as_before : (p : Program) (core before after : Core) (n m new : Memory) (result : Result Stepped End) → (before ≡ core) × (m ≡ n) → Passes p before m result after new
+    → Passes p core n result after new
+as_before p core before after n m new result same passes =
+    subst (λ (c : Core). Passes p c n result after new) same.0 (subst (λ (k : Memory). Passes p before k result after new) same.1 passes)
 
 -- not a trap
 abbrev pub Goes : Stepped → Type 0

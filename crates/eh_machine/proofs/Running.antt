@@ -1,5 +1,5 @@
 -- A run of the machine, from the events that its loop has done.
-use Rattle.std.proofs.Common.{◌≡◌, ℕ, ◌-◌, ◌<◌, List, Option, IfSome, refl, subst}
+use Rattle.std.proofs.Common.{◌≡◌, ℕ, ◌-◌, ◌<◌, List, Option, IfSome, refl}
 use Rattle.event_runs.specs.Runs.{Runs}
 use Rattle.event_runs.proofs.Progress.{Progress, goes_on, ends, spent}
 use Rattle.thumb_core.specs.declared.ends.End.{End}
@@ -10,23 +10,20 @@ use Rattle.eh_machine.specs.Program.{Program}
 use Rattle.eh_machine.specs.Machine.{machine_of}
 use Rattle.eh_machine.specs.Turns.{TurnedOnce}
 
--- of `p0`, where the loop's turns are told of the same program
-module _ (p0 p : Program) (same : p ≡ p0) (n0 : ℕ) (state0 : State) where
+module _ (p : Program) (n0 : ℕ) (state0 : State) where
   pub run_goes_on : (left0 : Option (List ℕ)) (n : ℕ) (state state' : State) (left left' before mid now : Option (List ℕ)) → 0 < n
-      → IfSome left0 (λ bytes. Progress State End (machine_of p0) n0 state0 bytes n state left before mid)
+      → IfSome left0 (λ bytes. Progress State End (machine_of p) n0 state0 bytes n state left before mid)
       → IfSome left (λ bytes. TurnedOnce p state bytes Went state' left' mid now)
-      → IfSome left0 (λ bytes. Progress State End (machine_of p0) n0 state0 bytes (n - 1) state' left' before now)
+      → IfSome left0 (λ bytes. Progress State End (machine_of p) n0 state0 bytes (n - 1) state' left' before now)
   run_goes_on left0 n state state' left left' before mid now h progress turned =
-      goes_on State End (machine_of p0) n0 state0 left0 n state state' left left' before mid now h progress
-      (subst (λ (q : Program). IfSome left (λ bytes. TurnedOnce q state bytes Went state' left' mid now)) same turned)
+      goes_on State End (machine_of p) n0 state0 left0 n state state' left left' before mid now h progress turned
 
   pub run_ends : (left0 : Option (List ℕ)) (n : ℕ) (state state' : State) (left left' before mid now : Option (List ℕ)) (end : End) → 0 < n
-      → IfSome left0 (λ bytes. Progress State End (machine_of p0) n0 state0 bytes n state left before mid)
+      → IfSome left0 (λ bytes. Progress State End (machine_of p) n0 state0 bytes n state left before mid)
       → IfSome left (λ bytes. TurnedOnce p state bytes (Ended end) state' left' mid now)
-      → IfSome left0 (λ bytes. Runs (machine_of p0) n0 state0 bytes end state' (n - 1) left' before now)
+      → IfSome left0 (λ bytes. Runs (machine_of p) n0 state0 bytes end state' (n - 1) left' before now)
   run_ends left0 n state state' left left' before mid now end h progress turned =
-      ends State End (machine_of p0) n0 state0 left0 n state state' left left' before mid now end h progress
-      (subst (λ (q : Program). IfSome left (λ bytes. TurnedOnce q state bytes (Ended end) state' left' mid now)) same turned)
+      ends State End (machine_of p) n0 state0 left0 n state state' left left' before mid now end h progress turned
 
 pub run_spent : (p0 : Program) (n0 : ℕ) (state0 : State) (left0 : Option (List ℕ)) (n : ℕ) (state : State) (left before now : Option (List ℕ)) → n ≡ 0
     → IfSome left0 (λ bytes. Progress State End (machine_of p0) n0 state0 bytes n state left before now)

@@ -1,16 +1,16 @@
 //! One event of the machine (docs/machine.md, "An event").
-ghost use Rattle.std.specs.Prelude.{◌≡◌, ◌≢◌, ◌≤◌, IfSome};
-ghost use Rattle.eh_port.specs.Causes.{Rose};
+ghost use Rattle.std.specs.Prelude.{◌≡◌, IfSome};
 ghost use Rattle.eh_gates.specs.State.{State, state_of};
-ghost use Rattle.eh_machine.specs.Turns.{TurnedOnce};
+ghost use Rattle.eh_machine.specs.Turns.{TurnedOnce, CountsFaults};
 
 use crate::checked::Checked;
-use crate::pass::pass;
+use crate::pass::{found, goes_on, pass};
 use eh_bus::bus::Bus;
 use eh_gates::{Core, Turned, gate};
 use eh_port::{Sink, Source};
 use eh_trace::Events;
 use guest_gates::INPUT_GATE;
+use step_ahead::look_ahead;
 use thumb_core::ends::End;
 use thumb_core::regs::Stepped;
 
@@ -35,12 +35,7 @@ pub fn turn<C: Checked, B: Bus, I: Source, O: Sink>(
         let old : State = state_of core.old (B.memory shared.old.bus) events.old in
         let new : State = state_of core.new (B.memory shared.new.bus) events.new in
         TurnedOnce (C.program a.now) old bytes result new (I.left input.new) (O.written out.old) (O.written out.new)) }
-    ensures read { result ≡ Turned.Ended End.ReadFault → Rose (I.faults input.old) (I.faults input.new) }
-    ensures write { result ≡ Turned.Ended End.WriteFault → Rose (O.faults out.old) (O.faults out.new) }
-    ensures input_later { I.faults input.old ≤ I.faults input.new }
-    ensures out_later { O.faults out.old ≤ O.faults out.new }
-    ensures input_kept { result ≢ Turned.Ended End.ReadFault → I.faults input.new ≡ I.faults input.old }
-    ensures out_kept { result ≢ Turned.Ended End.WriteFault → O.faults out.new ≡ O.faults out.old }
+    ensures faults { CountsFaults (λ end. result ≡ Turned.Ended end) (I.faults input.old) (I.faults input.new) (O.faults out.old) (O.faults out.new) }
 {
     let mut known = a.is_instr(core.regs.pc);
     turn_from(a, &mut known, core, shared, events, input, out)
@@ -63,19 +58,27 @@ pub(crate) fn turn_from<C: Checked, B: Bus, I: Source, O: Sink>(
         let old : State = state_of core.old (B.memory shared.old.bus) events.old in
         let new : State = state_of core.new (B.memory shared.new.bus) events.new in
         TurnedOnce (C.program a.now) old bytes result new (I.left input.new) (O.written out.old) (O.written out.new)) }
-    ensures read { result ≡ Turned.Ended End.ReadFault → Rose (I.faults input.old) (I.faults input.new) }
-    ensures write { result ≡ Turned.Ended End.WriteFault → Rose (O.faults out.old) (O.faults out.new) }
-    ensures input_later { I.faults input.old ≤ I.faults input.new }
-    ensures out_later { O.faults out.old ≤ O.faults out.new }
-    ensures input_kept { result ≢ Turned.Ended End.ReadFault → I.faults input.new ≡ I.faults input.old }
-    ensures out_kept { result ≢ Turned.Ended End.WriteFault → O.faults out.new ≡ O.faults out.old }
+    ensures faults { CountsFaults (λ end. result ≡ Turned.Ended end) (I.faults input.old) (I.faults input.new) (O.faults out.old) (O.faults out.new) }
 {
     let pc = core.regs.pc;
-    let what = match pass(a, known, core, &mut shared.bus) {
-        Ok(what) => what,
+    let at = match found(*known, core, &shared.bus) {
+        Ok(at) => at,
         Err(end) => return Turned::Ended(end),
     };
+    let ahead = look_ahead(at.0, &core.regs);
+    // most instructions, and they are not to pay for what the others go on to
+    if goes_on(a, at, ahead, known, core, &mut shared.bus) {
+        return Turned::Went;
+    }
+    let what = match pass(a, at, ahead, core, &mut shared.bus) {
+        Ok(what) => what,
+        Err(end) => {
+            *known = a.is_instr(core.regs.pc);
+            return Turned::Ended(end);
+        }
+    };
     let Stepped::Gate(number) = what else {
+        *known = a.is_instr(core.regs.pc);
         return Turned::Went;
     };
     if number > INPUT_GATE {

@@ -1,10 +1,11 @@
 //! One instruction up to its gate: it is checked, fetched once, done and tested, and its guards are set (docs/machine.md, "An event").
-ghost use Rattle.std.specs.Prelude.{◌≡◌, ◌≤◌, true, length, Some};
+ghost use Rattle.std.specs.Prelude.{◌≡◌, ◌≤◌, true, length, Some, Err, IfOk, IfErr};
 ghost use Rattle.thumb_isa.specs.Range.{InRange};
 ghost use Rattle.thumb_core.specs.Step.{instr_at};
-ghost use Rattle.step_ahead.specs.Ahead.{IsJump, IsLevel, branches, pushed};
+ghost use Rattle.step_ahead.specs.Ahead.{IsAhead, IsJump, IsLevel, branches, pushed};
 ghost use Rattle.step_ahead.specs.Kept.{TakesBack};
-ghost use Rattle.eh_machine.specs.Passes.{Passes};
+ghost use Rattle.eh_machine.specs.Program.{Program};
+ghost use Rattle.eh_machine.specs.Passes.{Passes, Tried};
 
 use crate::checked::Checked;
 use crate::guards::{guard_pushed, settle};
@@ -13,49 +14,61 @@ use eh_bus::bus::Bus;
 use eh_cxa::innermost_sp;
 use eh_gates::Core;
 use guest_gates::trap_end;
-use step_ahead::{Ahead, Kept, keep, look_ahead};
+use step_ahead::{Ahead, Kept, keep};
 use thumb_core::ends::{End, TrapKind};
 use thumb_core::regs::{SP, Stepped, are_words};
 use thumb_core::step::{execute, fetch};
 use thumb_isa::instr::Instr;
 
-/// What was done, or the end by what forbids it, which leaves everything as before the instruction and is no fault of the outside. A gate's
-/// instruction changes pc alone. `known` says whether the checker reached an instruction at pc, before it and behind it, so that each address
-/// is looked up once.
+/// The instruction at pc with its size, where the checker reached it, as `known` says; or the end by what stands there, which is no fault of the
+/// outside.
 #[inline(always)]
-pub(crate) fn pass<C: Checked, B: Bus>(
-    a: &C,
-    known: &mut bool,
-    core: &mut Core,
-    bus: &mut B,
-) -> Result<Stepped, End>
-    requires known { known.old ≡ ((C.program a.now).look core.old.regs.pc).is_instr }
-    ensures passes { Passes (C.program a.now) core.old (B.memory bus.old) result core.new (B.memory bus.new) }
-    ensures known { known.new ≡ ((C.program a.now).look core.new.regs.pc).is_instr }
+pub(crate) fn found<B: Bus>(known: bool, core: &Core, bus: &B) -> Result<(Instr, u32), End>
+    ensures reached { IfOk result (λ _. known ≡ true) }
+    ensures there { IfOk result (λ at. instr_at (B.memory bus.now) core.now.regs.pc ≡ Some at) }
+    ensures range { IfOk result (λ at. InRange at.0) }
+    ensures ends { IfErr result (λ end. (p : Program) → known ≡ (p.look core.now.regs.pc).is_instr
+        → Passes p core.now (B.memory bus.now) (Err end) core.now (B.memory bus.now)) }
 {
     let pc = core.regs.pc;
-    if !*known {
+    if !known {
         return Err(End::Trap(TrapKind::FellOff, pc, pc));
     }
-    let at = match fetch(&core.regs, bus) {
-        Ok(at) => at,
-        Err(trap) => return Err(trap_end(trap, pc)),
-    };
-    are_words(&core.regs.r);
-    match look_ahead(at.0, &core.regs) {
-        Ahead::Level => level(a, at, 0, known, core, bus),
-        Ahead::Pushes { count } => level(a, at, count, known, core, bus),
-        Ahead::Jumps { to } => jump(a, at, to, known, core, bus),
-        Ahead::Other { branches } => {
-            let result = tested(a, at, (branches, 0), &Kept::Nothing, core, bus);
-            *known = a.is_instr(core.regs.pc);
-            result
-        }
+    match fetch(&core.regs, bus) {
+        Ok(at) => Ok(at),
+        Err(trap) => Err(trap_end(trap, pc)),
     }
 }
 
-/// An instruction `at` pc that goes straight on and pushes so many words. Where its tests, told beforehand, let it pass, there is nothing to
-/// keep.
+/// Does the instruction `at` pc where it is told to go straight on or to take a branch, where its tests, told beforehand too, let it pass, and
+/// where it doesn't trap. So there is nothing to keep. Else nothing is changed. `known` says whether the checker reached an instruction at pc,
+/// before it and behind it, so that each address is looked up once.
+#[inline(always)]
+pub(crate) fn goes_on<C: Checked, B: Bus>(
+    a: &C,
+    at: (Instr, u32),
+    ahead: Ahead,
+    known: &mut bool,
+    core: &mut Core,
+    bus: &mut B,
+) -> bool
+    requires reached { ((C.program a.now).look core.old.regs.pc).is_instr ≡ true }
+    requires known { known.old ≡ true }
+    requires there { instr_at (B.memory bus.old) core.old.regs.pc ≡ Some at }
+    requires range { InRange at.0 }
+    requires told { IsAhead at.0 core.old.regs ahead }
+    ensures tried { Tried (C.program a.now) core.old (B.memory bus.old) result core.new (B.memory bus.new) }
+    ensures known { known.new ≡ ((C.program a.now).look core.new.regs.pc).is_instr }
+{
+    match ahead {
+        Ahead::Level => level(a, at, 0, known, core, bus),
+        Ahead::Pushes { count } => level(a, at, count, known, core, bus),
+        Ahead::Jumps { to } => jump(a, at, to, known, core, bus),
+        Ahead::Other { .. } => false,
+    }
+}
+
+/// An instruction `at` pc that goes straight on and pushes so many words.
 #[inline(always)]
 fn level<C: Checked, B: Bus>(
     a: &C,
@@ -64,13 +77,13 @@ fn level<C: Checked, B: Bus>(
     known: &mut bool,
     core: &mut Core,
     bus: &mut B,
-) -> Result<Stepped, End>
+) -> bool
     requires reached { ((C.program a.now).look core.old.regs.pc).is_instr ≡ true }
     requires known { known.old ≡ true }
     requires there { instr_at (B.memory bus.old) core.old.regs.pc ≡ Some at }
     requires range { InRange at.0 }
     requires told { IsLevel at.0 core.old.regs pushes }
-    ensures passes { Passes (C.program a.now) core.old (B.memory bus.old) result core.new (B.memory bus.new) }
+    ensures tried { Tried (C.program a.now) core.old (B.memory bus.old) result core.new (B.memory bus.new) }
     ensures known { known.new ≡ ((C.program a.now).look core.new.regs.pc).is_instr }
 {
     let (i, size) = at;
@@ -79,18 +92,16 @@ fn level<C: Checked, B: Bus>(
     are_words(&core.regs.r);
     let behind = look_behind(a, size, &core.regs);
     if !passes_tests(low, pushes, behind, &core.regs) {
-        let result = kept(a, at, (false, pushes), core, bus);
-        *known = a.is_instr(core.regs.pc);
-        return result;
+        return false;
     }
     let what = execute(i, size, &mut core.regs, bus);
-    if let Stepped::Trap(trap) = what {
-        return Err(trap_end(trap, pc));
+    if let Stepped::Trap(_) = what {
+        return false;
     }
     let sp = core.regs.r[SP as usize];
     guard_pushed(a, pc, pushes, sp, bus);
     *known = behind.is_instr;
-    Ok(Stepped::Done)
+    true
 }
 
 /// A branch `at` pc that is taken, to an address. Where sp stands in the running stack no test forbids it.
@@ -102,23 +113,46 @@ fn jump<C: Checked, B: Bus>(
     known: &mut bool,
     core: &mut Core,
     bus: &mut B,
-) -> Result<Stepped, End>
+) -> bool
     requires reached { ((C.program a.now).look core.old.regs.pc).is_instr ≡ true }
+    requires known { known.old ≡ true }
     requires there { instr_at (B.memory bus.old) core.old.regs.pc ≡ Some at }
-    requires range { InRange at.0 }
     requires told { IsJump at.0 core.old.regs to }
-    ensures passes { Passes (C.program a.now) core.old (B.memory bus.old) result core.new (B.memory bus.new) }
+    ensures tried { Tried (C.program a.now) core.old (B.memory bus.old) result core.new (B.memory bus.new) }
     ensures known { known.new ≡ ((C.program a.now).look core.new.regs.pc).is_instr }
 {
     let (low, _) = bus.home();
     if core.regs.r[SP as usize] < low {
-        let result = kept(a, at, (true, 0), core, bus);
-        *known = a.is_instr(core.regs.pc);
-        return result;
+        return false;
     }
     core.regs.pc = to;
     *known = a.is_instr(to);
-    Ok(Stepped::Done)
+    true
+}
+
+/// The instruction `at` pc, done and then tested: what was done, or the end by what forbids it, which leaves everything as before the instruction
+/// and is no fault of the outside. A gate's instruction changes pc alone. One that is told to go on may store: what it may store over is kept.
+#[inline(always)]
+pub(crate) fn pass<C: Checked, B: Bus>(
+    a: &C,
+    at: (Instr, u32),
+    ahead: Ahead,
+    core: &mut Core,
+    bus: &mut B,
+) -> Result<Stepped, End>
+    requires reached { ((C.program a.now).look core.old.regs.pc).is_instr ≡ true }
+    requires there { instr_at (B.memory bus.old) core.old.regs.pc ≡ Some at }
+    requires range { InRange at.0 }
+    requires told { IsAhead at.0 core.old.regs ahead }
+    ensures passes { Passes (C.program a.now) core.old (B.memory bus.old) result core.new (B.memory bus.new) }
+{
+    are_words(&core.regs.r);
+    match ahead {
+        Ahead::Level => kept(a, at, (false, 0), core, bus),
+        Ahead::Pushes { count } => kept(a, at, (false, count), core, bus),
+        Ahead::Jumps { .. } => kept(a, at, (true, 0), core, bus),
+        Ahead::Other { branches } => tested(a, at, (branches, 0), &Kept::Nothing, core, bus),
+    }
 }
 
 /// The instruction `at` pc is done and then tested. `told` says whether it branches and how many words it pushes. Where a test ends the run the

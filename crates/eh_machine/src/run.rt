@@ -1,9 +1,9 @@
 //! The run of at most so many events (docs/machine.md).
-ghost use Rattle.std.specs.Prelude.{◌≡◌, ◌≢◌, ◌≤◌, IfSome};
-ghost use Rattle.eh_port.specs.Causes.{Rose};
+ghost use Rattle.std.specs.Prelude.{◌≡◌, IfSome};
 ghost use Rattle.event_runs.specs.Runs.{Runs};
 ghost use Rattle.eh_gates.specs.State.{State, state_of};
 ghost use Rattle.eh_machine.specs.Machine.{machine_of};
+ghost use Rattle.eh_machine.specs.Turns.{CountsFaults};
 
 use crate::checked::Checked;
 use crate::event::{Shared, turn_from};
@@ -32,19 +32,14 @@ impl<'a, C: Checked, B: Bus> Machine<'a, C, B> {
             let old : State = state_of self.old.core (B.memory self.old.shared.bus) self.old.events in
             let new : State = state_of self.new.core (B.memory self.new.shared.bus) self.new.events in
             Runs (machine_of (C.program self.old.accepted.now)) self.old.left old bytes result new self.new.left (I.left input.new) (O.written out.old) (O.written out.new)) }
-        ensures read { result ≡ End.ReadFault → Rose (I.faults input.old) (I.faults input.new) }
-        ensures write { result ≡ End.WriteFault → Rose (O.faults out.old) (O.faults out.new) }
-        ensures input_later { I.faults input.old ≤ I.faults input.new }
-        ensures out_later { O.faults out.old ≤ O.faults out.new }
-        ensures input_kept { result ≢ End.ReadFault → I.faults input.new ≡ I.faults input.old }
-        ensures out_kept { result ≢ End.WriteFault → O.faults out.new ≡ O.faults out.old }
+        ensures faults { CountsFaults (λ end. result ≡ end) (I.faults input.old) (I.faults input.new) (O.faults out.old) (O.faults out.new) }
         ensures accepted { self.new.accepted ≡ self.old.accepted }
     {
-        let mut known = self.accepted.is_instr(self.core.regs.pc);
+        let accepted = self.accepted;
+        let mut known = accepted.is_instr(self.core.regs.pc);
         while self.left > 0 {
-            self.left -= 1;
             match turn_from(
-                self.accepted,
+                accepted,
                 &mut known,
                 &mut self.core,
                 &mut self.shared,
@@ -52,8 +47,11 @@ impl<'a, C: Checked, B: Bus> Machine<'a, C, B> {
                 input,
                 out,
             ) {
-                Turned::Went => {}
-                Turned::Ended(end) => return end,
+                Turned::Went => self.left -= 1,
+                Turned::Ended(end) => {
+                    self.left -= 1;
+                    return end;
+                }
             }
         }
         End::Budget

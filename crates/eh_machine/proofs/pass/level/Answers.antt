@@ -1,33 +1,9 @@
-use Rattle.std.proofs.Common.{◌≡◌, ℕ, ◌+◌, ◌≤◌, length, slice_index, refl, sym, ap, ◌∙◌, arith, Option, None, Some}
+use Rattle.std.proofs.Common.{◌≡◌, ℕ, ◌+◌, ◌≤◌, length, slice_index, refl, sym, ap, ◌∙◌, arith}
 use Rattle.eh_bus.specs.Memory.{Memory}
-use Rattle.thumb_core.specs.declared.regs.Regs.{Regs}
 use Rattle.thumb_core.specs.declared.regs.Stepped.TheVariants.{Done}
 use Rattle.eh_gates.specs.State.{State, state_of}
-use Rattle.eh_machine.proofs.Passing.{ended, went_on, by_trap, trap_passes, tested_passes, guarded_is, at_step, pushes_there, in_stack, straight, no_test, as_done}
+use Rattle.eh_machine.proofs.Passing.{went_on, was_done, tested_passes, guarded_is, at_step, pushes_there, in_stack, straight, no_test, as_done}
 use Rattle.eh_machine.proofs.pass.level.Goals as goal
-
-pub kept-result-requires : goal.kept-result-requires
-kept-result-requires g c = record {
-  reached = c.requires.reached;
-  there = c.requires.there;
-  range = c.requires.range;
-  taken = sym c.requires.told.taken;
-  pushes = c.requires.told.count;
-  few = c.requires.told.few;
-}
-
-pub returns-in-Trap-clause-passes : goal.returns-in-Trap-clause-passes
-returns-in-Trap-clause-passes g c =
-    let m = g.B.Bus.memory c.args.bus.now in
-    ended (g.C.Checked.program c.args.a.now) c.args.core.now m _ _ c.trap_end.result
-    (λ events. trap_passes (g.C.Checked.program c.args.a.now) (state_of c.args.core.now m events) c.in-Trap.trap c.execute-what.new.regs
-    (g.B.Bus.memory c.execute-what.new.bus) c.trap_end.result c.requires.reached (at_step c.args.core.now.regs m c.args.at _ c.requires.there c.in-Trap.ensures.effect)
-    c.in-Trap.ensures.trap.0 c.in-Trap.ensures.trap.1 c.trap_end.ensures)
-    (by_trap c.in-Trap.trap _ c.trap_end.result c.trap_end.ensures)
-
-pub returns-in-Trap-clause-known : goal.returns-in-Trap-clause-known
-returns-in-Trap-clause-known g c =
-    c.requires.known ∙ sym c.requires.reached ∙ ap (λ (r : Regs). ((g.C.Checked.program c.args.a.now).look r.pc).is_instr) (sym c.in-Trap.ensures.trap.0)
 
 pub guard_pushed-requires : goal.guard_pushed-requires
 guard_pushed-requires g c =
@@ -49,8 +25,8 @@ guard_pushed-requires g c =
       high = λ some. (stack some).high;
     }
 
-pub returns-clause-passes : goal.returns-clause-passes
-returns-clause-passes g c =
+pub returns-clause-tried : goal.returns-clause-tried
+returns-clause-tried g c =
     let p = g.C.Checked.program c.args.a.now in
     let old = g.B.Bus.memory c.args.bus.now in
     let what = c.execute-what.result in
@@ -59,14 +35,14 @@ returns-clause-passes g c =
     let new = g.B.Bus.memory c.guard_pushed.new.bus in
     let on = straight c.args.core.now.regs old c.args.at c.args.pushes what regs m c.requires.told c.requires.range (omega arith) c.are_words.ensures (c.if-not-passes_tests.ensures.room refl)
     c.execute-what.ensures.effect c.in_default.not-Trap in
-    went_on p c.args.core.now old _ _ Done (λ events.
+    was_done p c.args.core.now old _ _ (went_on p c.args.core.now old _ _ Done (λ events.
     let s : State = state_of c.args.core.now old events in
     let did = at_step s.regs old c.args.at (what, regs, m) c.requires.there c.execute-what.ensures.effect in
     let t = no_test p s c.args.at c.args.pushes c.home-low.result.0 what regs c.requires.there c.requires.told (ap (λ (h : ℕ × ℕ). h.0) c.home-low.ensures) on
     (c.if-not-passes_tests.ensures.low refl) (sym c.look_behind-behind.ensures.function ∙ c.if-not-passes_tests.ensures.next refl) in
     as_done p s _ what on.done (tested_passes p s what regs m c.requires.reached did c.in_default.not-Trap new t
     (guarded_is p s regs m new _ c.args.pushes _ refl (pushes_there s.regs old c.args.at c.args.pushes c.requires.there c.requires.told.count) refl on.high c.guard_pushed.ensures)))
-    (λ number events is. absurd (cc))
+    (λ number events is. absurd (cc)))
 
 pub returns-clause-known : goal.returns-clause-known
 returns-clause-known g c =

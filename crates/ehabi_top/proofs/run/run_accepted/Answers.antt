@@ -14,8 +14,8 @@ unfolding accepted_report
 returns g c =
     let a = c.args.accepted.now in
     yields_said State (machine_of (program_of a)) (λ _. refl) (trace a) c.args.budget (start_of (program_of a)) (Only (accepted_report c.args.budget a)) ⊥ _ _ c.run-end.result _ _ _ _ _ _ _ _ _ _ _
-    (λ _. refl) (λ l. l) (rw (c.in-Ok.ensures.program, c.in-Ok.ensures.budget, c.in-Ok.ensures.state) at c.run-end.ensures.told) c.run-end.ensures.read c.run-end.ensures.write c.run-end.ensures.out_later
-    c.run-end.ensures.input_kept c.run-end.ensures.out_kept (rw c.events.ensures at c.answer_run.ensures)
+    (λ _. refl) (λ l. l) (rw (c.in-Ok.ensures.program, c.in-Ok.ensures.budget, c.in-Ok.ensures.state) at c.run-end.ensures.told) c.run-end.ensures.faults.input.rose c.run-end.ensures.faults.out.rose
+    c.run-end.ensures.faults.out.later c.run-end.ensures.faults.input.kept c.run-end.ensures.faults.out.kept (rw c.events.ensures at c.answer_run.ensures)
 
 pub returns-in-Err : goal.returns-in-Err
 returns-in-Err g c = yields_memory (Only (accepted_report c.args.budget c.args.accepted.now)) ⊥ _ _ _ _

@@ -1,6 +1,6 @@
-use Rattle.std.proofs.Common.{refl, ap, ◌∙◌, arith}
+use Rattle.std.proofs.Common.{refl, ◌∙◌, arith}
 use Rattle.event_runs.proofs.Progress.{starts}
-use Rattle.eh_gates.specs.State.{State, state_of}
+use Rattle.eh_gates.specs.State.{State}
 use Rattle.eh_machine.specs.Machine.{machine_of}
 use Rattle.eh_machine.proofs.Running.{run_goes_on, run_ends, run_spent}
 use Rattle.thumb_core.specs.declared.ends.End.{End}
@@ -17,17 +17,17 @@ loop-self-init g c = record {
 
 pub loop-self-preserved : goal.loop-self-preserved
 loop-self-preserved g c = record {
-  progress = run_goes_on (g.C.Checked.program c.args.self.now.accepted.now) (g.C.Checked.program c.loop-self.self.accepted.now) (ap (λ a. g.C.Checked.program a.now) c.loop-self.invariant.same)
+  progress = run_goes_on (g.C.Checked.program c.args.self.now.accepted.now)
       _ _ _ _ _ _ _ _ _ _ _ (omega arith) c.loop-self.invariant.progress c.in-Went.ensures.told;
-  input_kept = c.in-Went.ensures.input_kept (λ e. cc) ∙ c.loop-self.invariant.input_kept;
-  out_kept = c.in-Went.ensures.out_kept (λ e. cc) ∙ c.loop-self.invariant.out_kept;
+  input_kept = c.in-Went.ensures.faults.input.kept (λ e. cc) ∙ c.loop-self.invariant.input_kept;
+  out_kept = c.in-Went.ensures.faults.out.kept (λ e. cc) ∙ c.loop-self.invariant.out_kept;
   same = c.loop-self.invariant.same;
   known = c.in-Went.ensures.known;
 }
 
 pub returns-in-Ended-clause-told : goal.returns-in-Ended-clause-told
 returns-in-Ended-clause-told g c =
-    run_ends (g.C.Checked.program c.args.self.now.accepted.now) (g.C.Checked.program c.loop-self.self.accepted.now) (ap (λ a. g.C.Checked.program a.now) c.loop-self.invariant.same)
+    run_ends (g.C.Checked.program c.args.self.now.accepted.now)
     _ _ _ _ _ _ _ _ _ _ _ c.in-Ended.end (omega arith) c.loop-self.invariant.progress c.in-Ended.ensures.told
 
 pub returns-clause-told : goal.returns-clause-told

@@ -14,7 +14,7 @@ invariant-loop-self g l = record {
   input_kept : g.I.Source.faults l.input ≡ g.I.Source.faults l.initial.input;
   out_kept : g.O.Sink.faults l.out ≡ g.O.Sink.faults l.initial.out;
   same : l.self.accepted ≡ l.initial.self.accepted;
-  known : l.known ≡ ((g.C.Checked.program l.self.accepted.now).look l.self.core.regs.pc).is_instr;
+  known : l.known ≡ ((g.C.Checked.program l.initial.self.accepted.now).look l.self.core.regs.pc).is_instr;
 }
 
 abbrev pub decreases-loop-self : goal.decreases-loop-self
