@@ -3,6 +3,7 @@ pub mod FaultLaw
 pub mod FaultNames
 pub mod Words
 pub mod SameWords
+pub mod Given
 pub mod Sorts
 pub mod Sizes
 pub mod Functions

@@ -8,7 +8,8 @@ use Rattle.asm_layout.specs.declared.place.Section.{Section}
 use Rattle.asm_layout.specs.declared.place.Section.TheVariants.{Text, Rodata, Extab, Init, Bss}
 use Rattle.asm_layout.specs.declared.walk.Sizes.{Sizes}
 use Rattle.asm_layout.specs.declared.walk.TheConstants.{MOST_BYTES}
-use Rattle.asm_layout.specs.Sorts.{Given, WordsOf, HalvesOf, BytesOf, AsciiOf, AscizOf, ZerosOf, Sort, CodeOf, DataOf, Filling, AboutName, Bare, sort_of, operation}
+use Rattle.asm_layout.specs.Given.{Given, FieldsOf, TextOf, ZerosOf, bytes_of}
+use Rattle.asm_layout.specs.Sorts.{Sort, CodeOf, DataOf, Filling, AboutName, Bare, sort_of, operation}
 
 abbrev pub sum_64 : ℕ → ℕ → ℕ
 sum_64 a b = min (a + b) (2 ^ 64 - 1)
@@ -31,11 +32,8 @@ abbrev pub is_instruction : StmtKind → Bool
 is_instruction kind = is_some (operation kind)
 
 abbrev pub data_size : Given → ℕ
-data_size (WordsOf words) = times (length words) 4
-data_size (HalvesOf halves) = times (length halves) 2
-data_size (BytesOf bytes) = times (length bytes) 1
-data_size (AsciiOf text) = times (length text) 1
-data_size (AscizOf text) = sum_64 (times (length text) 1) 1
+data_size (FieldsOf width fields) = times (length fields) (bytes_of width)
+data_size (TextOf text closed) = if closed then sum_64 (times (length text) 1) 1 else times (length text) 1
 data_size (ZerosOf n) = natural n
 
 -- the bytes of a sort, by what `.align n` fills

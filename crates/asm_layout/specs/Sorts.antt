@@ -1,11 +1,13 @@
 -- What each statement is to the assembler (docs/source-language.md; Armv6-M Architecture Reference Manual, DDI 0419). Every form of a
 -- statement has its own line in `sort_of`. Its bytes, its names and its code are said of sorts, and of each sort.
-use Rattle.std.specs.Prelude.{ℕ, ◌^◌, ◌==◌, ◌&&◌, ℤ, pos, negsuc, Bool, false, nat_lt, if◌then◌else◌, List, Option, Some, None}
+use Rattle.std.specs.Prelude.{ℕ, ◌^◌, ◌==◌, ◌&&◌, ℤ, pos, negsuc, Bool, true, false, nat_lt, if◌then◌else◌, List, Option, Some, None}
 use Rattle.asm_read.specs.declared.statement.Expr.{Expr}
 use Rattle.asm_read.specs.declared.statement.StmtKind.{StmtKind}
 use Rattle.asm_read.specs.declared.statement.StmtKind.TheVariants as stmt
 use Rattle.thumb_isa.specs.declared.instr.Instr.{Instr}
 use Rattle.thumb_isa.specs.declared.instr.Instr.TheVariants.{ShiftImm, AddSubReg, AddSubImm3, Imm8, Alu, AddHigh, CmpHigh, MovHigh, Bx, Blx, MemReg, MemImm, MemSp, AddRdSp, AddSp, SubSp, Extend, Rev, Push, Pop, Hint, Stm, Ldm, Svc, Barrier}
+use Rattle.asm_layout.specs.declared.given.Width.TheVariants.{Byte, Half, Word}
+use Rattle.asm_layout.specs.Given.{Given, FieldsOf, TextOf, ZerosOf}
 
 -- an instruction of a source
 pub data Operation : Type 0 where
@@ -25,16 +27,6 @@ pub data Operation : Type 0 where
   BCondTo : (cond : ℕ) (name : List ℕ) → Operation
   -- `bl name`
   BlTo : (name : List ℕ) → Operation
-
--- data of a source
-pub data Given : Type 0 where
-  WordsOf : List Expr → Given
-  HalvesOf : List Expr → Given
-  BytesOf : List Expr → Given
-  AsciiOf : List ℕ → Given
-  AscizOf : List ℕ → Given
-  -- `.space n`
-  ZerosOf : ℤ → Given
 
 pub data Sort : Type 0 where
   -- an instruction of so many bytes
@@ -124,11 +116,11 @@ sort_of (stmt.Global name) = AboutName name
 sort_of (stmt.TypeFunction name) = AboutName name
 sort_of (stmt.TypeObject name) = AboutName name
 sort_of (stmt.Size name) = AboutName name
-sort_of (stmt.Words words) = DataOf (WordsOf words)
-sort_of (stmt.Halves halves) = DataOf (HalvesOf halves)
-sort_of (stmt.Bytes bytes) = DataOf (BytesOf bytes)
-sort_of (stmt.Ascii text) = DataOf (AsciiOf text)
-sort_of (stmt.Asciz text) = DataOf (AscizOf text)
+sort_of (stmt.Words words) = DataOf (FieldsOf Word words)
+sort_of (stmt.Halves halves) = DataOf (FieldsOf Half halves)
+sort_of (stmt.Bytes bytes) = DataOf (FieldsOf Byte bytes)
+sort_of (stmt.Ascii text) = DataOf (TextOf text false)
+sort_of (stmt.Asciz text) = DataOf (TextOf text true)
 sort_of (stmt.Space n) = DataOf (ZerosOf n)
 sort_of (stmt.Align n) = Filling n
 sort_of stmt.Pool = Bare

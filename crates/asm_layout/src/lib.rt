@@ -6,11 +6,12 @@ ghost use Rattle.asm_layout.specs.FaultLaw.{TheFirstIsAnswered, NoneOnlyOfNone};
 
 pub mod fault;
 pub mod frames;
+pub mod given;
 pub mod labels;
 pub mod layout;
 pub mod place;
 pub mod placed;
-mod sort;
+pub mod sort;
 pub mod walk;
 pub mod word;
 

@@ -1,5 +1,13 @@
 //! The forms of statements by their sorts, for matches over all of them: each form stands in exactly one of these patterns, or is
-//! `udf`, a barrier or `.align` (`specs/Sorts.antt`; docs/source-language.md). A match names `StmtKind` in scope.
+//! `udf`, a barrier or `.align` (`specs/Sorts.antt`; docs/source-language.md). A match names `StmtKind` in scope. Which data a form
+//! is stands here too.
+ghost use Rattle.std.specs.Prelude.{◌≡◌, option_map};
+ghost use Rattle.asm_layout.specs.Given.{given_by};
+ghost use Rattle.asm_layout.specs.Sorts.{given};
+
+use crate::given::{Data, Width};
+use crate::{bare_form, branch_form, name_form, nameless_form, reader_form};
+use asm_read::StmtKind;
 
 /// An instruction of one halfword that names nothing, but for `udf`.
 #[macro_export]
@@ -96,4 +104,32 @@ macro_rules! bare_form {
             | StmtKind::PersonalityIndex(_)
             | StmtKind::HandlerData
     };
+}
+
+/// The data that a statement is.
+pub fn given(kind: &StmtKind) -> Option<Data<'_>>
+    ensures { option_map given_by result ≡ given kind.now }
+{
+    match kind {
+        StmtKind::Words(fields) => Some(Data::Fields(Width::Word, fields.as_slice())),
+        StmtKind::Halves(fields) => Some(Data::Fields(Width::Half, fields.as_slice())),
+        StmtKind::Bytes(fields) => Some(Data::Fields(Width::Byte, fields.as_slice())),
+        StmtKind::Ascii(text) => Some(Data::Text {
+            text: text.bytes(),
+            closed: false,
+        }),
+        StmtKind::Asciz(text) => Some(Data::Text {
+            text: text.bytes(),
+            closed: true,
+        }),
+        StmtKind::Space(n) => Some(Data::Zeros(*n)),
+        nameless_form!()
+        | reader_form!()
+        | branch_form!()
+        | StmtKind::Udf { .. }
+        | StmtKind::Barrier { .. }
+        | StmtKind::Align(_)
+        | name_form!()
+        | bare_form!() => None,
+    }
 }

@@ -1,14 +1,17 @@
 //! The walk over statements: where the next one stands, and the pool that is to come (docs/objects.md).
 ghost use Rattle.std.specs.Prelude.{◌≡◌, ◌<◌, [], Some, option_map, length, IfOk, OnOk, OnErr};
 ghost use Rattle.std.specs.List.{position_or_len};
-ghost use Rattle.asm_layout.specs.Sizes.{times, multiple, size_at, is_instruction, size_in, sizes_grown, is_too_large, table_size};
+ghost use Rattle.asm_layout.specs.Given.{given_by};
+ghost use Rattle.asm_layout.specs.Sizes.{times, multiple, data_size, size_at, is_instruction, size_in, sizes_grown, is_too_large, table_size};
 ghost use Rattle.asm_layout.specs.SameWords.{same_word};
 ghost use Rattle.asm_read.specs.declared.statement.StmtKind.TheVariants.{Pool as ForPool};
 ghost use Rattle.asm_layout.specs.Walks.{entry_at, here, start, started, ended, handling, within, grown, cursor_behind, pool_with, pool_behind, ends_pool, pool_place, sizes_with_pool, next};
 ghost use Rattle.asm_layout.specs.Placing.{word_offset, pool_here, function_puts, puts_at, stood_at};
 
+use crate::given::Data;
 use crate::place::{Place, Section};
 use crate::placed::{PlacedFunction, PlacedPool, PlacedStmt, Puts};
+use crate::sort::given;
 use crate::word::{Word, Words, word_of};
 use crate::{bare_form, branch_form, data_form, name_form, nameless_form, reader_form};
 use asm_read::{Stmt, StmtKind};
@@ -99,10 +102,27 @@ fn times(len: usize, size: u64) -> u64
     (len as u64).saturating_mul(size)
 }
 
+/// How many bytes data has.
+fn data_size(given: Data<'_>) -> u64
+    ensures { result ≡ data_size (given_by given.entry) }
+{
+    match given {
+        Data::Fields(width, fields) => times(fields.len(), width.bytes()),
+        Data::Text { text, closed } => {
+            let size = times(text.len(), 1);
+            if closed { size.saturating_add(1) } else { size }
+        }
+        Data::Zeros(n) => u64::try_from(n).unwrap_or(0),
+    }
+}
+
 /// The bytes of a statement at a place: `bl` and the barriers have two halfwords, `.align` fills up to a multiple.
 fn size_at(place: u64, kind: &StmtKind) -> u64
     ensures { result ≡ size_at place kind.now }
 {
+    if let Some(found) = given(kind) {
+        return data_size(found);
+    }
     match kind {
         nameless_form!()
         | reader_form!()
@@ -110,14 +130,8 @@ fn size_at(place: u64, kind: &StmtKind) -> u64
         | StmtKind::BCond { .. }
         | StmtKind::Udf { .. } => 2,
         StmtKind::Bl(_) | StmtKind::Barrier { .. } => 4,
-        StmtKind::Words(words) => times(words.as_slice().len(), 4),
-        StmtKind::Halves(halves) => times(halves.as_slice().len(), 2),
-        StmtKind::Bytes(bytes) => times(bytes.as_slice().len(), 1),
-        StmtKind::Ascii(text) => times(text.bytes().len(), 1),
-        StmtKind::Asciz(text) => times(text.bytes().len(), 1).saturating_add(1),
-        StmtKind::Space(n) => u64::try_from(*n).unwrap_or(0),
         StmtKind::Align(n) => gap(place, multiple(*n)),
-        name_form!() | bare_form!() => 0,
+        data_form!() | name_form!() | bare_form!() => 0,
     }
 }
 

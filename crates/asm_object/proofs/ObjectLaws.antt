@@ -26,8 +26,11 @@ use Rattle.asm_layout.specs.declared.word.Word.{Word}
 use Rattle.asm_layout.specs.declared.word.Word.TheVariants as word
 use Rattle.asm_layout.specs.Faults.{first_of_all, fault_if}
 use Rattle.asm_layout.specs.Functions.{Frame, directive_of, next_frame, new_entries, ended_entry, entries_from, entries_of, no_frame, unwind_faults_of}
+use Rattle.asm_layout.specs.declared.given.Width.TheVariants as widths
+use Rattle.asm_layout.specs.Given.{Given, FieldsOf, TextOf, ZerosOf}
+use Rattle.asm_layout.specs.Sorts.{BTo, BCondTo, BlTo, Sort, CodeOf, DataOf, sort_of, given}
 use Rattle.asm_layout.specs.Labels.{Named, labels_of, duplicates_from, too_large_from}
-use Rattle.asm_layout.specs.Sizes.{is_instruction, sum_64, times, multiple, size, size_in, sizes_grown, is_too_large}
+use Rattle.asm_layout.specs.Sizes.{is_instruction, sum_64, times, multiple, data_size, sort_size, size, size_in, sizes_grown, is_too_large}
 use Rattle.eh_list.specs.Bytes.{gap}
 use Rattle.asm_layout.specs.Walks.{start, next, coming_pool, here, same_section, is_empty, is_in_text, entry_at, pool_place, sizes_with_pool, walk_behind}
 use Rattle.asm_layout.specs.Words.{word_of}
@@ -36,13 +39,13 @@ use Rattle.asm_object.specs.declared.object.Reloc.{Reloc}
 use Rattle.asm_object.specs.Instructions.{linked_unless, text_place, branch_link}
 use Rattle.asm_object.specs.declared.value.Link.{Link}
 use Rattle.asm_object.specs.Values.{linked, link_of}
-use Rattle.asm_object.specs.Pieces.{Piece, place_at, relocs_of, word_relocs, filling_piece, words_piece, pool_pieces, table_pieces, own_piece, instruction_piece, data_piece, data_relocs, relocs_in, bytes_in, put_pieces, pieces_of}
+use Rattle.asm_object.specs.Pieces.{Piece, place_at, relocs_of, word_relocs, filling_piece, words_piece, pool_pieces, table_pieces, own_piece, instruction_piece, data_piece, given_relocs, relocs_in, bytes_in, put_pieces, pieces_of}
 use Rattle.asm_object.specs.Refusals.{refusal}
 use Rattle.asm_object.specs.Objects.{faults_of, joined, object_unless, object_of}
 use Rattle.asm_object.specs.ObjectLaw.{kinds, StandInOrder, FieldsStandInOrder, RelocsGoBySection, RelocsHaveKinds, relocs_at, bytes_at}
 use Rattle.asm_object.specs.Relocations.{field_size}
 use Rattle.asm_layout.proofs.FirstLaws.{law_of_none}
-use Rattle.asm_object.proofs.PlaceLaws.{Fewer, SameEnd, is_ordinary, ordinary_sizes, ordinary_sets, own_stands, special_counts, not_large, none_parts, law_of_ends, earlier}
+use Rattle.asm_object.proofs.PlaceLaws.{Fewer, SameEnd, IsSized, sized, piece_of, is_ordinary, ordinary_sizes, ordinary_sets, own_stands, special_counts, not_large, none_parts, law_of_ends, earlier}
 use Rattle.asm_object.proofs.Statements.{walk_sets, walk_pieces}
 use Rattle.asm_layout.specs.Placing.{word_place, placed_from, pool_here, pool_puts, function_here}
 use Rattle.asm_layout.specs.declared.placed.Puts.TheVariants as puts
@@ -158,20 +161,33 @@ link_stands : (place : Place) (to : Option ℕ) (kind : ℕ) (name : List ℕ) (
 link_stands place (Some to) kind name by h k = omega arith
 link_stands place None kind name by h k = k
 
+given_stand : (given : Given) (place : Place) → place.offset + data_size given ≤ MOST_BYTES
+    → StandInOrder place.offset (given_relocs (Some given) place) (place.offset + data_size given)
+given_stand (FieldsOf widths.Word fields) place h =
+    let count : length (map word_of fields) ≡ length fields = length-map fields word_of in
+    let all : length fields * 4 ≡ times (length fields) 4 = omega (arith, h) in
+    between place.offset place.offset _ (place.offset + length (map word_of fields) * 4) _ refl (omega (arith, count, all))
+    (words_stand place.section place.offset (map word_of fields) (omega (arith, count, all, h)))
+given_stand (FieldsOf widths.Half fields) place h = omega arith
+given_stand (FieldsOf widths.Byte fields) place h = omega arith
+given_stand (TextOf text closed) place h = omega arith
+given_stand (ZerosOf n) place h = omega arith
+
+sort_stands : (labels : List Named) (sort : Sort) (place : Place) (word : Option ℕ) → IsSized sort → place.offset + sort_size (λ n. 0) sort ≤ MOST_BYTES
+    → StandInOrder place.offset (piece_of labels sort place word).relocs (place.offset + sort_size (λ n. 0) sort)
+sort_stands labels (CodeOf bytes (BlTo name)) place word z h =
+    link_stands place (text_place labels name) 10 name bytes h (omega (arith, h), omega (arith, h, z))
+sort_stands labels (CodeOf bytes (BTo name)) place word z h =
+    link_stands place (text_place labels name) 102 name bytes h (omega (arith, h), omega (arith, h, z))
+sort_stands labels (CodeOf bytes (BCondTo c name)) place word z h =
+    link_stands place (text_place labels name) 103 name bytes h (omega (arith, h), omega (arith, h, z))
+sort_stands labels (CodeOf bytes _) place word z h = omega arith
+sort_stands labels (DataOf given) place word z h = given_stand given place h
+sort_stands labels _ place word z h = omega arith
+
 own_stand : (labels : List Named) (kind : StmtKind) (place : Place) (word : Option ℕ) → place.offset + size kind ≤ MOST_BYTES
     → StandInOrder place.offset (own_piece labels kind place word).relocs (place.offset + size kind)
-own_stand labels (stmt.Words words) place word h =
-    let count : length (map word_of words) ≡ length words = length-map words word_of in
-    let all : length words * 4 ≡ times (length words) 4 = omega (arith, h) in
-    between place.offset place.offset _ (place.offset + length (map word_of words) * 4) _ refl (omega (arith, count, all))
-    (words_stand place.section place.offset (map word_of words) (omega (arith, count, all, h)))
-own_stand labels (stmt.Bl name) place word h =
-    link_stands place (text_place labels name) 10 name 4 h (omega (arith, h), omega (arith, h))
-own_stand labels (stmt.B name) place word h =
-    link_stands place (text_place labels name) 102 name 2 h (omega (arith, h), omega (arith, h))
-own_stand labels (stmt.BCond c name) place word h =
-    link_stands place (text_place labels name) 103 name 2 h (omega (arith, h), omega (arith, h))
-own_stand labels _ place word h = omega arith
+own_stand labels kind place word h = sort_stands labels (sort_of kind) place word (sized kind) h
 
 diagonal : (a by : ℕ) (relocs : List Reloc) → min (a + by) (2 ^ 64 - 1) ≤ MOST_BYTES → (a + by ≤ MOST_BYTES → StandInOrder a relocs (a + by))
     → StandInOrder a (relocs ++ []) (min (a + by) (2 ^ 64 - 1))
@@ -412,16 +428,20 @@ all_both : (xs ys : List Piece) → AllOwn xs → AllOwn ys → AllOwn (xs ++ ys
 all_both [] ys h k = k
 all_both (x ∷ xs) ys h k = (h.0, all_both xs ys h.1 k)
 
-data_own : (kind : StmtKind) (place : Place) → OfSection place.section (data_relocs kind place)
-data_own (stmt.Words exprs) place = of_words place.section place.offset (map word_of exprs)
-data_own _ place = tt
+data_own : (given : Option Given) (place : Place) → OfSection place.section (given_relocs given place)
+data_own (Some (FieldsOf widths.Word fields)) place = of_words place.section place.offset (map word_of fields)
+data_own (Some (FieldsOf widths.Half fields)) place = tt
+data_own (Some (FieldsOf widths.Byte fields)) place = tt
+data_own (Some (TextOf text closed)) place = tt
+data_own (Some (ZerosOf n)) place = tt
+data_own None place = tt
 
 own_own : (labels : List Named) (kind : StmtKind) (place : Place) (word : Option ℕ) → OfSection (own_piece labels kind place word).place.section (own_piece labels kind place word).relocs
 own_own labels kind place word = by (is_instruction kind)
   where
     by : (b : Bool) → OfSection (cond b (instruction_piece labels kind place word) (data_piece labels kind place)).place.section (cond b (instruction_piece labels kind place word) (data_piece labels kind place)).relocs
     by true = of_link place (branch_link labels kind) (branch_kind labels kind)
-    by false = data_own kind place
+    by false = data_own (given kind) place
 
 pool_own : (labels : List Named) (walk : Walk) → AllOwn (pool_pieces labels (pool_here walk))
 pool_own labels walk = by (is_empty walk.pool)

@@ -38,7 +38,9 @@ use Rattle.asm_layout.specs.declared.fault.AsmWhat.TheVariants.{UndefinedLocal, 
 use Rattle.asm_layout.specs.Labels.{Named}
 use Rattle.asm_object.specs.Bytes.{byte_bytes, half_bytes, word_bytes, code_bytes, fillers, filling_bytes}
 use Rattle.asm_object.specs.Values.{number, held, low_or_zero}
-use Rattle.asm_layout.specs.Sorts.{Operation, Nameless, Undefined, LdrValue, BlTo, WordsOf, HalvesOf, BytesOf, AsciiOf, AscizOf, ZerosOf, Sort, CodeOf, DataOf, offset, unsigned, add_eight, is_above_seven, sort_of, operation_in, given_in}
+use Rattle.asm_layout.specs.declared.given.Width.TheVariants as widths
+use Rattle.asm_layout.specs.Given.{FieldsOf, TextOf, ZerosOf}
+use Rattle.asm_layout.specs.Sorts.{Operation, Nameless, Undefined, LdrValue, BlTo, Sort, CodeOf, DataOf, offset, unsigned, add_eight, is_above_seven, sort_of, operation_in, given_in}
 use Rattle.asm_object.specs.Instructions.{base, literal, literal_to, made, coded, operation_link}
 use Rattle.asm_object.specs.Pieces.{Piece, instruction_piece, data_piece, place_at, relocs_of, words_piece, words_bytes, bytes_of_code, bytes_of_coded, bytes_of_instruction, bytes_of_half, undefined_half, given_bytes, given_relocs, filling_piece, pool_pieces, table_pieces, own_piece, bytes_in, put_pieces, pieces_of}
 use Rattle.asm_object.specs.PlaceLaw.{SectionsEndBehindTheirBytes, PlacesCountTheBytesBefore, BytesStandAtTheirPlaces}
@@ -174,12 +176,12 @@ has_code (Some i) n h e = ap (λ k. min k (2 ^ 64 - 1)) (sym ((gives i).has e �
 has_code None n h e = ap (λ k. min k (2 ^ 64 - 1)) (sym h)
 
 -- an instruction has so many bytes
-abbrev operation_size : Operation → ℕ
+abbrev pub operation_size : Operation → ℕ
 operation_size (Nameless i) = width i
 operation_size (BlTo name) = 4
 operation_size _ = 2
 
-abbrev IsSized : Sort → Type 0
+abbrev pub IsSized : Sort → Type 0
 IsSized (CodeOf bytes operation) = operation_size operation ≡ bytes
 IsSized _ = zero ≡ zero
 
@@ -188,13 +190,13 @@ either_half true i j h k = h
 either_half false i j h k = k
 
 -- as its line in the table says
-sized : (kind : StmtKind) → IsSized (sort_of kind)
+pub sized : (kind : StmtKind) → IsSized (sort_of kind)
 sized (stmt.CmpReg n m) = either_half (nat_lt n 8 && nat_lt m 8) (Alu 10 n m) (CmpHigh n m) refl refl
 sized (stmt.AddSubThree sub d n imm) = either_half (is_above_seven imm && (d == n)) (add_eight sub d imm) (AddSubImm3 sub d n (unsigned imm)) refl refl
 sized _ = refl
 
 -- a statement's own piece, by its sort
-abbrev piece_of : List Named → Sort → Place → Option ℕ → Piece
+abbrev pub piece_of : List Named → Sort → Place → Option ℕ → Piece
 piece_of labels sort place word = cond (is_some (operation_in sort))
     (record {
       place = place;
@@ -209,14 +211,14 @@ sort_counts : (labels : List Named) (sort : Sort) (place : Place) (word : Option
 sort_counts labels (CodeOf bytes (Undefined imm)) place word z load e = ap (λ k. min k (2 ^ 64 - 1)) (sym z)
 sort_counts labels (CodeOf bytes (LdrValue t value)) place word z load e = has_code (Some (LdrLit t (literal_to word place.offset))) bytes z (load refl)
 sort_counts labels (CodeOf bytes operation) place word z load e = has_code (made labels (Some operation) place.offset word) bytes z e
-sort_counts labels (DataOf (WordsOf words)) place word z load e =
-    capped (length words * 4) (length (words_bytes labels (map word_of words))) (words_length labels (map word_of words) ∙ ap (λ n. n * 4) (length-map words word_of))
-sort_counts labels (DataOf (HalvesOf halves)) place word z load e =
-    capped (length halves * 2) _ (each_has (λ half. half_bytes (low_or_zero (number labels half))) 2 (λ half. refl) halves)
-sort_counts labels (DataOf (BytesOf bytes)) place word z load e =
-    capped (length bytes * 1) _ (each_has (λ byte. byte_bytes (low_or_zero (number labels byte))) 1 (λ byte. refl) bytes)
-sort_counts labels (DataOf (AsciiOf text)) place word z load e = capped (length text * 1) (length text) (omega arith)
-sort_counts labels (DataOf (AscizOf text)) place word z load e = omega (arith, length-append text (0 ∷ []))
+sort_counts labels (DataOf (FieldsOf widths.Word fields)) place word z load e =
+    capped (length fields * 4) (length (words_bytes labels (map word_of fields))) (words_length labels (map word_of fields) ∙ ap (λ n. n * 4) (length-map fields word_of))
+sort_counts labels (DataOf (FieldsOf widths.Half fields)) place word z load e =
+    capped (length fields * 2) _ (each_has (λ field. half_bytes (low_or_zero (number labels field))) 2 (λ field. refl) fields)
+sort_counts labels (DataOf (FieldsOf widths.Byte fields)) place word z load e =
+    capped (length fields * 1) _ (each_has (λ field. byte_bytes (low_or_zero (number labels field))) 1 (λ field. refl) fields)
+sort_counts labels (DataOf (TextOf text false)) place word z load e = capped (length text * 1) (length text) (omega arith)
+sort_counts labels (DataOf (TextOf text true)) place word z load e = omega (arith, length-append text (0 ∷ []))
 sort_counts labels (DataOf (ZerosOf n)) place word z load e = ap (λ k. min k (2 ^ 64 - 1)) (sym (length-zeros (natural n)))
 sort_counts labels _ place word z load e = refl
 

@@ -1,5 +1,7 @@
 -- The bytes of statements, each piece at its place, and what the linker fills in them (docs/objects.md, "Sections and places").
 use Rattle.std.specs.Prelude.{ℕ, ◌+◌, ◌%◌, ◌^◌, ◌==◌, ◌&&◌, not, ℤ, pos, negsuc, Bool, true, false, nat_lt, if◌then◌else◌, List, [], ◌∷◌, ◌++◌, map, flat_map, length, Option, Some, None, Result, Ok, Err}
+use Rattle.byteorder.specs.Endian.{little_bytes}
+use Rattle.asm_read.specs.declared.statement.Expr.{Expr}
 use Rattle.asm_read.specs.declared.statement.StmtKind.{StmtKind}
 use Rattle.asm_unwind.specs.declared.entry.EntryWords.{EntryWords}
 use Rattle.asm_unwind.specs.declared.entry.EntryWords.TheVariants as entry
@@ -17,9 +19,11 @@ use Rattle.asm_layout.specs.declared.place.Place.{Place}
 use Rattle.asm_layout.specs.declared.word.Word.{Word}
 use Rattle.asm_layout.specs.Words.{word_of}
 use Rattle.asm_layout.specs.Sizes.{sum_64, multiple, natural, is_instruction}
-use Rattle.asm_layout.specs.Sorts.{Operation, Nameless, Undefined, AdrOf, LdrOf, LdrValue, BTo, BCondTo, BlTo, Given, WordsOf, HalvesOf, BytesOf, AsciiOf, AscizOf, ZerosOf, Sort, CodeOf, DataOf, Filling, AboutName, Bare, sort_of, operation, given}
+use Rattle.asm_layout.specs.declared.given.Width.{Width}
+use Rattle.asm_layout.specs.Given.{Given, FieldsOf, TextOf, ZerosOf, bytes_of, takes_addresses}
+use Rattle.asm_layout.specs.Sorts.{Operation, Nameless, Undefined, AdrOf, LdrOf, LdrValue, BTo, BCondTo, BlTo, Sort, CodeOf, DataOf, Filling, AboutName, Bare, sort_of, operation, given}
 use Rattle.eh_list.specs.Bytes.{gap, zeros}
-use Rattle.asm_object.specs.Bytes.{byte_bytes, half_bytes, word_bytes, code_bytes, filling_bytes}
+use Rattle.asm_object.specs.Bytes.{half_bytes, word_bytes, code_bytes, filling_bytes}
 use Rattle.asm_layout.specs.declared.placed.PlacedFunction.{PlacedFunction}
 use Rattle.asm_layout.specs.declared.placed.PlacedPool.{PlacedPool}
 use Rattle.asm_layout.specs.declared.placed.Puts.{Puts}
@@ -140,27 +144,31 @@ code_piece labels kind place code = record {
 abbrev pub instruction_piece : List Named → StmtKind → Place → Option ℕ → Piece
 instruction_piece labels kind place word = code_piece labels kind place (coded (instruction labels kind place.offset word))
 
+-- the bytes of fields: those of words where they may be addresses, and else those of their numbers
+abbrev pub fields_bytes : List Named → Width → List Expr → List ℕ
+fields_bytes labels width fields =
+    if takes_addresses width then words_bytes labels (map word_of fields)
+    else flat_map (λ field. little_bytes (bytes_of width) (low_or_zero (number labels field))) fields
+
 -- the bytes of data
 abbrev pub given_bytes : List Named → Option Given → List ℕ
 given_bytes labels None = []
-given_bytes labels (Some (WordsOf exprs)) = words_bytes labels (map word_of exprs)
-given_bytes labels (Some (HalvesOf exprs)) = flat_map (λ expr. half_bytes (low_or_zero (number labels expr))) exprs
-given_bytes labels (Some (BytesOf exprs)) = flat_map (λ expr. byte_bytes (low_or_zero (number labels expr))) exprs
-given_bytes labels (Some (AsciiOf text)) = text
-given_bytes labels (Some (AscizOf text)) = text ++ 0 ∷ []
+given_bytes labels (Some (FieldsOf width fields)) = fields_bytes labels width fields
+given_bytes labels (Some (TextOf text closed)) = if closed then text ++ 0 ∷ [] else text
 given_bytes labels (Some (ZerosOf n)) = zeros (natural n)
 
 abbrev pub data_bytes : List Named → StmtKind → List ℕ
 data_bytes labels kind = given_bytes labels (given kind)
 
--- the relocations of data: those of its words
+-- the relocations of fields from a place on: those of words where they may be addresses
+abbrev pub fields_relocs : Width → List Expr → Place → List Reloc
+fields_relocs width fields place = if takes_addresses width then word_relocs place.section place.offset (map word_of fields) else []
+
+-- the relocations of data
 abbrev pub given_relocs : Option Given → Place → List Reloc
 given_relocs None place = []
-given_relocs (Some (WordsOf exprs)) place = word_relocs place.section place.offset (map word_of exprs)
-given_relocs (Some (HalvesOf _)) place = []
-given_relocs (Some (BytesOf _)) place = []
-given_relocs (Some (AsciiOf _)) place = []
-given_relocs (Some (AscizOf _)) place = []
+given_relocs (Some (FieldsOf width fields)) place = fields_relocs width fields place
+given_relocs (Some (TextOf _ _)) place = []
 given_relocs (Some (ZerosOf _)) place = []
 
 abbrev pub data_relocs : StmtKind → Place → List Reloc

@@ -14,7 +14,9 @@ use Rattle.asm_layout.specs.declared.place.Section.TheVariants.{Text, Bss}
 use Rattle.asm_layout.specs.declared.fault.AsmWhat.{AsmWhat}
 use Rattle.asm_layout.specs.declared.fault.AsmWhat.TheVariants.{UndefinedLocal, Encode, PoolTooFar, Placement}
 use Rattle.asm_layout.specs.Sizes.{is_instruction}
-use Rattle.asm_layout.specs.Sorts.{Operation, Nameless, Undefined, AdrOf, LdrOf, LdrValue, BTo, BCondTo, BlTo, Given, WordsOf, HalvesOf, BytesOf, AsciiOf, AscizOf, ZerosOf, Sort, CodeOf, DataOf, Filling, AboutName, Bare, sort_of, given}
+use Rattle.asm_layout.specs.declared.given.Width.{Width}
+use Rattle.asm_layout.specs.Given.{Given, FieldsOf, TextOf, ZerosOf, limit, takes_addresses}
+use Rattle.asm_layout.specs.Sorts.{Operation, Nameless, Undefined, AdrOf, LdrOf, LdrValue, BTo, BCondTo, BlTo, Sort, CodeOf, DataOf, Filling, AboutName, Bare, sort_of, given}
 use Rattle.asm_layout.specs.Walks.{same_section}
 use Rattle.asm_layout.specs.Labels.{Named}
 use Rattle.asm_object.specs.Values.{is_known, is_word_known, number}
@@ -32,13 +34,14 @@ are_operands_known labels (BTo name) = is_known labels name
 are_operands_known labels (BCondTo _ name) = is_known labels name
 are_operands_known labels (BlTo name) = is_known labels name
 
+-- a field may be given: it is a number, or an address whose names may be used where its width takes one
+abbrev pub is_field_known : List Named → Width → Expr → Bool
+is_field_known labels width field = if takes_addresses width then is_word_known labels field else is_some (number labels field)
+
 -- the names of data may be used
 abbrev pub are_fields_known : List Named → Given → Bool
-are_fields_known labels (WordsOf words) = list_all (is_word_known labels) words
-are_fields_known labels (HalvesOf fields) = list_all (λ field. is_some (number labels field)) fields
-are_fields_known labels (BytesOf fields) = list_all (λ field. is_some (number labels field)) fields
-are_fields_known labels (AsciiOf _) = true
-are_fields_known labels (AscizOf _) = true
+are_fields_known labels (FieldsOf width fields) = list_all (λ field. is_field_known labels width field) fields
+are_fields_known labels (TextOf _ _) = true
 are_fields_known labels (ZerosOf _) = true
 
 abbrev pub is_sort_known : List Named → Sort → Bool
@@ -52,11 +55,11 @@ is_sort_known labels Bare = true
 abbrev pub are_names_known : List Named → StmtKind → Bool
 are_names_known labels kind = is_sort_known labels (sort_of kind)
 
--- a number from -half to 2 * half - 1
+-- a number from minus a limit to twice the limit, less 1
 abbrev pub fits : ℕ → Option ℤ → Bool
-fits half (Some (pos n)) = nat_lt n (2 * half)
-fits half (Some (negsuc n)) = nat_lt n half
-fits half None = true
+fits most (Some (pos n)) = nat_lt n (2 * most)
+fits most (Some (negsuc n)) = nat_lt n most
+fits most None = true
 
 abbrev pub fault_unless : Bool → EncodeFault → Option EncodeFault
 fault_unless holds fault = if holds then None else Some fault
@@ -87,13 +90,15 @@ operation_fault (BTo _) code = coded_fault code
 operation_fault (BCondTo _ _) code = coded_fault code
 operation_fault (BlTo _) code = coded_fault code
 
--- why a number doesn't fit its field
+-- why a number doesn't fit its field, if there is a limit
+abbrev pub fields_fault : List Named → Option ℕ → List Expr → Option EncodeFault
+fields_fault labels None fields = None
+fields_fault labels (Some most) fields = fault_unless (list_all (λ field. fits most (number labels field)) fields) ImmediateRange
+
+-- why a number of data doesn't fit
 abbrev pub data_fault : List Named → Given → Option EncodeFault
-data_fault labels (WordsOf _) = None
-data_fault labels (HalvesOf fields) = fault_unless (list_all (λ field. fits 32768 (number labels field)) fields) ImmediateRange
-data_fault labels (BytesOf fields) = fault_unless (list_all (λ field. fits 128 (number labels field)) fields) ImmediateRange
-data_fault labels (AsciiOf _) = None
-data_fault labels (AscizOf _) = None
+data_fault labels (FieldsOf width fields) = fields_fault labels (limit width) fields
+data_fault labels (TextOf _ _) = None
 data_fault labels (ZerosOf n) = fault_unless (is_natural n) ImmediateRange
 
 abbrev pub sort_fault : List Named → Sort → Option (Result Code EncodeFault) → Option EncodeFault
@@ -120,11 +125,8 @@ has_fields fields = not (length fields == 0)
 -- data gives bytes, and not zeros alone
 abbrev pub has_bytes_in : Option Given → Bool
 has_bytes_in None = false
-has_bytes_in (Some (WordsOf fields)) = has_fields fields
-has_bytes_in (Some (HalvesOf fields)) = has_fields fields
-has_bytes_in (Some (BytesOf fields)) = has_fields fields
-has_bytes_in (Some (AsciiOf text)) = not (length text == 0)
-has_bytes_in (Some (AscizOf _)) = true
+has_bytes_in (Some (FieldsOf _ fields)) = has_fields fields
+has_bytes_in (Some (TextOf text closed)) = if closed then true else not (length text == 0)
 has_bytes_in (Some (ZerosOf _)) = false
 
 abbrev pub has_bytes : StmtKind → Bool

@@ -1,15 +1,18 @@
 //! Bytes of instructions and of what fills a text (docs/objects.md; DDI 0419).
 ghost use Rattle.std.specs.Prelude.{◌≡◌, ◌<◌, ◌++◌, OnOk, replicate};
+ghost use Rattle.byteorder.specs.Endian.{little_bytes};
 ghost use Rattle.eh_list.specs.Bytes.{gap};
+ghost use Rattle.asm_layout.specs.Given.{bytes_of};
 ghost use Rattle.asm_object.specs.Bytes.{byte_bytes, half_bytes, word_bytes, code_bytes, filling_bytes};
 
 use crate::object::Octets;
+use asm_layout::given::Width;
 use eh_list::bytes::gap;
 use std::alloc::AllocError;
 use thumb_encode::code::Code;
 
 /// Adds a byte by its number modulo 256.
-pub fn push_byte(bytes: &mut Octets, n: u32) -> Result<(), AllocError>
+fn push_byte(bytes: &mut Octets, n: u32) -> Result<(), AllocError>
     ensures { OnOk result (bytes.new ≡ bytes.old ++ byte_bytes n) }
 {
     bytes.push((n % 256) as u8)
@@ -21,6 +24,17 @@ pub fn push_half(bytes: &mut Octets, n: u32) -> Result<(), AllocError>
     ensures { OnOk result (bytes.new ≡ bytes.old ++ half_bytes n) }
 {
     bytes.push_half((n % 0x1_0000) as u16)
+}
+
+/// Adds as many of the low bytes of a number as a field of a width has, the lowest first.
+pub fn push_field(bytes: &mut Octets, width: Width, n: u32) -> Result<(), AllocError>
+    ensures { OnOk result (bytes.new ≡ bytes.old ++ little_bytes (bytes_of width) n) }
+{
+    match width {
+        Width::Byte => push_byte(bytes, n),
+        Width::Half => push_half(bytes, n),
+        Width::Word => bytes.push_word(n),
+    }
 }
 
 /// Adds the halfwords of an instruction.

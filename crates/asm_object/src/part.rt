@@ -1,19 +1,23 @@
 //! A section as it grows: its bytes, and what the linker fills in them (docs/objects.md).
 ghost use Rattle.std.specs.Prelude.{◌≡◌, ◌++◌, [], flat_map, map, OnOk};
+ghost use Rattle.byteorder.specs.Endian.{little_bytes};
+ghost use Rattle.asm_layout.specs.Given.{bytes_of, given_by};
 ghost use Rattle.asm_layout.specs.Labels.{named_in};
 ghost use Rattle.asm_layout.specs.Words.{word_of};
-ghost use Rattle.asm_object.specs.Bytes.{byte_bytes, half_bytes, word_bytes};
+ghost use Rattle.asm_object.specs.Bytes.{word_bytes};
 ghost use Rattle.asm_object.specs.Values.{held, low_or_zero, link_of, number};
 ghost use Rattle.asm_object.specs.Instructions.{branch_link};
-ghost use Rattle.asm_object.specs.Pieces.{relocs_of, word_relocs, words_bytes, udf_half, code_bytes_of, data_bytes, data_relocs};
+ghost use Rattle.asm_object.specs.Pieces.{relocs_of, word_relocs, words_bytes, udf_half, code_bytes_of, fields_bytes, given_bytes, data_bytes, fields_relocs, given_relocs, data_relocs};
 ghost use Rattle.asm_object.specs.Built.{part_with, no_part};
 
-use crate::bytes::{push_byte, push_code, push_half};
+use crate::bytes::{push_code, push_field, push_half};
 use crate::code::{Coded, branch_link};
 use crate::object::{Octets, Reloc, Relocs};
 use crate::value::{Link, held, link_of, number};
+use asm_layout::given::{Data, Width};
 use asm_layout::labels::Labels;
 use asm_layout::place::{Place, Section};
+use asm_layout::sort::given;
 use asm_layout::word::{Word, Words, low_number, low_part, word_of};
 use asm_layout::{bare_form, branch_form, data_form, name_form, nameless_form, reader_form};
 use asm_read::{Expr, StmtKind};
@@ -35,22 +39,17 @@ fn push_link(relocs: &mut Relocs, at: Place, link: Option<Link>) -> Result<(), A
     Ok(())
 }
 
-/// Adds the numbers of fields of two bytes.
-fn push_halves(bytes: &mut Octets, labels: &Labels, fields: &[Expr]) -> Result<(), AllocError>
-    ensures { OnOk result (bytes.new ≡ bytes.old ++ flat_map (λ expr. half_bytes (low_or_zero (number (named_in labels.now) expr))) fields.now) }
+/// Adds the numbers of fields.
+fn push_numbers(
+    bytes: &mut Octets,
+    labels: &Labels,
+    width: Width,
+    fields: &[Expr],
+) -> Result<(), AllocError>
+    ensures { OnOk result (bytes.new ≡ bytes.old ++ flat_map (λ field. little_bytes (bytes_of width) (low_or_zero (number (named_in labels.now) field))) fields.now) }
 {
-    for expr in fields {
-        push_half(bytes, low_number(number(labels, expr).unwrap_or(0)))?;
-    }
-    Ok(())
-}
-
-/// Adds the numbers of fields of one byte.
-fn push_bytes(bytes: &mut Octets, labels: &Labels, fields: &[Expr]) -> Result<(), AllocError>
-    ensures { OnOk result (bytes.new ≡ bytes.old ++ flat_map (λ expr. byte_bytes (low_or_zero (number (named_in labels.now) expr))) fields.now) }
-{
-    for expr in fields {
-        push_byte(bytes, low_number(number(labels, expr).unwrap_or(0)))?;
+    for field in fields {
+        push_field(bytes, width, low_number(number(labels, field).unwrap_or(0)))?;
     }
     Ok(())
 }
@@ -139,6 +138,43 @@ impl Part {
         Ok(())
     }
 
+    /// Adds fields from a place on.
+    fn push_fields(
+        &mut self,
+        alloc: Global,
+        labels: &Labels,
+        at: Place,
+        width: Width,
+        fields: &[Expr],
+    ) -> Result<(), AllocError>
+        ensures { OnOk result (self.new ≡ part_with self.old (fields_bytes (named_in labels.now) width fields.now) (fields_relocs width fields.now at)) }
+    {
+        if width.takes_addresses() {
+            return self.push_words(alloc, labels, at, fields);
+        }
+        push_numbers(&mut self.bytes, labels, width, fields)
+    }
+
+    /// Adds data at a place.
+    fn push_given(
+        &mut self,
+        alloc: Global,
+        labels: &Labels,
+        at: Place,
+        given: Data<'_>,
+    ) -> Result<(), AllocError>
+        ensures { OnOk result (self.new ≡ part_with self.old (given_bytes (named_in labels.now) (Some (given_by given.entry))) (given_relocs (Some (given_by given.entry)) at)) }
+    {
+        match given {
+            Data::Fields(width, fields) => self.push_fields(alloc, labels, at, width, fields),
+            Data::Text { text, closed } => {
+                self.bytes.extend_from_slice(text)?;
+                if closed { self.bytes.push(0) } else { Ok(()) }
+            }
+            Data::Zeros(n) => self.bytes.push_zeros(usize::try_from(n).unwrap_or(0)),
+        }
+    }
+
     /// Adds the bytes of a statement that is no instruction.
     pub fn push_data(
         &mut self,
@@ -149,24 +185,9 @@ impl Part {
     ) -> Result<(), AllocError>
         ensures { OnOk result (self.new ≡ part_with self.old (data_bytes (named_in labels.now) kind.now) (data_relocs kind.now at)) }
     {
-        match kind {
-            StmtKind::Words(list) => self.push_words(alloc, labels, at, list.as_slice()),
-            StmtKind::Halves(list) => push_halves(&mut self.bytes, labels, list.as_slice()),
-            StmtKind::Bytes(list) => push_bytes(&mut self.bytes, labels, list.as_slice()),
-            StmtKind::Ascii(text) => self.bytes.extend_from_slice(text.bytes()),
-            StmtKind::Asciz(text) => {
-                self.bytes.extend_from_slice(text.bytes())?;
-                self.bytes.push(0)
-            }
-            StmtKind::Space(n) => self.bytes.push_zeros(usize::try_from(*n).unwrap_or(0)),
-            nameless_form!()
-            | reader_form!()
-            | branch_form!()
-            | StmtKind::Udf { .. }
-            | StmtKind::Barrier { .. }
-            | StmtKind::Align(_)
-            | name_form!()
-            | bare_form!() => Ok(()),
+        match given(kind) {
+            Some(found) => self.push_given(alloc, labels, at, found),
+            None => Ok(()),
         }
     }
 

@@ -1,27 +1,54 @@
 //! Why a statement is refused at its place (docs/objects.md, in the order of its table).
 ghost use Rattle.std.specs.Prelude.{◌≡◌};
+ghost use Rattle.asm_layout.specs.Given.{given_by};
 ghost use Rattle.asm_layout.specs.Labels.{named_in};
 ghost use Rattle.asm_object.specs.Values.{number};
 ghost use Rattle.asm_object.specs.Instructions.{instruction, coded};
-ghost use Rattle.asm_object.specs.Refusals.{are_names_known, fits, fault_unless, coded_fault, encode_fault_by, is_pool_too_far, has_bytes, is_misplaced, refusal};
+ghost use Rattle.asm_object.specs.Refusals.{is_field_known, are_fields_known, are_names_known, fits, fault_unless, coded_fault, fields_fault, data_fault, encode_fault_by, is_pool_too_far, has_bytes, is_misplaced, refusal};
 
 use crate::code::{Coded, base, text_place};
 use crate::value::{is_known, is_word_known, number};
 use asm_layout::fault::AsmWhat;
+use asm_layout::given::{Data, Width};
 use asm_layout::labels::Labels;
 use asm_layout::place::{Place, Section};
+use asm_layout::sort::given;
 use asm_layout::walk::is_instruction;
-use asm_layout::{bare_form, branch_form, name_form, nameless_form, reader_form};
+use asm_layout::{bare_form, branch_form, data_form, name_form, nameless_form, reader_form};
 use asm_read::{Expr, StmtKind};
 use thumb_encode::code::EncodeFault;
 
 /// The most bytes from a `ldr` to its pool word.
 pub const MOST_TO_POOL: u64 = 1020;
 
+/// Whether a field may be given: it is a number, or an address whose names may be used where its width takes one.
+fn is_field_known(labels: &Labels, width: Width, field: &Expr) -> bool
+    ensures { result ≡ is_field_known (named_in labels.now) width field.now }
+{
+    if width.takes_addresses() {
+        is_word_known(labels, field)
+    } else {
+        number(labels, field).is_some()
+    }
+}
+
+/// Whether the names of data may be used.
+fn are_fields_known(labels: &Labels, given: Data<'_>) -> bool
+    ensures { result ≡ are_fields_known (named_in labels.now) (given_by given.entry) }
+{
+    match given {
+        Data::Fields(width, fields) => fields.iter().all(|f| is_field_known(labels, width, f)),
+        Data::Text { .. } | Data::Zeros(_) => true,
+    }
+}
+
 /// Whether the names of a statement may be used.
 fn are_names_known(labels: &Labels, kind: &StmtKind) -> bool
     ensures { result ≡ are_names_known (named_in labels.now) kind.now }
 {
+    if let Some(found) = given(kind) {
+        return are_fields_known(labels, found);
+    }
     match kind {
         StmtKind::Adr { name, .. } | StmtKind::LdrLabel { name, .. } => text_place(
             labels, name,
@@ -34,31 +61,22 @@ fn are_names_known(labels: &Labels, kind: &StmtKind) -> bool
         | StmtKind::TypeFunction(name)
         | StmtKind::TypeObject(name)
         | StmtKind::Size(name) => is_known(labels, name),
-        StmtKind::Words(words) => words.as_slice().iter().all(|w| is_word_known(labels, w)),
-        StmtKind::Halves(fields) | StmtKind::Bytes(fields) => {
-            fields
-                .as_slice()
-                .iter()
-                .all(|f| number(labels, f).is_some())
-        }
         nameless_form!()
         | StmtKind::Barrier { .. }
         | StmtKind::Udf { .. }
-        | StmtKind::Ascii(_)
-        | StmtKind::Asciz(_)
-        | StmtKind::Space(_)
+        | data_form!()
         | StmtKind::Align(_)
         | bare_form!() => true,
     }
 }
 
-/// Whether a number fits a field, from `-half` to `2 * half - 1`.
-fn fits(labels: &Labels, expr: &Expr, half: u16) -> bool
-    ensures { result ≡ fits half (number (named_in labels.now) expr.now) }
+/// Whether a number fits a field, from `-limit` to `2 * limit - 1`.
+fn fits(labels: &Labels, expr: &Expr, limit: u16) -> bool
+    ensures { result ≡ fits limit (number (named_in labels.now) expr.now) }
 {
-    let half = i128::from(half);
+    let limit = i128::from(limit);
     match number(labels, expr) {
-        Some(n) => -half <= n && n < 2 * half,
+        Some(n) => -limit <= n && n < 2 * limit,
         None => true,
     }
 }
@@ -80,20 +98,38 @@ fn coded_fault(code: &Coded) -> Option<EncodeFault>
     }
 }
 
+/// Why a number doesn't fit its field, if there is a limit.
+fn fields_fault(labels: &Labels, limit: Option<u16>, fields: &[Expr]) -> Option<EncodeFault>
+    ensures { result ≡ fields_fault (named_in labels.now) limit fields.now }
+{
+    match limit {
+        Some(limit) => fault_unless(
+            fields.iter().all(|f| fits(labels, f, limit)),
+            EncodeFault::ImmediateRange,
+        ),
+        None => None,
+    }
+}
+
+/// Why a number of data doesn't fit.
+fn data_fault(labels: &Labels, given: Data<'_>) -> Option<EncodeFault>
+    ensures { result ≡ data_fault (named_in labels.now) (given_by given.entry) }
+{
+    match given {
+        Data::Fields(width, fields) => fields_fault(labels, width.limit(), fields),
+        Data::Text { .. } => None,
+        Data::Zeros(n) => fault_unless(n >= 0, EncodeFault::ImmediateRange),
+    }
+}
+
 /// Why `encode` refuses the instruction of a statement, or a number doesn't fit.
 fn encode_fault(labels: &Labels, kind: &StmtKind, code: &Coded) -> Option<EncodeFault>
     ensures { result ≡ encode_fault_by (named_in labels.now) kind.now code.now }
 {
+    if let Some(found) = given(kind) {
+        return data_fault(labels, found);
+    }
     match kind {
-        StmtKind::Halves(fields) => fault_unless(
-            fields.as_slice().iter().all(|f| fits(labels, f, 32768)),
-            EncodeFault::ImmediateRange,
-        ),
-        StmtKind::Bytes(fields) => fault_unless(
-            fields.as_slice().iter().all(|f| fits(labels, f, 128)),
-            EncodeFault::ImmediateRange,
-        ),
-        StmtKind::Space(n) => fault_unless(*n >= 0, EncodeFault::ImmediateRange),
         StmtKind::Udf { imm } => fault_unless(
             0 <= *imm && *imm <= 255,
             EncodeFault::ImmediateRange,
@@ -104,12 +140,7 @@ fn encode_fault(labels: &Labels, kind: &StmtKind, code: &Coded) -> Option<Encode
         | StmtKind::Adr { .. }
         | StmtKind::LdrLabel { .. }
         | branch_form!() => coded_fault(code),
-        StmtKind::Words(_)
-        | StmtKind::Ascii(_)
-        | StmtKind::Asciz(_)
-        | StmtKind::Align(_)
-        | name_form!()
-        | bare_form!() => None,
+        data_form!() | StmtKind::Align(_) | name_form!() | bare_form!() => None,
     }
 }
 
@@ -127,21 +158,10 @@ fn is_pool_too_far(place: u64, word: Option<u64>) -> bool
 fn has_bytes(kind: &StmtKind) -> bool
     ensures { result ≡ has_bytes kind.now }
 {
-    match kind {
-        StmtKind::Words(list) | StmtKind::Halves(list) | StmtKind::Bytes(list) => !list
-            .as_slice()
-            .is_empty(),
-        StmtKind::Ascii(text) => !text.bytes().is_empty(),
-        StmtKind::Asciz(_) => true,
-        nameless_form!()
-        | reader_form!()
-        | branch_form!()
-        | StmtKind::Udf { .. }
-        | StmtKind::Barrier { .. }
-        | StmtKind::Space(_)
-        | StmtKind::Align(_)
-        | name_form!()
-        | bare_form!() => false,
+    match given(kind) {
+        Some(Data::Fields(_, fields)) => !fields.is_empty(),
+        Some(Data::Text { text, closed }) => closed || !text.is_empty(),
+        Some(Data::Zeros(_)) | None => false,
     }
 }
 
