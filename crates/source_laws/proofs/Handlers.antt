@@ -98,13 +98,7 @@ pub record GivesData (entries : List (Option EntryWords)) (labels : List Named) 
 
 gives_data : (entries : List (Option EntryWords)) (labels : List Named) (walk : Walk) (word : Option ℕ) (kind : StmtKind) → is_data kind ≡ true → GivesData entries labels walk word kind
 gives_data entries labels walk word (statement.Label name) e = record { bytes = refl; section = refl }
-gives_data entries labels walk word (statement.Words exprs) e = record { bytes = refl; section = refl }
-gives_data entries labels walk word (statement.Halves exprs) e = record { bytes = refl; section = refl }
-gives_data entries labels walk word (statement.Bytes exprs) e = record { bytes = refl; section = refl }
-gives_data entries labels walk word (statement.Ascii text) e = record { bytes = refl; section = refl }
-gives_data entries labels walk word (statement.Asciz text) e = record { bytes = refl; section = refl }
-gives_data entries labels walk word (statement.Space n) e = record { bytes = refl; section = refl }
-gives_data entries labels walk word _ e = absurd (true≢false (sym e))
+gives_data entries labels walk word _ e = record { bytes = cc; section = cc }
 
 data_there : (entries : List (Option EntryWords)) (labels : List Named) (walk : Walk) (own more : List Stmt) → walk.at.section ≡ Extab → list_all (λ s. is_data s.kind) own ≡ true
     → bytes_in Extab (pieces_from entries labels walk (own ++ more))

@@ -1,5 +1,5 @@
 -- The data of a function's handler, as its source meant it: what stands behind `.handlerdata` (docs/unwind-index.md, "From the source").
-use Rattle.std.specs.Prelude.{◌≡◌, ℕ, ◌*◌, ◌+◌, ◌^◌, ◌<◌, Bool, true, false, List, [], ◌∷◌, ◌++◌, length, drop, flat_map, Ok}
+use Rattle.std.specs.Prelude.{◌≡◌, ℕ, ◌*◌, ◌+◌, ◌^◌, ◌<◌, Bool, true, false, List, [], ◌∷◌, ◌++◌, length, drop, flat_map, is_some, Ok}
 use Rattle.std.specs.List.{list_any, list_all}
 use Rattle.eh_list.specs.Bytes.{next_multiple}
 use Rattle.asm_read.specs.declared.statement.Stmt.{Stmt}
@@ -10,6 +10,7 @@ use Rattle.asm_unwind.specs.Entries.{entry_words_of}
 use Rattle.asm_layout.specs.declared.place.Section.TheVariants.{Extab}
 use Rattle.asm_layout.specs.Functions.{entries_of}
 use Rattle.asm_layout.specs.Labels.{labels_of}
+use Rattle.asm_layout.specs.Sorts.{given}
 use Rattle.asm_layout.specs.Walks.{here}
 use Rattle.asm_object.specs.declared.object.Object.{Object}
 use Rattle.asm_object.specs.Objects.{object_of}
@@ -27,13 +28,7 @@ handler_at line = record { line = line; kind = statement.HandlerData }
 -- a statement that gives bytes by itself alone, or names a place
 abbrev pub is_data : StmtKind → Bool
 is_data (statement.Label _) = true
-is_data (statement.Words _) = true
-is_data (statement.Halves _) = true
-is_data (statement.Bytes _) = true
-is_data (statement.Ascii _) = true
-is_data (statement.Asciz _) = true
-is_data (statement.Space _) = true
-is_data _ = false
+is_data kind = is_some (given kind)
 
 -- where the first `.handlerdata` of a function stands, and the data that follows it at once
 pub record Handler (f : Function) : Type 0 where
