@@ -2,7 +2,7 @@
 -- that there are no others (docs/linking.md, "Names"; "ELF for the Arm Architecture", "Mapping symbols").
 use Rattle.std.specs.Prelude.{◌≡◌, ℕ, ◌<◌, ◌⊎◌, Bool, true, false, List, [], length, Ok, codes}
 use Rattle.asm_layout.specs.declared.place.Section.{Section}
-use Rattle.asm_layout.specs.declared.place.Section.TheVariants.{Text, Rodata, Extab}
+use Rattle.asm_layout.specs.declared.place.Section.TheVariants.{Text, Rodata, Extab, Init, Bss}
 use Rattle.asm_layout.specs.Words.{is_local}
 use Rattle.asm_object.specs.declared.object.Mark.{Mark}
 use Rattle.asm_object.specs.declared.object.Object.{Object}
@@ -39,9 +39,11 @@ pub record HasData (section : Section) (objects : List Object) (image : ImagePar
 
 -- the sections of the first segment that hold data
 abbrev pub is_data : Section → Bool
+is_data Text = false
 is_data Rodata = true
 is_data Extab = true
-is_data _ = false
+is_data Init = false
+is_data Bss = false
 
 -- where an object has read-only data, or exception tables, the image has it where those of the first object begin
 abbrev pub DataIsMarked : Type 0
