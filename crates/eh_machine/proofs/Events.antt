@@ -1,9 +1,9 @@
 -- One event, from what the parts of a call have done.
 use Rattle.std.specs.Prelude.{MatchOption}
-use Rattle.std.proofs.Common.{◌≡◌, ℕ, ◌≤◌, nat_lt, List, [], Bool, true, false, Option, Some, None, IfSome, Result, Ok, Err, refl, sym, ap, subst, ◌∙◌, arith}
+use Rattle.std.proofs.Common.{◌≡◌, ℕ, nat_lt, List, [], Bool, true, false, Option, Some, None, IfSome, Result, Ok, Err, refl, sym, ap, subst, ◌∙◌, arith}
 use Rattle.std.specs.Bool.{OnFalse, OnTrue}
 use Rattle.std.proofs.KnownBytes.{Appends-nil}
-use Rattle.event_runs.specs.Runs.{Event, Goes, Ends, GoesOn, Fails, EndsBy}
+use Rattle.event_runs.specs.Runs.{Goes, GoesOn, Fails, EndsBy}
 use Rattle.guest_gates.specs.declared.gates.TheConstants.{INPUT_GATE}
 use Rattle.guest_gates.specs.Ends.{is_fault}
 use Rattle.guest_gates.specs.Gates.{gate_event, gate_may_fail}
@@ -19,7 +19,7 @@ use Rattle.eh_types.specs.Graph.{Row}
 use Rattle.eh_gates.specs.State.{State, Outcome, guide_of}
 use Rattle.eh_gates.specs.Gates.{gate_of}
 use Rattle.eh_machine.specs.Program.{Program, guide}
-use Rattle.eh_machine.specs.Machine.{Passed, passed, event_of, in_state, gated, acted, onward, machine_event, gate_fails, passed_fails, may_fail, with_pc_of}
+use Rattle.eh_machine.specs.Machine.{Passed, passed, event_of, in_state, acted, onward, machine_event, passed_fails, may_fail, with_pc_of}
 use Rattle.eh_machine.specs.Turns.{TurnedOnce, IsCounted, CountsFaults}
 
 event_is : (p : Program) (s : State) (r : Passed) (input : List ℕ) → r ≡ passed p s → machine_event p s input ≡ onward p s r input

@@ -1,5 +1,5 @@
 -- One instruction up to its gate, from what its step and its tests have done.
-use Rattle.std.proofs.Common.{◌≡◌, ℕ, ◌+◌, ◌*◌, ◌%◌, ◌^◌, ◌<◌, ◌≤◌, nat_lt, Bool, true, false, ◌&&◌, List, Option, Some, None, Result, Ok, Err, IfErr, slice_index, length, refl, sym, ap, subst, ◌∙◌, cond, arith}
+use Rattle.std.proofs.Common.{◌≡◌, ℕ, ◌+◌, ◌*◌, ◌%◌, ◌^◌, ◌<◌, ◌≤◌, nat_lt, Bool, true, false, ◌&&◌, Option, Some, None, Result, Ok, Err, slice_index, length, refl, sym, ap, subst, ◌∙◌, cond, arith}
 use Rattle.std.proofs.lemmas.Bool.{ltb-false, le-ltb}
 use Rattle.std.proofs.Math.Nat.{le_trans}
 use Rattle.std.specs.Option.{option_or}
@@ -13,7 +13,7 @@ use Rattle.guest_gates.specs.Ends.{bus_end, trap_end, is_fault}
 use Rattle.thumb_isa.specs.Range.{InRange}
 use Rattle.thumb_isa.specs.declared.instr.Instr.{Instr}
 use Rattle.thumb_core.specs.Outcome.{Outcome as Stepping}
-use Rattle.thumb_core.specs.Registers.{with_next, even, reg as reg_of}
+use Rattle.thumb_core.specs.Registers.{even, reg as reg_of}
 use Rattle.thumb_core.specs.Step.{step_of, instr_at, effect}
 use Rattle.thumb_core.specs.Stores.{stores_of, stores_of_some}
 use Rattle.thumb_core.specs.Laws.{Leaves, LeavesMemory}
@@ -37,7 +37,7 @@ use Rattle.eh_gates.specs.declared.state.Core.{Core}
 use Rattle.eh_gates.specs.State.{State, state_of, reg}
 use Rattle.eh_machine.specs.Program.{Program}
 use Rattle.eh_machine.specs.Passes.{Passes, Tried}
-use Rattle.eh_machine.specs.Machine.{Passed, leaves_cleanup, way_end, refusal, tests, settled, settled_at, freed_below, saved_words, tested, stepped, checked, passed, with_pc_of}
+use Rattle.eh_machine.specs.Machine.{Passed, leaves_cleanup, way_end, refusal, tests, settled, settled_at, saved_words, tested, stepped, passed, with_pc_of}
 
 -- ---- what a call has done, by its end
 

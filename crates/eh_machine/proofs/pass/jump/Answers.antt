@@ -1,4 +1,4 @@
-use Rattle.std.proofs.Common.{◌≡◌, ℕ, ◌≤◌, ap, arith}
+use Rattle.std.proofs.Common.{ℕ, ap, arith}
 use Rattle.thumb_core.specs.declared.regs.Stepped.TheVariants.{Done}
 use Rattle.eh_gates.specs.State.{state_of}
 use Rattle.eh_machine.proofs.Passing.{went_on, was_done, jump_passes}
