@@ -1,8 +1,9 @@
 -- Walks once, and words at their places: where the pools to come begin is known behind the walk.
-use Rattle.std.proofs.Common.{◌≡◌, ℕ, suc, ◌==◌, ◌&&◌, not, Bool, true, false, cond, List, [], ◌∷◌, ◌++◌, length, map, Option, Some, None, option_map, refl, sym, ap, ◌∙◌, arith}
+use Rattle.std.proofs.Common.{◌≡◌, ℕ, suc, ◌==◌, ◌&&◌, not, Bool, true, false, cond, List, [], ◌∷◌, ◌++◌, ◌+◌, ◌<◌, length, get_or, take, drop, set, append_assoc, map, Option, Some, None, option_map, refl, sym, ap, ◌∙◌, arith}
 use Rattle.std.specs.List.{list_any, position_or_len}
 use Rattle.std.proofs.lemmas.Bool.{true≢false}
 use Rattle.std.proofs.lemmas.Bool.Decides.{nat_tests}
+use Rattle.std.proofs.lemmas.List.{take_more_set, drop-set-lt}
 use Rattle.asm_read.specs.declared.statement.Stmt.{Stmt}
 use Rattle.asm_read.specs.declared.statement.StmtKind.{StmtKind}
 use Rattle.asm_read.specs.declared.statement.StmtKind.TheVariants.{LdrPool, Pool, FnStart}
@@ -15,7 +16,9 @@ use Rattle.asm_layout.specs.SameWords.{same_word}
 use Rattle.asm_layout.specs.Sizes.{sum_64, times}
 use Rattle.asm_layout.specs.Labels.{stmt_of}
 use Rattle.asm_layout.specs.Walks.{next, cursor_behind, is_empty, is_in_text, ends_pool, pool_with, pool_behind, pool_place, pools_if, pools_from, coming_pool, sizes_with_pool}
-use Rattle.asm_layout.specs.Placing.{word_offset, word_place, pool_here, function_here, function_puts, puts_at, stood_at, stood_from, placed_at, placed_from, moved_word, has_words, places_behind, resolved}
+use Rattle.asm_layout.specs.Placing.{word_offset, word_place, pool_here, function_here, function_puts, puts_at, stood_at, stood_from, placed_at, placed_from, moved_word, moved, has_words, puts_pool, places_behind, resolved}
+use Rattle.asm_layout.specs.PlacedStmt.{PlacedStmt}
+use Rattle.asm_layout.proofs.LayoutLaws.{drop-next}
 
 -- ---- one statement
 
@@ -141,3 +144,15 @@ pub statements_kept : (entries : List (Option EntryWords)) (walk : Walk) (stmts 
 unfolding placed_from
 statements_kept entries walk [] = refl
 statements_kept entries walk (stmt ∷ more) = ap (λ l. stmt ∷ l) (statements_kept entries (next entries walk stmt.kind) more)
+
+-- one statement of a list is given its word's place
+pub resolved-more : (pools : List ℕ) (placed : List PlacedStmt) (i : ℕ) (one : PlacedStmt) → i < length placed → one ≡ get_or placed i one
+    → take (i + 1) (set placed i (moved pools one)) ++ resolved (places_behind pools (puts_pool one)) (drop (i + 1) (set placed i (moved pools one)))
+    ≡ take i placed ++ resolved pools (drop i placed)
+unfolding resolved
+resolved-more pools placed i one within is =
+    let behind = places_behind pools (puts_pool one) in
+    let past : i < i + 1 = omega arith in
+    (λ j. take_more_set placed i (moved pools one) within j ++ resolved behind (drop-set-lt (i + 1) placed i (moved pools one) past j))
+    ∙ append_assoc (take i placed) (moved pools one ∷ []) (resolved behind (drop (i + 1) placed))
+    ∙ ap (λ l. take i placed ++ resolved pools l) (drop-next placed i one within is)

@@ -7,7 +7,7 @@ ghost use Rattle.asm_layout.specs.Labels.{labels_of, labelled, duplicates_from, 
 
 use crate::fault::{AsmFault, AsmWhat, first_if};
 use crate::labels::{Defined, Labels, defined_in};
-use crate::placed::{PlacedPool, PlacedStmt};
+use crate::placed::{PlacedPool, PlacedStmt, moved_word};
 use crate::walk::Walk;
 use asm_read::Stmt;
 use asm_unwind::EntryWords;
@@ -63,7 +63,7 @@ fn stood_of<'a>(
     ensures too_large { IfOk result (λ stood.
         stood.too_large ≡ first_of_all None (too_large_from entries.now start 0 stmts.now)) }
 {
-    let mut placed = Vec::new(alloc);
+    let mut placed = Vec::with_capacity(alloc, stmts.len())?;
     let mut pools = Seq::new(alloc);
     let mut too_large = None;
     let mut last = 0;
@@ -96,23 +96,16 @@ fn places_behind(places: &[u64], ends: bool) -> &[u64]
     }
 }
 
-/// The statements with the places of their words, where the pools begin at these places.
-#[tactic(auto, unfolding(crate::specs::Placing::resolved))]
-fn resolved<'a>(
-    alloc: Global,
-    stood: Vec<PlacedStmt<'a>>,
-    pools: &[u64],
-) -> Result<Vec<PlacedStmt<'a>>, AllocError>
-    ensures { IfOk result (λ placed. placed.items ≡ resolved pools.now stood.entry.items) }
+/// Gives the statements the places of their words, where the pools begin at these places.
+fn resolve(placed: &mut [PlacedStmt<'_>], pools: &[u64])
+    ensures { placed.new ≡ resolved pools.now placed.old }
 {
-    let mut placed = Vec::new(alloc);
     let mut pools = pools;
-    for one in stood {
+    for one in placed.iter_mut() {
         let ends = one.puts_pool();
-        placed.push(one.moved(pools))?;
+        one.word = moved_word(pools, one.word);
         pools = places_behind(pools, ends);
     }
-    Ok(placed)
 }
 
 /// The layout of statements, with the entries of their functions.
@@ -131,13 +124,13 @@ pub fn layout_of<'a>(
         layout.too_large ≡ first_of_all None (too_large_from entries.now start 0 stmts.now)) }
 {
     let Stood {
-        placed,
+        mut placed,
         pools,
         last,
         bss,
         too_large,
     } = stood_of(alloc, stmts, entries)?;
-    let placed = resolved(alloc, placed, pools.as_slice())?;
+    resolve(placed.as_mut_slice(), pools.as_slice());
     let Defined {
         mut labels,
         duplicate,

@@ -10,7 +10,7 @@ ghost use Rattle.asm_layout.specs.Placing.{word_offset, pool_here, function_puts
 
 use crate::given::Data;
 use crate::place::{Place, Section};
-use crate::placed::{PlacedFunction, PlacedPool, PlacedStmt, Puts};
+use crate::placed::{PlacedFunction, PlacedPool, PlacedStmt, Puts, boxed};
 use crate::sort::given;
 use crate::word::{Word, Words, word_of};
 use crate::{bare_form, branch_form, data_form, name_form, nameless_form, reader_form};
@@ -456,11 +456,11 @@ impl Walk {
                     stmt,
                     at,
                     word: None,
-                    puts,
+                    puts: boxed(alloc, puts)?,
                 })
             }
             kind => {
-                let puts = self.at.function_puts(kind);
+                let puts = boxed(alloc, self.at.function_puts(kind))?;
                 let word = self.put_word(alloc, kind)?;
                 self.at = self.at.behind(kind, entries);
                 Ok(PlacedStmt {

@@ -61,7 +61,8 @@ impl Gathered {
         ensures sections { OnOk result (self.new.sections ≡ with_pieces self.old.sections (pieces_at entries.now (named_in labels.now) placed.entry)) }
         ensures rows { OnOk result (self.new.rows ≡ self.old.rows ++ put_rows entries.now placed.entry.puts) }
     {
-        let PlacedStmt { stmt, at, puts, .. } = placed;
+        let (stmt, at) = (placed.stmt, placed.at);
+        let puts = placed.into_puts();
         push_row(&mut self.rows, entries, &puts)?;
         self.sections
             .push_set(labels, entries, at, &stmt.kind, puts)?;

@@ -104,7 +104,8 @@ fn exprs_from(alloc: Global, word: bool, line: &[u8], from: usize) -> Result<Vec
     requires { from ≤ length line.now }
     ensures { IfOk result (λ v. v.items ≡ exprs_of line.now (expressions_at (length line.now) word line.now from)) }
 {
-    let mut exprs = Vec::new(alloc);
+    // most lists have one
+    let mut exprs = Vec::with_capacity(alloc, 1)?;
     let mut at = from;
     let mut left = line.len();
     while left > 0 {

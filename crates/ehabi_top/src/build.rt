@@ -103,14 +103,18 @@ fn written_bytes<'a>(alloc: Global, parts: &ImageParts) -> Result<Vec<u8>, Build
 /// The bytes of the image that sources and the stubs are built to.
 pub(crate) fn built<'a>(
     alloc: Global,
-    sources: &[SourceText<'a>],
+    sources: Vec<SourceText<'a>>,
 ) -> Result<Vec<u8>, BuildFault<'a>>
-    ensures { MatchResult result (λ bytes. built sources.now ≡ Ok bytes.items)
-        (λ fault. is_memory fault ≡ false → built sources.now ≡ Err (fault_line fault)) }
+    ensures { MatchResult result (λ bytes. built sources.entry.items ≡ Ok bytes.items)
+        (λ fault. is_memory fault ≡ false → built sources.entry.items ≡ Err (fault_line fault)) }
 {
-    let read = all_statements(alloc, sources)?;
+    let read = all_statements(alloc, sources.as_slice())?;
+    // what is done with goes away before more is made
+    drop(sources);
     let objects = all_objects(alloc, read.as_slice())?;
+    drop(read);
     let parts = linked_parts(alloc, objects.as_slice())?;
+    drop(objects);
     written_bytes(alloc, &parts)
 }
 
@@ -127,7 +131,7 @@ pub(crate) fn built_files<'a, F: Files>(
         Loaded::Lacks(name) => return Ok(Err(FilesFault::Missing(name))),
         Loaded::Exceeds(name) => return Ok(Err(FilesFault::TooLong(name))),
     };
-    match built(alloc, sources.as_slice()) {
+    match built(alloc, sources) {
         Ok(bytes) => Ok(Ok(bytes)),
         Err(fault) => {
             if is_memory(&fault) {

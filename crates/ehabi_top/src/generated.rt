@@ -1,5 +1,5 @@
 //! `gen K M`: builds, checks and runs the program of a number, and says how many events came (docs/generated-programs.md).
-ghost use Rattle.std.specs.Prelude.{◌≡◌, ◌<◌, ◌≤◌, [], ◌∷◌, ℕ, List, Option, Some, Ok, Err, MatchResult, false};
+ghost use Rattle.std.specs.Prelude.{◌≡◌, ◌<◌, ◌≤◌, [], ◌∷◌, ℕ, List, Option, Some, Ok, Err, MatchResult, true, false};
 ghost use Rattle.frame_check.specs.Accepts.{IsAccepted};
 ghost use Rattle.ehabi_top.specs.Building.{built, fault_line, is_memory};
 ghost use Rattle.ehabi_top.specs.CheckReport.{ImageReportsBy, BytesReportsBy, IsUnaccepted};
@@ -79,6 +79,15 @@ fn count_bytes<O: Sink>(alloc: Global, bytes: &[u8], out: &mut O) -> Result<u8, 
     }
 }
 
+// One source and no other.
+fn alone<'a>(alloc: Global, source: SourceText<'a>) -> Result<Vec<SourceText<'a>>, BuildFault<'a>>
+    ensures { MatchResult result (λ all. all.items ≡ source.entry ∷ []) (λ fault. is_memory fault ≡ true) }
+{
+    let mut all = Vec::new(alloc);
+    all.push(source)?;
+    Ok(all)
+}
+
 // The bytes of the image of the program of this number.
 fn built_program<'a>(alloc: Global, number: u32, functions: u32) -> Result<Vec<u8>, BuildFault<'a>>
     requires some { 0 < functions }
@@ -88,7 +97,8 @@ fn built_program<'a>(alloc: Global, number: u32, functions: u32) -> Result<Vec<u
 {
     let text = generate(alloc, number, functions)?;
     let source = SourceText::new("generated", Bytes::of_vec(text));
-    built(alloc, &[source])
+    let sources = alone(alloc, source)?;
+    built(alloc, sources)
 }
 
 /// Counts the events of a run of the program of this number. Files and input play no part.

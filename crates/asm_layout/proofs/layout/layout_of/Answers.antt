@@ -1,4 +1,5 @@
-use Rattle.std.proofs.Common.{◌≡◌, ap, ◌∙◌, map, None, []}
+use Rattle.std.proofs.Common.{◌≡◌, ap, ◌∙◌, map, None, [], ◌++◌, take, drop, length, arith}
+use Rattle.std.proofs.lemmas.List.{take-append-le, take_all}
 use Rattle.asm_layout.specs.Faults.{first_of_all}
 use Rattle.asm_layout.specs.Labels.{labels_in, labels_of, duplicates_from, stmt_of}
 use Rattle.asm_layout.specs.LabelSteps.{sized, described}
@@ -6,35 +7,40 @@ use Rattle.asm_layout.specs.Placing.{placed_of, resolved}
 use Rattle.asm_layout.specs.Walks.{start}
 use Rattle.asm_layout.proofs.LayoutLaws.{labelled-from_sized}
 use Rattle.asm_layout.proofs.PlacingLaws.{resolved-is, statements_kept}
+use Rattle.asm_layout.proofs.layout.layout_of.Goals.{After-as_slice-2}
 use Rattle.asm_layout.proofs.layout.layout_of.Goals as goal
 
-pub returns-clause-placed : goal.returns-clause-placed
-returns-clause-placed c =
-    c.in_ok-placed-2.ensures
-    ∙ (λ j. resolved ((c.as_slice.ensures ∙ c.in_ok-placed.ensures.pools) j) (c.in_ok-placed.ensures.placed j))
+-- the list that was filled in is that of the statements where they stand
+placed-is : (c : After-as_slice-2) → c.resolve.new.placed ≡ placed_of c.args.entries.now c.args.stmts.now
+placed-is c =
+    c.resolve.ensures
+    ∙ (λ j. resolved ((c.as_slice.ensures ∙ c.in_ok-placed.ensures.pools) j) ((c.as_mut_slice.ensures.value ∙ c.in_ok-placed.ensures.placed) j))
     ∙ resolved-is c.args.entries.now start c.args.stmts.now
+
+whole-is : (c : After-as_slice-2) → take c.in_ok-placed.field-0.placed.len (c.resolve.new.placed ++ drop (length c.resolve.new.placed) c.in_ok-placed.field-0.placed.items) ≡ placed_of c.args.entries.now c.args.stmts.now
+whole-is c =
+    let new = c.resolve.new.placed in
+    take-append-le c.in_ok-placed.field-0.placed.len new _ (omega arith) ∙ take_all c.in_ok-placed.field-0.placed.len new (omega arith) ∙ placed-is c
+
+lent-is : (c : After-as_slice-2) → c.as_slice-2.result.now ≡ placed_of c.args.entries.now c.args.stmts.now
+lent-is c = c.as_slice-2.ensures.value ∙ whole-is c
+
+pub returns-clause-placed : goal.returns-clause-placed
+returns-clause-placed c = whole-is (goal.at.returns-clause-placed c).After-as_slice-2
 
 pub returns-clause-labels : goal.returns-clause-labels
 returns-clause-labels c =
     let entries = c.args.entries.now in
     let stmts = c.args.stmts.now in
-    let placed : c.as_slice-2.result.now ≡ placed_of entries stmts =
-    c.as_slice-2.ensures.value ∙ c.in_ok-placed-2.ensures
-    ∙ (λ j. resolved ((c.as_slice.ensures ∙ c.in_ok-placed.ensures.pools) j) (c.in_ok-placed.ensures.placed j))
-    ∙ resolved-is entries start stmts in
     c.describe.ensures
     ∙ ap (map (described stmts)) c.in_ok-labels.ensures.labels
-    ∙ ap (λ l. map (described stmts) (map (sized l) (labels_in [] l))) placed
+    ∙ ap (λ l. map (described stmts) (map (sized l) (labels_in [] l))) (lent-is (goal.at.returns-clause-labels c).After-as_slice-2)
     ∙ labelled-from_sized entries stmts (labels_of entries stmts)
 
 pub returns-clause-duplicate : goal.returns-clause-duplicate
 returns-clause-duplicate c =
     let entries = c.args.entries.now in
     let stmts = c.args.stmts.now in
-    let placed : c.as_slice-2.result.now ≡ placed_of entries stmts =
-    c.as_slice-2.ensures.value ∙ c.in_ok-placed-2.ensures
-    ∙ (λ j. resolved ((c.as_slice.ensures ∙ c.in_ok-placed.ensures.pools) j) (c.in_ok-placed.ensures.placed j))
-    ∙ resolved-is entries start stmts in
     c.in_ok-labels.ensures.duplicate
-    ∙ ap (λ l. first_of_all None (duplicates_from [] (map stmt_of l))) placed
+    ∙ ap (λ l. first_of_all None (duplicates_from [] (map stmt_of l))) (lent-is (goal.at.returns-clause-duplicate c).After-as_slice-2)
     ∙ ap (λ l. first_of_all None (duplicates_from [] l)) (statements_kept entries start stmts)

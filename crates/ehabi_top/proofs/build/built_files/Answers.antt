@@ -23,13 +23,12 @@ pub returns-in-Ok : goal.returns-in-Ok
 returns-in-Ok g c =
     let names = texts c.args.names.now in
     finds_ok _ (image_bytes names) _ _ (Ok c.in-Ok.bytes)
-    (bytes_built names c.in-All.sources.items (Ok c.in-Ok.bytes.items) _ (rw c.in-All.is at c.in_ok-sources.ensures.told) (rw c.as_slice.ensures.value at c.in-Ok.ensures))
+    (bytes_built names c.in-All.sources.items (Ok c.in-Ok.bytes.items) _ (rw c.in-All.is at c.in_ok-sources.ensures.told) c.in-Ok.ensures)
     tt c.in_ok-sources.ensures.kept
 
-pub returns : goal.returns
-returns g c =
+pub returns-else-is_memory : goal.returns-else-is_memory
+returns-else-is_memory g c =
     let names = texts c.args.names.now in
-    let h = rw c.as_slice.ensures.value at c.in-Err.ensures in
     finds_ok _ (image_bytes names) _ _ (Err (Sources c.in-Err.fault))
-    (bytes_built names c.in-All.sources.items (Err (fault_line c.in-Err.fault)) _ (rw c.in-All.is at c.in_ok-sources.ensures.told) (h (search rules)))
+    (bytes_built names c.in-All.sources.items (Err (fault_line c.in-Err.fault)) _ (rw c.in-All.is at c.in_ok-sources.ensures.told) (c.in-Err.ensures (search rules)))
     (search rules) c.in_ok-sources.ensures.kept

@@ -15,7 +15,7 @@ returns-in_ok-word-in_default c =
         stmt = c.args.stmt.now;
         at = c.here-at.ensures j;
         word = c.in_ok-word-in_default.ensures.word j;
-        puts = (c.function_puts-puts.ensures ∙ puts_else walk kind c.in_default.not-Pool) j;
+        puts = (c.in_ok-puts-in_default.ensures ∙ c.function_puts.ensures ∙ puts_else walk kind c.in_default.not-Pool) j;
       };
       walk =
           ap (λ (at : Cursor). record { at = at; pool = c.put_word.new.self.pool }) c.behind-self.ensures
