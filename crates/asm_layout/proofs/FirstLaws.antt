@@ -1,108 +1,65 @@
 -- The refusal that is answered stands first among all.
-use Rattle.std.specs.Prelude.{◌≡◌, ◌⊎◌, ℕ, ◌&&◌, not, Bool, true, false, cond, List, [], ◌∷◌, Some, None}
+use Rattle.std.specs.Prelude.{◌≡◌, ◌⊎◌, not, true, false, List, [], ◌∷◌, Some, None}
 use Rattle.std.specs.List.{list_all}
 use Rattle.std.proofs.Common.{refl, ap, arith, ◌∙◌, sym, inl, inr}
+use Rattle.std.proofs.lemmas.Bool.{and_from, cond_both}
 use Rattle.std.proofs.lemmas.Bool.Decides.{nat_tests}
 use Rattle.asm_layout.specs.declared.fault.AsmFault.{AsmFault}
-use Rattle.asm_layout.specs.Faults.{number_of, is_before, first_of_all}
+use Rattle.asm_layout.specs.Faults.{is_before, first_of_all}
 use Rattle.asm_layout.specs.FaultLaw.{StandsFirst, TheFirstIsAnswered, NoneOnlyOfNone}
-use Rattle.asm_layout.proofs.FaultLaws.{before, before_trans}
-
-before_later : (k m l n i j : ℕ) → before k m l n ≡ true → before i j l n ≡ false → before k m i j ≡ true
-before_later k m l n i j p q = grind (arith, nat_tests)
 
 -- the first so far stays, or one of the list comes before it and stands first there
-record Stays (so_far : AsmFault) (faults : List AsmFault) (first : AsmFault) : Type 0 where
-  same : first ≡ so_far
-  none : list_all (λ fault. not (is_before fault so_far)) faults ≡ true
+abbrev Found : AsmFault → List AsmFault → AsmFault → Type 0
+Found so_far faults first =
+    ((first ≡ so_far) × (list_all (λ fault. not (is_before fault so_far)) faults ≡ true))
+    ⊎ ((is_before first so_far ≡ true) × StandsFirst faults first)
 
-record Goes (so_far : AsmFault) (faults : List AsmFault) (first : AsmFault) : Type 0 where
-  earlier : is_before first so_far ≡ true
-  there : StandsFirst faults first
+module _ (fault : AsmFault) (more : List AsmFault) (first : AsmFault) where
+  further : is_before first fault ≡ true → StandsFirst more first → StandsFirst (fault ∷ more) first
+  further b g = record {
+    front = fault ∷ g.front;
+    behind = g.behind;
+    split = ap (λ l. fault ∷ l) g.split;
+    before = and_from _ _ b g.before;
+    not_after = g.not_after;
+  }
 
-both_true : (a b : Bool) → a ≡ true → b ≡ true → (a && b) ≡ true
-both_true a b e f = simp (e, f)
+  stands : Found fault more first → StandsFirst (fault ∷ more) first
+  stands (inl s) = record {
+    front = [];
+    behind = more;
+    split = ap (λ f. f ∷ more) (sym s.0);
+    before = refl;
+    not_after = ap (λ f. list_all (λ other. not (is_before other f)) more) s.0 ∙ s.1;
+  }
+  stands (inr g) = further g.0 g.1
 
-one_of : (so_far : AsmFault) (faults : List AsmFault) (first : AsmFault) → first_of_all (Some so_far) faults ≡ Some first
-    → Stays so_far faults first ⊎ Goes so_far faults first
+  earlier : (so_far : AsmFault) → is_before fault so_far ≡ true → Found fault more first → is_before first so_far ≡ true
+  earlier so_far b (inl s) = ap (λ f. is_before f so_far) s.0 ∙ b
+  earlier so_far b (inr g) = grind (arith, nat_tests)
+
+  kept : (so_far : AsmFault) → is_before fault so_far ≡ false → Found so_far more first → Found so_far (fault ∷ more) first
+  kept so_far b (inl s) = inl (s.0, and_from _ _ (ap not b) s.1)
+  kept so_far b (inr g) = inr (g.0, further (grind (arith, nat_tests)) g.1)
+
+found : (so_far : AsmFault) (faults : List AsmFault) (first : AsmFault) → first_of_all (Some so_far) faults ≡ Some first → Found so_far faults first
 unfolding first_of_all
-one_of so_far [] first e = inl (record { same = cc; none = refl })
-one_of so_far (fault ∷ more) first e =
-    by (is_before fault so_far) refl (one_of fault more first) (one_of so_far more first) e
-  where
-    onward : is_before fault so_far ≡ true → Stays fault more first ⊎ Goes fault more first → Goes so_far (fault ∷ more) first
-    onward b (inl s) = record {
-      earlier = ap (λ f. is_before f so_far) s.same ∙ b;
-      there = record {
-        front = [];
-        behind = more;
-        split = ap (λ f. f ∷ more) (sym s.same);
-        before = refl;
-        not_after = ap (λ f. list_all (λ other. not (is_before other f)) more) s.same ∙ s.none;
-      };
-    }
-    onward b (inr g) = record {
-      earlier = before_trans _ _ fault.line (number_of fault.what) _ _ g.earlier b;
-      there = record {
-        front = fault ∷ g.there.front;
-        behind = g.there.behind;
-        split = ap (λ l. fault ∷ l) g.there.split;
-        before = both_true _ _ g.earlier g.there.before;
-        not_after = g.there.not_after;
-      };
-    }
-
-    kept : is_before fault so_far ≡ false → Stays so_far more first ⊎ Goes so_far more first → Stays so_far (fault ∷ more) first ⊎ Goes so_far (fault ∷ more) first
-    kept b (inl s) = inl (record { same = s.same; none = both_true _ _ (ap not b) s.none })
-    kept b (inr g) = inr (record {
-      earlier = g.earlier;
-      there = record {
-        front = fault ∷ g.there.front;
-        behind = g.there.behind;
-        split = ap (λ l. fault ∷ l) g.there.split;
-        before = both_true _ _ (before_later _ _ so_far.line (number_of so_far.what) fault.line (number_of fault.what) g.earlier b) g.there.before;
-        not_after = g.there.not_after;
-      };
-    })
-
-    by : (b : Bool) → is_before fault so_far ≡ b
-        → (first_of_all (Some fault) more ≡ Some first → Stays fault more first ⊎ Goes fault more first)
-        → (first_of_all (Some so_far) more ≡ Some first → Stays so_far more first ⊎ Goes so_far more first)
-        → first_of_all (cond b (Some fault) (Some so_far)) more ≡ Some first
-        → Stays so_far (fault ∷ more) first ⊎ Goes so_far (fault ∷ more) first
-    by true b taken left e = inr (onward b (taken e))
-    by false b taken left e = kept b (left e)
+found so_far [] first e = inl (cc, refl)
+found so_far (fault ∷ more) first e =
+    cond_both (is_before fault so_far) (Some fault) (Some so_far) (λ o. first_of_all o more ≡ Some first → Found so_far (fault ∷ more) first)
+    (λ b f. let g = found fault more first f in inr (earlier fault more first so_far b g, stands fault more first g))
+    (λ b f. kept fault more first so_far b (found so_far more first f)) e
 
 pub law_of_first : TheFirstIsAnswered
 unfolding first_of_all
 law_of_first [] first e = absurd (cc)
-law_of_first (fault ∷ more) first e = by (one_of fault more first e)
-  where
-    by : Stays fault more first ⊎ Goes fault more first → StandsFirst (fault ∷ more) first
-    by (inl s) = record {
-      front = [];
-      behind = more;
-      split = ap (λ f. f ∷ more) (sym s.same);
-      before = refl;
-      not_after = ap (λ f. list_all (λ other. not (is_before other f)) more) s.same ∙ s.none;
-    }
-    by (inr g) = record {
-      front = fault ∷ g.there.front;
-      behind = g.there.behind;
-      split = ap (λ l. fault ∷ l) g.there.split;
-      before = both_true _ _ g.earlier g.there.before;
-      not_after = g.there.not_after;
-    }
+law_of_first (fault ∷ more) first e = stands fault more first (found fault more first e)
 
 pub some_stays : (first : AsmFault) (faults : List AsmFault) → first_of_all (Some first) faults ≡ None → ⊥
 unfolding first_of_all
 some_stays first [] e = cc
-some_stays first (fault ∷ more) e = by (is_before fault first) (some_stays fault more) (some_stays first more) e
-  where
-    by : (b : Bool) → (first_of_all (Some fault) more ≡ None → ⊥) → (first_of_all (Some first) more ≡ None → ⊥)
-        → first_of_all (cond b (Some fault) (Some first)) more ≡ None → ⊥
-    by true h k e = h e
-    by false h k e = k e
+some_stays first (fault ∷ more) e =
+    cond_both (is_before fault first) (Some fault) (Some first) (λ o. first_of_all o more ≡ None → ⊥) (λ b. some_stays fault more) (λ b. some_stays first more) e
 
 pub law_of_none : NoneOnlyOfNone
 unfolding first_of_all

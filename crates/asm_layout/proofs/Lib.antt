@@ -1,6 +1,5 @@
 pub mod FaultLaws
 pub mod FirstLaws
-pub mod FrameSteps
 pub mod LayoutLaws
 pub mod NamedLaws
 pub mod PlacingLaws

@@ -1,5 +1,5 @@
 -- What statements give, one statement on.
-use Rattle.std.proofs.Common.{◌≡◌, ◌++◌, ◌∷◌, ◌∙◌, ℕ, List, [], Option, Some, None, option_map, refl, sym, ap, append_assoc}
+use Rattle.std.proofs.Common.{◌≡◌, ◌++◌, ◌∷◌, ℕ, List, Option, Some, None, option_map, refl, append_assoc}
 use Rattle.std.proofs.lemmas.List.Sums.{fold-append}
 use Rattle.asm_unwind.specs.declared.entry.EntryWords.{EntryWords}
 use Rattle.asm_layout.specs.declared.fault.AsmFault.{AsmFault}
@@ -12,7 +12,7 @@ use Rattle.asm_layout.proofs.FaultLaws.{first_behind}
 use Rattle.asm_layout.proofs.FirstLaws.{some_stays}
 use Rattle.asm_object.specs.declared.object.IndexRow.{IndexRow}
 use Rattle.asm_object.specs.declared.parts.Sections.{Sections}
-use Rattle.asm_object.specs.Pieces.{Piece, pieces_at, pieces_of, put_rows, rows_of}
+use Rattle.asm_object.specs.Pieces.{pieces_at, pieces_of, put_rows, rows_of}
 use Rattle.asm_object.specs.Objects.{faults_at, refusals_at, refusals_of}
 use Rattle.asm_object.specs.Built.{with_piece, with_pieces}
 
@@ -28,27 +28,15 @@ none_before (Some fault) faults e = absurd (some_stays fault faults e)
 
 pub first_more : (labels : List Named) (before after all : Option AsmFault) (placed : PlacedStmt) (more : List PlacedStmt) → after ≡ first_of_all before (refusals_at labels placed)
     → first_of_all before (refusals_of labels (placed ∷ more)) ≡ all → first_of_all after (refusals_of labels more) ≡ all
-first_more labels before after all placed more a e =
-    ap (λ f. first_of_all f (refusals_of labels more)) a
-    ∙ sym (first_behind before (refusals_at labels placed) (refusals_of labels more))
-    ∙ e
+first_more labels before after all placed more a e = rw (a, ← first_behind before (refusals_at labels placed) (refusals_of labels more)) e
 
 pub sections_more : (entries : List (Option EntryWords)) (labels : List Named) (before after all : Sections) (placed : PlacedStmt) (more : List PlacedStmt) (last : PlacedPool)
     → after ≡ with_pieces before (pieces_at entries labels placed) → with_pieces before (pieces_of entries labels (placed ∷ more) last) ≡ all
     → with_pieces after (pieces_of entries labels more last) ≡ all
 unfolding pieces_of
 sections_more entries labels before after all placed more last a e =
-    ap (λ s. with_pieces s (pieces_of entries labels more last)) a
-    ∙ sym (fold-append with_piece before (pieces_at entries labels placed) (pieces_of entries labels more last))
-    ∙ e
+    rw (a, ← fold-append with_piece before (pieces_at entries labels placed) (pieces_of entries labels more last)) e
 
 pub rows_more : (entries : List (Option EntryWords)) (before after all : List IndexRow) (placed : PlacedStmt) (more : List PlacedStmt) → after ≡ before ++ put_rows entries placed.puts
     → before ++ rows_of entries (placed ∷ more) ≡ all → after ++ rows_of entries more ≡ all
-rows_more entries before after all placed more a e =
-    ap (λ rows. rows ++ rows_of entries more) a ∙ append_assoc before (put_rows entries placed.puts) (rows_of entries more) ∙ e
-
--- two lots of pieces, and one more
-pub one_more : (before sets after : Sections) (some : List Piece) (piece : Piece) → sets ≡ with_pieces before some → after ≡ with_piece sets piece
-    → after ≡ with_pieces before (some ++ piece ∷ [])
-one_more before sets after some piece s a =
-    a ∙ ap (λ x. with_piece x piece) s ∙ sym (fold-append with_piece before some (piece ∷ []))
+rows_more entries before after all placed more a e = rw (a, append_assoc) e

@@ -1,7 +1,5 @@
 pub mod ListLemmas
 pub mod Statements
-pub mod FirstOf
-pub mod BuiltLemmas
 pub mod GivenLemmas
 pub mod ObjectLemmas
 pub mod PlaceLaws

@@ -1,39 +1,41 @@
 -- The object of a source by its layout, and the first of its refusals.
-use Rattle.std.proofs.Common.{◌≡◌, ℕ, ◌%◌, ◌^◌, List, [], ◌∷◌, ◌++◌, map, Option, Some, None, Ok, Err, refl, sym, ap, ◌∙◌}
+use Rattle.std.proofs.Common.{◌≡◌, ℕ, ◌==◌, ◌&&◌, not, false, cond, List, [], ◌∷◌, ◌++◌, map, length, Option, Some, None, Ok, Err, refl, sym, ap, ◌∙◌, arith, append_assoc}
+use Rattle.std.proofs.lemmas.List.{append-nil}
 use Rattle.asm_read.specs.declared.statement.Stmt.{Stmt}
 use Rattle.asm_unwind.specs.declared.entry.EntryWords.{EntryWords}
 use Rattle.asm_layout.specs.declared.fault.AsmFault.{AsmFault}
 use Rattle.asm_layout.specs.declared.labels.Label.{Label}
-use Rattle.asm_layout.specs.declared.place.Section.TheVariants.{Text, Rodata, Extab, Init}
-use Rattle.asm_layout.specs.Faults.{first_of, first_of_all}
-use Rattle.asm_layout.specs.Functions.{entries_of, unwind_faults_of}
-use Rattle.asm_layout.specs.Walks.{start, walk_behind}
-use Rattle.asm_layout.specs.Labels.{Named, labels_of, labelled, named_in, duplicates_from, too_large_from}
-use Rattle.asm_layout.proofs.NamedLaws.{named_in-labelled}
-use Rattle.asm_object.specs.declared.object.IndexRow.{IndexRow}
-use Rattle.asm_object.specs.declared.object.ObjSymbol.{ObjSymbol}
-use Rattle.asm_object.specs.declared.object.Object.{Object}
-use Rattle.asm_object.specs.declared.parts.Sections.{Sections}
-use Rattle.asm_object.specs.Pieces.{Piece, pieces_of, rows_of, bytes_in, relocs_in, marks_from}
-use Rattle.asm_object.specs.Objects.{refusals_of, faults_of, symbol_of, joined, object_unless, object_of}
-use Rattle.asm_object.specs.Built.{with_pieces, no_sections, object_built}
 use Rattle.asm_layout.specs.declared.placed.PlacedPool.{PlacedPool}
 use Rattle.asm_layout.specs.PlacedStmt.{PlacedStmt}
+use Rattle.asm_object.specs.declared.object.IndexRow.{IndexRow}
+use Rattle.asm_object.specs.declared.object.Object.{Object}
+use Rattle.asm_layout.specs.declared.place.Section.{Section}
+use Rattle.asm_layout.specs.declared.place.Section.TheVariants.{Text, Rodata, Extab, Init, Bss}
+use Rattle.asm_layout.specs.Faults.{first_of, first_of_all}
+use Rattle.asm_layout.specs.Functions.{entries_of, unwind_faults_of}
+use Rattle.asm_layout.specs.Walks.{start, walk_behind, same_section}
+use Rattle.asm_layout.specs.Labels.{labels_of, labelled, named_in, duplicates_from, too_large_from}
 use Rattle.asm_layout.specs.Placing.{placed_of, last_pool}
-use Rattle.asm_layout.proofs.FaultLaws.{first_by_itself}
-use Rattle.asm_object.proofs.FirstOf.{first_of_four}
-use Rattle.asm_object.proofs.BuiltLemmas.{text-bytes, text-relocs, rodata-bytes, rodata-relocs, extab-bytes, extab-relocs, init-bytes, init-relocs, text-marks}
-use Rattle.asm_object.specs.Behind.{pieces_from, refusals_from, rows_from}
+use Rattle.asm_layout.proofs.FaultLaws.{first_behind, first_by_itself}
+use Rattle.asm_layout.proofs.LayoutLaws.{map_after}
+use Rattle.asm_layout.proofs.NamedLaws.{named_in-labelled}
+use Rattle.asm_object.specs.declared.part.Part.{Part}
+use Rattle.asm_object.specs.declared.parts.Sections.{Sections}
+use Rattle.asm_object.specs.Pieces.{Piece, pieces_of, rows_of, bytes_in, relocs_in, mark_of, marks_from}
+use Rattle.asm_object.specs.Objects.{refusals_of, faults_of, joined, object_of}
+use Rattle.asm_object.specs.Built.{part_with, with_piece_in, with_piece, with_pieces, no_part, no_sections, object_built}
 
-symbols_mapped : (entries : List (Option EntryWords)) (stmts : List Stmt) (labels : List Named)
-    → map symbol_of (map (labelled entries stmts) labels) ≡ map (λ label. symbol_of (labelled entries stmts label)) labels
-symbols_mapped entries stmts [] = refl
-symbols_mapped entries stmts (label ∷ more) = ap (λ l. symbol_of (labelled entries stmts label) ∷ l) (symbols_mapped entries stmts more)
+-- ---- refusals
 
-faults_by : List (Option EntryWords) → List Stmt → List AsmFault
-faults_by entries stmts =
-    unwind_faults_of stmts ++ duplicates_from [] stmts ++ too_large_from entries start 0 stmts
-    ++ refusals_from entries (labels_of entries stmts) start stmts
+first_of_two : (faults more : List AsmFault) → first_of_all None (faults ++ more) ≡ first_of (first_of_all None faults) (first_of_all None more)
+first_of_two faults more = first_behind None faults more ∙ first_by_itself (first_of_all None faults) more
+
+first_by_parts : (stmts : List Stmt)
+    → let entries = entries_of stmts in
+    first_of_all (first_of (first_of (first_of_all None (unwind_faults_of stmts)) (first_of_all None (duplicates_from [] stmts))) (first_of_all None (too_large_from entries start 0 stmts)))
+    (refusals_of (named_in (map (labelled entries stmts) (labels_of entries stmts))) (placed_of entries stmts)) ≡ first_of_all None (faults_of stmts)
+unfolding faults_of
+first_by_parts stmts = rw named_in-labelled (simp first_of_two (first_by_itself _ _))
 
 -- the first refusal of a source by those of its parts
 pub first_fault : (stmts : List Stmt) (entries : List (Option EntryWords)) (labels : List (List ℕ × Label)) (placed : List PlacedStmt) (unwind duplicate too_large two three all : Option AsmFault)
@@ -41,71 +43,60 @@ pub first_fault : (stmts : List Stmt) (entries : List (Option EntryWords)) (labe
     → unwind ≡ first_of_all None (unwind_faults_of stmts) → duplicate ≡ first_of_all None (duplicates_from [] stmts)
     → too_large ≡ first_of_all None (too_large_from entries start 0 stmts) → two ≡ first_of unwind duplicate → three ≡ first_of two too_large
     → all ≡ first_of_all three (refusals_of (named_in labels) placed) → all ≡ first_of_all None (faults_of stmts)
-unfolding faults_of faults_by
-first_fault stmts entries labels placed unwind duplicate too_large two three all e l p u d t v w r =
-    let known : refusals_of (named_in labels) placed ≡ refusals_from entries (labels_of entries stmts) start stmts =
-    ap (λ ps. refusals_of (named_in labels) ps) p
-    ∙ ap (λ ls. refusals_from entries (named_in ls) start stmts) l
-    ∙ ap (λ ls. refusals_from entries ls start stmts) (named_in-labelled entries stmts (labels_of entries stmts)) in
-    r ∙ ap (λ faults. first_of_all three faults) known
-    ∙ first_by_itself three (refusals_from entries (labels_of entries stmts) start stmts)
-    ∙ ap (λ f. first_of f (first_of_all None (refusals_from entries (labels_of entries stmts) start stmts))) (w ∙ ap (λ f. first_of f too_large) v
-    ∙ ap (λ f. first_of (first_of f duplicate) too_large) u
-    ∙ ap (λ f. first_of (first_of (first_of_all None (unwind_faults_of stmts)) f) too_large) d
-    ∙ ap (λ f. first_of (first_of (first_of_all None (unwind_faults_of stmts)) (first_of_all None (duplicates_from [] stmts))) f) t)
-    ∙ sym (first_of_four (unwind_faults_of stmts) (duplicates_from [] stmts) (too_large_from entries start 0 stmts) (refusals_from entries (labels_of entries stmts) start stmts))
-    ∙ ap (λ es. first_of_all None (faults_by es stmts)) e
+first_fault stmts entries labels placed unwind duplicate too_large two three all e l p u d t v w r = rw (r, w, v, u, d, t, p, l, e) (first_by_parts stmts)
 
-object_by : List Piece → List IndexRow → List ObjSymbol → ℕ → Object
-object_by pieces rows symbols bss = record {
-  text = bytes_in Text pieces;
-  rodata = bytes_in Rodata pieces;
-  extab = bytes_in Extab pieces;
-  init = bytes_in Init pieces;
-  bss = bss % 2 ^ 32;
-  symbols = symbols;
-  marks = marks_from None pieces;
-  rows = rows;
-  relocs = relocs_in Text pieces ++ relocs_in Rodata pieces ++ relocs_in Extab pieces ++ relocs_in Init pieces;
-}
+-- ---- what sections hold that were built piece by piece
 
-built_by : (pieces : List Piece) (rows : List IndexRow) (labels : List (List ℕ × Label)) (bss : ℕ)
-    → object_built (with_pieces no_sections pieces) rows labels bss ≡ object_by pieces rows (map symbol_of labels) bss
-unfolding object_by
-built_by pieces rows labels bss =
-    let a = text-bytes no_sections pieces in
-    let b = text-relocs no_sections pieces in
-    let c = rodata-bytes no_sections pieces in
-    let d = rodata-relocs no_sections pieces in
-    let e = extab-bytes no_sections pieces in
-    let f = extab-relocs no_sections pieces in
-    let g = init-bytes no_sections pieces in
-    let h = init-relocs no_sections pieces in
-    let m = text-marks no_sections pieces in
-    cc
+abbrev part_of : Section → Sections → Part
+part_of Text sections = sections.text.part
+part_of Rodata sections = sections.rodata
+part_of Extab sections = sections.extab
+part_of Init sections = sections.init
+part_of Bss sections = no_part
+
+marked_part : (sections : Sections) (piece : Piece) → (with_piece_in Text sections piece).text.part ≡ part_with sections.text.part piece.bytes piece.relocs
+marked_part sections piece = grind arith
+
+part_more : (s section : Section) (sections : Sections) (piece : Piece) → same_section s Bss ≡ false
+    → part_of s (with_piece_in section sections piece) ≡ part_with (part_of s sections) (cond (same_section section s) piece.bytes []) (cond (same_section section s) piece.relocs [])
+part_more Text Text sections piece e = marked_part sections piece
+part_more Rodata Rodata sections piece e = refl
+part_more Extab Extab sections piece e = refl
+part_more Init Init sections piece e = refl
+part_more Bss _ sections piece e = cc
+part_more _ _ sections piece e = simp append-nil
+
+part_built : (s : Section) (sections : Sections) (pieces : List Piece) → same_section s Bss ≡ false
+    → part_of s (with_pieces sections pieces) ≡ part_with (part_of s sections) (bytes_in s pieces) (relocs_in s pieces)
+part_built s sections [] e = simp append-nil
+part_built s sections (piece ∷ more) e = part_built s (with_piece sections piece) more e ∙ rw (part_more s piece.place.section sections piece e) (simp append_assoc)
+
+-- the marks of the text
+text_marks : (sections : Sections) (pieces : List Piece)
+    → (with_pieces sections pieces).text.marks ≡ sections.text.marks ++ marks_from sections.text.last pieces
+unfolding marks_from
+text_marks sections [] = sym (append-nil (sections.text.marks))
+text_marks sections (piece ∷ more) = text_marks (with_piece sections piece) more ∙ step piece.place.section
+  where
+    step : (section : Section) → (with_piece_in section sections piece).text.marks ++ marks_from (with_piece_in section sections piece).text.last more
+        ≡ sections.text.marks ++ cond (same_section section Text && not (length piece.bytes == 0)) (mark_of sections.text.last piece.place.offset piece.code ++ marks_from (Some piece.code) more) (marks_from sections.text.last more)
+    step section = grind (arith, append_assoc sections.text.marks (mark_of sections.text.last piece.place.offset piece.code) (marks_from (Some piece.code) more))
 
 -- the object of a source that nothing is refused of
-object_joined : (stmts : List Stmt) (entries : List (Option EntryWords)) (labels : List (List ℕ × Label)) (sections : Sections) (rows : List IndexRow) (bss : ℕ)
-    → entries ≡ entries_of stmts → labels ≡ map (labelled entries stmts) (labels_of entries stmts)
-    → sections ≡ with_pieces no_sections (pieces_from entries (named_in labels) start stmts) → rows ≡ rows_from entries start stmts
-    → bss ≡ (walk_behind entries start stmts).at.sizes.bss → object_built sections rows labels bss ≡ joined stmts
-unfolding joined object_by
-object_joined stmts entries labels sections rows bss e l s r b =
-    let named : named_in labels ≡ labels_of entries stmts =
-    ap (λ ls. named_in ls) l ∙ named_in-labelled entries stmts (labels_of entries stmts) in
-    let symbols : map symbol_of labels ≡ map (λ label. symbol_of (labelled entries stmts label)) (labels_of entries stmts) =
-    ap (λ ls. map symbol_of ls) l ∙ symbols_mapped entries stmts (labels_of entries stmts) in
-    ap (λ x. object_built x rows labels bss) s
-    ∙ built_by (pieces_from entries (named_in labels) start stmts) rows labels bss
-    ∙ ap (λ ls. object_by (pieces_from entries ls start stmts) rows (map symbol_of labels) bss) named
-    ∙ ap (λ ss. object_by (pieces_from entries (labels_of entries stmts) start stmts) rows ss bss) symbols
-    ∙ ap (λ rs. object_by (pieces_from entries (labels_of entries stmts) start stmts) rs (map (λ label. symbol_of (labelled entries stmts label)) (labels_of entries stmts)) bss) r
-    ∙ ap (λ n. object_by (pieces_from entries (labels_of entries stmts) start stmts) (rows_from entries start stmts) (map (λ label. symbol_of (labelled entries stmts label)) (labels_of entries stmts)) n) b
-    ∙ ap (λ es. object_by (pieces_from es (labels_of es stmts) start stmts) (rows_from es start stmts) (map (λ label. symbol_of (labelled es stmts label)) (labels_of es stmts)) (walk_behind es start stmts).at.sizes.bss) e
+all_joined : (stmts : List Stmt)
+    → let entries = entries_of stmts in
+    let labels = map (labelled entries stmts) (labels_of entries stmts) in
+    object_built (with_pieces no_sections (pieces_of entries (named_in labels) (placed_of entries stmts) (last_pool entries start stmts))) (rows_of entries (placed_of entries stmts)) labels
+    (walk_behind entries start stmts).at.sizes.bss ≡ joined stmts
+unfolding joined
+all_joined stmts =
+    let entries = entries_of stmts in
+    let pieces = pieces_of entries (labels_of entries stmts) (placed_of entries stmts) (last_pool entries start stmts) in
+    rw (named_in-labelled, map_after, part_built Text no_sections pieces refl, part_built Rodata no_sections pieces refl, part_built Extab no_sections pieces refl, part_built Init no_sections pieces refl, text_marks no_sections pieces)
 
 pub refused : (stmts : List Stmt) (fault : AsmFault) → first_of_all None (faults_of stmts) ≡ Some fault → object_of stmts ≡ Err fault
 unfolding object_of
-refused stmts fault e = ap (λ first. object_unless first (joined stmts)) e
+refused stmts fault e = rw e
 
 pub taken : (stmts : List Stmt) (entries : List (Option EntryWords)) (labels : List (List ℕ × Label)) (placed : List PlacedStmt) (last : PlacedPool) (sections : Sections) (rows : List IndexRow) (bss : ℕ) (object : Object)
     → first_of_all None (faults_of stmts) ≡ None
@@ -114,7 +105,4 @@ pub taken : (stmts : List Stmt) (entries : List (Option EntryWords)) (labels : L
     → bss ≡ (walk_behind entries start stmts).at.sizes.bss → object ≡ object_built sections rows labels bss → object_of stmts ≡ Ok object
 unfolding object_of
 taken stmts entries labels placed last sections rows bss object f e l p q s r b o =
-    let pieces : pieces_of entries (named_in labels) placed last ≡ pieces_from entries (named_in labels) start stmts =
-    ap (λ ps. pieces_of entries (named_in labels) ps last) p ∙ ap (λ pool. pieces_of entries (named_in labels) (placed_of entries stmts) pool) q in
-    ap (λ first. object_unless first (joined stmts)) f
-    ∙ ap (λ x. Ok x) (sym (o ∙ object_joined stmts entries labels sections rows bss e l (s ∙ ap (with_pieces no_sections) pieces) (r ∙ ap (rows_of entries) p) b))
+    rw (f, o, s, r, b, q, p, l, e) (ap (λ x. Ok x) (sym (all_joined stmts)))

@@ -1,6 +1,5 @@
 use Rattle.std.proofs.Common.{◌+◌, drop, [], sym, ap, ◌∙◌, map, arith}
-use Rattle.std.specs.Map.{keys_of}
-use Rattle.std.proofs.lemmas.List.{at_drop_all}
+use Rattle.std.proofs.lemmas.List.{drop_all}
 use Rattle.asm_layout.specs.declared.fault.AsmWhat.TheVariants.{DuplicateLabel}
 use Rattle.asm_layout.specs.Faults.{fault_if, first_of_all}
 use Rattle.asm_layout.specs.PlacedStmt.{PlacedStmt}
@@ -13,37 +12,24 @@ pub loop-one-preserved : goal.loop-one-preserved
 unfolding labels_run
 loop-one-preserved c =
     let i = c.loop-one.one-index in
-    let placed = c.args.placed.now in
     let labels = c.loop-one.labels in
-    let rest = drop (i + 1) placed in
     let one = c.one-item.result in
-    let whole = drop-next placed i one (omega arith) c.one-item.is in
+    let whole = sym (drop-next c.args.placed.now i one (omega arith) c.one-item.is) in
     let opened = c.one.view_is in
     let behind = c.in_ok-again.ensures.labels ∙ ap (λ (p : PlacedStmt). labels_behind labels p.stmt.kind p.at) opened in
     let twice = c.first_if-duplicate.ensures
     ∙ ap (λ b. first_of_all c.loop-one.duplicate (fault_if b c.one.inside.stmt.now.line DuplicateLabel)) c.in_ok-again.ensures.again
     ∙ ap (λ (p : PlacedStmt). first_of_all c.loop-one.duplicate (fault_if (defines_again (named_in labels) p.stmt.kind) p.stmt.line DuplicateLabel)) opened in
     record {
-      labels =
-          ap (λ l. labels_run l rest) behind
-          ∙ ap (labels_run labels) whole
-          ∙ c.loop-one.invariant.labels;
-      duplicate =
-          (λ j. first_of_all (twice j) (duplicates_from (keys_of (behind j)) (map stmt_of rest)))
-          ∙ first_duplicate-more c.loop-one.duplicate labels one.stmt one.at (map stmt_of rest)
-          ∙ ap (λ l. first_of_all c.loop-one.duplicate (duplicates_from (keys_of labels) (map stmt_of l))) whole
-          ∙ c.loop-one.invariant.duplicate;
+      labels = rw behind (rw whole at c.loop-one.invariant.labels);
+      duplicate = rw (twice, behind) (first_duplicate-more c.loop-one.duplicate labels one.stmt one.at (map stmt_of (drop (i + 1) c.args.placed.now)) ∙ rw whole at c.loop-one.invariant.duplicate);
     }
 
 pub returns-clause-labels : goal.returns-clause-labels
 unfolding labels_run
 returns-clause-labels c =
-    sym (at_drop_all (labels_run c.loop-one.labels) c.args.placed.now c.loop-one.one-index (omega arith))
-    ∙ c.loop-one.invariant.labels
-    ∙ labels_run-is [] c.args.placed.now
+    rw (drop_all c.loop-one.one-index c.args.placed.now (omega arith)) at c.loop-one.invariant.labels ∙ labels_run-is [] c.args.placed.now
 
 pub returns-clause-duplicate : goal.returns-clause-duplicate
 unfolding duplicates_from first_of_all
-returns-clause-duplicate c =
-    sym (at_drop_all (λ l. first_of_all c.loop-one.duplicate (duplicates_from (keys_of c.loop-one.labels) (map stmt_of l))) c.args.placed.now c.loop-one.one-index (omega arith))
-    ∙ c.loop-one.invariant.duplicate
+returns-clause-duplicate c = rw (drop_all c.loop-one.one-index c.args.placed.now (omega arith)) at c.loop-one.invariant.duplicate

@@ -11,16 +11,13 @@ use Rattle.asm_layout.proofs.layout.layout_of.Goals.{After-as_slice-2}
 use Rattle.asm_layout.proofs.layout.layout_of.Goals as goal
 
 -- the list that was filled in is that of the statements where they stand
-placed-is : (c : After-as_slice-2) → c.resolve.new.placed ≡ placed_of c.args.entries.now c.args.stmts.now
-placed-is c =
-    c.resolve.ensures
-    ∙ (λ j. resolved ((c.as_slice.ensures ∙ c.in_ok-placed.ensures.pools) j) ((c.as_mut_slice.ensures.value ∙ c.in_ok-placed.ensures.placed) j))
-    ∙ resolved-is c.args.entries.now start c.args.stmts.now
-
 whole-is : (c : After-as_slice-2) → take c.in_ok-placed.field-0.placed.len (c.resolve.new.placed ++ drop (length c.resolve.new.placed) c.in_ok-placed.field-0.placed.items) ≡ placed_of c.args.entries.now c.args.stmts.now
 whole-is c =
     let new = c.resolve.new.placed in
-    take-append-le c.in_ok-placed.field-0.placed.len new _ (omega arith) ∙ take_all c.in_ok-placed.field-0.placed.len new (omega arith) ∙ placed-is c
+    take-append-le c.in_ok-placed.field-0.placed.len new _ (omega arith) ∙ take_all c.in_ok-placed.field-0.placed.len new (omega arith)
+    ∙ c.resolve.ensures
+    ∙ (λ j. resolved ((c.as_slice.ensures ∙ c.in_ok-placed.ensures.pools) j) ((c.as_mut_slice.ensures.value ∙ c.in_ok-placed.ensures.placed) j))
+    ∙ resolved-is c.args.entries.now start c.args.stmts.now
 
 lent-is : (c : After-as_slice-2) → c.as_slice-2.result.now ≡ placed_of c.args.entries.now c.args.stmts.now
 lent-is c = c.as_slice-2.ensures.value ∙ whole-is c
@@ -30,17 +27,13 @@ returns-clause-placed c = whole-is (goal.at.returns-clause-placed c).After-as_sl
 
 pub returns-clause-labels : goal.returns-clause-labels
 returns-clause-labels c =
-    let entries = c.args.entries.now in
     let stmts = c.args.stmts.now in
     c.describe.ensures
-    ∙ ap (map (described stmts)) c.in_ok-labels.ensures.labels
-    ∙ ap (λ l. map (described stmts) (map (sized l) (labels_in [] l))) (lent-is (goal.at.returns-clause-labels c).After-as_slice-2)
-    ∙ labelled-from_sized entries stmts (labels_of entries stmts)
+    ∙ ap (map (described stmts)) (c.in_ok-labels.ensures.labels ∙ ap (λ l. map (sized l) (labels_in [] l)) (lent-is (goal.at.returns-clause-labels c).After-as_slice-2))
+    ∙ labelled-from_sized c.args.entries.now stmts (labels_of c.args.entries.now stmts)
 
 pub returns-clause-duplicate : goal.returns-clause-duplicate
 returns-clause-duplicate c =
-    let entries = c.args.entries.now in
-    let stmts = c.args.stmts.now in
     c.in_ok-labels.ensures.duplicate
     ∙ ap (λ l. first_of_all None (duplicates_from [] (map stmt_of l))) (lent-is (goal.at.returns-clause-duplicate c).After-as_slice-2)
-    ∙ ap (λ l. first_of_all None (duplicates_from [] l)) (statements_kept entries start stmts)
+    ∙ ap (λ l. first_of_all None (duplicates_from [] l)) (statements_kept c.args.entries.now start c.args.stmts.now)
