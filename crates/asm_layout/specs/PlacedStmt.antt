@@ -3,6 +3,7 @@ use Rattle.std.specs.Prelude.{ℕ, Option, Some, None}
 use Rattle.std.specs.Global.{Box}
 use Rattle.asm_read.specs.declared.statement.Stmt.{Stmt}
 use Rattle.asm_layout.specs.declared.place.Place.{Place}
+use Rattle.asm_layout.specs.declared.placed.Extra.{Extra}
 use Rattle.asm_layout.specs.declared.placed.Puts.{Puts}
 use Rattle.asm_layout.specs.declared.placed.Puts.TheVariants.{Nothing}
 
@@ -13,7 +14,11 @@ pub record PlacedStmt : Type 0 where
   pub word : Option ℕ
   pub puts : Puts
 
--- what a box holds; without one nothing
-abbrev pub unboxed : Option (Box Puts) → Puts
-unboxed None = Nothing
-unboxed (Some box) = box.value
+-- the place of its pool word, and what it puts, in a box; without one neither
+abbrev pub word_in : Option (Box Extra) → Option ℕ
+word_in None = None
+word_in (Some box) = box.value.word
+
+abbrev pub puts_in : Option (Box Extra) → Puts
+puts_in None = Nothing
+puts_in (Some box) = box.value.puts

@@ -7,7 +7,7 @@ ghost use Rattle.asm_layout.specs.Labels.{labels_of, labelled, duplicates_from, 
 
 use crate::fault::{AsmFault, AsmWhat, first_if};
 use crate::labels::{Defined, Labels, defined_in};
-use crate::placed::{PlacedPool, PlacedStmt, moved_word};
+use crate::placed::{PlacedPool, PlacedStmt};
 use crate::walk::Walk;
 use asm_read::Stmt;
 use asm_unwind::EntryWords;
@@ -103,7 +103,7 @@ fn resolve(placed: &mut [PlacedStmt<'_>], pools: &[u64])
     let mut pools = pools;
     for one in placed.iter_mut() {
         let ends = one.puts_pool();
-        one.word = moved_word(pools, one.word);
+        one.move_word(pools);
         pools = places_behind(pools, ends);
     }
 }

@@ -1,7 +1,7 @@
 //! Statements where they stand, as all that is above asm_layout sees them (docs/objects.md).
 ghost use Rattle.std.specs.Prelude.{◌≡◌, length, None, Some, IfOk};
-ghost use Rattle.asm_layout.specs.PlacedStmt.{unboxed};
-ghost use Rattle.asm_layout.specs.Placing.{moved_word, has_words, puts_pool};
+ghost use Rattle.asm_layout.specs.PlacedStmt.{word_in, puts_in};
+ghost use Rattle.asm_layout.specs.Placing.{moved_word, moved, has_words, puts_pool};
 
 use crate::place::Place;
 use crate::word::Words;
@@ -35,26 +35,32 @@ pub enum Puts {
     Function(PlacedFunction),
 }
 
-/// A statement and its place; the place in the text of the pool word that it loads; and what it puts besides its own bytes, boxed since
-/// most put nothing.
+/// What few statements have: the place in the text of the pool word that one loads, and what one puts besides its own bytes.
+#[derive(Drop)]
+pub struct Extra {
+    word: Option<u64>,
+    puts: Puts,
+}
+
+/// A statement and its place; the place in the text of the pool word that it loads, and what it puts besides its own bytes, in a
+/// box, since most have neither.
 #[derive(Drop)]
 pub struct PlacedStmt<'a> {
     pub stmt: &'a Stmt,
     pub at: Place,
-    pub word: Option<u64>,
-    pub puts: Option<Box<Puts>>,
+    extra: Option<Box<Extra>>,
 }
 
 impl<'a> Model for PlacedStmt<'a> {
-    ghost use Rattle.asm_layout.specs.PlacedStmt.{PlacedStmt as Fields, unboxed};
+    ghost use Rattle.asm_layout.specs.PlacedStmt.{PlacedStmt as Fields, word_in, puts_in};
 
     ghost Value = { Fields };
 
-    ghost view = { λ p. record { stmt = p.stmt.now; at = p.at; word = p.word; puts = unboxed p.puts } };
+    ghost view = { λ p. record { stmt = p.stmt.now; at = p.at; word = word_in p.extra; puts = puts_in p.extra } };
 }
 
 /// A word so far behind the first of some places.
-pub(crate) fn moved_word(pools: &[u64], word: Option<u64>) -> Option<u64>
+fn moved_word(pools: &[u64], word: Option<u64>) -> Option<u64>
     ensures { result ≡ moved_word pools.now word }
 {
     match (pools, word) {
@@ -63,23 +69,51 @@ pub(crate) fn moved_word(pools: &[u64], word: Option<u64>) -> Option<u64>
     }
 }
 
-/// What is put, boxed; no box for nothing.
-pub(crate) fn boxed(alloc: Global, puts: Puts) -> Result<Option<Box<Puts>>, AllocError>
-    ensures { IfOk result (λ b. unboxed b ≡ puts) }
+/// A word and what is put, boxed; no box for neither.
+fn boxed(alloc: Global, word: Option<u64>, puts: Puts) -> Result<Option<Box<Extra>>, AllocError>
+    ensures word { IfOk result (λ extra. word_in extra ≡ word) }
+    ensures puts { IfOk result (λ extra. puts_in extra ≡ puts) }
 {
-    if let Puts::Nothing = puts {
-        return Ok(None);
+    match (word, puts) {
+        (None, Puts::Nothing) => Ok(None),
+        (word, puts) => Ok(Some(Box::new(alloc, Extra { word, puts })?)),
     }
-    Ok(Some(Box::new(alloc, puts)?))
 }
 
 impl<'a> PlacedStmt<'a> {
+    /// A statement at a place, with the word that it loads and what it puts.
+    pub(crate) fn new(
+        alloc: Global,
+        stmt: &'a Stmt,
+        at: Place,
+        word: Option<u64>,
+        puts: Puts,
+    ) -> Result<PlacedStmt<'a>, AllocError>
+        ensures { IfOk result (λ placed. placed ≡ record { stmt = stmt.now; at = at; word = word; puts = puts }) }
+    {
+        Ok(PlacedStmt {
+            stmt,
+            at,
+            extra: boxed(alloc, word, puts)?,
+        })
+    }
+
+    /// The place in the text of the pool word that it loads.
+    pub fn word(&self) -> Option<u64>
+        ensures { result ≡ self.now.word }
+    {
+        match &self.extra {
+            Some(extra) => extra.word,
+            None => None,
+        }
+    }
+
     /// What it puts besides its own bytes.
     pub fn into_puts(self) -> Puts
         ensures { result ≡ self.entry.puts }
     {
-        match self.puts {
-            Some(puts) => Box::into_inner(puts),
+        match self.extra {
+            Some(extra) => Box::into_inner(extra).puts,
             None => Puts::Nothing,
         }
     }
@@ -88,12 +122,21 @@ impl<'a> PlacedStmt<'a> {
     pub(crate) fn puts_pool(&self) -> bool
         ensures { result ≡ puts_pool self.now }
     {
-        let Some(puts) = &self.puts else {
+        let Some(extra) = &self.extra else {
             return false;
         };
-        match &**puts {
+        match &extra.puts {
             Puts::Pool(pool) => !pool.words.is_empty(),
             Puts::Function(_) | Puts::Nothing => false,
+        }
+    }
+
+    /// Gives it the place of its word, so far behind the first of some places.
+    pub(crate) fn move_word(&mut self, pools: &[u64])
+        ensures { self.new ≡ moved pools.now self.old }
+    {
+        if let Some(extra) = &mut self.extra {
+            extra.word = moved_word(pools, extra.word);
         }
     }
 }

@@ -10,7 +10,7 @@ ghost use Rattle.asm_layout.specs.Placing.{word_offset, pool_here, function_puts
 
 use crate::given::Data;
 use crate::place::{Place, Section};
-use crate::placed::{PlacedFunction, PlacedPool, PlacedStmt, Puts, boxed};
+use crate::placed::{PlacedFunction, PlacedPool, PlacedStmt, Puts};
 use crate::sort::given;
 use crate::word::{Word, Words, word_of};
 use crate::{bare_form, branch_form, data_form, name_form, nameless_form, reader_form};
@@ -417,7 +417,7 @@ impl Walk {
                 if self.at.section != Section::Text {
                     return Ok(None);
                 }
-                let index = self.pool.put(word_of(alloc, value)?)?;
+                let index = self.pool.put(word_of(alloc, value.expr())?)?;
                 Ok(Some(times(index, 4)))
             }
             _ => Ok(None),
@@ -452,23 +452,15 @@ impl Walk {
         match &stmt.kind {
             StmtKind::Pool => {
                 let puts = self.end_pool(alloc)?;
-                Ok(PlacedStmt {
-                    stmt,
-                    at,
-                    word: None,
-                    puts: boxed(alloc, puts)?,
-                })
+                let placed = PlacedStmt::new(alloc, stmt, at, None, puts)?;
+                Ok(placed)
             }
             kind => {
-                let puts = boxed(alloc, self.at.function_puts(kind))?;
+                let puts = self.at.function_puts(kind);
                 let word = self.put_word(alloc, kind)?;
                 self.at = self.at.behind(kind, entries);
-                Ok(PlacedStmt {
-                    stmt,
-                    at,
-                    word,
-                    puts,
-                })
+                let placed = PlacedStmt::new(alloc, stmt, at, word, puts)?;
+                Ok(placed)
             }
         }
     }

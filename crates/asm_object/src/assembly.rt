@@ -37,7 +37,7 @@ fn refusal_at(labels: &Labels, placed: &PlacedStmt<'_>, code: &Coded) -> Option<
     requires { code.now ≡ coded (instruction (named_in labels.now) placed.now.stmt.kind placed.now.at.offset placed.now.word) }
     ensures { result ≡ option_map (fault_at placed.now.stmt.line) (refusal (named_in labels.now) placed.now.stmt.kind placed.now.at.section placed.now.at.offset placed.now.word) }
 {
-    match refusal(labels, &placed.stmt.kind, placed.at, placed.word, code) {
+    match refusal(labels, &placed.stmt.kind, placed.at, placed.word(), code) {
         Some(what) => Some(AsmFault {
             line: placed.stmt.line,
             what,
@@ -81,7 +81,7 @@ impl Gathered {
         ensures sections { OnOk result (self.new.first ≡ None → self.new.sections ≡ with_pieces self.old.sections (pieces_at entries.now (named_in labels.now) placed.entry)) }
         ensures rows { OnOk result (self.new.first ≡ None → self.new.rows ≡ self.old.rows ++ put_rows entries.now placed.entry.puts) }
     {
-        let code = coded(labels, &placed.stmt.kind, placed.at.offset, placed.word);
+        let code = coded(labels, &placed.stmt.kind, placed.at.offset, placed.word());
         self.first = first_of(self.first, refusal_at(labels, &placed, &code));
         if self.first.is_some() {
             return Ok(());

@@ -53,7 +53,7 @@ fn are_names_known(labels: &Labels, kind: &StmtKind) -> bool
         StmtKind::Adr { name, .. } | StmtKind::LdrLabel { name, .. } => text_place(
             labels, name,
         ).is_some(),
-        StmtKind::LdrPool { value, .. } => is_word_known(labels, value),
+        StmtKind::LdrPool { value, .. } => is_word_known(labels, value.expr()),
         StmtKind::B(name)
         | StmtKind::BCond { name, .. }
         | StmtKind::Bl(name)

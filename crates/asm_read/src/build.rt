@@ -10,7 +10,7 @@ use crate::expression::{Shape, expression_at, list_item_at};
 use crate::form::Operands;
 use crate::line::{Span, bytes_of};
 use crate::makes::{Computation, Control, Directive, Makes, Named, Transfer};
-use crate::statement::{Expr, Exprs, StmtKind};
+use crate::statement::{Expr, Exprs, PoolValue, StmtKind};
 use crate::token::escape;
 use eh_word::{Name, NameMemory};
 use std::alloc::{AllocError, Global};
@@ -49,7 +49,10 @@ fn exprs(alloc: Global, word: bool, line: &[u8], from: usize) -> Result<Exprs, N
     if from > line.len() {
         return Ok(Exprs::of_vec(Vec::new(alloc)));
     }
-    Ok(Exprs::of_vec(exprs_from(alloc, word, line, from)?))
+    let mut exprs = exprs_from(alloc, word, line, from)?;
+    // no more come
+    exprs.shrink_to_fit();
+    Ok(Exprs::of_vec(exprs))
 }
 
 /// The text of a span that has its quotes.
@@ -236,7 +239,7 @@ fn named_of(alloc: Global, line: &[u8], named: Named, o: Operands) -> Result<Stm
         },
         Named::LdrPool => StmtKind::LdrPool {
             t: d,
-            value: expr_from(alloc, line, o.from)?,
+            value: PoolValue::of(alloc, expr_from(alloc, line, o.from)?)?,
         },
         Named::B => StmtKind::B(name(alloc, line, o.name)?),
         Named::BCond(cond) => StmtKind::BCond {

@@ -17,4 +17,4 @@ mod token;
 
 pub use fault::{SourceFault, SourceWhat};
 pub use read::read_source;
-pub use statement::{Expr, Exprs, Stmt, StmtKind};
+pub use statement::{Expr, Exprs, PoolValue, Stmt, StmtKind};

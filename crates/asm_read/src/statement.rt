@@ -1,6 +1,10 @@
 //! Statements, as docs/source-language.md has them.
+ghost use Rattle.std.specs.Prelude.{◌≡◌, IfOk};
+
 use eh_list::Seq;
 use eh_word::Name;
+use std::alloc::{AllocError, Global};
+use std::marker::Model;
 
 /// A statement of a source, with its line, which counts from 1.
 #[derive(Debug, Drop)]
@@ -30,6 +34,39 @@ pub enum Expr {
 
 /// Expressions, which contracts see as their list.
 pub type Exprs = Seq<Expr>;
+
+/// The value of a word of the pool, in a box: an expression is the longest of what a statement has, and few have one.
+/// Contracts see the expression.
+#[derive(Debug, Drop)]
+pub struct PoolValue {
+    expr: Box<Expr>,
+}
+
+impl Model for PoolValue {
+    ghost use Rattle.asm_read.specs.declared.statement.Expr.{Expr};
+
+    ghost Value = { Expr };
+
+    ghost view = { λ v. v.expr.value };
+}
+
+impl PoolValue {
+    /// An expression, boxed.
+    pub(crate) fn of(alloc: Global, expr: Expr) -> Result<PoolValue, AllocError>
+        ensures { IfOk result (λ v. v ≡ expr) }
+    {
+        Ok(PoolValue {
+            expr: Box::new(alloc, expr)?,
+        })
+    }
+
+    /// The expression.
+    pub fn expr(&self) -> &Expr
+        ensures { result.now ≡ self.now }
+    {
+        &self.expr
+    }
+}
 
 /// A statement's form, with its fields in the order of the text.
 ///
@@ -76,7 +113,7 @@ pub enum StmtKind {
     /// `ldr rt, name`
     LdrLabel { t: u8, name: Name },
     /// `ldr rt, =value`
-    LdrPool { t: u8, value: Expr },
+    LdrPool { t: u8, value: PoolValue },
     /// `str` (0), `ldr` (1), `strb` (2), `ldrb` (3), `strh` (4), `ldrh` (5) `rt, [rn, #off]`; without `#off` it is 0.
     /// For `str` and `ldr` the base is not sp.
     MemImm { op: u8, t: u8, n: u8, off: i64 },

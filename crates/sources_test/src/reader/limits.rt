@@ -141,7 +141,7 @@ fn lines_of_statements(rt: HostRuntime) -> Result<(), Fail> {
         Err(_) => format!(in rt.alloc(); "refused")?,
     };
     let want =
-        "[Stmt { line: 1, kind: MovsImm { d: 0, imm: 1 } }, Stmt { line: 2, kind: MovsImm { d: 2, imm: 2 } }, Stmt { line: 4, kind: LdrPool { t: 1, value: Num(4660) } }, Stmt { line: 5, kind: Label(Name { bytes: [101, 110, 100] }) }, Stmt { line: 5, kind: Bx { m: 14 } }]";
+        "[Stmt { line: 1, kind: MovsImm { d: 0, imm: 1 } }, Stmt { line: 2, kind: MovsImm { d: 2, imm: 2 } }, Stmt { line: 4, kind: LdrPool { t: 1, value: PoolValue { expr: Num(4660) } } }, Stmt { line: 5, kind: Label(Name { bytes: [101, 110, 100] }) }, Stmt { line: 5, kind: Bx { m: 14 } }]";
     assert_eq!(rt; shown.as_str(), want);
     Ok(())
 }

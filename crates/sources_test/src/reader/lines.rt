@@ -271,10 +271,13 @@ static NAMED: [(&str, &str); 40] = [
         "ldr r1, r2",
         "LdrLabel { t: 1, name: Name { bytes: [114, 50] } }",
     ),
-    ("ldr r1, =0x1234", "LdrPool { t: 1, value: Num(4660) }"),
+    (
+        "ldr r1, =0x1234",
+        "LdrPool { t: 1, value: PoolValue { expr: Num(4660) } }",
+    ),
     (
         "ldr r1, =a-b+2",
-        "LdrPool { t: 1, value: Diff(Name { bytes: [97] }, Name { bytes: [98] }, 2) }",
+        "LdrPool { t: 1, value: PoolValue { expr: Diff(Name { bytes: [97] }, Name { bytes: [98] }, 2) } }",
     ),
     ("b x", "B(Name { bytes: [120] })"),
     ("beq x", "BCond { cond: 0, name: Name { bytes: [120] } }"),

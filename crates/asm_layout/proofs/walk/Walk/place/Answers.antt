@@ -1,10 +1,10 @@
 use Rattle.asm_layout.proofs.PlacingLaws.{no_pool}
 use Rattle.asm_layout.proofs.walk.Walk.place.Goals as goal
 
-pub returns-in_ok-word-in_default : goal.returns-in_ok-word-in_default
-returns-in_ok-word-in_default c =
+pub returns-in_ok-placed-in_default : goal.returns-in_ok-placed-in_default
+returns-in_ok-placed-in_default c =
     let other = no_pool c.args.entries.now c.args.self.now c.args.stmt.now.kind c.in_default.not-Pool in
     record {
-      placed = rw (c.here-at.ensures, c.in_ok-word-in_default.ensures.word, c.in_ok-puts-in_default.ensures, c.function_puts.ensures, other.1);
+      placed = rw (c.in_ok-placed-in_default.ensures, c.here-at.ensures, c.in_ok-word-in_default.ensures.word, c.function_puts-puts.ensures, other.1);
       walk = rw (c.behind-self.ensures, c.in_ok-word-in_default.ensures.walk) other.0;
     }
