@@ -3,9 +3,9 @@ ghost use Rattle.std.specs.Prelude.{◌≡◌, ◌==◌, ◌%◌, ◌^◌, lengt
 ghost use Rattle.asm_layout.specs.Words.{low_word, is_local, word_of};
 
 use asm_read::Expr;
+use eh_list::Seq;
 use eh_word::Name;
 use std::alloc::{AllocError, Global};
-use std::marker::Model;
 
 /// What a word stands for, with its numbers modulo 2^32. Words are equal where they are equal as values of this type.
 #[derive(PartialEq, Eq, Hash, Debug, Drop)]
@@ -19,43 +19,8 @@ pub enum Word {
     Rel(Name),
 }
 
-/// The words of a pool in order, which contracts see as their list.
-#[derive(Drop)]
-pub struct Words {
-    items: Vec<Word>,
-}
-
-impl Model for Words {
-    ghost use Rattle.std.specs.Prelude.{List};
-    ghost use Rattle.asm_layout.specs.declared.word.Word.{Word};
-
-    ghost Value = { List Word };
-
-    ghost view = { λ words. words.items.items };
-}
-
-impl Words {
-    /// The words of a vector, which is kept.
-    pub(crate) fn of_vec(items: Vec<Word>) -> Words
-        ensures { result ≡ items.items }
-    {
-        Words { items }
-    }
-
-    /// The words as a vector.
-    pub fn into_vec(self) -> Vec<Word>
-        ensures { result.items ≡ self }
-    {
-        self.items
-    }
-
-    /// Whether there is no word.
-    pub fn is_empty(&self) -> bool
-        ensures { result ≡ (length self.now == 0) }
-    {
-        self.items.is_empty()
-    }
-}
+/// The words of a pool in order.
+pub type Words = Seq<Word>;
 
 /// A number modulo 2^32.
 pub fn low_number(n: i128) -> u32

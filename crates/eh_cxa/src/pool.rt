@@ -68,7 +68,7 @@ pub(crate) fn chain_word(w: u32) -> u32
 
 /// Word `k` of the slot.
 #[tactic(auto, unfolding(crate::specs::Words::word))]
-pub(crate) fn get<B: Bus>(bus: &B, slot: u32, k: u32) -> u32
+pub fn get<B: Bus>(bus: &B, slot: u32, k: u32) -> u32
     requires slot { slot < SLOTS }
     requires place { k < SLOT_WORDS }
     ensures { result ≡ word (B.memory bus.now) slot k }
@@ -86,7 +86,7 @@ pub(crate) fn state<B: Bus>(bus: &B, slot: u32) -> Option<State>
 
 /// Writes word `k` of the slot.
 #[tactic(auto, unfolding(crate::specs::Words::put))]
-pub(crate) fn set<B: Bus>(bus: &mut B, slot: u32, k: u32, value: u32)
+pub fn set<B: Bus>(bus: &mut B, slot: u32, k: u32, value: u32)
     requires slot { slot < SLOTS }
     requires place { k < SLOT_WORDS }
     ensures { B.memory bus.new ≡ put (B.memory bus.old) slot k value }

@@ -38,6 +38,13 @@ impl<T> Seq<T> {
         Seq { items }
     }
 
+    /// The elements as a vector.
+    pub fn into_vec(self) -> Vec<T>
+        ensures { result.items ≡ self }
+    {
+        self.items
+    }
+
     /// The elements in order.
     pub fn as_slice(&self) -> &[T]
         ensures { result.now ≡ self.now }

@@ -6,7 +6,7 @@ use Rattle.event_runs.specs.Runs.{Event, Goes, Ends, Machine}
 use Rattle.eh_bus.specs.Memory.{Memory}
 use Rattle.guest_gates.specs.declared.gates.TheConstants.{INPUT_GATE}
 use Rattle.guest_gates.specs.Ends.{trap_end, is_fault}
-use Rattle.guest_gates.specs.Gates.{r0, with_r0, gate_event}
+use Rattle.guest_gates.specs.Gates.{r0, with_r0, gate_event, gate_fails}
 use Rattle.eh_cxa.specs.Allocate.{allocate_of, free_of}
 use Rattle.eh_cxa.specs.Catch.{begin_catch_of, end_catch_of, rethrow_of}
 use Rattle.eh_cxa.specs.Cleanup.{begin_cleanup_of}
@@ -64,7 +64,7 @@ use Rattle.eh_gates.specs.Landing.{landed, pad_event, words_of}
 use Rattle.eh_gates.specs.Throwing.{handed, barrier_words, throw_event, barrier_in, rethrow_end}
 use Rattle.eh_gates.specs.Resuming.{goal_in}
 use Rattle.eh_machine.specs.Program.{Program, guide}
-use Rattle.eh_machine.specs.Machine.{sp_end, way_end, fell_off, saved_words, gate_fails}
+use Rattle.eh_machine.specs.Machine.{sp_end, way_end, fell_off, saved_words}
 use Rattle.eh_machine.specs.Activations.{Caller, Activation, Recorded, callee, with_caller, registers_of, released_in, freed_in, with_slots, reg_in, memory_of, words_in, heads, with_words, with_lists, first_place, frames_at}
 
 -- ---- what a gate does

@@ -10,7 +10,7 @@ use Rattle.eh_cxa.specs.Words.{word}
 use Rattle.eh_cxa.specs.Cleanup.{innermost_of}
 use Rattle.guest_gates.specs.declared.gates.TheConstants.{NO_CALLER, OUTPUT_GATE, INPUT_GATE}
 use Rattle.guest_gates.specs.Ends.{trap_end, is_fault}
-use Rattle.guest_gates.specs.Gates.{r0, gate_event, gate_may_fail}
+use Rattle.guest_gates.specs.Gates.{r0, gate_event, gate_fails}
 use Rattle.eh_gates.specs.declared.gates.TheConstants.{ALLOCATE_GATE, FREE_GATE, BEGIN_CATCH_GATE, END_CATCH_GATE, UNCAUGHT_GATE}
 use Rattle.eh_gates.specs.declared.state.Turned.TheVariants.{Went, Ended}
 use Rattle.eh_gates.specs.State.{State, Outcome, reg}
@@ -147,13 +147,6 @@ unfoldable pub machine_event : Program → State → List ℕ → Event State En
 machine_event p s input = onward p s (passed p s) input
 
 -- ---- faults of the outside: at a gate that asks for it, and that the tests let pass
-
-abbrev pub gate_fails : Stepped → End → Bool
-gate_fails (Gate number) end = gate_may_fail number end
-gate_fails Done end = false
-gate_fails (Call target ret) end = false
-gate_fails (Return to) end = false
-gate_fails (Trap trap) end = false
 
 abbrev pub passed_fails : Passed → End → Bool
 passed_fails (Err why, t) end = false

@@ -41,6 +41,25 @@ pub(crate) const ECHO: &[u8] = b"\x02\xdf\x00\xdf";
 /// svc #2; svc #1; svc #2; svc #1; svc #2; svc #0.
 pub(crate) const COPY: &[u8] = b"\x02\xdf\x01\xdf\x02\xdf\x01\xdf\x02\xdf\x00\xdf";
 
+/// A source whose lines come in parts, with `;` for the end of a line, between what stands in front of them and what behind.
+pub(crate) fn source_between(
+    alloc: Global,
+    front: &str,
+    parts: &[&str],
+    back: &str,
+) -> Result<String, AllocError> {
+    let mut text = String::new(alloc);
+    text.push_str(front)?;
+    for part in parts {
+        for letter in part.chars() {
+            text.push(if letter == ';' { '\n' } else { letter })?;
+        }
+    }
+    text.push('\n')?;
+    text.push_str(back)?;
+    Ok(text)
+}
+
 static CASES: [Case; 10] = [
     Case {
         words: &["flat", "c.bin", "15"],

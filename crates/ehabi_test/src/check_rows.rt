@@ -1,5 +1,5 @@
 //! `check` of sources: what the tables of its causes have in common; which function is named, and when types are read.
-use crate::cases::answers;
+use crate::cases::{answers, source_between};
 use std::alloc::{AllocError, Global};
 use std::test::Fail;
 
@@ -34,16 +34,7 @@ pub(crate) type Row = (&'static str, &'static str);
 
 /// A source of f's lines, which come in parts.
 pub(crate) fn source_of(alloc: Global, parts: &[&str]) -> Result<String, AllocError> {
-    let mut text = String::new(alloc);
-    text.push_str(FRONT)?;
-    for part in parts {
-        for letter in part.chars() {
-            text.push(if letter == ';' { '\n' } else { letter })?;
-        }
-    }
-    text.push('\n')?;
-    text.push_str(BACK)?;
-    Ok(text)
+    source_between(alloc, FRONT, parts, BACK)
 }
 
 /// Whether `check` of a source refuses it with this line.

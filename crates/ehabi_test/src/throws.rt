@@ -1,6 +1,6 @@
 //! `run` of sources that throw: what is written, line by line, where a throw lands, which ends stop it (docs/throws.md), and what a
 //! smaller budget leaves of it.
-use crate::cases::{Failing, NONE, answers, call};
+use crate::cases::{Failing, NONE, answers, call, source_between};
 use std::alloc::{AllocError, Global};
 use std::test::Fail;
 
@@ -37,16 +37,7 @@ pub(crate) struct Run {
 
 /// The source of lines that come in parts.
 pub(crate) fn source_of(alloc: Global, parts: &[&str]) -> Result<String, AllocError> {
-    let mut text = String::new(alloc);
-    text.push_str(FRONT)?;
-    for part in parts {
-        for letter in part.chars() {
-            text.push(if letter == ';' { '\n' } else { letter })?;
-        }
-    }
-    text.push('\n')?;
-    text.push_str(BACK)?;
-    Ok(text)
+    source_between(alloc, FRONT, parts, BACK)
 }
 
 /// Whether a source that runs at most so many instructions writes this and answers this status.

@@ -11,6 +11,8 @@ use eh_cxa::{
     end_cleanup, free, innermost_sp, land, may_rethrow, may_throw, object_size, rethrow,
     set_barrier, start_throw, thrown,
 };
+use rand_core::Rng;
+use rand_pcg::Pcg32;
 use std::alloc::{AllocError, Global};
 use std::process::Abort;
 use std::test::Fail;
@@ -22,26 +24,11 @@ const CALLS: u32 = 32;
 
 const REACHED: u32 = 33;
 
-/// Numbers that look random, the same at each run.
-#[derive(Drop)]
-struct Dice {
-    state: u32,
-}
-
-impl Dice {
-    fn next(&mut self) -> u32 {
-        self.state ^= self.state << 13;
-        self.state ^= self.state >> 17;
-        self.state ^= self.state << 5;
-        self.state
-    }
-
-    /// One of 0 to 15.
-    fn roll(&mut self) -> u32
-        ensures { result < 16 }
-    {
-        self.next() / 0x1000_0000
-    }
+/// One of 0 to 15.
+fn roll(dice: &mut Pcg32) -> u32
+    ensures { result < 16 }
+{
+    dice.next_u32() / 0x1000_0000
 }
 
 #[derive(Drop)]
@@ -69,9 +56,9 @@ fn begin_again(run: &mut Run) {
 }
 
 /// Calls that take and give back slots.
-fn slots(rt: &impl Abort, run: &mut Run, dice: &mut Dice, slot: u32) {
-    if dice.roll() < 12 {
-        let size = dice.roll() * 26;
+fn slots(rt: &impl Abort, run: &mut Run, dice: &mut Pcg32, slot: u32) {
+    if roll(dice) < 12 {
+        let size = roll(dice) * 26;
         assert_eq!(rt; allocate(&mut run.bus, size), run.model.allocate(size));
     } else {
         assert_eq!(rt; free(&mut run.bus, object(slot)), run.model.free(slot));
@@ -79,8 +66,8 @@ fn slots(rt: &impl Abort, run: &mut Run, dice: &mut Dice, slot: u32) {
 }
 
 /// A throw begins, and gets its barrier.
-fn throws(rt: &impl Abort, run: &mut Run, dice: &mut Dice, slot: u32) {
-    let (ty, destructor) = (dice.next(), dice.next());
+fn throws(rt: &impl Abort, run: &mut Run, dice: &mut Pcg32, slot: u32) {
+    let (ty, destructor) = (dice.next_u32(), dice.next_u32());
     let may = may_throw(&run.bus, object(slot));
     let thrown = run.model.throw(slot, ty, destructor);
     assert_eq!(rt; may.is_ok(), thrown.is_ok());
@@ -91,13 +78,13 @@ fn throws(rt: &impl Abort, run: &mut Run, dice: &mut Dice, slot: u32) {
 }
 
 /// The barrier of a slot is written.
-fn barriers(run: &mut Run, dice: &mut Dice, slot: u32) {
+fn barriers(run: &mut Run, dice: &mut Pcg32, slot: u32) {
     let ucb = block(slot);
     let words = BarrierWords {
-        sp: dice.next(),
-        object: dice.next(),
-        desc: dice.next(),
-        pointer: dice.next(),
+        sp: dice.next_u32(),
+        object: dice.next_u32(),
+        desc: dice.next_u32(),
+        pointer: dice.next_u32(),
     };
     if let Some(_) = slot_of_block(ucb) {
         set_barrier(&mut run.bus, ucb, &words);
@@ -128,8 +115,8 @@ fn catches(rt: &impl Abort, run: &mut Run, slot: u32) -> Result<(), AllocError> 
 }
 
 /// Handlers end or throw again.
-fn leaves(rt: &impl Abort, run: &mut Run, dice: &mut Dice) {
-    if dice.roll() < 8 {
+fn leaves(rt: &impl Abort, run: &mut Run, dice: &mut Pcg32) {
+    if roll(dice) < 8 {
         assert_eq!(rt;
             end_catch(&mut run.bus, &mut run.globals),
             run.model.end_catch()
@@ -143,15 +130,15 @@ fn leaves(rt: &impl Abort, run: &mut Run, dice: &mut Dice) {
 }
 
 /// A cleanup of a throw that has none in progress is entered.
-fn enters(run: &mut Run, dice: &mut Dice, slot: u32) -> Result<(), AllocError> {
+fn enters(run: &mut Run, dice: &mut Pcg32, slot: u32) -> Result<(), AllocError> {
     let ucb = block(slot);
     if run.model.at(slot).phase != Phase::Flying || run.model.runs(slot) {
         return Ok(());
     }
     let words = CleanupWords {
-        next: dice.next(),
-        sp: dice.roll(),
-        site: dice.next(),
+        next: dice.next_u32(),
+        sp: roll(dice),
+        site: dice.next_u32(),
     };
     if let Some(_) = slot_of_block(ucb) {
         begin_cleanup(&mut run.bus, &mut run.globals, ucb, &words);
@@ -161,10 +148,10 @@ fn enters(run: &mut Run, dice: &mut Dice, slot: u32) -> Result<(), AllocError> {
 }
 
 /// A cleanup ends, at its landing sp or at another.
-fn ends(rt: &impl Abort, run: &mut Run, dice: &mut Dice) {
+fn ends(rt: &impl Abort, run: &mut Run, dice: &mut Pcg32) {
     let sp = match innermost_sp(&run.bus, &run.globals) {
-        Some(sp) if dice.roll() < 12 => sp,
-        Some(_) | None => dice.roll(),
+        Some(sp) if roll(dice) < 12 => sp,
+        Some(_) | None => roll(dice),
     };
     assert_eq!(rt;
         end_cleanup(&mut run.bus, &mut run.globals, sp),
@@ -173,8 +160,8 @@ fn ends(rt: &impl Abort, run: &mut Run, dice: &mut Dice) {
 }
 
 /// One call of those that chance names, for this slot.
-fn call(rt: &impl Abort, run: &mut Run, dice: &mut Dice, slot: u32) -> Result<(), AllocError> {
-    match dice.roll() / 2 {
+fn call(rt: &impl Abort, run: &mut Run, dice: &mut Pcg32, slot: u32) -> Result<(), AllocError> {
+    match roll(dice) / 2 {
         0 => slots(rt, run, dice, slot),
         1 => throws(rt, run, dice, slot),
         2 => barriers(run, dice, slot),
@@ -265,11 +252,11 @@ fn sequence(
     rt: &impl Abort,
     alloc: Global,
     run: &mut Run,
-    dice: &mut Dice,
+    dice: &mut Pcg32,
 ) -> Result<(), AllocError> {
     begin_again(run);
     for _ in 0..CALLS {
-        let slot = dice.roll() / 4;
+        let slot = roll(dice) / 4;
         call(rt, run, dice, slot)?;
         same_slot(rt, &run.bus, slot, run.model.at(slot));
         same_lists(rt, alloc, run)?;
@@ -283,7 +270,7 @@ fn sequence(
 
 #[test]
 fn sequences_do_what_the_model_does(rt: HostRuntime) -> Result<(), Fail> {
-    let mut dice = Dice { state: 0x2545_f491 };
+    let mut dice = Pcg32::new(0x2545_f491, 0);
     let mut run = start(rt.alloc())?;
     for _ in 0..SEQUENCES {
         sequence(&rt, rt.alloc(), &mut run, &mut dice)?;

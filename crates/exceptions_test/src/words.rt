@@ -1,27 +1,14 @@
 //! A bus with an empty pool, and words of slots by number, for the tests of this crate.
-ghost use Rattle.std.specs.Prelude.{◌≡◌, ◌%◌, ◌<◌, ◌≤◌};
-
 use eh_bus::bus::Bus;
 use eh_bus::fault::BusMemory;
 use eh_bus::flat::FlatBus;
+use eh_cxa::layout::{SLOT_WORDS, SLOTS};
+use eh_cxa::pool;
 use std::alloc::{AllocError, Global};
 
 /// A bus without segments of an image: stack and pool, all zeros.
 pub fn empty_pool(alloc: Global) -> Result<FlatBus, BusMemory> {
     FlatBus::build(alloc, &[])
-}
-
-/// The address of word `k` of a slot; of a slot or a word that isn't there, that of the first word.
-fn address(slot: u32, k: u32) -> u32
-    ensures aligned { result % 4 ≡ 0 }
-    ensures low { 0x38000000 ≤ result }
-    ensures high { result < 0x38008000 }
-{
-    if slot < 64 && k < 128 {
-        0x3800_0000 + 512 * slot + 4 * k
-    } else {
-        0x3800_0000
-    }
 }
 
 /// The word at an address of the pool.
@@ -33,14 +20,20 @@ pub fn load(bus: &FlatBus, at: u32) -> Option<u32> {
     }
 }
 
-/// Word `k` of a slot.
+/// Word `k` of a slot, and 0 of what isn't there.
 pub fn word(bus: &FlatBus, slot: u32, k: u32) -> u32 {
-    bus.host_load32(address(slot, k))
+    if slot < SLOTS && k < SLOT_WORDS {
+        pool::get(bus, slot, k)
+    } else {
+        0
+    }
 }
 
-/// Writes word `k` of a slot.
+/// Writes word `k` of a slot, where it is there.
 pub fn put(bus: &mut FlatBus, slot: u32, k: u32, value: u32) {
-    bus.host_store32(address(slot, k), value);
+    if slot < SLOTS && k < SLOT_WORDS {
+        pool::set(bus, slot, k, value);
+    }
 }
 
 /// The slots of a chain of control blocks, whose links stand in word `link`; at most 64 of them.

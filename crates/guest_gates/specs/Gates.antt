@@ -3,6 +3,8 @@ use Rattle.std.specs.Prelude.{ℕ, ◌≡◌, ◌%◌, ◌==◌, Bool, false, Li
 use Rattle.event_runs.specs.Runs.{Event, Goes, Ends}
 use Rattle.guest_gates.specs.declared.gates.TheConstants.{NO_CALLER, EXIT_GATE, OUTPUT_GATE, INPUT_GATE, END_OF_INPUT}
 use Rattle.thumb_core.specs.declared.regs.Regs.{Regs}
+use Rattle.thumb_core.specs.declared.regs.Stepped.{Stepped}
+use Rattle.thumb_core.specs.declared.regs.Stepped.TheVariants.{Done, Call, Return, Gate, Trap}
 use Rattle.thumb_core.specs.declared.ends.TrapKind.TheVariants as kind
 use Rattle.thumb_core.specs.declared.ends.End.{End}
 use Rattle.thumb_core.specs.declared.ends.End.TheVariants as the_end
@@ -41,6 +43,14 @@ gate_may_fail number (the_end.Trap kind value pc) = false
 gate_may_fail number the_end.Budget = false
 gate_may_fail number the_end.ReadFault = number == INPUT_GATE
 gate_may_fail number the_end.WriteFault = number == OUTPUT_GATE
+
+-- .. so at an instruction only if it is such a gate
+abbrev pub gate_fails : Stepped → End → Bool
+gate_fails (Gate number) end = gate_may_fail number end
+gate_fails Done end = false
+gate_fails (Call target ret) end = false
+gate_fails (Return to) end = false
+gate_fails (Trap trap) end = false
 
 -- a return to where nobody called ends the run with r0, and leaves the registers before it
 abbrev pub return_event : ℕ → Regs → Regs → List ℕ → Event Regs End

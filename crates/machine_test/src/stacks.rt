@@ -7,6 +7,8 @@ use eh_bus::bus::Bus;
 use eh_cxa::layout::{SIZE, STATE};
 use eh_cxa::state::FRESH;
 use eh_machine::{Checked, Core, Machine};
+use rand_core::Rng;
+use rand_pcg::Pcg32;
 use std::alloc::Global;
 use std::test::Fail;
 use thumb_core::ends::{Cause, End};
@@ -26,41 +28,26 @@ const THROW: u32 = 0x8058;
 /// An exception in the first slot that isn't thrown yet.
 const POOL: [(u32, u32, u32); 2] = [(0, STATE, FRESH), (0, SIZE, 4)];
 
-/// Numbers that look random, the same at each run.
-#[derive(Drop)]
-struct Dice {
-    state: u32,
+/// One of 0 to 15.
+fn roll(dice: &mut Pcg32) -> u32 {
+    dice.next_u32() / 0x1000_0000
 }
 
-impl Dice {
-    fn next(&mut self) -> u32 {
-        self.state ^= self.state << 13;
-        self.state ^= self.state >> 17;
-        self.state ^= self.state << 5;
-        self.state
-    }
-
-    /// One of 0 to 15.
-    fn roll(&mut self) -> u32 {
-        self.next() / 0x1000_0000
-    }
-
-    /// A word as it may lie on a stack: mostly where a call returns to.
-    fn word(&mut self) -> u32 {
-        match self.roll() {
-            // in main's call, in g's, in f, in the start, in the end of a catch
-            0 | 1 => 0x8007,
-            2 | 3 => 0x8023,
-            4 | 5 => 0x8039,
-            6 | 7 => 0x804F,
-            8 | 9 => 0x806D,
-            // behind gates, and behind all functions
-            10 => 0x8053,
-            11 => 0x8091,
-            12 | 13 => 0xFFFF_FFFF,
-            14 => LOW.wrapping_add(self.roll().wrapping_mul(8)),
-            _ => self.next(),
-        }
+/// A word as it may lie on a stack: mostly where a call returns to.
+fn stack_word(dice: &mut Pcg32) -> u32 {
+    match roll(dice) {
+        // in main's call, in g's, in f, in the start, in the end of a catch
+        0 | 1 => 0x8007,
+        2 | 3 => 0x8023,
+        4 | 5 => 0x8039,
+        6 | 7 => 0x804F,
+        8 | 9 => 0x806D,
+        // behind gates, and behind all functions
+        10 => 0x8053,
+        11 => 0x8091,
+        12 | 13 => 0xFFFF_FFFF,
+        14 => LOW.wrapping_add(roll(dice).wrapping_mul(8)),
+        _ => dice.next_u32(),
     }
 }
 
@@ -71,30 +58,30 @@ struct Rolled {
     stack: [(u32, u32); WORDS],
 }
 
-fn rolled_stack(dice: &mut Dice) -> [(u32, u32); WORDS] {
+fn rolled_stack(dice: &mut Pcg32) -> [(u32, u32); WORDS] {
     let mut stack = [(0, 0); WORDS];
     let mut at = LOW;
     for word in stack.iter_mut() {
-        *word = (at, dice.word());
+        *word = (at, stack_word(dice));
         at = at.wrapping_add(4);
     }
     stack
 }
 
-fn rolled_regs(dice: &mut Dice, ty: u32) -> [(usize, u32); 16] {
+fn rolled_regs(dice: &mut Pcg32, ty: u32) -> [(usize, u32); 16] {
     let mut regs = [(0, 0); 16];
     for (number, reg) in regs.iter_mut().enumerate() {
-        *reg = (number, dice.next());
+        *reg = (number, dice.next_u32());
     }
     regs[0] = (0, OBJECT);
     regs[1] = (1, ty);
-    regs[13] = (13, LOW.wrapping_add(dice.roll().wrapping_mul(4)));
-    regs[14] = (14, dice.word());
+    regs[13] = (13, LOW.wrapping_add(roll(dice).wrapping_mul(4)));
+    regs[14] = (14, stack_word(dice));
     regs[15] = (15, THROW);
     regs
 }
 
-fn roll(dice: &mut Dice, ty: u32) -> Rolled {
+fn rolled_throw(dice: &mut Pcg32, ty: u32) -> Rolled {
     let stack = rolled_stack(dice);
     Rolled {
         regs: rolled_regs(dice, ty),
@@ -268,7 +255,7 @@ fn stacks_by_chance(rt: HostRuntime) -> Result<(), Fail> {
     let ty = symbol_of(code.image(), "_ZTIi")?;
     let mut machine = from_parts(alloc, &code)?;
     let core = machine.core;
-    let mut dice = Dice { state: 1 };
+    let mut dice = Pcg32::new(1, 0);
     let mut tally = Tally {
         caught: 0,
         cleaned: 0,
@@ -276,7 +263,7 @@ fn stacks_by_chance(rt: HostRuntime) -> Result<(), Fail> {
         broken: 0,
     };
     for number in 0..STACKS {
-        let rolled = roll(&mut dice, ty);
+        let rolled = rolled_throw(&mut dice, ty);
         let wanted = told_rightly(alloc, &mut machine, &core, &rolled);
         assert!(rt; wanted.is_some(), "stack {number}");
         if let Some(wanted) = wanted {

@@ -6,8 +6,9 @@ use Rattle.std.proofs.KnownBytes.{Appends-nil}
 use Rattle.event_runs.specs.Runs.{Goes, Ends, GoesOn, Fails, EndsBy, Runs}
 use Rattle.eh_bus.specs.Memory.{Memory}
 use Rattle.guest_gates.specs.Ends.{is_fault}
+use Rattle.guest_gates.specs.Gates.{gate_fails}
 use Rattle.image_memory.specs.Start.{State}
-use Rattle.plain_run.specs.Machine.{went_event, in_memory, stepped_event, flat_event, gate_fails, may_fail, flat_machine, FlatRuns}
+use Rattle.plain_run.specs.Machine.{went_event, in_memory, stepped_event, flat_event, may_fail, flat_machine, FlatRuns}
 use Rattle.thumb_core.specs.Laws.{LeavesMemory}
 use Rattle.thumb_core.specs.Outcome.{Outcome}
 use Rattle.thumb_core.specs.Step.{step_of}

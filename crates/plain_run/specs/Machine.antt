@@ -1,9 +1,9 @@
 -- Raw code without unwinding: one event is one instruction, then what the instruction goes on to (docs/runs.md).
-use Rattle.std.specs.Prelude.{ℕ, Bool, false, List, [], Option}
+use Rattle.std.specs.Prelude.{ℕ, Bool, List, [], Option}
 use Rattle.event_runs.specs.Runs.{Event, Goes, Ends, Machine, Ran, Runs, ran_of}
 use Rattle.eh_bus.specs.Memory.{Memory}
 use Rattle.guest_gates.specs.Ends.{is_fault, trap_end}
-use Rattle.guest_gates.specs.Gates.{gate_event, gate_may_fail, return_event}
+use Rattle.guest_gates.specs.Gates.{gate_event, gate_fails, return_event}
 use Rattle.image_memory.specs.Start.{State}
 use Rattle.thumb_core.specs.Outcome.{Outcome}
 use Rattle.thumb_core.specs.Step.{step_of}
@@ -37,15 +37,7 @@ flat_event state input = stepped_event (step_of state.regs state.memory) state i
 
 -- ---- faults
 
--- a fault of the outside comes at a gate that asks for it
-abbrev pub gate_fails : Stepped → End → Bool
-gate_fails (Gate number) end = gate_may_fail number end
-gate_fails Done end = false
-gate_fails (Call target ret) end = false
-gate_fails (Return to) end = false
-gate_fails (Trap trap) end = false
-
--- .. so in a state whose instruction is such a gate
+-- a fault of the outside comes in a state whose instruction is a gate that asks for it
 unfoldable pub may_fail : State → End → Bool
 may_fail state end = gate_fails (step_of state.regs state.memory).0 end
 

@@ -3,8 +3,9 @@ ghost use Rattle.std.specs.Prelude.{◌≡◌, ◌≤◌, Some, IfSome, MatchOpt
 ghost use Rattle.eh_port.specs.Causes.{Rose};
 ghost use Rattle.event_runs.specs.Runs.{GoesOn, EndsBy};
 ghost use Rattle.guest_gates.specs.Ends.{is_fault};
+ghost use Rattle.guest_gates.specs.Gates.{gate_fails};
 ghost use Rattle.image_memory.specs.Start.{State};
-ghost use Rattle.plain_run.specs.Machine.{went_event, flat_event, may_fail, gate_fails};
+ghost use Rattle.plain_run.specs.Machine.{went_event, flat_event, may_fail};
 
 use eh_bus::bus::Bus;
 use eh_port::{Sink, Source};

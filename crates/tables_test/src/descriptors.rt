@@ -1,4 +1,5 @@
 //! Descriptors in their formats, lists that end in a fault, and the types of specifications.
+use crate::types::push_words;
 use eh_desc::{CatchType, Desc, DescFault, DescKind, Descs, spec_type};
 use eh_index::Index;
 use eh_word::Name;
@@ -8,7 +9,7 @@ use elf_write::parts::{
     ImageParts, OwnBytes, OwnSegment, OwnSegments, OwnSymbol, OwnSymbols, SymbolKind,
 };
 use elf_write::write::write_image;
-use std::alloc::{AllocError, Global};
+use std::alloc::Global;
 use std::process::Abort;
 use std::test::Fail;
 use unwind_codes::{Entry, EntryBody};
@@ -16,25 +17,14 @@ use unwind_codes::{Entry, EntryBody};
 /// The address of the tests' table.
 const TABLE: u32 = 0x9000;
 
-/// The bytes of words, each with its lowest byte first.
-pub fn bytes_of(alloc: Global, words: &[u32]) -> Result<Vec<u8>, AllocError> {
-    let mut bytes = Vec::new(alloc);
-    for word in words {
-        bytes.extend_from_slice(&word.to_le_bytes())?;
-    }
-    Ok(bytes)
-}
-
 /// The entry of a function at 0x8000 with a table.
 const ENTRY: Entry = Entry {
     start: 0x8000,
     body: EntryBody::Table(TABLE),
 };
 
-/// An image of one read-only segment with a table's words at their address.
-fn image_with(alloc: Global, words: &[u32]) -> Result<Vec<u8>, Fail> {
-    let mut bytes = vec![in alloc; 0; 0x1000]?;
-    bytes.extend_from_slice(bytes_of(alloc, words)?.as_slice())?;
+/// An image of one read-only segment, of these bytes from 0x8000 on, and of an index.
+pub fn image_of(alloc: Global, bytes: Vec<u8>, index: (u32, u32)) -> Result<Vec<u8>, Fail> {
     let segment = OwnSegment {
         start: 0x8000,
         bytes: OwnBytes::of_vec(bytes),
@@ -52,9 +42,16 @@ fn image_with(alloc: Global, words: &[u32]) -> Result<Vec<u8>, Fail> {
         entry: 0x8000,
         segments: OwnSegments::of_vec(vec![in alloc; segment]?),
         symbols: OwnSymbols::of_vec(vec![in alloc; start]?),
-        index: (0x8000, 0),
+        index,
     };
     Ok(write_image(alloc, &parts)?)
+}
+
+/// An image of one read-only segment with a table's words at their address.
+fn image_with(alloc: Global, words: &[u32]) -> Result<Vec<u8>, Fail> {
+    let mut bytes = vec![in alloc; 0; 0x1000]?;
+    push_words(&mut bytes, words)?;
+    image_of(alloc, bytes, (0x8000, 0))
 }
 
 fn collected(

@@ -1,5 +1,6 @@
 //! The two phases over images and stacks that are made by hand: row by row of the rules in docs/phases.md.
-use crate::descriptors::bytes_of;
+use crate::descriptors::image_of;
+use crate::types::push_words;
 use eh_bus::bus::Bus;
 use eh_bus::flat::FlatBus;
 use eh_bytecode::Vrs;
@@ -7,13 +8,8 @@ use eh_index::Index;
 use eh_match::Match;
 use eh_phase::{Barrier, Entered, Found, Goal, Tables, Thrown, advance, search};
 use eh_types::TypeGraph;
-use eh_word::Name;
 use elf_image::image::Image;
 use elf_image::read::read_image;
-use elf_write::parts::{
-    ImageParts, OwnBytes, OwnSegment, OwnSegments, OwnSymbol, OwnSymbols, SymbolKind,
-};
-use elf_write::write::write_image;
 use std::alloc::{AllocError, Global};
 use std::test::Fail;
 use thumb_core::ends::Cause;
@@ -67,29 +63,10 @@ fn index_words(alloc: Global) -> Result<Vec<u32>, AllocError> {
 /// An image of one read-only segment with main's table and the index.
 fn image_with(alloc: Global, table: &[u32]) -> Result<Vec<u8>, Fail> {
     let mut bytes = vec![in alloc; 0; 0x1000]?;
-    bytes.extend_from_slice(bytes_of(alloc, table)?.as_slice())?;
+    push_words(&mut bytes, table)?;
     bytes.resize(0x1100, 0)?;
-    bytes.extend_from_slice(bytes_of(alloc, index_words(alloc)?.as_slice())?.as_slice())?;
-    let segment = OwnSegment {
-        start: 0x8000,
-        bytes: OwnBytes::of_vec(bytes),
-        size: 0x2000,
-        write: false,
-        exec: true,
-    };
-    let start = OwnSymbol {
-        name: Name::of_vec(Vec::from_slice(alloc, b"_start")?),
-        value: 0x8000,
-        size: 16,
-        kind: SymbolKind::Function,
-    };
-    let parts = ImageParts {
-        entry: 0x8000,
-        segments: OwnSegments::of_vec(vec![in alloc; segment]?),
-        symbols: OwnSymbols::of_vec(vec![in alloc; start]?),
-        index: (INDEX, 64),
-    };
-    Ok(write_image(alloc, &parts)?)
+    push_words(&mut bytes, index_words(alloc)?.as_slice())?;
+    image_of(alloc, bytes, (INDEX, 64))
 }
 
 /// Where a phase begins: main's table, the words of the stack, the stack pointer, the link register and the site.

@@ -31,7 +31,8 @@ const NAMES: u32 = 0x9000;
 /// Where the words of a test stand that may be written.
 const WRITABLE: u32 = 0x1_0000;
 
-fn push_words(bytes: &mut Vec<u8>, words: &[u32]) -> Result<(), AllocError> {
+/// Adds the bytes of words, each with its lowest byte first.
+pub fn push_words(bytes: &mut Vec<u8>, words: &[u32]) -> Result<(), AllocError> {
     for word in words {
         bytes.extend_from_slice(&word.to_le_bytes())?;
     }
