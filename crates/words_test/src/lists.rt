@@ -13,6 +13,7 @@ fn elements_stand_in_order(rt: HostRuntime) -> Result<(), Fail> {
     assert_eq!(rt; seq.len(), 3);
     let kept = Seq::of_vec(b"ab".to_vec(rt.alloc())?);
     assert_eq!(rt; kept.as_slice(), b"ab".as_slice());
+    assert_eq!(rt; kept.into_vec().as_slice(), b"ab".as_slice());
     Ok(())
 }
 
