@@ -7,7 +7,8 @@ use Rattle.thumb_isa.specs.declared.instr.Decoded.{Decoded}
 use Rattle.thumb_isa.specs.declared.instr.Decoded.TheVariants.{Is, Undefined, Unpredictable, NotInProfile}
 use Rattle.thumb_isa.specs.Range.{IsOfSize, size_of}
 use Rattle.thumb_isa.specs.Rows.{Row, fits, rows, first_fit, decoded_of}
-use Rattle.thumb_isa.proofs.Search.{both, kept, drops_no_fit, first_fit-kept, decoded_by}
+use Rattle.thumb_isa.proofs.Blocks.{both}
+use Rattle.thumb_isa.proofs.Search.{kept, drops_no_fit, first_fit-kept, decoded_by}
 
 -- the rows of one halfword, and those of two
 abbrev narrow_rows : List Row → List Bool

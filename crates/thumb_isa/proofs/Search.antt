@@ -1,26 +1,9 @@
 -- The search of a list of rows, by a test of every halfword of a range.
-use Rattle.std.proofs.Common.{◌≡◌, ℕ, zero, suc, ◌+◌, ◌<◌, ◌≤◌, Bool, true, false, not, ◌&&◌, ◌||◌, ◌==◌, bit_and, cond, List, [], ◌∷◌, refl, arith, ◌∙◌, ap}
+use Rattle.std.proofs.Common.{◌≡◌, ℕ, zero, suc, ◌+◌, ◌<◌, ◌≤◌, Bool, true, false, not, ◌&&◌, ◌||◌, ◌==◌, bit_and, cond, Option, Some, None, List, [], ◌∷◌, refl, arith, ◌∙◌, ap}
 use Rattle.thumb_isa.specs.declared.instr.Decoded.{Decoded}
 use Rattle.thumb_isa.specs.declared.instr.Decoded.TheVariants.{Is, Undefined, Unpredictable, NotInProfile}
 use Rattle.thumb_isa.specs.Rows.{Row, fits, fits_second, rows, first_fit, decoded_of}
-
--- each of the n numbers from k up passes
-abbrev pub all_from : (ℕ → Bool) → ℕ → ℕ → Bool
-all_from p zero k = true
-all_from p (suc n) k = p k && all_from p n (k + 1)
-
-pub both : (a b : Bool) → (a && b) ≡ true → (a ≡ true) × (b ≡ true)
-both true b h = (refl, h)
-both false b h = cc
-
-pub all_from_at : (p : ℕ → Bool) (n k : ℕ) → all_from p n k ≡ true → (m : ℕ) → k ≤ m → m < k + n → p m ≡ true
-all_from_at p zero k h m low high = absurd (omega arith)
-all_from_at p (suc n) k h m low high =
-    let two = both (p k) (all_from p n (k + 1)) h in
-    all_from_step p n k m two.0 (λ l. all_from_at p n (k + 1) two.1 m l (omega arith)) low
-  where
-    all_from_step : (p : ℕ → Bool) (n k m : ℕ) → p k ≡ true → (k + 1 ≤ m → p m ≡ true) → k ≤ m → p m ≡ true
-    all_from_step p n k m here later low = grind arith
+use Rattle.thumb_isa.proofs.Blocks.{all_from, all_from_at, both, none_in, none_in_at, all_in, all_in_at}
 
 -- the search stops at this place of the list, or runs past its end
 abbrev pub stops_at : ℕ → List Row → ℕ → ℕ → Bool
@@ -60,24 +43,73 @@ decoded_where when i low n second h first above below w =
     let at = all_from_at (λ first. not (when first) || stops_at i rows first second) n low h first above below in
     first_fit-at i rows first second (implied (when first) _ at w)
 
+-- the search stops at this place of the list over the n halfwords from low up: each row before it fits none of them, and the row there
+-- asks for one halfword alone and fits them all
+abbrev pub is_single : Option (ℕ × ℕ) → Bool
+is_single None = true
+is_single (Some pattern) = false
+
+abbrev pub stops_in : ℕ → List Row → ℕ → ℕ → Bool
+stops_in i [] low n = true
+stops_in zero (row ∷ more) low n = is_single row.second && all_in row.mask row.value low n
+stops_in (suc i) (row ∷ more) low n = none_in row.mask row.value low n && stops_in i more low n
+
+and_both : (a b : Bool) → a ≡ true → b ≡ true → (a && b) ≡ true
+and_both true b p q = q
+and_both false b p q = p
+
+single_fits : (second : Option (ℕ × ℕ)) (s : ℕ) → is_single second ≡ true → fits_second second s ≡ true
+single_fits None s h = refl
+single_fits (Some pattern) s h = cc
+
+no_fit : (a b : Bool) → not a ≡ true → not (a && b) ≡ true
+no_fit true b h = cc
+no_fit false b h = refl
+
+stops_at-in : (i : ℕ) (rs : List Row) (low n second : ℕ) → stops_in i rs low n ≡ true → (first : ℕ) → low ≤ first → first < low + n → stops_at i rs first second ≡ true
+stops_at-in zero [] low n second h first above below = refl
+stops_at-in (suc i) [] low n second h first above below = refl
+stops_at-in zero (row ∷ more) low n second h first above below =
+    let two = both (is_single row.second) (all_in row.mask row.value low n) h in
+    and_both _ _ (all_in_at row.mask row.value low n two.1 first above below) (single_fits row.second second two.0)
+stops_at-in (suc i) (row ∷ more) low n second h first above below =
+    let two = both (none_in row.mask row.value low n) (stops_in i more low n) h in
+    and_both _ _ (no_fit (bit_and first row.mask == row.value) (fits_second row.second second) (none_in_at row.mask row.value low n two.0 first above below))
+    (stops_at-in i more low n second two.1 first above below)
+
 -- the n halfwords from low up have the meaning of the row at this place
-pub decoded_at : (i low n second : ℕ) → all_from (λ first. stops_at i rows first second) n low ≡ true
+pub decoded_at : (i low n second : ℕ) → stops_in i rows low n ≡ true
     → (first : ℕ) → low ≤ first → first < low + n → decoded_of first second ≡ meaning_at i rows first second
 unfolding decoded_of
 decoded_at i low n second h first above below =
-    first_fit-at i rows first second (all_from_at (λ first. stops_at i rows first second) n low h first above below)
+    first_fit-at i rows first second (stops_at-in i rows low n second h first above below)
 
 -- The same over a rectangle: the n first halfwords from low up, and the m second ones from low_2 up. Each row before the
 -- place fits none of the first or none of the second, and the row at the place fits all.
+abbrev pub none_second : Option (ℕ × ℕ) → ℕ → ℕ → Bool
+none_second None low m = false
+none_second (Some pattern) low m = none_in pattern.0 pattern.1 low m
+
+abbrev pub all_second : Option (ℕ × ℕ) → ℕ → ℕ → Bool
+all_second None low m = true
+all_second (Some pattern) low m = all_in pattern.0 pattern.1 low m
+
+none_second_at : (p : Option (ℕ × ℕ)) (low m : ℕ) → none_second p low m ≡ true → (s : ℕ) → low ≤ s → s < low + m → not (fits_second p s) ≡ true
+none_second_at None low m h s above below = cc
+none_second_at (Some p) low m h s above below = none_in_at p.0 p.1 low m h s above below
+
+all_second_at : (p : Option (ℕ × ℕ)) (low m : ℕ) → all_second p low m ≡ true → (s : ℕ) → low ≤ s → s < low + m → fits_second p s ≡ true
+all_second_at None low m h s above below = refl
+all_second_at (Some p) low m h s above below = all_in_at p.0 p.1 low m h s above below
+
 abbrev pub skips_all : Row → ℕ → ℕ → ℕ → ℕ → Bool
 skips_all row low n low_2 m =
-    let seconds = all_from (λ second. not (fits_second row.second second)) m low_2 in
-    cond (all_from (λ first. not (bit_and first row.mask == row.value)) n low) true seconds
+    let seconds = none_second row.second low_2 m in
+    cond (none_in row.mask row.value low n) true seconds
 
 abbrev pub stops_over : ℕ → List Row → ℕ → ℕ → ℕ → ℕ → Bool
 stops_over i [] low n low_2 m = true
-stops_over zero (row ∷ more) low n low_2 m =
-    all_from (λ first. bit_and first row.mask == row.value) n low && all_from (λ second. fits_second row.second second) m low_2
+stops_over zero (row ∷ more) low n low_2 m = all_in row.mask row.value low n && all_second row.second low_2 m
 stops_over (suc i) (row ∷ more) low n low_2 m =
     skips_all row low n low_2 m && stops_over i more low n low_2 m
 
@@ -92,23 +124,15 @@ module _ (low n low_2 m first second : ℕ) (above : low ≤ first) (below : fir
   stops_at-over zero [] h = refl
   stops_at-over (suc i) [] h = refl
   stops_at-over zero (row ∷ more) h =
-      let two = both (all_from (λ f. bit_and f row.mask == row.value) n low) _ h in
-      and_both _ _ (all_from_at (λ f. bit_and f row.mask == row.value) n low two.0 first above below) (all_from_at (λ s. fits_second row.second s) m low_2 two.1 second above_2 below_2)
-    where
-      and_both : (a b : Bool) → a ≡ true → b ≡ true → (a && b) ≡ true
-      and_both true b p q = q
-      and_both false b p q = p
+      let two = both (all_in row.mask row.value low n) (all_second row.second low_2 m) h in
+      and_both _ _ (all_in_at row.mask row.value low n two.0 first above below) (all_second_at row.second low_2 m two.1 second above_2 below_2)
   stops_at-over (suc i) (row ∷ more) h =
       let two = both (skips_all row low n low_2 m) (stops_over i more low n low_2 m) h in
       and_both _ _
       (skip_cases _ _ (bit_and first row.mask == row.value) (fits_second row.second second) two.0
-      (λ e. all_from_at (λ f. not (bit_and f row.mask == row.value)) n low e first above below)
-      (λ e. all_from_at (λ s. not (fits_second row.second s)) m low_2 e second above_2 below_2))
+      (λ e. none_in_at row.mask row.value low n e first above below)
+      (λ e. none_second_at row.second low_2 m e second above_2 below_2))
       (stops_at-over i more two.1)
-    where
-      and_both : (a b : Bool) → a ≡ true → b ≡ true → (a && b) ≡ true
-      and_both true b p q = q
-      and_both false b p q = p
 
 pub decoded_over : (i low n low_2 m : ℕ) → stops_over i rows low n low_2 m ≡ true
     → (first second : ℕ) → low ≤ first → first < low + n → low_2 ≤ second → second < low_2 + m
@@ -145,12 +169,29 @@ first_fit-kept (false ∷ ks) (row ∷ more) first second h =
     let two = both (not (bit_and first row.mask == row.value)) (drops_no_fit ks more first) h in
     first_fit-past _ _ _ _ _ two.0 (first_fit-kept ks more first second two.1)
 
+-- no row at another place fits one of the n halfwords from low up
+abbrev pub drops_in : List Bool → List Row → ℕ → ℕ → Bool
+drops_in [] [] low n = true
+drops_in [] (row ∷ more) low n = false
+drops_in (k ∷ ks) [] low n = true
+drops_in (true ∷ ks) (row ∷ more) low n = drops_in ks more low n
+drops_in (false ∷ ks) (row ∷ more) low n = none_in row.mask row.value low n && drops_in ks more low n
+
+pub drops_in_at : (ks : List Bool) (rs : List Row) (low n : ℕ) → drops_in ks rs low n ≡ true → (first : ℕ) → low ≤ first → first < low + n → drops_no_fit ks rs first ≡ true
+drops_in_at [] [] low n h first above below = refl
+drops_in_at [] (row ∷ more) low n h first above below = cc
+drops_in_at (k ∷ ks) [] low n h first above below = refl
+drops_in_at (true ∷ ks) (row ∷ more) low n h first above below = drops_in_at ks more low n h first above below
+drops_in_at (false ∷ ks) (row ∷ more) low n h first above below =
+    let two = both (none_in row.mask row.value low n) (drops_in ks more low n) h in
+    and_both _ _ (none_in_at row.mask row.value low n two.0 first above below) (drops_in_at ks more low n two.1 first above below)
+
 -- the n halfwords from low up need only these rows
-pub decoded_by : (ks : List Bool) (low n second : ℕ) → all_from (drops_no_fit ks rows) n low ≡ true
+pub decoded_by : (ks : List Bool) (low n second : ℕ) → drops_in ks rows low n ≡ true
     → (first : ℕ) → low ≤ first → first < low + n → decoded_of first second ≡ first_fit (kept ks rows) first second
 unfolding decoded_of
 decoded_by ks low n second h first above below =
-    first_fit-kept ks rows first second (all_from_at (drops_no_fit ks rows) n low h first above below)
+    first_fit-kept ks rows first second (drops_in_at ks rows low n h first above below)
 
 -- the place of the row that this halfword fits
 abbrev pub place_of : List Row → ℕ → ℕ
@@ -158,7 +199,7 @@ place_of [] first = 0
 place_of (row ∷ more) first = let later = suc (place_of more first) in cond (bit_and first row.mask == row.value) 0 later
 
 -- the n halfwords from low up have the meaning of the row that the lowest fits
-pub decoded_like : (low n second : ℕ) → all_from (λ first. stops_at (place_of rows low) rows first second) n low ≡ true
+pub decoded_like : (low n second : ℕ) → stops_in (place_of rows low) rows low n ≡ true
     → (first : ℕ) → low ≤ first → first < low + n → decoded_of first second ≡ meaning_at (place_of rows low) rows first second
 decoded_like low n second = decoded_at (place_of rows low) low n second
 
