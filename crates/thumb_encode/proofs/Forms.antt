@@ -6,7 +6,7 @@ use Rattle.thumb_isa.specs.declared.instr.Instr.TheVariants.{Stm, MemSp, Barrier
 use Rattle.thumb_isa.specs.declared.instr.Decoded.TheVariants.{Is}
 use Rattle.thumb_isa.specs.Fields.{field}
 use Rattle.thumb_isa.specs.Rows.{decoded_of}
-use Rattle.thumb_isa.proofs.Search.{all_from_at, both}
+use Rattle.thumb_isa.proofs.Blocks.{all_from_at, both}
 use Rattle.thumb_isa.proofs.Table.{base_bit, below_base, stm, mem_sp, dsb, dmb, isb}
 
 -- the base's bit and the bits below it are those of the list

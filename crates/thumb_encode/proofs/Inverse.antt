@@ -1,5 +1,5 @@
 -- An instruction that some pair of halfwords decodes to has that pair as its code.
-use Rattle.std.proofs.Common.{◌≡◌, ℕ, ◌+◌, ◌*◌, ◌/◌, ◌%◌, ◌-◌, ◌^◌, ◌<◌, ◌≤◌, Bool, true, false, ◌&&◌, ◌==◌, cond, pos, negsuc, Result, Ok, Err, refl, arith, suc, inl, inr, ap, ◌∙◌, sym}
+use Rattle.std.proofs.Common.{◌≡◌, ℕ, ◌+◌, ◌*◌, ◌/◌, ◌%◌, ◌-◌, ◌^◌, ◌<◌, ◌≤◌, Bool, true, false, ◌&&◌, ◌==◌, cond, pos, negsuc, Result, Ok, Err, List, refl, arith, suc, inl, inr, ap, ◌∙◌, sym}
 use Rattle.std.specs.Int.{from_bool}
 use Rattle.std.proofs.lemmas.Bool.{cases_lt, lt-ltb, le-ltb, eqb-true, eq-eqb, and_parts, and_from}
 use Rattle.std.proofs.lemmas.Bool.Decides.{nat_tests}
@@ -8,8 +8,9 @@ use Rattle.thumb_isa.specs.declared.instr.Decoded.{Decoded}
 use Rattle.thumb_isa.specs.declared.instr.Decoded.TheVariants.{Is, Undefined, Unpredictable, NotInProfile}
 use Rattle.thumb_isa.specs.declared.instr.Instr.TheVariants.{Bl, Barrier}
 use Rattle.thumb_isa.specs.Fields.{field, signed}
-use Rattle.thumb_isa.specs.Rows.{decoded_of, bl_offset}
-use Rattle.thumb_isa.proofs.Search.{all_from_at}
+use Rattle.thumb_isa.specs.Rows.{Row, rows, first_fit, decoded_of, bl_offset}
+use Rattle.thumb_isa.proofs.Blocks.{all_from, all_from_at}
+use Rattle.thumb_isa.proofs.Search.{kept, near, decoded_near}
 use Rattle.thumb_isa.proofs.Table.{none_f800, none_f000_0000, none_f000_8000, none_f380_8000, msr, none_f380_8900, none_f390_8000, none_f3bf_8000, dsb, dmb, isb, none_f3bf_8f70, none_f3c0_8000, mrs, none_f3f0_8000, none_f000_9000, bl_13, none_f000_e000, bl_15}
 use Rattle.thumb_encode.specs.declared.code.Code.{Code}
 use Rattle.thumb_encode.specs.declared.code.Code.TheVariants.{Half, Pair}
@@ -38,72 +39,63 @@ gives_back first second Undefined = true
 gives_back first second Unpredictable = true
 gives_back first second NotInProfile = true
 
-back_0000 : (s h : ℕ) → 0x0000 ≤ h → h < 0x0f00 → gives_back h s (decoded_of h s) ≡ true
-unfolding decoded_of
-back_0000 s = all_from_at (λ h. gives_back h s (decoded_of h s)) 0xf00 0x0000 refl
+-- so is each of the n halfwords from low up, of these rows
+abbrev give_back : List Row → ℕ → ℕ → ℕ → Bool
+give_back few low n second = all_from (λ first. gives_back first second (first_fit few first second)) n low
 
-back_0f00 : (s h : ℕ) → 0x0f00 ≤ h → h < 0x1e00 → gives_back h s (decoded_of h s) ≡ true
-unfolding decoded_of
-back_0f00 s = all_from_at (λ h. gives_back h s (decoded_of h s)) 0xf00 0x0f00 refl
+back_in : (low n second : ℕ) → give_back (kept (near rows low n) rows) low n second ≡ true
+    → (first : ℕ) → low ≤ first → first < low + n → gives_back first second (decoded_of first second) ≡ true
+back_in low n second h first above below =
+    rw (decoded_near low n second first above below)
+    (all_from_at (λ first. gives_back first second (first_fit (kept (near rows low n) rows) first second)) n low h first above below)
 
-back_1e00 : (s h : ℕ) → 0x1e00 ≤ h → h < 0x2d00 → gives_back h s (decoded_of h s) ≡ true
-unfolding decoded_of
-back_1e00 s = all_from_at (λ h. gives_back h s (decoded_of h s)) 0xf00 0x1e00 refl
+back_0000 : (h s : ℕ) → 0x0000 ≤ h → h < 0x1000 → gives_back h s (decoded_of h s) ≡ true
+back_0000 h s = back_in 0x0000 0x1000 s refl h
 
-back_2d00 : (s h : ℕ) → 0x2d00 ≤ h → h < 0x3c00 → gives_back h s (decoded_of h s) ≡ true
-unfolding decoded_of
-back_2d00 s = all_from_at (λ h. gives_back h s (decoded_of h s)) 0xf00 0x2d00 refl
+back_1000 : (h s : ℕ) → 0x1000 ≤ h → h < 0x2000 → gives_back h s (decoded_of h s) ≡ true
+back_1000 h s = back_in 0x1000 0x1000 s refl h
 
-back_3c00 : (s h : ℕ) → 0x3c00 ≤ h → h < 0x4b00 → gives_back h s (decoded_of h s) ≡ true
-unfolding decoded_of
-back_3c00 s = all_from_at (λ h. gives_back h s (decoded_of h s)) 0xf00 0x3c00 refl
+back_2000 : (h s : ℕ) → 0x2000 ≤ h → h < 0x3000 → gives_back h s (decoded_of h s) ≡ true
+back_2000 h s = back_in 0x2000 0x1000 s refl h
 
-back_4b00 : (s h : ℕ) → 0x4b00 ≤ h → h < 0x5a00 → gives_back h s (decoded_of h s) ≡ true
-unfolding decoded_of
-back_4b00 s = all_from_at (λ h. gives_back h s (decoded_of h s)) 0xf00 0x4b00 refl
+back_3000 : (h s : ℕ) → 0x3000 ≤ h → h < 0x4000 → gives_back h s (decoded_of h s) ≡ true
+back_3000 h s = back_in 0x3000 0x1000 s refl h
 
-back_5a00 : (s h : ℕ) → 0x5a00 ≤ h → h < 0x6900 → gives_back h s (decoded_of h s) ≡ true
-unfolding decoded_of
-back_5a00 s = all_from_at (λ h. gives_back h s (decoded_of h s)) 0xf00 0x5a00 refl
+back_4000 : (h s : ℕ) → 0x4000 ≤ h → h < 0x5000 → gives_back h s (decoded_of h s) ≡ true
+back_4000 h s = back_in 0x4000 0x1000 s refl h
 
-back_6900 : (s h : ℕ) → 0x6900 ≤ h → h < 0x7800 → gives_back h s (decoded_of h s) ≡ true
-unfolding decoded_of
-back_6900 s = all_from_at (λ h. gives_back h s (decoded_of h s)) 0xf00 0x6900 refl
+back_5000 : (h s : ℕ) → 0x5000 ≤ h → h < 0x6000 → gives_back h s (decoded_of h s) ≡ true
+back_5000 h s = back_in 0x5000 0x1000 s refl h
 
-back_7800 : (s h : ℕ) → 0x7800 ≤ h → h < 0x8700 → gives_back h s (decoded_of h s) ≡ true
-unfolding decoded_of
-back_7800 s = all_from_at (λ h. gives_back h s (decoded_of h s)) 0xf00 0x7800 refl
+back_6000 : (h s : ℕ) → 0x6000 ≤ h → h < 0x7000 → gives_back h s (decoded_of h s) ≡ true
+back_6000 h s = back_in 0x6000 0x1000 s refl h
 
-back_8700 : (s h : ℕ) → 0x8700 ≤ h → h < 0x9600 → gives_back h s (decoded_of h s) ≡ true
-unfolding decoded_of
-back_8700 s = all_from_at (λ h. gives_back h s (decoded_of h s)) 0xf00 0x8700 refl
+back_7000 : (h s : ℕ) → 0x7000 ≤ h → h < 0x8000 → gives_back h s (decoded_of h s) ≡ true
+back_7000 h s = back_in 0x7000 0x1000 s refl h
 
-back_9600 : (s h : ℕ) → 0x9600 ≤ h → h < 0xa500 → gives_back h s (decoded_of h s) ≡ true
-unfolding decoded_of
-back_9600 s = all_from_at (λ h. gives_back h s (decoded_of h s)) 0xf00 0x9600 refl
+back_8000 : (h s : ℕ) → 0x8000 ≤ h → h < 0x9000 → gives_back h s (decoded_of h s) ≡ true
+back_8000 h s = back_in 0x8000 0x1000 s refl h
 
-back_a500 : (s h : ℕ) → 0xa500 ≤ h → h < 0xb400 → gives_back h s (decoded_of h s) ≡ true
-unfolding decoded_of
-back_a500 s = all_from_at (λ h. gives_back h s (decoded_of h s)) 0xf00 0xa500 refl
+back_9000 : (h s : ℕ) → 0x9000 ≤ h → h < 0xa000 → gives_back h s (decoded_of h s) ≡ true
+back_9000 h s = back_in 0x9000 0x1000 s refl h
 
-back_b400 : (s h : ℕ) → 0xb400 ≤ h → h < 0xc300 → gives_back h s (decoded_of h s) ≡ true
-unfolding decoded_of
-back_b400 s = all_from_at (λ h. gives_back h s (decoded_of h s)) 0xf00 0xb400 refl
+back_a000 : (h s : ℕ) → 0xa000 ≤ h → h < 0xb000 → gives_back h s (decoded_of h s) ≡ true
+back_a000 h s = back_in 0xa000 0x1000 s refl h
 
-back_c300 : (s h : ℕ) → 0xc300 ≤ h → h < 0xd200 → gives_back h s (decoded_of h s) ≡ true
-unfolding decoded_of
-back_c300 s = all_from_at (λ h. gives_back h s (decoded_of h s)) 0xf00 0xc300 refl
+back_b000 : (h s : ℕ) → 0xb000 ≤ h → h < 0xc000 → gives_back h s (decoded_of h s) ≡ true
+back_b000 h s = back_in 0xb000 0x1000 s refl h
 
-back_d200 : (s h : ℕ) → 0xd200 ≤ h → h < 0xe100 → gives_back h s (decoded_of h s) ≡ true
-unfolding decoded_of
-back_d200 s = all_from_at (λ h. gives_back h s (decoded_of h s)) 0xf00 0xd200 refl
+back_c000 : (h s : ℕ) → 0xc000 ≤ h → h < 0xd000 → gives_back h s (decoded_of h s) ≡ true
+back_c000 h s = back_in 0xc000 0x1000 s refl h
 
-back_e100 : (s h : ℕ) → 0xe100 ≤ h → h < 0xf000 → gives_back h s (decoded_of h s) ≡ true
-unfolding decoded_of
-back_e100 s = all_from_at (λ h. gives_back h s (decoded_of h s)) 0xf00 0xe100 refl
+back_d000 : (h s : ℕ) → 0xd000 ≤ h → h < 0xe000 → gives_back h s (decoded_of h s) ≡ true
+back_d000 h s = back_in 0xd000 0x1000 s refl h
+
+back_e000 : (h s : ℕ) → 0xe000 ≤ h → h < 0xf000 → gives_back h s (decoded_of h s) ≡ true
+back_e000 h s = back_in 0xe000 0x1000 s refl h
 
 back_low : (h s : ℕ) → h < 0xf000 → gives_back h s (decoded_of h s) ≡ true
-back_low h s below = grind (arith, back_0000 s h, back_0f00 s h, back_1e00 s h, back_2d00 s h, back_3c00 s h, back_4b00 s h, back_5a00 s h, back_6900 s h, back_7800 s h, back_8700 s h, back_9600 s h, back_a500 s h, back_b400 s h, back_c300 s h, back_d200 s h, back_e100 s h)
+back_low h s below = grind (arith, back_0000 h s, back_1000 h s, back_2000 h s, back_3000 h s, back_4000 h s, back_5000 h s, back_6000 h s, back_7000 h s, back_8000 h s, back_9000 h s, back_a000 h s, back_b000 h s, back_c000 h s, back_d000 h s, back_e000 h s)
 
 back_high : (h s : ℕ) → 0xf800 ≤ h → h < 0x10000 → gives_back h s (decoded_of h s) ≡ true
 back_high h s a b = rw (none_f800 h s a b) refl

@@ -193,6 +193,23 @@ unfolding decoded_of
 decoded_by ks low n second h first above below =
     first_fit-kept ks rows first second (drops_in_at ks rows low n h first above below)
 
+-- the rows that may fit one of the n halfwords from low up
+abbrev pub near : List Row → ℕ → ℕ → List Bool
+near [] low n = []
+near (row ∷ more) low n = not (none_in row.mask row.value low n) ∷ near more low n
+
+near_step : (b : Bool) (ks : List Bool) (row : Row) (more : List Row) (low n : ℕ) → none_in row.mask row.value low n ≡ b → drops_in ks more low n ≡ true → drops_in (not b ∷ ks) (row ∷ more) low n ≡ true
+near_step true ks row more low n e h = and_both _ _ e h
+near_step false ks row more low n e h = h
+
+near_drops : (rs : List Row) (low n : ℕ) → drops_in (near rs low n) rs low n ≡ true
+near_drops [] low n = refl
+near_drops (row ∷ more) low n = near_step (none_in row.mask row.value low n) (near more low n) row more low n refl (near_drops more low n)
+
+-- the n halfwords from low up need only the rows that may fit one of them
+pub decoded_near : (low n second : ℕ) (first : ℕ) → low ≤ first → first < low + n → decoded_of first second ≡ first_fit (kept (near rows low n) rows) first second
+decoded_near low n second = decoded_by (near rows low n) low n second (near_drops rows low n)
+
 -- the place of the row that this halfword fits
 abbrev pub place_of : List Row → ℕ → ℕ
 place_of [] first = 0
