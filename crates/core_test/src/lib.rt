@@ -1,9 +1,7 @@
-//! Tests of instructions, their codes and the core, through their public calls alone.
+//! Tests of the encoder and of sums, through public calls alone. The cases of the decoder and the core are rows of core_cases.
 #![tactic(auto)]
 
 #[cfg(test)]
 mod encode;
 #[cfg(test)]
-mod isa;
-#[cfg(test)]
-mod steps;
+mod sums;

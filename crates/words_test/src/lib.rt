@@ -1,8 +1,7 @@
-//! Tests of words, names, lists, ports and the memory, through their public calls alone.
+//! Tests of names, lists, ports and files, and of the memory in as many segments as it may have, through public calls alone. What
+//! is numbers and accesses are rows of words_cases.
 #![tactic(auto)]
 
-#[cfg(test)]
-mod bus;
 #[cfg(test)]
 mod files;
 #[cfg(test)]

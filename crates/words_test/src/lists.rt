@@ -11,6 +11,11 @@ fn elements_stand_in_order(rt: HostRuntime) -> Result<(), Fail> {
     seq.extend_from_slice(&[8, 9])?;
     assert_eq!(rt; seq.as_slice(), [7u8, 8, 9].as_slice());
     assert_eq!(rt; seq.len(), 3);
+    Ok(())
+}
+
+#[test]
+fn vectors_are_kept(rt: HostRuntime) -> Result<(), Fail> {
     let kept = Seq::of_vec(b"ab".to_vec(rt.alloc())?);
     assert_eq!(rt; kept.as_slice(), b"ab".as_slice());
     assert_eq!(rt; kept.into_vec().as_slice(), b"ab".as_slice());

@@ -1,8 +1,8 @@
 //! Readers and writers of std as the input and the output of the program (docs/outside.md).
 use eh_port::{Failed, HostSink, HostSource, Sink, Source, put_all};
+use std::alloc::Global;
 use std::io;
 use std::io::{Cursor, ErrorKind, Read, Write};
-use std::test::Fail;
 
 /// Takes `most` bytes of each write, and keeps them.
 #[derive(Drop)]
@@ -56,7 +56,7 @@ fn an_input_is_read_to_its_end_and_once_more(rt: HostRuntime) {
 }
 
 #[test]
-fn a_read_that_fails_is_a_fault_each_time(rt: HostRuntime) {
+fn a_byte_before_a_read_that_fails(rt: HostRuntime) {
     let mut input = HostSource {
         reader: Broken { given: false },
         faults: 0,
@@ -65,38 +65,53 @@ fn a_read_that_fails_is_a_fault_each_time(rt: HostRuntime) {
     assert_eq!(rt; input.take(&mut buf), Ok(1));
     assert_eq!(rt; buf, *b"A");
     assert_eq!(rt; input.faults, 0);
+}
+
+#[test]
+fn a_read_that_fails_is_a_fault_each_time(rt: HostRuntime) {
+    let mut input = HostSource {
+        reader: Broken { given: false },
+        faults: 0,
+    };
+    let mut buf = [0u8; 1];
+    let _first = input.take(&mut buf);
     for faults in [1u64, 2] {
         assert_eq!(rt; input.take(&mut buf), Err(Failed));
         assert_eq!(rt; input.faults, faults);
     }
 }
 
-#[test]
-fn an_output_may_take_a_byte_a_call(rt: HostRuntime) {
-    let mut out = HostSink {
+/// An output that takes so many bytes of each write.
+fn sink_of(alloc: Global, most: usize) -> HostSink<Slow> {
+    HostSink {
         writer: Slow {
-            most: 1,
-            kept: Vec::new(rt.alloc()),
+            most,
+            kept: Vec::new(alloc),
         },
         faults: 0,
-    };
-    assert_eq!(rt; put_all(&mut out, b"Hello"), Ok(()));
-    assert_eq!(rt; out.put(b"!?"), Ok(1));
+    }
+}
+
+#[test]
+fn an_output_may_take_a_byte_a_call(rt: HostRuntime) {
+    let mut out = sink_of(rt.alloc(), 1);
+    let whole = put_all(&mut out, b"Hello");
+    let part = out.put(b"!?");
+    assert_eq!(rt; (whole, part), (Ok(()), Ok(1)));
     assert_eq!(rt; out.writer.kept.as_slice(), b"Hello!".as_slice());
     assert_eq!(rt; out.faults, 0);
 }
 
 #[test]
-fn an_output_that_takes_nothing_is_a_fault(rt: HostRuntime) {
-    let mut out = HostSink {
-        writer: Slow {
-            most: 0,
-            kept: Vec::new(rt.alloc()),
-        },
-        faults: 0,
-    };
+fn nothing_is_put_without_a_fault(rt: HostRuntime) {
+    let mut out = sink_of(rt.alloc(), 0);
     assert_eq!(rt; put_all(&mut out, b""), Ok(()));
     assert_eq!(rt; out.faults, 0);
+}
+
+#[test]
+fn an_output_that_takes_nothing_is_a_fault(rt: HostRuntime) {
+    let mut out = sink_of(rt.alloc(), 0);
     assert_eq!(rt; put_all(&mut out, b"A"), Err(Failed));
     assert_eq!(rt; out.faults, 1);
 }

@@ -1,3 +1,0 @@
-//! The reader of sources (docs/source-language.md).
-mod limits;
-mod lines;
