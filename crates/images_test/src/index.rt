@@ -52,39 +52,62 @@ fn parts(alloc: Global, rows: &[u32], size: u32) -> Result<ImageParts, AllocErro
     })
 }
 
+/// The entry of the first row, that of the second one, and that of the last one.
+const FIRST: Entry = Entry {
+    start: 0x8000,
+    body: EntryBody::Inline(0x8001_a8b0),
+};
+
+const SECOND: Entry = Entry {
+    start: 0x8008,
+    body: EntryBody::Table(0x8010),
+};
+
+const THIRD: Entry = Entry {
+    start: 0x8010,
+    body: EntryBody::CantUnwind,
+};
+
+/// The entries of addresses.
+static ENTRIES: [(u32, Option<Entry>); 8] = [
+    (0, None),
+    (0x7fff, None),
+    (0x8000, Some(FIRST)),
+    (0x8007, Some(FIRST)),
+    (0x8008, Some(SECOND)),
+    (0x800f, Some(SECOND)),
+    (0x8010, Some(THIRD)),
+    (0xffff_ffff, Some(THIRD)),
+];
+
 #[test]
 fn finds_entries(rt: HostRuntime) -> Result<(), Fail> {
     let bytes = write_image(rt.alloc(), &parts(rt.alloc(), &ROWS, 24)?)?;
     let image = read_image(rt.alloc(), &bytes)?;
     let index = Index::read(&image)?;
     assert_eq!(rt; index.len(), 3);
-    let first = Entry {
-        start: 0x8000,
-        body: EntryBody::Inline(0x8001_a8b0),
-    };
-    let second = Entry {
-        start: 0x8008,
-        body: EntryBody::Table(0x8010),
-    };
-    let third = Entry {
-        start: 0x8010,
-        body: EntryBody::CantUnwind,
-    };
-    for (site, want) in [
-        (0u32, None),
-        (0x7fff, None),
-        (0x8000, Some(first)),
-        (0x8007, Some(first)),
-        (0x8008, Some(second)),
-        (0x800f, Some(second)),
-        (0x8010, Some(third)),
-        (0xffff_ffff, Some(third)),
-    ] {
-        assert_eq!(rt; index.find(site), want, "at {site}");
+    for (site, want) in &ENTRIES {
+        assert_eq!(rt; index.find(*site), *want, "at {site}");
     }
-    assert_eq!(rt; index.table(&first), None);
-    assert_eq!(rt; index.table(&third), None);
-    let table = index.table(&second);
+    Ok(())
+}
+
+#[test]
+fn entries_without_tables(rt: HostRuntime) -> Result<(), Fail> {
+    let bytes = write_image(rt.alloc(), &parts(rt.alloc(), &ROWS, 24)?)?;
+    let image = read_image(rt.alloc(), &bytes)?;
+    let index = Index::read(&image)?;
+    assert_eq!(rt; index.table(&FIRST), None);
+    assert_eq!(rt; index.table(&THIRD), None);
+    Ok(())
+}
+
+#[test]
+fn an_entry_with_a_table(rt: HostRuntime) -> Result<(), Fail> {
+    let bytes = write_image(rt.alloc(), &parts(rt.alloc(), &ROWS, 24)?)?;
+    let image = read_image(rt.alloc(), &bytes)?;
+    let index = Index::read(&image)?;
+    let table = index.table(&SECOND);
     assert_eq!(rt; table.map(|b| b.len()), Some(0x21));
     assert_eq!(rt;
         table.and_then(|b| b.get(..4)),
@@ -112,43 +135,45 @@ fn refusal(alloc: Global, words: &[(usize, u32)], size: u32) -> Result<Option<In
     Ok(Index::read(&image).err())
 }
 
+/// What is refused of the rows with some words replaced.
+static REFUSALS: [(&[(usize, u32)], u32, Option<IndexFault>); 13] = [
+    (&[], 12, Some(IndexFault::Length)),
+    // bit 31 of the first word
+    (&[(2, 0xffff_ffe8)], 24, Some(IndexFault::OutsideImage(1))),
+    // starts: the segment's end at 0x8032 passes, 0x8034 doesn't; bit 0 is no part of one
+    (&[(4, 10)], 24, None),
+    (&[(4, 12)], 24, Some(IndexFault::OutsideImage(2))),
+    (&[(2, 0x7fff_ffe9)], 24, None),
+    (&[(0, 0x7fff_ffe6)], 24, Some(IndexFault::OutsideImage(0))),
+    // out of order: 0x8008 and then 0x8004
+    (
+        &[(0, 0x7fff_fff0), (2, 0x7fff_ffe4)],
+        24,
+        Some(IndexFault::Unsorted(1)),
+    ),
+    // the same start twice is in order
+    (&[(2, 0x7fff_ffe0)], 24, None),
+    // tables: no multiple of 4, the last byte of the segment, and past it
+    (&[(3, 0x7fff_ffee)], 24, Some(IndexFault::OutsideImage(1))),
+    (&[(3, 0xc)], 24, None),
+    (&[(3, 0x10)], 24, Some(IndexFault::OutsideImage(1))),
+    // the lowest row, and there the first fault
+    (
+        &[(0, 0x7fff_fff0), (2, 0x7fff_ffe4), (3, 0x10)],
+        24,
+        Some(IndexFault::OutsideImage(1)),
+    ),
+    (
+        &[(0, 0x7fff_fff0), (2, 0x7fff_ffe4), (4, 0x8000_0000)],
+        24,
+        Some(IndexFault::Unsorted(1)),
+    ),
+];
+
 #[test]
 fn refuses_rows(rt: HostRuntime) -> Result<(), Fail> {
-    let table: [(&[(usize, u32)], u32, Option<IndexFault>); 13] = [
-        (&[], 12, Some(IndexFault::Length)),
-        // bit 31 of the first word
-        (&[(2, 0xffff_ffe8)], 24, Some(IndexFault::OutsideImage(1))),
-        // starts: the segment's end at 0x8032 passes, 0x8034 doesn't; bit 0 is no part of one
-        (&[(4, 10)], 24, None),
-        (&[(4, 12)], 24, Some(IndexFault::OutsideImage(2))),
-        (&[(2, 0x7fff_ffe9)], 24, None),
-        (&[(0, 0x7fff_ffe6)], 24, Some(IndexFault::OutsideImage(0))),
-        // out of order: 0x8008 and then 0x8004
-        (
-            &[(0, 0x7fff_fff0), (2, 0x7fff_ffe4)],
-            24,
-            Some(IndexFault::Unsorted(1)),
-        ),
-        // the same start twice is in order
-        (&[(2, 0x7fff_ffe0)], 24, None),
-        // tables: no multiple of 4, the last byte of the segment, and past it
-        (&[(3, 0x7fff_ffee)], 24, Some(IndexFault::OutsideImage(1))),
-        (&[(3, 0xc)], 24, None),
-        (&[(3, 0x10)], 24, Some(IndexFault::OutsideImage(1))),
-        // the lowest row, and there the first fault
-        (
-            &[(0, 0x7fff_fff0), (2, 0x7fff_ffe4), (3, 0x10)],
-            24,
-            Some(IndexFault::OutsideImage(1)),
-        ),
-        (
-            &[(0, 0x7fff_fff0), (2, 0x7fff_ffe4), (4, 0x8000_0000)],
-            24,
-            Some(IndexFault::Unsorted(1)),
-        ),
-    ];
-    for (i, (words, size, want)) in table.iter().enumerate() {
-        assert_eq!(rt; refusal(rt.alloc(), words, *size)?, *want, "in line {i}");
+    for (words, size, want) in &REFUSALS {
+        assert_eq!(rt; refusal(rt.alloc(), words, *size)?, *want, "{words:?}");
     }
     Ok(())
 }

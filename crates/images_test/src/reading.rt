@@ -6,11 +6,8 @@ use std::alloc::{AllocError, Global};
 use std::test::Fail;
 
 #[test]
-fn reads_an_image(rt: HostRuntime) -> Result<(), Fail> {
+fn places_of_an_image(rt: HostRuntime) -> Result<(), Fail> {
     let image = read_image(rt.alloc(), &FILE)?;
-    assert_eq!(rt; image.entry(), 0x8000);
-    assert_eq!(rt; image.segments().len(), 1);
-    assert_eq!(rt; image.functions().len(), 1);
     for (a, want) in [
         (0x7fff, None),
         (0x8000, Some(0)),
@@ -36,9 +33,30 @@ fn reads_an_image(rt: HostRuntime) -> Result<(), Fail> {
     ] {
         assert_eq!(rt; image.read_word(a), want, "at {a}");
     }
+    Ok(())
+}
+
+#[test]
+fn parts_of_an_image(rt: HostRuntime) -> Result<(), Fail> {
+    let image = read_image(rt.alloc(), &FILE)?;
+    assert_eq!(rt; image.entry(), 0x8000);
+    assert_eq!(rt; image.segments().len(), 1);
+    assert_eq!(rt; image.functions().len(), 1);
+    Ok(())
+}
+
+#[test]
+fn symbols_of_an_image(rt: HostRuntime) -> Result<(), Fail> {
+    let image = read_image(rt.alloc(), &FILE)?;
     assert_eq!(rt; image.symbol(b"_start"), Some(0x8000));
     assert_eq!(rt; image.symbol(b"_star"), None);
     assert_eq!(rt; image.type_symbols().len(), 0);
+    Ok(())
+}
+
+#[test]
+fn an_image_without_index(rt: HostRuntime) -> Result<(), Fail> {
+    let image = read_image(rt.alloc(), &FILE)?;
     assert_eq!(rt; image.index_start(), 0);
     assert_eq!(rt; image.index_bytes().len(), 0);
     Ok(())
@@ -63,58 +81,55 @@ fn prefixes(rt: HostRuntime) -> Result<(), Fail> {
     Ok(())
 }
 
-#[test]
-fn refusals(rt: HostRuntime) -> Result<(), Fail> {
-    let table: [(usize, &[u8], ImageFault); 20] = [
-        (3, &[0x47], ImageFault::NotElf),
-        (4, &[2], ImageFault::Class),
-        (5, &[2], ImageFault::Class),
-        (6, &[0], ImageFault::Class),
-        (18, &[41], ImageFault::Machine),
-        (39, &[4], ImageFault::Version),
-        (16, &[1], ImageFault::Type),
-        (42, &[40], ImageFault::EntrySize),
-        (46, &[32], ImageFault::EntrySize),
-        (
-            28,
-            &[0xf0, 0xff, 0xff, 0xff],
-            ImageFault::Truncated(4_294_967_312),
-        ),
-        (
-            32,
-            &[0xf8, 0xff, 0xff, 0xff],
-            ImageFault::Truncated(4_294_967_488),
-        ),
-        (68, &[0xff, 0xff], ImageFault::Truncated(84 + 65_535)),
-        (60, &[0xf3, 0xff, 0xff, 0x2f], ImageFault::SegmentRange),
-        (72, &[13], ImageFault::SegmentRange),
-        (260, &[1], ImageFault::NoSymbols),
-        (280, &[9], ImageFault::NoSymbols),
-        (276, &[0x01, 0x02], ImageFault::Truncated(100 + 513)),
-        (72, &[1, 0, 16], ImageFault::TooLarge),
-        (24, &[0], ImageFault::Entry),
-        (24, &[3], ImageFault::Entry),
-    ];
-    for (at, with, want) in table {
-        let bytes = changed(rt.alloc(), &FILE, at, with)?;
-        assert_eq!(rt; read_image(rt.alloc(), &bytes).err(), Some(want), "at {at}");
-    }
-    // the first refusal in order is named, whatever else is wrong
-    let bytes = changed(
-        rt.alloc(),
-        &FILE,
+/// What is refused of the file with bytes from a place on replaced by others. In the last two rows the first refusal in order is
+/// named, whatever else is wrong.
+static REFUSALS: [(usize, &[u8], ImageFault); 22] = [
+    (3, &[0x47], ImageFault::NotElf),
+    (4, &[2], ImageFault::Class),
+    (5, &[2], ImageFault::Class),
+    (6, &[0], ImageFault::Class),
+    (18, &[41], ImageFault::Machine),
+    (39, &[4], ImageFault::Version),
+    (16, &[1], ImageFault::Type),
+    (42, &[40], ImageFault::EntrySize),
+    (46, &[32], ImageFault::EntrySize),
+    (
+        28,
+        &[0xf0, 0xff, 0xff, 0xff],
+        ImageFault::Truncated(4_294_967_312),
+    ),
+    (
+        32,
+        &[0xf8, 0xff, 0xff, 0xff],
+        ImageFault::Truncated(4_294_967_488),
+    ),
+    (68, &[0xff, 0xff], ImageFault::Truncated(65_619)),
+    (60, &[0xf3, 0xff, 0xff, 0x2f], ImageFault::SegmentRange),
+    (72, &[13], ImageFault::SegmentRange),
+    (260, &[1], ImageFault::NoSymbols),
+    (280, &[9], ImageFault::NoSymbols),
+    (276, &[0x01, 0x02], ImageFault::Truncated(613)),
+    (72, &[1, 0, 16], ImageFault::TooLarge),
+    (24, &[0], ImageFault::Entry),
+    (24, &[3], ImageFault::Entry),
+    (
         4,
         &[2, 1, 1, 0, 0, 0, 0, 0, 0, 0, 0, 0, 1, 0, 41],
-    )?;
-    assert_eq!(rt;
-        read_image(rt.alloc(), &bytes).err(),
-        Some(ImageFault::Class)
-    );
-    let bytes = changed(rt.alloc(), &FILE, 16, &[1, 0, 41])?;
-    assert_eq!(rt;
-        read_image(rt.alloc(), &bytes).err(),
-        Some(ImageFault::Machine)
-    );
+        ImageFault::Class,
+    ),
+    (16, &[1, 0, 41], ImageFault::Machine),
+];
+
+#[test]
+fn refusals(rt: HostRuntime) -> Result<(), Fail> {
+    for (at, with, want) in &REFUSALS {
+        let bytes = changed(rt.alloc(), &FILE, *at, with)?;
+        assert_eq!(rt;
+            read_image(rt.alloc(), &bytes).err(),
+            Some(*want),
+            "at {at}"
+        );
+    }
     Ok(())
 }
 
@@ -131,26 +146,36 @@ fn with_second(alloc: Global, kind: u32, address: u32, size: u32) -> Result<Vec<
     Ok(bytes)
 }
 
+/// The kind of a program header that names the exception index.
+const INDEX: u32 = 0x7000_0001;
+
+/// What is refused of a second header of a kind, at an address and with a size.
+static HEADERS: [(u32, u32, u32, Option<ImageFault>); 11] = [
+    (1, 0x800d, 16, Some(ImageFault::SegmentOverlap)),
+    (1, 0x7ff0, 17, Some(ImageFault::SegmentOverlap)),
+    (1, 0x800e, 16, None),
+    (1, 0x7ff0, 16, None),
+    (1, 0x8000, 0, None),
+    (6, 0x8000, 16, None),
+    (INDEX, 0x8004, 8, None),
+    (INDEX, 0x8002, 8, Some(ImageFault::IndexRange)),
+    (INDEX, 0x8008, 8, Some(ImageFault::IndexRange)),
+    (INDEX, 0x8000, 0, None),
+    (INDEX, 0x8010, 0, Some(ImageFault::IndexRange)),
+];
+
 #[test]
 fn second_headers(rt: HostRuntime) -> Result<(), Fail> {
-    let index = 0x7000_0001;
-    for (kind, address, size, want) in [
-        (1, 0x800d, 16, Some(ImageFault::SegmentOverlap)),
-        (1, 0x7ff0, 17, Some(ImageFault::SegmentOverlap)),
-        (1, 0x800e, 16, None),
-        (1, 0x7ff0, 16, None),
-        (1, 0x8000, 0, None),
-        (6, 0x8000, 16, None),
-        (index, 0x8004, 8, None),
-        (index, 0x8002, 8, Some(ImageFault::IndexRange)),
-        (index, 0x8008, 8, Some(ImageFault::IndexRange)),
-        (index, 0x8000, 0, None),
-        (index, 0x8010, 0, Some(ImageFault::IndexRange)),
-    ] {
-        let bytes = with_second(rt.alloc(), kind, address, size)?;
-        assert_eq!(rt; read_image(rt.alloc(), &bytes).err(), want, "at {address}");
+    for (kind, address, size, want) in &HEADERS {
+        let bytes = with_second(rt.alloc(), *kind, *address, *size)?;
+        assert_eq!(rt; read_image(rt.alloc(), &bytes).err(), *want, "at {address}");
     }
-    let bytes = with_second(rt.alloc(), index, 0x8004, 8)?;
+    Ok(())
+}
+
+#[test]
+fn an_index_of_a_second_header(rt: HostRuntime) -> Result<(), Fail> {
+    let bytes = with_second(rt.alloc(), INDEX, 0x8004, 8)?;
     let image = read_image(rt.alloc(), &bytes)?;
     assert_eq!(rt; image.index_start(), 0x8004);
     assert_eq!(rt; image.index_bytes(), &FILE[88..96]);
