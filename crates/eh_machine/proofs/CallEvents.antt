@@ -45,12 +45,12 @@ module _ (p : Program) (s : Recorded) (c : Corresponds s) (small : reg_in s 0 < 
           outcome_event (gate_of (guide p) number regs.pc (bytes_of s)) (acts.gate_of (guide p) number regs.pc s) input (gates_match (guide p) number regs.pc s c small w).same
       go false = in_state_alike p s (knows s c) (gate_event number s.regs regs input)
 
-  can : (what : Stepped) → IsInPlace what → CanMatch p s what
+  can : (what : Stepped) → IsInPlace s what → CanMatch p s what
   can Done h = tt
   can (Call target ret) h = tt
   can (Return to) h = h
   can (Gate number) h = at_gate number h
-  can (Trap trap) h = tt
+  can (Trap trap) h = h
 
 pub calls_match : CallsMatch
 calls_match = record {

@@ -125,12 +125,12 @@ module _ (p : Program) where
       go true = outcome_event (gate_of (guide p) number regs.pc (start_of p)) (acts.gate_of (guide p) number regs.pc (recorded_start p)) input (gates_match p regs.pc number)
       go false = in_state_alike p (recorded_start p) (start_knows p) (gate_event number (start_of p).regs regs input)
 
-  can_match : (what : Stepped) → IsNoReturn what → CanMatch p (recorded_start p) what
+  can_match : (what : Stepped) → IsNoReturn (recorded_start p) what → CanMatch p (recorded_start p) what
   can_match Done h = tt
   can_match (Call target ret) h = tt
   can_match (Return to) h = h
   can_match (Gate number) h = at_gate number
-  can_match (Trap trap) h = tt
+  can_match (Trap trap) h = h
 
 pub start_alike : (p : Program) → StartsAlike p
 start_alike p = record {

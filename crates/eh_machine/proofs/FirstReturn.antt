@@ -1,5 +1,5 @@
 -- From the start a return too is the same over bytes and with recorded activations.
-use Rattle.std.proofs.Common.{◌≡◌, ℕ, zero, suc, ◌+◌, ◌-◌, ◌%◌, ◌^◌, ◌<◌, ◌≤◌, ◌⊎◌, inl, inr, ◌==◌, Bool, true, false, not, cond, List, [], ◌∷◌, length, filter, slice_index, slice_index_or, Option, Some, None, Ok, refl, sym, ap, subst, ◌∙◌, arith}
+use Rattle.std.proofs.Common.{◌≡◌, ℕ, zero, suc, ◌+◌, ◌-◌, ◌%◌, ◌^◌, ◌<◌, ◌≤◌, ◌⊎◌, inl, inr, ◌==◌, Bool, true, false, not, cond, List, [], ◌∷◌, ◌++◌, length, filter, slice_index, slice_index_or, Option, Some, None, Ok, refl, sym, ap, subst, ◌∙◌, arith}
 use Rattle.std.specs.Prelude.{is_some}
 use Rattle.std.proofs.lemmas.Bool.{lt-leb, le-leb}
 use Rattle.std.proofs.lemmas.Bool.Decides.{nat_tests}
@@ -13,21 +13,21 @@ use Rattle.eh_bus.specs.declared.map.TheConstants.{STACK_END}
 use Rattle.guest_gates.specs.declared.gates.TheConstants.{NO_CALLER}
 use Rattle.image_memory.specs.Start.{start_regs}
 use Rattle.thumb_core.specs.Laws.{AreWords, Leaves, Returned, Stands}
-use Rattle.thumb_core.specs.Lists.{bytes_of}
-use Rattle.thumb_core.specs.Words.{listed, numbers}
+use Rattle.thumb_core.specs.Lists.{bytes_of, load_list}
+use Rattle.thumb_core.specs.Words.{listed, numbers, loads_from, load_words}
 use Rattle.thumb_core.specs.Outcome.{Outcome as Stepping}
-use Rattle.thumb_core.specs.Registers.{operand, pc_read, with_pc}
+use Rattle.thumb_core.specs.Registers.{operand, pc_read, with_pc, all_of}
 use Rattle.thumb_core.specs.Step.{step_of, instr_at, instr_of_first}
 use Rattle.thumb_core.proofs.Acts.{step_acts}
 use Rattle.thumb_core.proofs.Follows.{step_follows}
-use Rattle.thumb_core.specs.declared.regs.TheConstants.{PC}
+use Rattle.thumb_core.specs.declared.regs.TheConstants.{SP, PC}
 use Rattle.thumb_core.specs.declared.regs.Regs.{Regs}
 use Rattle.thumb_core.specs.declared.regs.Stepped.TheVariants.{Done, Call, Return, Gate, Trap}
 use Rattle.eh_machine.specs.Program.{Program}
 use Rattle.eh_machine.specs.Start.{start_of}
 use Rattle.eh_machine.specs.Machine.{machine_event}
-use Rattle.eh_machine.specs.Activations.{Activation, recorded_start, no_caller}
-use Rattle.eh_machine.specs.ActivationMachine.{recorded_event, returned}
+use Rattle.eh_machine.specs.Activations.{Activation, Recorded, reg_in, memory_of, recorded_start, no_caller}
+use Rattle.eh_machine.specs.ActivationMachine.{recorded_event, returned, popped, pops_some, popped_back, pops_back}
 use Rattle.eh_machine.specs.ActivationLaws.{Matches, IsNoReturn}
 use Rattle.eh_machine.specs.RecordedSlots.{FindsCaller, FirstEventsMatch}
 use Rattle.eh_machine.proofs.Matching.{start_knows}
@@ -109,6 +109,41 @@ few_listed : (mask : ℕ) → length (listed mask) ≤ 16
 unfolding listed
 few_listed mask = few_pass (λ (k : ℕ). bit_at mask k == 1) numbers
 
+-- ---- nor does a POP into pc load a word there
+
+ends_in : (q : ℕ → Bool) (xs : List ℕ) → q 15 ≡ true → (k : ℕ) × (more : List ℕ) × (filter q (xs ++ (15 ∷ [])) ≡ k ∷ more)
+ends_in q [] h = (15, [], rw h refl)
+ends_in q (x ∷ xs) h = go (q x) (ends_in q xs h)
+  where
+    go : (b : Bool) → (k : ℕ) × (more : List ℕ) × (filter q (xs ++ (15 ∷ [])) ≡ k ∷ more)
+        → (k : ℕ) × (more : List ℕ) × (cond b (x ∷ filter q (xs ++ (15 ∷ []))) (filter q (xs ++ (15 ∷ []))) ≡ k ∷ more)
+    go true r = (x, filter q (xs ++ (15 ∷ [])), refl)
+    go false r = r
+
+some_listed : (mask : ℕ) → (bit_at mask PC == 1) ≡ true → (k : ℕ) × (more : List ℕ) × (listed mask ≡ k ∷ more)
+unfolding listed
+some_listed mask h = ends_in (λ k. bit_at mask k == 1) (0 ∷ 1 ∷ 2 ∷ 3 ∷ 4 ∷ 5 ∷ 6 ∷ 7 ∷ 8 ∷ 9 ∷ 10 ∷ 11 ∷ 12 ∷ 13 ∷ 14 ∷ []) h
+
+module _ (p : Program) (map : IsMap (start_of p).memory) where
+  abbrev state : Recorded
+  state = recorded_start p
+
+  first_load : (list k : ℕ) (more : List ℕ) → popped state list (load_words state.segments (reg_in state SP) (loads_from 0 (k ∷ more)) (all_of state.regs)) ≡ None
+  first_load list k more = rw (above state.segments STACK_END (omega arith) (all_low state.segments map.segments) (λ (s : Segment). load_fault 4 STACK_END)) refl
+
+  no_pop : pops_back state ≡ None
+  no_pop = go (pops_some (instr_at (memory_of state) state.regs.pc))
+    where
+      go : (o : Option ℕ) → popped_back state o ≡ None
+      go None = refl
+      go (Some list) = by_bit (bit_at list PC == 1) refl
+        where
+          by_bit : (b : Bool) → (bit_at list PC == 1) ≡ b → cond b (popped state list (load_list list (reg_in state SP) state.regs (memory_of state))) None ≡ None
+          by_bit true e =
+              let ks = some_listed list e in
+              subst (λ (xs : List ℕ). popped state list (load_words state.segments (reg_in state SP) (loads_from 0 xs) (all_of state.regs)) ≡ None) (sym ks.2) (first_load list ks.0 ks.1)
+          by_bit false e = refl
+
 -- ---- the first event
 
 module _ (p : Program) (map : IsMap (start_of p).memory) (to : ℕ) (regs : Regs) (m : Memory) (e : step_of (start_of p).regs (start_of p).memory ≡ (Return to, regs, m)) where
@@ -162,12 +197,12 @@ module _ (p : Program) (map : IsMap (start_of p).memory) (to : ℕ) (regs : Regs
 pub first_match : FirstEventsMatch
 first_match p input map = go (step_of (start_of p).regs (start_of p).memory) refl
   where
-    plain : (o : Stepping) → step_of (start_of p).regs (start_of p).memory ≡ o → IsNoReturn o.0 → Matches (machine_event p (start_of p) input) (recorded_event p (recorded_start p) input)
-    plain o e h = (start_alike p).first input (subst (λ (q : Stepping). IsNoReturn q.0) (sym e) h)
+    plain : (o : Stepping) → step_of (start_of p).regs (start_of p).memory ≡ o → IsNoReturn (recorded_start p) o.0 → Matches (machine_event p (start_of p) input) (recorded_event p (recorded_start p) input)
+    plain o e h = (start_alike p).first input (subst (λ (q : Stepping). IsNoReturn (recorded_start p) q.0) (sym e) h)
 
     go : (o : Stepping) → step_of (start_of p).regs (start_of p).memory ≡ o → Matches (machine_event p (start_of p) input) (recorded_event p (recorded_start p) input)
     go (Done, regs, m) e = plain (Done, regs, m) e tt
     go (Call target ret, regs, m) e = plain (Call target ret, regs, m) e tt
     go (Gate number, regs, m) e = plain (Gate number, regs, m) e tt
-    go (Trap trap, regs, m) e = plain (Trap trap, regs, m) e tt
+    go (Trap trap, regs, m) e = plain (Trap trap, regs, m) e (no_pop p map)
     go (Return to, regs, m) e = returns_match p (recorded_start p) input to regs m (start_knows p) (words p map to regs m e) e (finds p map to regs m e)

@@ -1,5 +1,6 @@
 -- A return gives back what was recorded, and the frames of a throw are the activations.
 use Rattle.std.proofs.Common.{◌≡◌, ℕ, ◌+◌, Bool, true, false, cond, List, [], ◌∷◌, ◌++◌, length, map, take, slice_index, Option, Some, None, Result, Ok, Err, refl, sym, ap, subst, ◌∙◌}
+use Rattle.std.specs.Prelude.{IsSome}
 use Rattle.std.proofs.lemmas.List.{get_or-append-add}
 use Rattle.std.proofs.Math.Seq.{take-append_seam}
 use Rattle.event_runs.specs.Runs.{Event, Goes}
@@ -13,15 +14,17 @@ use Rattle.eh_phase.specs.Frames.{site_of, covered_at, ended, framed, frame_of}
 use Rattle.eh_phase.specs.Phases.{Frames}
 use Rattle.eh_phase.specs.declared.walk.Covered.{Covered}
 use Rattle.thumb_core.specs.declared.ends.Cause.TheVariants.{NoHandler, LeavesCleanup}
+use Rattle.thumb_core.specs.Outcome.{Outcome as Stepping}
 use Rattle.thumb_core.specs.Step.{step_of}
+use Rattle.thumb_core.specs.declared.regs.CoreTrap.{CoreTrap}
 use Rattle.thumb_core.specs.declared.regs.TheConstants.{SP}
 use Rattle.thumb_core.specs.declared.regs.Regs.{Regs}
-use Rattle.thumb_core.specs.declared.regs.Stepped.TheVariants.{Return}
+use Rattle.thumb_core.specs.declared.regs.Stepped.TheVariants.{Done, Call, Return, Gate, Trap}
 use Rattle.thumb_core.specs.declared.ends.End.{End}
 use Rattle.eh_machine.specs.Program.{Program}
 use Rattle.eh_machine.specs.Activations.{Caller, Activation, Recorded, memory_of, callee, registers_of, ends_at, where_unwound, framed_at, outside}
-use Rattle.eh_machine.specs.ActivationMachine.{returned, tested, tests, moved, checked, passed, stepped, onward, recorded_event, left_by, settled_at}
-use Rattle.eh_machine.specs.ActivationLaws.{IsBack, IsWhole, AreWhole, ReturnsGiveBack, place_of, recorded_places, FramesAreActivations}
+use Rattle.eh_machine.specs.ActivationMachine.{returned, tested, tests, moved, checked, passed, stepped, pops_back, trapped_by, onward, recorded_event, left_by, settled_at}
+use Rattle.eh_machine.specs.ActivationLaws.{IsBack, IsWhole, IsReturn, AreWhole, ReturnsGiveBack, place_of, recorded_places, FramesAreActivations}
 
 -- ---- registers that a caller left
 
@@ -44,26 +47,34 @@ is_back c t regs h e = record {
   saved = ap (λ (r : Regs). callee r.r) e ∙ saved_are c.saved _ h;
 }
 
-module _ (p : Program) (s t : Recorded) (input text left : List ℕ) (to : ℕ) (regs : Regs) (m : Memory) (whole : IsWhole s.first) where
-  abbrev after : Regs
-  after = returned s.first.caller regs
-
-  from_test : (o : Option End) → onward p s (tested p s (Return to) after m o) input ≡ Goes t text left → IsBack s.first.caller t
-  from_test (Some end) e = absurd (cc)
-  from_test None e =
+module _ (p : Program) (s t : Recorded) (input text left : List ℕ) (whole : IsWhole s.first) where
+  from_test : (to : ℕ) (regs : Regs) (m : Memory) (o : Option End) → onward p s (tested p s (Return to) (returned s.first.caller regs) m o) input ≡ Goes t text left → IsBack s.first.caller t
+  from_test to regs m (Some end) e = absurd (cc)
+  from_test to regs m None e =
+      let after : Regs = returned s.first.caller regs in
       let goes : ◌≡◌ {A = Event Recorded End} (Goes (moved p s (Return to) after m) [] input) (Goes t text left) = e in
       let state : moved p s (Return to) after m ≡ t = cc in
       let base = settled_at p s after (record s { regs = after; segments = m.segments }) in
       is_back s.first.caller t regs whole (ap (λ (x : Recorded). x.regs) (sym state) ∙ left_regs base.outer base)
 
-  from_check : (b : Bool) → step_of s.regs (memory_of s) ≡ (Return to, regs, m) → onward p s (checked p s b) input ≡ Goes t text left → IsBack s.first.caller t
-  from_check true e f =
-      from_test (tests p s (Return to) after) (sym (ap (λ o. onward p s (stepped p s o) input) e) ∙ f)
-  from_check false e f = absurd (cc)
+  from_trap : (trap : CoreTrap) (o : Option Regs) → IsSome o → onward p s (trapped_by p s trap o) input ≡ Goes t text left → IsBack s.first.caller t
+  from_trap trap None h e = absurd (cc)
+  from_trap trap (Some regs) h e = from_test s.first.caller.back regs (memory_of s) (tests p s (Return s.first.caller.back) (returned s.first.caller regs)) e
+
+  from_step : (o : Stepping) → IsReturn s o.0 → onward p s (stepped p s o) input ≡ Goes t text left → IsBack s.first.caller t
+  from_step (Return to, regs, m) h e = from_test to regs m (tests p s (Return to) (returned s.first.caller regs)) e
+  from_step (Trap trap, regs, m) h e = from_trap trap (pops_back s) h e
+  from_step (Done, regs, m) h e = absurd h
+  from_step (Call target ret, regs, m) h e = absurd h
+  from_step (Gate number, regs, m) h e = absurd h
+
+  from_check : (b : Bool) → IsReturn s (step_of s.regs (memory_of s)).0 → onward p s (checked p s b) input ≡ Goes t text left → IsBack s.first.caller t
+  from_check true h e = from_step (step_of s.regs (memory_of s)) h e
+  from_check false h e = absurd (cc)
 
 pub gives_back : ReturnsGiveBack
 unfolding recorded_event passed
-gives_back p s t input text left to regs m e f whole = from_check p s t input text left to regs m whole (p.look s.regs.pc).is_instr e f
+gives_back p s t input text left h e whole = from_check p s t input text left whole (p.look s.regs.pc).is_instr h e
 
 -- ---- the frames of a throw
 

@@ -3,6 +3,7 @@ use Rattle.std.proofs.Common.{◌≡◌, ℕ, ◌+◌, ◌*◌, ◌%◌, ◌<◌
 use Rattle.std.proofs.lemmas.Bool.{le-leb, lt-ltb, le-ltb}
 use Rattle.event_runs.specs.Runs.{Event, Goes, Ends}
 use Rattle.eh_bus.specs.Memory.{Memory, is_closed, host_load, number_in}
+use Rattle.eh_bus.proofs.MapLaws.{map_refl}
 use Rattle.eh_bus.specs.declared.map.TheConstants.{CLOSED_SIZE, POOL_END, POOL_START, SLOT_SIZE}
 use Rattle.guest_gates.specs.declared.gates.TheConstants.{INPUT_GATE}
 use Rattle.guest_gates.specs.Gates.{gate_event}
@@ -20,8 +21,11 @@ use Rattle.thumb_core.specs.declared.regs.Stepped.TheVariants.{Done, Call, Retur
 use Rattle.thumb_core.specs.declared.ends.End.{End}
 use Rattle.eh_machine.specs.Program.{Program, guide}
 use Rattle.eh_machine.specs.Activations.{Activation, Recorded, memory_of, heads}
-use Rattle.eh_machine.specs.ActivationMachine.{left_by, settled_at, moved, tested, tests, stepped, checked, passed, onward, gated, in_state, event_of, gate_of, registers_behind, recorded_event}
+use Rattle.eh_machine.specs.ActivationMachine.{left_by, settled_at, moved, tested, tests, stepped, checked, passed, onward, gated, in_state, event_of, gate_of, registers_behind, returned, pops_back, trapped_by, recorded_event}
 use Rattle.eh_machine.specs.Corresponds.{IsNoCall, KeepLists, ListsAreKept}
+
+keeps_same : (m : Memory) → KeepsMap m m
+keeps_same m = record { map = map_refl m.segments; guards = refl; home = refl; guarded = λ g h. refl; closed = λ a l c. refl }
 
 closed_word : (s k : ℕ) → s < SLOTS → k < CLOSED_WORDS → is_closed (POOL_START + SLOT_SIZE * s + 4 * k) ≡ true
 closed_word s k h i =
@@ -87,7 +91,12 @@ module _ (s : Recorded) (x : Stands (word (memory_of s)) (heads s.lists) s.lists
     by_test (Trap trap) h regs m k None = kept (moved p s (Trap trap) regs m) m k refl refl refl
 
     by_step : (o : Stepping) → IsNoCall o.0 → KeepsMap (memory_of s) o.2 → KeptBy (onward p s (stepped p s o) input)
-    by_step (Trap trap, regs, m) h k = tt
+    by_step (Trap trap, regs, m) h k = go (pops_back s)
+      where
+        go : (o : Option Regs) → KeptBy (onward p s (trapped_by p s trap o) input)
+        go None = tt
+        go (Some after) =
+            by_test (Return s.first.caller.back) tt (returned s.first.caller after) (memory_of s) (keeps_same (memory_of s)) (tests p s (Return s.first.caller.back) (returned s.first.caller after))
     by_step (Done, regs, m) h k = by_test Done h regs m k (tests p s Done regs)
     by_step (Call target ret, regs, m) h k = by_test (Call target ret) h regs m k (tests p s (Call target ret) regs)
     by_step (Return to, regs, m) h k =

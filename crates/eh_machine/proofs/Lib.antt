@@ -25,3 +25,4 @@ pub mod Agreeing
 pub mod Flying
 pub mod Throwing
 pub mod Rethrowing
+pub mod SlotWords

@@ -33,7 +33,7 @@ CanMatch p s Done = Unit {0}
 CanMatch p s (Call target ret) = Unit {0}
 CanMatch p s (Return to) = ⊥
 CanMatch p s (Gate number) = (regs : Regs) (input : List ℕ) → Matches (bytes.gated p number (bytes_of s) regs input) (acts.gated p number s regs input)
-CanMatch p s (Trap trap) = Unit {0}
+CanMatch p s (Trap trap) = acts.pops_back s ≡ None
 
 -- alike up to the gates
 abbrev Alike : Program → Recorded → bytes.Passed → acts.Passed → Type 0
@@ -83,7 +83,8 @@ module _ (p : Program) (s : Recorded) (knows : KnowsLanding s) where
     gate_alike number h None = (refl, settles regs m k, h)
 
   stepped_alike : (o : Stepping) → KeepsMap (memory_of s) o.2 → CanMatch p s o.0 → Alike p s (bytes.stepped p (bytes_of s) o) (acts.stepped p s o)
-  stepped_alike (Trap trap, regs, m) k h = (refl, refl)
+  stepped_alike (Trap trap, regs, m) k h =
+      subst (λ (o : Option Regs). Alike p s (bytes.stepped p (bytes_of s) (Trap trap, regs, m)) (acts.trapped_by p s trap o)) (sym h) (refl, refl)
   stepped_alike (Done, regs, m) k h =
       subst (λ (t : Option End). Alike p s (bytes.tested p (bytes_of s) Done regs m t) (acts.with_tests p s Done regs m)) (sym (tests_done regs m k)) (done_alike regs m k (acts.tests p s Done regs))
   stepped_alike (Call target ret, regs, m) k h =
@@ -135,14 +136,14 @@ pub events_match : (p : Program) (s : Recorded) (input : List ℕ) → KnowsLand
 unfolding bytes.machine_event acts.recorded_event
 events_match p s input knows h = onward_alike p s knows (bytes.passed p (bytes_of s)) (acts.passed p s) input (passed_alike p s knows h)
 
-plain_can : (p : Program) (s : Recorded) (knows : KnowsLanding s) (what : Stepped) → IsPlain what → CanMatch p s what
+plain_can : (p : Program) (s : Recorded) (knows : KnowsLanding s) (what : Stepped) → IsPlain s what → CanMatch p s what
 plain_can p s knows Done h = tt
 plain_can p s knows (Call target ret) h = tt
 plain_can p s knows (Return to) h = h
 plain_can p s knows (Gate number) h = λ regs input. gated_alike p s knows number regs input h
-plain_can p s knows (Trap trap) h = tt
+plain_can p s knows (Trap trap) h = h
 
-pub plain_match : (p : Program) (s : Recorded) (input : List ℕ) → KnowsLanding s → IsPlain (step_of s.regs (memory_of s)).0
+pub plain_match : (p : Program) (s : Recorded) (input : List ℕ) → KnowsLanding s → IsPlain s (step_of s.regs (memory_of s)).0
     → Matches (bytes.machine_event p (bytes_of s) input) (acts.recorded_event p s input)
 plain_match p s input knows h = events_match p s input knows (plain_can p s knows (step_of s.regs (memory_of s)).0 h)
 

@@ -1,5 +1,5 @@
 -- How the machine with recorded activations and the one over bytes fit, in the words of their users (docs/machine.md, "Laws").
-use Rattle.std.specs.Prelude.{◌≡◌, ℕ, ◌≤◌, List, [], ◌∷◌, length, map, take, drop, slice_index, Option}
+use Rattle.std.specs.Prelude.{◌≡◌, ℕ, ◌≤◌, List, [], ◌∷◌, length, map, take, drop, slice_index, Option, None, IsSome}
 use Rattle.event_runs.specs.Runs.{Event, Goes, Ends}
 use Rattle.elf_image.specs.Image.{Image}
 use Rattle.guest_gates.specs.declared.gates.TheConstants.{INPUT_GATE}
@@ -24,7 +24,7 @@ use Rattle.eh_machine.specs.Program.{Program}
 use Rattle.eh_machine.specs.Machine.{machine_event}
 use Rattle.eh_machine.specs.Start.{start_of}
 use Rattle.eh_machine.specs.Activations.{Caller, Activation, Recorded, memory_of, heads, bytes_of, callee, registers_of, frames_at, recorded_start}
-use Rattle.eh_machine.specs.ActivationMachine.{recorded_event, passed_by}
+use Rattle.eh_machine.specs.ActivationMachine.{pops_back, recorded_event, passed_by}
 
 -- ---- the same event
 
@@ -35,13 +35,13 @@ Matches (Ends end b) (Ends why s) = (end ≡ why) × (b ≡ bytes_of s)
 Matches (Goes b text left) (Ends why s) = ⊥
 Matches (Ends end b) (Goes s said rest) = ⊥
 
--- all that instructions do but a return and the gates of exceptions
-abbrev pub IsPlain : Stepped → Type 0
-IsPlain Done = Unit {0}
-IsPlain (Call target ret) = Unit {0}
-IsPlain (Return to) = ⊥
-IsPlain (Gate number) = number ≤ INPUT_GATE
-IsPlain (Trap trap) = Unit {0}
+-- all that instructions do but a return and the gates of exceptions; a POP into pc is a return, whatever word it finds
+abbrev pub IsPlain : Recorded → Stepped → Type 0
+IsPlain s Done = Unit {0}
+IsPlain s (Call target ret) = Unit {0}
+IsPlain s (Return to) = ⊥
+IsPlain s (Gate number) = number ≤ INPUT_GATE
+IsPlain s (Trap trap) = pops_back s ≡ None
 
 -- the landing sp of the innermost cleanup stands in the pool as in the list
 abbrev pub KnowsLanding : Recorded → Type 0
@@ -50,22 +50,22 @@ KnowsLanding s = innermost_of (word (memory_of s)) (heads s.lists) ≡ innermost
 -- an instruction that is no return and no gate of exceptions does the same in both machines
 abbrev pub PlainEventsMatch : Type 0
 PlainEventsMatch =
-    (p : Program) (s : Recorded) (input : List ℕ) → KnowsLanding s → IsPlain (step_of s.regs (memory_of s)).0
+    (p : Program) (s : Recorded) (input : List ℕ) → KnowsLanding s → IsPlain s (step_of s.regs (memory_of s)).0
     → Matches (machine_event p (bytes_of s) input) (recorded_event p s input)
 
 -- ---- the start
 
-abbrev pub IsNoReturn : Stepped → Type 0
-IsNoReturn Done = Unit {0}
-IsNoReturn (Call target ret) = Unit {0}
-IsNoReturn (Return to) = ⊥
-IsNoReturn (Gate number) = Unit {0}
-IsNoReturn (Trap trap) = Unit {0}
+abbrev pub IsNoReturn : Recorded → Stepped → Type 0
+IsNoReturn s Done = Unit {0}
+IsNoReturn s (Call target ret) = Unit {0}
+IsNoReturn s (Return to) = ⊥
+IsNoReturn s (Gate number) = Unit {0}
+IsNoReturn s (Trap trap) = pops_back s ≡ None
 
 -- both start in the same state, and with an instruction that is no return both do the same first event
 pub record StartsAlike (p : Program) : Type 0 where
   pub same : bytes_of (recorded_start p) ≡ start_of p
-  pub first : (input : List ℕ) → IsNoReturn (step_of (start_of p).regs (start_of p).memory).0
+  pub first : (input : List ℕ) → IsNoReturn (recorded_start p) (step_of (start_of p).regs (start_of p).memory).0
       → Matches (machine_event p (start_of p) input) (recorded_event p (recorded_start p) input)
 
 abbrev pub MachinesStartAlike : Type 0
@@ -87,12 +87,19 @@ pub record IsBack (c : Caller) (t : Recorded) : Type 0 where
   pub sp : slice_index t.regs.r SP ≡ c.sp
   pub saved : callee t.regs.r ≡ c.saved
 
+-- what an instruction does is a return; a POP into pc whose words can be loaded is one whatever they are
+abbrev pub IsReturn : Recorded → Stepped → Type 0
+IsReturn s (Return to) = Unit {0}
+IsReturn s (Trap trap) = IsSome (pops_back s)
+IsReturn s Done = ⊥
+IsReturn s (Call target ret) = ⊥
+IsReturn s (Gate number) = ⊥
+
 -- a return that goes on gives back what was recorded, whatever the stack holds
 abbrev pub ReturnsGiveBack : Type 0
 ReturnsGiveBack =
-    (p : Program) (s t : Recorded) (input text left : List ℕ) (to : ℕ) (regs : Regs) (m : Memory)
-    → step_of s.regs (memory_of s) ≡ (Return to, regs, m) → recorded_event p s input ≡ Goes t text left
-    → IsWhole s.first → IsBack s.first.caller t
+    (p : Program) (s t : Recorded) (input text left : List ℕ) → IsReturn s (step_of s.regs (memory_of s)).0
+    → recorded_event p s input ≡ Goes t text left → IsWhole s.first → IsBack s.first.caller t
 
 -- ---- a call
 

@@ -1,9 +1,11 @@
 -- One event of the machine with recorded activations, and its runs (docs/machine.md, "The same with recorded activations"): returns, throws
 -- and the ends of cleanups go by what was recorded at the calls, and no saved word is read.
-use Rattle.std.specs.Prelude.{ℕ, suc, ◌==◌, ◌&&◌, nat_lt, Bool, true, false, List, [], ◌∷◌, length, map, drop, slice_index, Option, Some, None, is_some, Result, Ok, Err, if◌then◌else◌}
+use Rattle.std.specs.Prelude.{ℕ, suc, ◌+◌, ◌==◌, ◌&&◌, nat_lt, Bool, true, false, List, [], ◌∷◌, length, map, drop, slice_index, Option, Some, None, is_some, Result, Ok, Err, if◌then◌else◌}
+use Rattle.std.specs.Int.{bit_at}
 use Rattle.std.specs.Option.{option_or}
 use Rattle.event_runs.specs.Runs.{Event, Goes, Ends, Machine}
 use Rattle.eh_bus.specs.Memory.{Memory}
+use Rattle.eh_bus.specs.declared.fault.BusFault.{BusFault}
 use Rattle.guest_gates.specs.declared.gates.TheConstants.{INPUT_GATE}
 use Rattle.guest_gates.specs.Ends.{trap_end, is_fault}
 use Rattle.guest_gates.specs.Gates.{r0, with_r0, gate_event, gate_fails}
@@ -42,10 +44,14 @@ use Rattle.eh_bytecode.specs.Recipe.{recipe}
 use Rattle.eh_bytecode.specs.declared.recipe.Recipe.{Recipe}
 use Rattle.eh_bytecode.specs.declared.recipe.RecipeFault.{RecipeFault}
 use Rattle.step_ahead.specs.Ahead.{branches_some, pushes_some}
+use Rattle.thumb_isa.specs.declared.instr.Instr.{Instr}
+use Rattle.thumb_isa.specs.declared.instr.Instr.TheVariants.{Pop}
+use Rattle.thumb_core.specs.Lists.{bytes_of, load_list}
 use Rattle.thumb_core.specs.Outcome.{Outcome as Stepping}
-use Rattle.thumb_core.specs.Registers.{all_of, even}
+use Rattle.thumb_core.specs.Registers.{all_of, even, put, with_all}
 use Rattle.thumb_core.specs.Step.{step_of, instr_at}
-use Rattle.thumb_core.specs.declared.regs.TheConstants.{SP}
+use Rattle.thumb_core.specs.declared.regs.CoreTrap.{CoreTrap}
+use Rattle.thumb_core.specs.declared.regs.TheConstants.{SP, PC}
 use Rattle.thumb_core.specs.declared.regs.Regs.{Regs}
 use Rattle.thumb_core.specs.declared.regs.Stepped.{Stepped}
 use Rattle.thumb_core.specs.declared.regs.Stepped.TheVariants.{Done, Call as Calls, Return, Gate, Trap}
@@ -408,8 +414,36 @@ tested p s what regs m None = (Ok what, moved p s what regs m)
 abbrev pub with_tests : Program → Recorded → Stepped → Regs → Memory → Passed
 with_tests p s what regs m = tested p s what regs m (tests p s what regs)
 
+-- a POP, by its registers
+abbrev pub pops : Instr → Option ℕ
+pops (Pop list) = Some list
+pops i = None
+
+abbrev pub pops_some : Option (Instr × ℕ) → Option ℕ
+pops_some (Some (i, size)) = pops i
+pops_some None = None
+
+-- the registers that a POP leaves, where its words can be loaded
+abbrev pub popped : Recorded → ℕ → Result (List ℕ) BusFault → Option Regs
+popped s list (Ok words) = Some (with_all s.regs (put words SP (reg_in s SP + bytes_of list)))
+popped s list (Err why) = None
+
+-- .. of a POP into pc
+abbrev pub popped_back : Recorded → Option ℕ → Option Regs
+popped_back s (Some list) = if bit_at list PC == 1 then popped s list (load_list list (reg_in s SP) s.regs (memory_of s)) else None
+popped_back s None = None
+
+-- .. where it stands at pc
+abbrev pub pops_back : Recorded → Option Regs
+pops_back s = popped_back s (pops_some (instr_at (memory_of s) s.regs.pc))
+
+-- a trap ends the run; but a POP into pc returns whatever word it finds for pc, which may be a saved one
+abbrev pub trapped_by : Program → Recorded → CoreTrap → Option Regs → Passed
+trapped_by p s trap None = (Err (trap_end trap s.regs.pc), s)
+trapped_by p s trap (Some regs) = with_tests p s (Return s.first.caller.back) (returned s.first.caller regs) (memory_of s)
+
 abbrev pub stepped : Program → Recorded → Stepping → Passed
-stepped p s (Trap trap, regs, m) = (Err (trap_end trap s.regs.pc), s)
+stepped p s (Trap trap, regs, m) = trapped_by p s trap (pops_back s)
 stepped p s (what, regs, m) = with_tests p s what (registers_behind s.first.caller what regs) m
 
 abbrev pub checked : Program → Recorded → Bool → Passed

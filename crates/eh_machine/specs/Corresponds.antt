@@ -1,5 +1,5 @@
 -- Words and lists of exceptions that stand for each other, and the gates that walk no frames (docs/machine.md, "Laws").
-use Rattle.std.specs.Prelude.{◌≡◌, ℕ, ◌<◌, ◌≤◌, ◌^◌, List, length}
+use Rattle.std.specs.Prelude.{◌≡◌, ℕ, ◌<◌, ◌≤◌, ◌^◌, List, length, None}
 use Rattle.event_runs.specs.Runs.{Goes}
 use Rattle.guest_gates.specs.declared.gates.TheConstants.{INPUT_GATE}
 use Rattle.eh_bus.specs.Map.{IsMap}
@@ -45,12 +45,12 @@ pub record GateMatches (o : Outcome) (q : acts.Outcome) : Type 0 where
   pub still : Corresponds q.1
 
 -- all that instructions do but a return, a throw, a rethrow and the end of a cleanup
-abbrev pub IsInPlace : Stepped → Type 0
-IsInPlace Done = Unit {0}
-IsInPlace (Call target ret) = Unit {0}
-IsInPlace (Return to) = ⊥
-IsInPlace (Gate number) = WalksNone number
-IsInPlace (Trap trap) = Unit {0}
+abbrev pub IsInPlace : Recorded → Stepped → Type 0
+IsInPlace s Done = Unit {0}
+IsInPlace s (Call target ret) = Unit {0}
+IsInPlace s (Return to) = ⊥
+IsInPlace s (Gate number) = WalksNone number
+IsInPlace s (Trap trap) = acts.pops_back s ≡ None
 
 pub record CallsMatch : Type 0 where
   pub start : (p : Program) → IsMap (start_of p).memory → Corresponds (recorded_start p)
@@ -59,7 +59,7 @@ pub record CallsMatch : Type 0 where
       (g : Guide) (number next : ℕ) (s : Recorded) → Corresponds s → reg_in s 0 < 2 ^ 32 → WalksNone number
       → GateMatches (gate_of g number next (bytes_of s)) (acts.gate_of g number next s)
   pub events :
-      (p : Program) (s : Recorded) (input : List ℕ) → Corresponds s → reg_in s 0 < 2 ^ 32 → IsInPlace (step_of s.regs (memory_of s)).0
+      (p : Program) (s : Recorded) (input : List ℕ) → Corresponds s → reg_in s 0 < 2 ^ 32 → IsInPlace s (step_of s.regs (memory_of s)).0
       → Matches (machine_event p (bytes_of s) input) (acts.recorded_event p s input)
 
 -- all but gates of exceptions

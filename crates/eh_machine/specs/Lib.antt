@@ -12,6 +12,7 @@ pub mod ActivationLaws
 pub mod FrameEnds
 pub mod RecordedGates
 pub mod RecordedSlots
+pub mod SlotWords
 pub mod Corresponds
 pub mod Landings
 pub mod Agreeing

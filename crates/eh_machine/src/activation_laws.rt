@@ -7,6 +7,7 @@ ghost use Rattle.eh_machine.specs.Landings.{LandingsMatch, LandingsAreInTheirAct
 ghost use Rattle.eh_machine.specs.RecordedGates.{FailedSearchesAddTheirEvent, CleanupsEndInTheirOwn};
 ghost use Rattle.eh_machine.specs.Throws.{ThrowsMatch, RethrowsMatch};
 ghost use Rattle.eh_machine.specs.RecordedSlots.{SlotsAreGuarded, SavesBecomeSlots, ReturnsMatch, FirstEventsMatch};
+ghost use Rattle.eh_machine.specs.SlotWords.{ReturnsReadNoSlot};
 
 /// An instruction that is no return and no gate of exceptions does the same in both machines.
 pub fn plain_events_match()
@@ -108,4 +109,9 @@ pub fn throws_match()
 /// So does a rethrow.
 pub fn rethrows_match()
     ensures { RethrowsMatch }
+{}
+
+/// A return does the same whatever the slots hold, but where a POP loads one into r0 to r3.
+pub fn returns_read_no_slot()
+    ensures { ReturnsReadNoSlot }
 {}
