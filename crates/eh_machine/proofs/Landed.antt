@@ -25,7 +25,7 @@ use Rattle.thumb_core.specs.declared.regs.TheConstants.{SP}
 use Rattle.eh_gates.specs.State.{State}
 use Rattle.eh_trace.specs.Trace.{pushed}
 use Rattle.eh_gates.specs.Landing.{landed, pad_event, words_of, enter_cleanup, enter_handler}
-use Rattle.eh_machine.specs.Activations.{Activation, Recorded, slots_of, released_in, memory_of, words_in, head_of, heads, bytes_of}
+use Rattle.eh_machine.specs.Activations.{Activation, Recorded, slots_of, guarded_of, released_in, memory_of, words_in, head_of, heads, bytes_of}
 use Rattle.eh_machine.specs.ActivationMachine as acts
 use Rattle.eh_machine.specs.Corresponds.{Corresponds}
 use Rattle.eh_machine.specs.Landings.{IsInFlight, AreBelow, LandingsMatch}
@@ -36,39 +36,44 @@ use Rattle.eh_machine.proofs.SameSlots.{filter_all}
 
 -- ---- slots
 
-slots_append : (xs ys : List Activation) → slots_of (xs ++ ys) ≡ slots_of xs ++ slots_of ys
-slots_append [] ys = refl
-slots_append (x ∷ xs) ys = ap (λ (gs : List ℕ). x.slots ++ gs) (slots_append xs ys) ∙ more x.slots (slots_of xs) (slots_of ys)
+slots_append : (beyond : List ℕ) (xs ys : List Activation) → guarded_of beyond (xs ++ ys) ≡ slots_of xs ++ guarded_of beyond ys
+slots_append beyond [] ys = refl
+slots_append beyond (x ∷ xs) ys = ap (λ (gs : List ℕ). x.slots ++ gs) (slots_append beyond xs ys) ∙ more x.slots (slots_of xs) (guarded_of beyond ys)
   where
     more : (us vs ws : List ℕ) → us ++ (vs ++ ws) ≡ (us ++ vs) ++ ws
     more [] vs ws = refl
     more (u ∷ us) vs ws = ap (λ (gs : List ℕ). u ∷ gs) (more us vs ws)
 
-slots_released : (home : ℕ × ℕ) (sp : ℕ) (acts : List Activation) → slots_of (map (λ (a : Activation). released_in home sp a) acts) ≡ filter (stays_guarded home sp) (slots_of acts)
-slots_released home sp [] = refl
-slots_released home sp (a ∷ more) =
-    ap (λ (gs : List ℕ). filter (stays_guarded home sp) a.slots ++ gs) (slots_released home sp more) ∙ sym (filter-append (stays_guarded home sp) a.slots (slots_of more))
+slots_released : (home : ℕ × ℕ) (sp : ℕ) (beyond : List ℕ) (acts : List Activation)
+    → guarded_of (filter (stays_guarded home sp) beyond) (map (λ (a : Activation). released_in home sp a) acts) ≡ filter (stays_guarded home sp) (guarded_of beyond acts)
+slots_released home sp beyond [] = refl
+slots_released home sp beyond (a ∷ more) =
+    ap (λ (gs : List ℕ). filter (stays_guarded home sp) a.slots ++ gs) (slots_released home sp beyond more)
+    ∙ sym (filter-append (stays_guarded home sp) a.slots (guarded_of beyond more))
 
 module _ (s : Recorded) (c : Corresponds s) (cut : List Activation) (a : Activation) (more : List Activation) (all : s.first ∷ s.outer ≡ cut ++ a ∷ more) where
-  -- the guards behind a landing are the slots of what it leaves
+  -- the guards behind a landing are the slots of what it leaves, and the words beyond that stay
+  abbrev left_slots : ℕ → List ℕ
+  left_slots sp = guarded_of (filter (stays_guarded s.home sp) s.beyond) (map (λ (b : Activation). released_in s.home sp b) (a ∷ more))
+
   guards_left : (sp : ℕ) → AreBelow s cut sp
-      → filter (stays_guarded s.home sp) (insert_all (slots_of (s.first ∷ s.outer)) []) ≡ insert_all (slots_of (map (λ (b : Activation). released_in s.home sp b) (a ∷ more))) []
+      → filter (stays_guarded s.home sp) (insert_all (guarded_of s.beyond (s.first ∷ s.outer)) []) ≡ insert_all (left_slots sp) []
   guards_left sp below =
-      filter_all (stays_guarded s.home sp) (slots_of (s.first ∷ s.outer))
+      filter_all (stays_guarded s.home sp) (guarded_of s.beyond (s.first ∷ s.outer))
       ∙ ap (λ (gs : List ℕ). insert_all gs []) (
-      ap (λ (xs : List Activation). filter (stays_guarded s.home sp) (slots_of xs)) all
-      ∙ ap (filter (stays_guarded s.home sp)) (slots_append cut (a ∷ more))
-      ∙ filter-append (stays_guarded s.home sp) (slots_of cut) (slots_of (a ∷ more))
-      ∙ ap (λ (gs : List ℕ). gs ++ filter (stays_guarded s.home sp) (slots_of (a ∷ more)))
+      ap (λ (xs : List Activation). filter (stays_guarded s.home sp) (guarded_of s.beyond xs)) all
+      ∙ ap (filter (stays_guarded s.home sp)) (slots_append s.beyond cut (a ∷ more))
+      ∙ filter-append (stays_guarded s.home sp) (slots_of cut) (guarded_of s.beyond (a ∷ more))
+      ∙ ap (λ (gs : List ℕ). gs ++ filter (stays_guarded s.home sp) (guarded_of s.beyond (a ∷ more)))
       (none_pass (stays_guarded s.home sp) (slots_of cut) (λ g h. let f = below g h in leaves_home s.home.0 sp g f.0 f.1))
-      ∙ sym (slots_released s.home sp (a ∷ more))
+      ∙ sym (slots_released s.home sp s.beyond (a ∷ more))
       )
 
   -- the memory behind a landing, with words written before it
   abbrev left_memory : List Write → ℕ → Memory
   left_memory ws sp = record {
     segments = (put_all ws (memory_of s)).segments;
-    guards = insert_all (slots_of (map (λ (b : Activation). released_in s.home sp b) (a ∷ more))) [];
+    guards = insert_all (left_slots sp) [];
     home = s.home;
   }
 

@@ -58,7 +58,7 @@ module _ (p : Program) (s : Recorded) (knows : KnowsLanding s) where
       let old = slice_index s.regs.r SP in
       let new = slice_index regs.r SP in
       let one : Memory → State = λ n. record (bytes_of s) { regs = regs; memory = n } in
-      ap one (ap (bytes.settled saves count old new) (same_memory s m k) ∙ same_slots s.home m.segments saves count old new s.first s.outer)
+      ap one (ap (bytes.settled saves count old new) (same_memory s m k) ∙ same_slots s.home m.segments saves count old new s.first s.outer s.beyond)
 
   module _ (regs : Regs) (m : Memory) (k : KeepsMap (memory_of s) m) where
     tests_done : bytes.tests p (bytes_of s) Done regs ≡ acts.tests p s Done regs

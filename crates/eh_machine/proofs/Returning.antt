@@ -24,7 +24,7 @@ use Rattle.eh_gates.specs.State.{State}
 use Rattle.eh_machine.specs.Program.{Program}
 use Rattle.eh_machine.specs.Machine as bytes
 use Rattle.eh_machine.specs.Machine.{saved_words, fell_off, sp_end}
-use Rattle.eh_machine.specs.Activations.{Activation, Recorded, reg_in, slots_of, freed_in, with_slots, memory_of, heads, bytes_of}
+use Rattle.eh_machine.specs.Activations.{Activation, Recorded, reg_in, guarded_of, freed_in, with_slots, memory_of, heads, bytes_of}
 use Rattle.eh_machine.specs.ActivationMachine as acts
 use Rattle.eh_machine.specs.ActivationLaws.{Matches, KnowsLanding}
 use Rattle.eh_machine.specs.RecordedSlots.{FindsCaller, ReturnsMatch}
@@ -74,7 +74,7 @@ module _ (p : Program) (s : Recorded) (knows : KnowsLanding s) (to : ℕ) (regs 
   left_same [] u e n = refl
   left_same (a ∷ more) u e n =
       let one : List ℕ → State = λ gs. record { regs = u.regs; globals = heads u.lists; memory = record { segments = u.segments; guards = insert_all gs []; home = u.home }; events = u.events } in
-      ap one (ap (λ (gs : List ℕ). gs ++ slots_of u.outer) n ∙ ap slots_of e)
+      ap one (ap (λ (gs : List ℕ). gs ++ guarded_of u.beyond u.outer) n ∙ ap (guarded_of u.beyond) e)
 
   same_way : (outer : List Activation) → s.outer ≡ outer → cond (to == NO_CALLER) (Some (the_end.Exit (r0 regs))) (fell_off p s.regs.pc regs.pc) ≡ acts.return_end p s.regs.pc outer regs
   same_way [] e = rw (finds.last e) refl

@@ -6,7 +6,7 @@ use Rattle.eh_bus.specs.Memory.{Memory, stays_guarded}
 use Rattle.eh_bus.specs.Segment.{Segment}
 use Rattle.eh_bus.proofs.GuardLaws.{Rising, filter_inserted, inserted_rising, guard_all-is, insert_append}
 use Rattle.eh_machine.specs.Machine.{saved_words, freed_below, settled}
-use Rattle.eh_machine.specs.Activations.{Activation, slots_of, freed_in, with_slots}
+use Rattle.eh_machine.specs.Activations.{Activation, guarded_of, freed_in, staying, with_slots}
 
 all_rise : (xs : List ℕ) → Rising 0 (insert_all xs [])
 all_rise [] = tt
@@ -34,42 +34,40 @@ stay_append home old new xs ys = go (nat_lt old new)
     go true = filter-append (stays_guarded home new) xs ys
     go false = refl
 
-stay_nothing : (home : ℕ × ℕ) (old new : ℕ) → stay home old new [] ≡ []
-stay_nothing home old new = go (nat_lt old new)
-  where
-    go : (b : Bool) → cond b (filter (stays_guarded home new) []) [] ≡ []
-    go true = refl
-    go false = refl
-
-stay_outer : (home : ℕ × ℕ) (old new : ℕ) (acts : List Activation) → slots_of (map (λ (a : Activation). freed_in home old new a) acts) ≡ stay home old new (slots_of acts)
-stay_outer home old new [] = sym (stay_nothing home old new)
-stay_outer home old new (a ∷ more) = ap (λ (gs : List ℕ). stay home old new a.slots ++ gs) (stay_outer home old new more) ∙ sym (stay_append home old new a.slots (slots_of more))
+module _ (beyond : List ℕ) where
+  stay_outer : (home : ℕ × ℕ) (old new : ℕ) (acts : List Activation)
+      → guarded_of (staying home old new beyond) (map (λ (a : Activation). freed_in home old new a) acts) ≡ stay home old new (guarded_of beyond acts)
+  stay_outer home old new [] = refl
+  stay_outer home old new (a ∷ more) =
+      ap (λ (gs : List ℕ). stay home old new a.slots ++ gs) (stay_outer home old new more) ∙ sym (stay_append home old new a.slots (guarded_of beyond more))
 
 append_more : (ws xs ys : List ℕ) → (ws ++ xs) ++ ys ≡ ws ++ (xs ++ ys)
 append_more [] xs ys = refl
 append_more (w ∷ ws) xs ys = ap (λ (gs : List ℕ). w ∷ gs) (append_more ws xs ys)
 
 -- the words of a push join the first activation's slots, and where sp rose those below it leave: so do the guarded words
-slots_stay : (home : ℕ × ℕ) (ws : List ℕ) (old new : ℕ) (a : Activation) (outer : List Activation)
-    → slots_of (freed_in home old new (with_slots ws a) ∷ map (λ (b : Activation). freed_in home old new b) outer) ≡ stay home old new (ws ++ slots_of (a ∷ outer))
-slots_stay home ws old new a outer =
-    ap (λ (gs : List ℕ). stay home old new (ws ++ a.slots) ++ gs) (stay_outer home old new outer)
-    ∙ sym (stay_append home old new (ws ++ a.slots) (slots_of outer)) ∙ ap (stay home old new) (append_more ws a.slots (slots_of outer))
+slots_stay : (home : ℕ × ℕ) (ws : List ℕ) (old new : ℕ) (a : Activation) (outer : List Activation) (beyond : List ℕ)
+    → guarded_of (staying home old new beyond) (freed_in home old new (with_slots ws a) ∷ map (λ (b : Activation). freed_in home old new b) outer)
+    ≡ stay home old new (ws ++ guarded_of beyond (a ∷ outer))
+slots_stay home ws old new a outer beyond =
+    ap (λ (gs : List ℕ). stay home old new (ws ++ a.slots) ++ gs) (stay_outer beyond home old new outer)
+    ∙ sym (stay_append home old new (ws ++ a.slots) (guarded_of beyond outer)) ∙ ap (stay home old new) (append_more ws a.slots (guarded_of beyond outer))
 
-pub same_slots : (home : ℕ × ℕ) (segments : List Segment) (saves count old new : ℕ) (a : Activation) (outer : List Activation)
-    → settled saves count old new (record { segments = segments; guards = insert_all (slots_of (a ∷ outer)) []; home = home })
+pub same_slots : (home : ℕ × ℕ) (segments : List Segment) (saves count old new : ℕ) (a : Activation) (outer : List Activation) (beyond : List ℕ)
+    → settled saves count old new (record { segments = segments; guards = insert_all (guarded_of beyond (a ∷ outer)) []; home = home })
     ≡ record {
       segments = segments;
-      guards = insert_all (slots_of (freed_in home old new (with_slots (saved_words saves count new) a) ∷ map (λ (b : Activation). freed_in home old new b) outer)) [];
+      guards =
+          insert_all (guarded_of (staying home old new beyond) (freed_in home old new (with_slots (saved_words saves count new) a) ∷ map (λ (b : Activation). freed_in home old new b) outer)) [];
       home = home;
     }
-same_slots home segments saves count old new a outer =
+same_slots home segments saves count old new a outer beyond =
     let ws = saved_words saves count new in
     let with_guards : List ℕ → Memory = λ gs. record { segments = segments; guards = gs; home = home } in
-    ap (freed_below old new) (guard_all-is ws (with_guards (insert_all (slots_of (a ∷ outer)) [])))
-    ∙ ap (λ (gs : List ℕ). freed_below old new (with_guards gs)) (sym (insert_append ws (slots_of (a ∷ outer)) []))
-    ∙ go (ws ++ slots_of (a ∷ outer)) (nat_lt old new)
-    ∙ ap (λ (gs : List ℕ). with_guards (insert_all gs [])) (sym (slots_stay home ws old new a outer))
+    ap (freed_below old new) (guard_all-is ws (with_guards (insert_all (guarded_of beyond (a ∷ outer)) [])))
+    ∙ ap (λ (gs : List ℕ). freed_below old new (with_guards gs)) (sym (insert_append ws (guarded_of beyond (a ∷ outer)) []))
+    ∙ go (ws ++ guarded_of beyond (a ∷ outer)) (nat_lt old new)
+    ∙ ap (λ (gs : List ℕ). with_guards (insert_all gs [])) (sym (slots_stay home ws old new a outer beyond))
   where
     guarding : List ℕ → Memory
     guarding gs = record { segments = segments; guards = gs; home = home }

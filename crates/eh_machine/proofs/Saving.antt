@@ -14,7 +14,7 @@ use Rattle.thumb_core.specs.declared.regs.Regs.{Regs}
 use Rattle.thumb_core.specs.declared.regs.Stepped.TheVariants.{Done}
 use Rattle.thumb_core.specs.declared.ends.End.{End}
 use Rattle.eh_machine.specs.Program.{Program}
-use Rattle.eh_machine.specs.Activations.{Caller, Activation, Recorded, memory_of, slots_of, reg_in, freed_in}
+use Rattle.eh_machine.specs.Activations.{Caller, Activation, Recorded, memory_of, slots_of, guarded_of, reg_in, freed_in}
 use Rattle.eh_machine.specs.ActivationMachine.{tested, tests, moved, checked, passed, stepped, onward, recorded_event}
 use Rattle.eh_machine.specs.RecordedSlots.{SlotsAreGuarded, saves_of, KeepSlots, AreSaved, SavesBecomeSlots}
 use Rattle.eh_machine.proofs.Calling.{callers_stay}
@@ -31,14 +31,7 @@ in_all [] g h = h
 in_all (x ∷ xs) g (inl e) = subst (λ (y : ℕ). Has (insert_all (x ∷ xs) []) y) e (in_inserted x (insert_all xs []))
 in_all (x ∷ xs) g (inr k) = still_inserted x g (insert_all xs []) (in_all xs g k)
 
-pub are_guarded : SlotsAreGuarded
-are_guarded s = record {
-  guards = λ g. (has_all (slots_of (s.first ∷ s.outer)) g, in_all (slots_of (s.first ∷ s.outer)) g);
-  refused = λ n a v g map w e h l u. guarded_refused n (memory_of s) a v g map w e (in_all (slots_of (s.first ∷ s.outer)) g h) l u;
-}
-
--- ---- what is saved
-
+-- of a list in two parts
 either_side : (xs ys : List ℕ) (g : ℕ) → Has (xs ++ ys) g → Has xs g ⊎ Has ys g
 either_side [] ys g h = inr h
 either_side (x ∷ xs) ys g (inl e) = inl (inl e)
@@ -50,6 +43,33 @@ in_either [] ys g (inr h) = h
 in_either (x ∷ xs) ys g (inl (inl e)) = inl e
 in_either (x ∷ xs) ys g (inl (inr k)) = inr (in_either xs ys g (inl k))
 in_either (x ∷ xs) ys g (inr h) = inr (in_either xs ys g (inr h))
+
+-- what is guarded is a slot, or stands beyond
+slot_or_beyond : (beyond : List ℕ) (acts : List Activation) (g : ℕ) → Has (guarded_of beyond acts) g → Has (slots_of acts) g ⊎ Has beyond g
+slot_or_beyond beyond [] g h = inr h
+slot_or_beyond beyond (a ∷ more) g h = elim (either_side a.slots (guarded_of beyond more) g h) [
+  | inl k ↦ inl (in_either a.slots (slots_of more) g (inl k))
+  | inr k ↦ elim (slot_or_beyond beyond more g k) [ inl m ↦ inl (in_either a.slots (slots_of more) g (inr m)) | inr b ↦ inr b ]
+]
+
+pub in_guarded : (beyond : List ℕ) (acts : List Activation) (g : ℕ) → Has (slots_of acts) g ⊎ Has beyond g → Has (guarded_of beyond acts) g
+in_guarded beyond [] g (inl h) = absurd h
+in_guarded beyond [] g (inr h) = h
+in_guarded beyond (a ∷ more) g (inl h) = elim (either_side a.slots (slots_of more) g h) [
+  | inl k ↦ in_either a.slots (guarded_of beyond more) g (inl k)
+  | inr k ↦ in_either a.slots (guarded_of beyond more) g (inr (in_guarded beyond more g (inl k)))
+]
+in_guarded beyond (a ∷ more) g (inr h) = in_either a.slots (guarded_of beyond more) g (inr (in_guarded beyond more g (inr h)))
+
+pub are_guarded : SlotsAreGuarded
+are_guarded s =
+    let all = guarded_of s.beyond (s.first ∷ s.outer) in
+    record {
+      guards = λ g. (λ h. slot_or_beyond s.beyond (s.first ∷ s.outer) g (has_all all g h), λ h. in_all all g (in_guarded s.beyond (s.first ∷ s.outer) g h));
+      refused = λ n a v g map w e h l u. guarded_refused n (memory_of s) a v g map w e (in_all all g (in_guarded s.beyond (s.first ∷ s.outer) g (inl h))) l u;
+    }
+
+-- ---- what is saved
 
 -- those that stay where sp goes from `old` to `new`
 stay_has : (home : ℕ × ℕ) (old new : ℕ) (gs : List ℕ) (g : ℕ)

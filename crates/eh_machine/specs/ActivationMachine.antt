@@ -1,10 +1,10 @@
 -- One event of the machine with recorded activations, and its runs (docs/machine.md, "The same with recorded activations"): returns, throws
 -- and the ends of cleanups go by what was recorded at the calls, and no saved word is read.
-use Rattle.std.specs.Prelude.{ℕ, suc, ◌+◌, ◌==◌, ◌&&◌, nat_lt, Bool, true, false, List, [], ◌∷◌, length, map, drop, slice_index, Option, Some, None, is_some, Result, Ok, Err, if◌then◌else◌}
+use Rattle.std.specs.Prelude.{ℕ, suc, ◌+◌, ◌==◌, ◌&&◌, nat_lt, Bool, true, false, List, [], ◌∷◌, length, map, filter, drop, slice_index, Option, Some, None, is_some, Result, Ok, Err, if◌then◌else◌}
 use Rattle.std.specs.Int.{bit_at}
 use Rattle.std.specs.Option.{option_or}
 use Rattle.event_runs.specs.Runs.{Event, Goes, Ends, Machine}
-use Rattle.eh_bus.specs.Memory.{Memory}
+use Rattle.eh_bus.specs.Memory.{Memory, stays_guarded}
 use Rattle.eh_bus.specs.declared.fault.BusFault.{BusFault}
 use Rattle.guest_gates.specs.declared.gates.TheConstants.{INPUT_GATE}
 use Rattle.guest_gates.specs.Ends.{trap_end, is_fault}
@@ -71,7 +71,7 @@ use Rattle.eh_gates.specs.Throwing.{handed, barrier_words, throw_event, barrier_
 use Rattle.eh_gates.specs.Resuming.{goal_in}
 use Rattle.eh_machine.specs.Program.{Program, guide}
 use Rattle.eh_machine.specs.Machine.{sp_end, way_end, fell_off, saved_words}
-use Rattle.eh_machine.specs.Activations.{Caller, Activation, Recorded, callee, with_caller, registers_of, released_in, freed_in, with_slots, reg_in, memory_of, words_in, heads, with_words, with_lists, first_place, frames_at}
+use Rattle.eh_machine.specs.Activations.{Caller, Activation, Recorded, callee, with_caller, registers_of, released_in, freed_in, staying, with_slots, reg_in, memory_of, words_in, heads, with_words, with_lists, first_place, frames_at}
 
 -- ---- what a gate does
 
@@ -167,6 +167,7 @@ at_pad s (a ∷ more) r pad answer = record s {
   regs = landed s.regs r pad answer;
   first = released_in s.home (slice_index r SP) a;
   outer = map (λ b. released_in s.home (slice_index r SP) b) more;
+  beyond = filter (stays_guarded s.home (slice_index r SP)) s.beyond;
 }
 
 -- a cleanup is in progress, in the activation with so many outside it
@@ -377,6 +378,7 @@ abbrev pub settled_in : ℕ → ℕ → ℕ → ℕ → Recorded → Recorded
 settled_in saves count old new s = record s {
   first = freed_in s.home old new (with_slots (saved_words saves count new) s.first);
   outer = map (λ a. freed_in s.home old new a) s.outer;
+  beyond = staying s.home old new s.beyond;
 }
 
 abbrev pub settled_at : Program → Recorded → Regs → Recorded → Recorded

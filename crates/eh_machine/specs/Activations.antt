@@ -62,13 +62,22 @@ abbrev pub slots_of : List Activation → List ℕ
 slots_of [] = []
 slots_of (a ∷ more) = a.slots ++ slots_of more
 
+-- those, and behind them guarded words beyond the running stack
+abbrev pub guarded_of : List ℕ → List Activation → List ℕ
+guarded_of beyond [] = beyond
+guarded_of beyond (a ∷ more) = a.slots ++ guarded_of beyond more
+
+-- of guarded words those that stay where sp goes from `old` to `new`
+abbrev pub staying : ℕ × ℕ → ℕ → ℕ → List ℕ → List ℕ
+staying home old new gs = if nat_lt old new then filter (stays_guarded home new) gs else gs
+
 -- without the slots of the running stack below an sp
 abbrev pub released_in : ℕ × ℕ → ℕ → Activation → Activation
 released_in home sp a = record a { slots = filter (stays_guarded home sp) a.slots }
 
 -- .. where sp rose to it
 abbrev pub freed_in : ℕ × ℕ → ℕ → ℕ → Activation → Activation
-freed_in home old new a = record a { slots = (if nat_lt old new then filter (stays_guarded home new) a.slots else a.slots) }
+freed_in home old new a = record a { slots = staying home old new a.slots }
 
 abbrev pub with_slots : List ℕ → Activation → Activation
 with_slots more a = record a { slots = more ++ a.slots }
@@ -76,7 +85,8 @@ with_slots more a = record a { slots = more ++ a.slots }
 -- ---- the state
 
 -- A state: registers, the exceptions as lists, the segments of the memory and its running stack, the events so far, and the activations,
--- the innermost first. Each cleanup in progress names its activation by how many stand outside it.
+-- the innermost first. Each cleanup in progress names its activation by how many stand outside it. Besides slots there may be guarded words
+-- beyond the running stack, which are nobody's here.
 pub record Recorded : Type 0 where
   pub regs : Regs
   pub lists : Lists
@@ -86,13 +96,14 @@ pub record Recorded : Type 0 where
   pub events : Trace
   pub first : Activation
   pub outer : List Activation
+  pub beyond : List ℕ
 
 abbrev pub reg_in : Recorded → ℕ → ℕ
 reg_in s k = slice_index s.regs.r k
 
--- the memory as instructions see it: the slots of all activations are guarded
+-- the memory as instructions see it: the slots of all activations are guarded, and the words beyond
 abbrev pub memory_of : Recorded → Memory
-memory_of s = record { segments = s.segments; guards = insert_all (slots_of (s.first ∷ s.outer)) []; home = s.home }
+memory_of s = record { segments = s.segments; guards = insert_all (guarded_of s.beyond (s.first ∷ s.outer)) []; home = s.home }
 
 -- ---- the words of the pool
 
@@ -122,8 +133,9 @@ heads l = record { caught = head_of l.caught; cleanup = head_of (slots l.cleanup
 abbrev pub with_words : List Write → Recorded → Recorded
 with_words writes s = record s { segments = (put_all writes (memory_of s)).segments }
 
--- with other lists, and the words that go with them: a call on lists is made on their words too, and what it writes stays in the pool.
--- Of the pool nothing but the barriers and the objects is read
+-- With other lists, and the words that go with them: a call on lists is made on their words too, and what it writes stays in the pool. Nobody
+-- reads the words of headers and of chains that are written so: of the closed words those of barriers alone are read, by the runtime, and word 2
+-- of one by programs too.
 abbrev pub with_lists : Lists → List Write → Recorded → Recorded
 with_lists l writes s = record (with_words writes s) { lists = l }
 
@@ -142,7 +154,7 @@ abbrev pub ends_at : Option ℕ → ℕ → Bool
 ends_at None outside = false
 ends_at (Some n) outside = n == outside
 
--- frames go on outwards where the codes have a recipe; codes that refuse have none
+-- frames go on outwards where the codes have a recipe; codes refuse where they have none, whichever way it fails
 abbrev pub where_unwound : Result Recipe RecipeFault → Frames → Frames
 where_unwound (Ok done) further = further
 where_unwound (Err why) further = ended CannotUnwind
@@ -179,4 +191,5 @@ recorded_start p = record {
   events = no_events;
   first = record { function = p.image.entry; caller = no_caller; slots = [] };
   outer = [];
+  beyond = [];
 }

@@ -22,9 +22,9 @@ use Rattle.eh_machine.specs.ActivationLaws.{Matches, KnowsLanding, callers}
 
 -- ---- slots
 
--- the guarded words are the slots of all activations, and a store that reaches one is refused with its address and stores nothing
+-- the guarded words are the slots of all activations and the words beyond, and a store that reaches a slot is refused with its address and stores nothing
 pub record AreGuarded (s : Recorded) : Type 0 where
-  pub guards : (g : ℕ) → Has (memory_of s).guards g ↔ Has (slots_of (s.first ∷ s.outer)) g
+  pub guards : (g : ℕ) → Has (memory_of s).guards g ↔ (Has (slots_of (s.first ∷ s.outer)) g ⊎ Has s.beyond g)
   pub refused :
       (n a v g : ℕ) → IsMap (memory_of s) → IsWidth n → (a % n == 0) ≡ true → Has (slots_of (s.first ∷ s.outer)) g → g ≤ a → a < g + 4
       → store n (memory_of s) a v ≡ (Err (SavedSlot g), memory_of s)
