@@ -23,7 +23,7 @@ use Rattle.eh_phase.specs.declared.phase1.Barrier.{Barrier}
 use Rattle.eh_phase.specs.declared.phase1.Found.{Found}
 use Rattle.eh_phase.specs.declared.phase1.Found.TheVariants as found
 use Rattle.eh_phase.specs.declared.phase2.Entered.{Entered}
-use Rattle.eh_trace.specs.Trace.{pushed}
+use Rattle.eh_trace.specs.Trace.{Trace, pushed}
 use Rattle.eh_trace.specs.declared.event.Event.{Event}
 use Rattle.eh_trace.specs.declared.event.EventKind.{EventKind}
 use Rattle.thumb_core.specs.declared.ends.TrapKind.TheVariants as trap
@@ -37,7 +37,7 @@ use Rattle.eh_machine.specs.ActivationMachine as machine
 use Rattle.eh_machine.specs.Agreeing.{Agree}
 use Rattle.eh_machine.specs.Corresponds.{Corresponds, GateMatches}
 use Rattle.eh_machine.specs.Landings.{IsInFlight}
-use Rattle.eh_machine.specs.Throws.{AreInPool, SeesAlike, CanLand}
+use Rattle.eh_machine.specs.Throws.{AreInPool, AdvancesAlike, SeesAlike, CanLand, ThrowsToMatch}
 use Rattle.eh_machine.proofs.Agreeing.{are_one}
 use Rattle.eh_machine.proofs.FirstEvent.{segments_alone}
 use Rattle.eh_machine.proofs.Landed.{landings_match}
@@ -59,15 +59,16 @@ pub record HasFlown (s : Recorded) (slot : ℕ) (writes : List Write) (flown : L
 abbrev pub flown_bytes : Recorded → List Write → Lists → Event → State
 flown_bytes s writes flown e = record { regs = s.regs; globals = heads flown; memory = put_all writes (memory_of s); events = pushed s.events e }
 
-module _ (g : Guide) (s : Recorded) (c : Corresponds s) (sees : SeesAlike g s) where
+module _ (g : Guide) (s : Recorded) (c : Corresponds s) where
   -- ---- to its barrier
 
-  module _ (slot : ℕ) (writes : List Write) (flown : Lists) (flight : HasFlown s slot writes flown) (e : Event) (b : Barrier) (can : CanLand g s slot b) where
+  module _ (slot : ℕ) (writes : List Write) (flown : Lists) (flight : HasFlown s slot writes flown) (events : Trace) (site : ℕ) (alike : AdvancesAlike g s site) (b : Barrier)
+      (can : CanLand g s site slot b) where
     abbrev barred : List Write
     barred = set_barrier_of (block_slot (block slot)) (barrier_words (block slot) b)
 
     abbrev behind : Recorded
-    behind = with_words barred (with_lists flown writes (machine.logged s e))
+    behind = with_words barred (with_lists flown writes (record s { events = events }))
 
     abbrev middle : Memory
     middle = put_all writes (memory_of s)
@@ -89,7 +90,7 @@ module _ (g : Guide) (s : Recorded) (c : Corresponds s) (sees : SeesAlike g s) w
     in_flight = record { small = flight.small; flies = flight.flies; idle = flight.idle }
 
     abbrev goes : Entered
-    goes = phase2 (goal_of b) 0 (machine.frames_from g s None)
+    goes = phase2 (goal_of b) 0 (machine.frames_from g s None site)
 
     landed_match : GateMatches (entered (bytes_of behind) (block slot) (handed (block slot) b.hit) goes) (machine.entered behind (can.first ∷ can.more) (block slot) (handed (block slot) b.hit) goes)
     landed_match = landings_match behind can.cut can.first can.more slot (handed (block slot) b.hit) goes corresponds in_flight can.all can.lands
@@ -101,35 +102,36 @@ module _ (g : Guide) (s : Recorded) (c : Corresponds s) (sees : SeesAlike g s) w
         (small, omega arith, (small, omega arith, (small, omega arith, (small, omega arith, (small, omega arith, (small, omega arith, tt))))))
 
     abbrev after : Memory → State
-    after m = record { regs = s.regs; globals = heads flown; memory = m; events = pushed s.events e }
+    after m = record { regs = s.regs; globals = heads flown; memory = m; events = events }
 
-    bytes_same : bytes.throw_to g (after middle) s.regs.pc (block slot) b ≡ entered (bytes_of behind) (block slot) (handed (block slot) b.hit) goes
+    bytes_same : bytes.throw_to g (after middle) site (block slot) b ≡ entered (bytes_of behind) (block slot) (handed (block slot) b.hit) goes
     unfolding bytes.throw_to
     bytes_same =
-        let one = are_one (bytes.frames_from g (after (put_all barred middle)) None s.regs.pc) (machine.frames_from g s None)
-        (subst (λ (m : Memory). Agree (bytes.frames_from g (after m) None s.regs.pc) (machine.frames_from g s None)) (put_append writes barred (memory_of s))
-        (sees.advance (writes ++ barred) (flight.in_pool barred barred_in))) in
+        let one = are_one (bytes.frames_from g (after (put_all barred middle)) None site) (machine.frames_from g s None site)
+        (subst (λ (m : Memory). Agree (bytes.frames_from g (after m) None site) (machine.frames_from g s None site)) (put_append writes barred (memory_of s))
+        (alike (writes ++ barred) (flight.in_pool barred barred_in))) in
         one.bytes (goal_of b) 0 (after (put_all barred middle)) (block slot) (handed (block slot) b.hit)
         ∙ ap (λ (m : Memory). entered (after m) (block slot) (handed (block slot) b.hit) goes) memory_is
 
-    recorded_same : machine.throw_to g (block slot) b (with_lists flown writes (machine.logged s e)) ≡ machine.entered behind (can.first ∷ can.more) (block slot) (handed (block slot) b.hit) goes
+    recorded_same : machine.throw_to g site (block slot) b (with_lists flown writes (record s { events = events })) ≡ machine.entered behind (can.first ∷ can.more) (block slot) (handed (block slot) b.hit) goes
     unfolding machine.throw_to
     recorded_same = ap (λ (acts : List Activation). machine.entered behind acts (block slot) (handed (block slot) b.hit) goes) can.passed
 
-    thrown_match : GateMatches (bytes.throw_to g (after middle) s.regs.pc (block slot) b) (machine.throw_to g (block slot) b (with_lists flown writes (machine.logged s e)))
+    thrown_match : GateMatches (bytes.throw_to g (after middle) site (block slot) b) (machine.throw_to g site (block slot) b (with_lists flown writes (record s { events = events })))
     thrown_match =
-        subst (λ (o : Outcome). GateMatches o (machine.throw_to g (block slot) b (with_lists flown writes (machine.logged s e)))) (sym bytes_same)
+        subst (λ (o : Outcome). GateMatches o (machine.throw_to g site (block slot) b (with_lists flown writes (record s { events = events })))) (sym bytes_same)
         (subst (λ (q : machine.Outcome). GateMatches (entered (bytes_of behind) (block slot) (handed (block slot) b.hit) goes) q) (sym recorded_same) landed_match)
 
     -- .. however it was said
-    pub flies_match : (o : Outcome) (t : Recorded) → o ≡ bytes.throw_to g (flown_bytes s writes flown e) s.regs.pc (block slot) b → t ≡ with_lists flown writes (machine.logged s e)
-        → GateMatches o (machine.throw_to g (block slot) b t)
+    pub flies_match : (o : Outcome) (t : Recorded) → o ≡ bytes.throw_to g (after middle) site (block slot) b → t ≡ with_lists flown writes (record s { events = events })
+        → GateMatches o (machine.throw_to g site (block slot) b t)
     flies_match o t on_bytes on_lists =
-        subst (λ (x : Outcome). GateMatches x (machine.throw_to g (block slot) b t)) (sym on_bytes)
-        (subst (λ (y : Recorded). GateMatches (bytes.throw_to g (after middle) s.regs.pc (block slot) b) (machine.throw_to g (block slot) b y)) (sym on_lists) thrown_match)
+        subst (λ (x : Outcome). GateMatches x (machine.throw_to g site (block slot) b t)) (sym on_bytes)
+        (subst (λ (y : Recorded). GateMatches (bytes.throw_to g (after middle) site (block slot) b) (machine.throw_to g site (block slot) b y)) (sym on_lists) thrown_match)
 
-  -- ---- the search before it
+-- ---- the search before it
 
+module _ (g : Guide) (s : Recorded) (c : Corresponds s) (sees : SeesAlike g s) where
   module _ (what : EventKind) (thrown : Thrown) (on_bytes : Barrier → State → Outcome) (on_lists : Barrier → Recorded → machine.Outcome)
       (same_size : size_at (word (memory_of s)) (object_slot thrown.object) ≡ machine.size_of s.lists (object_slot thrown.object))
       (flies : (e : Event) (b : Barrier) → machine.searched g s thrown ≡ found.Barrier b → GateMatches (on_bytes b (logged (bytes_of s) e)) (on_lists b (machine.logged s e))) where
@@ -143,7 +145,7 @@ module _ (g : Guide) (s : Recorded) (c : Corresponds s) (sees : SeesAlike g s) w
     event_of size = throw_event what (memory_of s) thrown size
 
     same_search : bytes.searched g (bytes_of s) thrown ≡ machine.searched g s thrown
-    same_search = (are_one (bytes.frames_seen g (bytes_of s)) (machine.frames_from g s (first_place s.places)) sees.search).search (meeting g.image g.types s.segments thrown)
+    same_search = (are_one (bytes.frames_seen g (bytes_of s)) (machine.frames_from g s (first_place s.places) s.regs.pc) sees.search).search (meeting g.image g.types s.segments thrown)
 
     pub sought_match : GateMatches (from_barrier on_bytes (bytes.sought g (bytes_of s) what thrown)) (machine.from_barrier on_lists (machine.sought g s what thrown))
     unfolding bytes.sought machine.sought
@@ -162,3 +164,10 @@ module _ (g : Guide) (s : Recorded) (c : Corresponds s) (sees : SeesAlike g s) w
             (subst (λ (f : Found). GateMatches (from_barrier on_bytes (barrier_in s.regs.pc f, logged (bytes_of s) (event_of (machine.size_of s.lists (object_slot thrown.object)))))
             (machine.from_barrier on_lists (barrier_in s.regs.pc (machine.searched g s thrown), machine.logged s (event_of (machine.size_of s.lists (object_slot thrown.object)))))) (sym same_search)
             (by_found (event_of (machine.size_of s.lists (object_slot thrown.object))) (machine.searched g s thrown) refl))
+
+-- ---- from any site
+
+pub throws_to_match : ThrowsToMatch
+throws_to_match g s site slot b c f alike can =
+    flies_match g s c slot [] s.lists (record { small = f.small; stands = c.stands; placed = c.placed; flies = f.flies; idle = f.idle; in_pool = λ more rest. rest }) s.events site alike b can
+    (bytes.throw_to g (bytes_of s) site (block slot) b) s refl refl

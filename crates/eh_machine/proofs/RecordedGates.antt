@@ -63,9 +63,9 @@ pub searches_fail : FailedSearchesAddTheirEvent
 unfolding gate_of
 searches_fail g next s why = record {
   throw = λ block may holds none.
-      alone g s event.Throw (thrown_first s) why holds none (λ b t. throw_to g block b (flies_first t)) (throw_gate g s) (ap (throws g s) (sym may));
+      alone g s event.Throw (thrown_first s) why holds none (λ b t. throw_to g s.regs.pc block b (flies_first t)) (throw_gate g s) (ap (throws g s) (sym may));
   rethrow = λ block may holds none.
-      alone g s event.Rethrow (thrown_of_slot s.lists (block_slot block)) why holds none (λ b t. throw_to g block b (flies_again t)) (rethrow_gate g s) (ap (rethrows g s) (sym may));
+      alone g s event.Rethrow (thrown_of_slot s.lists (block_slot block)) why holds none (λ b t. throw_to g s.regs.pc block b (flies_again t)) (rethrow_gate g s) (ap (rethrows g s) (sym may));
 }
 
 -- ---- the end of a cleanup

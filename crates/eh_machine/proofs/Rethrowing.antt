@@ -22,6 +22,7 @@ use Rattle.eh_cxa.proofs.Pools.{slot_small, slot_of_block_is, slot_of_object_is}
 use Rattle.eh_phase.specs.declared.verdict.Thrown.{Thrown}
 use Rattle.eh_phase.specs.declared.phase1.Barrier.{Barrier}
 use Rattle.eh_phase.specs.declared.phase1.Found.TheVariants as found
+use Rattle.eh_trace.specs.Trace.{pushed}
 use Rattle.eh_trace.specs.declared.event.Event.{Event}
 use Rattle.eh_trace.specs.declared.event.EventKind.TheVariants as kind
 use Rattle.eh_gates.specs.State.{State, Guide, Outcome, logged}
@@ -97,12 +98,12 @@ module _ (g : Guide) (s : Recorded) (c : Corresponds s) (sees : SeesAlike g s) w
     abbrev again : Thrown
     again = machine.thrown_of_slot s.lists (Some slot)
 
-    module _ (can : (b : Barrier) → machine.searched g s again ≡ found.Barrier b → CanLand g s slot b) where
+    module _ (can : (b : Barrier) → machine.searched g s again ≡ found.Barrier b → CanLand g s s.regs.pc slot b) where
       abbrev on_bytes : Barrier → State → Outcome
       on_bytes b t = bytes.flies g t (block slot) (bytes.second_flight t) b
 
       abbrev on_lists : Barrier → Recorded → machine.Outcome
-      on_lists b t = machine.throw_to g (block slot) b (machine.flies_again t)
+      on_lists b t = machine.throw_to g s.regs.pc (block slot) b (machine.flies_again t)
 
       flies_same : (e : Event) (b : Barrier) → on_bytes b (logged (bytes_of s) e) ≡ bytes.throw_to g (flown_bytes s flight.writes flown e) s.regs.pc (block slot) b
       flies_same e b = ap (λ (d : Done (Result ℕ CxaFault)). bytes.flies g (logged (bytes_of s) e) (block slot) d b) by_words
@@ -114,7 +115,7 @@ module _ (g : Guide) (s : Recorded) (c : Corresponds s) (sees : SeesAlike g s) w
 
       flies : (e : Event) (b : Barrier) → machine.searched g s again ≡ found.Barrier b → GateMatches (on_bytes b (logged (bytes_of s) e)) (on_lists b (machine.logged s e))
       flies e b q =
-          flies_match g s c sees slot flight.writes flown has_flown e b (can b q) (on_bytes b (logged (bytes_of s) e)) (machine.flies_again (machine.logged s e)) (flies_same e b) (flown_same e)
+          flies_match g s c slot flight.writes flown has_flown (pushed s.events e) s.regs.pc sees.advance b (can b q) (on_bytes b (logged (bytes_of s) e)) (machine.flies_again (machine.logged s e)) (flies_same e b) (flown_same e)
 
       same_size : size_at (word (memory_of s)) (object_slot (object slot)) ≡ machine.size_of s.lists (object_slot (object slot))
       same_size =
@@ -152,7 +153,7 @@ module _ (g : Guide) (s : Recorded) (c : Corresponds s) (sees : SeesAlike g s) w
       subst (λ (r : Result ℕ CxaFault). GateMatches (bytes.rethrows g (bytes_of s) r) (machine.rethrow_gate g s)) (sym (same_answer ∙ e))
       (subst (λ (r : Result ℕ CxaFault). GateMatches (bytes.rethrows g (bytes_of s) (Err why)) (machine.rethrows g s r)) (sym e) (record { same = (refl, refl); still = c }))
 
-  gate_match : ((slot : ℕ) (b : Barrier) → block_slot (heads s.lists).caught ≡ Some slot → machine.searched g s (machine.thrown_of_slot s.lists (Some slot)) ≡ found.Barrier b → CanLand g s slot b)
+  gate_match : ((slot : ℕ) (b : Barrier) → block_slot (heads s.lists).caught ≡ Some slot → machine.searched g s (machine.thrown_of_slot s.lists (Some slot)) ≡ found.Barrier b → CanLand g s s.regs.pc slot b)
       → GateMatches (bytes.rethrow_gate g (bytes_of s)) (machine.rethrow_gate g s)
   gate_match can = start s.lists.caught refl
     where

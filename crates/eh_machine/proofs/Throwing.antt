@@ -19,6 +19,7 @@ use Rattle.eh_cxa.proofs.Meets.{throw_meets}
 use Rattle.eh_cxa.proofs.Pools.{object_small}
 use Rattle.eh_phase.specs.declared.phase1.Barrier.{Barrier}
 use Rattle.eh_phase.specs.declared.phase1.Found.TheVariants as found
+use Rattle.eh_trace.specs.Trace.{pushed}
 use Rattle.eh_trace.specs.declared.event.Event.{Event}
 use Rattle.eh_trace.specs.declared.event.EventKind.TheVariants as kind
 use Rattle.eh_gates.specs.State.{State, Guide, Outcome, logged}
@@ -93,12 +94,12 @@ module _ (g : Guide) (s : Recorded) (c : Corresponds s) (ty : reg_in s 1 < 2 ^ 3
       in_pool = λ more rest. (small, omega arith, (small, omega arith, (small, omega arith, (small, omega arith, (small, omega arith, rest)))));
     }
 
-    module _ (can : (b : Barrier) → machine.searched g s (machine.thrown_first s) ≡ found.Barrier b → CanLand g s slot b) where
+    module _ (can : (b : Barrier) → machine.searched g s (machine.thrown_first s) ≡ found.Barrier b → CanLand g s s.regs.pc slot b) where
       abbrev on_bytes : Barrier → State → Outcome
       on_bytes b t = bytes.flies g t (reg_in s 0) (bytes.first_flight t) b
 
       abbrev on_lists : Barrier → Recorded → machine.Outcome
-      on_lists b t = machine.throw_to g (block slot) b (machine.flies_first t)
+      on_lists b t = machine.throw_to g s.regs.pc (block slot) b (machine.flies_first t)
 
       flies_same : (e : Event) (b : Barrier) → on_bytes b (logged (bytes_of s) e) ≡ bytes.throw_to g (flown_bytes s flight.writes flown e) s.regs.pc (block slot) b
       flies_same e b = ap (λ (d : Done (Result ℕ CxaFault)). bytes.flies g (logged (bytes_of s) e) (reg_in s 0) d b) by_words
@@ -111,7 +112,7 @@ module _ (g : Guide) (s : Recorded) (c : Corresponds s) (ty : reg_in s 1 < 2 ^ 3
 
       flies : (e : Event) (b : Barrier) → machine.searched g s (machine.thrown_first s) ≡ found.Barrier b → GateMatches (on_bytes b (logged (bytes_of s) e)) (on_lists b (machine.logged s e))
       flies e b q =
-          flies_match g s c sees slot flight.writes flown has_flown e b (can b q) (on_bytes b (logged (bytes_of s) e)) (machine.flies_first (machine.logged s e)) (flies_same e b) (flown_same e)
+          flies_match g s c slot flight.writes flown has_flown (pushed s.events e) s.regs.pc sees.advance b (can b q) (on_bytes b (logged (bytes_of s) e)) (machine.flies_first (machine.logged s e)) (flies_same e b) (flown_same e)
 
       same_size : size_at (word (memory_of s)) (object_slot (reg_in s 0)) ≡ machine.size_of s.lists (object_slot (reg_in s 0))
       same_size = ap (size_at (word (memory_of s))) is ∙ sym (ap (machine.size_of s.lists) is ∙ ap size_in live_is)
@@ -143,7 +144,7 @@ module _ (g : Guide) (s : Recorded) (c : Corresponds s) (ty : reg_in s 1 < 2 ^ 3
   list_by slot e is there old =
       ap (λ (o : Option ℕ). (throw_list s.lists o with_type).answer) is ∙ ap (λ (x : Entry). (throw_entry s.lists slot x with_type).answer) there ∙ old
 
-  gate_match : ((slot : ℕ) (b : Barrier) → object_slot (reg_in s 0) ≡ Some slot → machine.searched g s (machine.thrown_first s) ≡ found.Barrier b → CanLand g s slot b)
+  gate_match : ((slot : ℕ) (b : Barrier) → object_slot (reg_in s 0) ≡ Some slot → machine.searched g s (machine.thrown_first s) ≡ found.Barrier b → CanLand g s s.regs.pc slot b)
       → GateMatches (bytes.throw_gate g (bytes_of s)) (machine.throw_gate g s)
   gate_match can = start (object_slot (reg_in s 0)) refl
     where

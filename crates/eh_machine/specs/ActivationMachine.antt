@@ -209,13 +209,13 @@ advances s acts block object g from fs = entered s (drop (passed_by g from fs.fr
 
 -- ---- a throw
 
--- at a gate: the innermost frame stands at the gate with the registers as they are
-abbrev pub frames_from : Guide → Recorded → Option ℕ → Frames
-frames_from g s place = frames_at g.image place s.regs.pc (all_of s.regs) s.first s.outer
+-- the innermost frame stands at a site with the registers as they are
+abbrev pub frames_from : Guide → Recorded → Option ℕ → ℕ → Frames
+frames_from g s place site = frames_at g.image place site (all_of s.regs) s.first s.outer
 
--- phase 1 goes no further than the activation of the innermost cleanup in progress
+-- of a throw at a gate that is the gate's own address. Phase 1 goes no further than the activation of the innermost cleanup in progress
 abbrev pub searched : Guide → Recorded → Thrown → Found
-searched g s thrown = phase1 (meeting g.image g.types s.segments thrown) (frames_from g s (first_place s.places))
+searched g s thrown = phase1 (meeting g.image g.types s.segments thrown) (frames_from g s (first_place s.places) s.regs.pc)
 
 abbrev pub size_of : Lists → Option ℕ → ℕ
 size_of l None = 0
@@ -235,12 +235,12 @@ abbrev pub from_barrier : (Barrier → Recorded → Outcome) → Result Barrier 
 from_barrier further (Ok b, s) = further b s
 from_barrier further (Err end, s) = (Ended end, s)
 
--- the barrier is written, and phase 2 goes to it
-abbrev pub lands : Guide → Recorded → ℕ → Barrier → Outcome
-lands g s block b = advances s (s.first ∷ s.outer) block (handed block b.hit) (goal_of b) 0 (frames_from g s None)
+-- the barrier is written, and phase 2 goes to it from a site
+abbrev pub lands : Guide → Recorded → ℕ → ℕ → Barrier → Outcome
+lands g s site block b = advances s (s.first ∷ s.outer) block (handed block b.hit) (goal_of b) 0 (frames_from g s None site)
 
-unfoldable pub throw_to : Guide → ℕ → Barrier → Recorded → Outcome
-throw_to g block b s = lands g (with_words (set_barrier_of (block_slot block) (barrier_words block b)) s) block b
+unfoldable pub throw_to : Guide → ℕ → ℕ → Barrier → Recorded → Outcome
+throw_to g site block b s = lands g (with_words (set_barrier_of (block_slot block) (barrier_words block b)) s) site block b
 
 -- of the object at r0, of the type at r1, with the destructor at r2
 abbrev pub thrown_first : Recorded → Thrown
@@ -258,7 +258,7 @@ flies_first s =
 
 abbrev pub throws : Guide → Recorded → Result ℕ CxaFault → Outcome
 throws g s (Err why) = refused why (reg_in s 0) s
-throws g s (Ok block) = from_barrier (λ b t. throw_to g block b (flies_first t)) (sought g s event.Throw (thrown_first s))
+throws g s (Ok block) = from_barrier (λ b t. throw_to g s.regs.pc block b (flies_first t)) (sought g s event.Throw (thrown_first s))
 
 abbrev pub throw_gate : Guide → Recorded → Outcome
 throw_gate g s = throws g s (first_flight s).answer
@@ -280,7 +280,7 @@ flies_again s = with_lists (rethrow_list s.lists).lists (rethrow_of (words_in s.
 abbrev pub rethrows : Guide → Recorded → Result ℕ CxaFault → Outcome
 rethrows g s (Err why) = (Ended (rethrow_end why (heads s.lists).caught s.regs.pc), s)
 rethrows g s (Ok block) =
-    from_barrier (λ b t. throw_to g block b (flies_again t)) (sought g s event.Rethrow (thrown_of_slot s.lists (block_slot block)))
+    from_barrier (λ b t. throw_to g s.regs.pc block b (flies_again t)) (sought g s event.Rethrow (thrown_of_slot s.lists (block_slot block)))
 
 abbrev pub rethrow_gate : Guide → Recorded → Outcome
 rethrow_gate g s = rethrows g s (rethrow_list s.lists).answer

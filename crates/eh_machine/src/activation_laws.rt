@@ -5,7 +5,7 @@ ghost use Rattle.eh_machine.specs.Corresponds.{CallsMatch, ListsAreKept};
 ghost use Rattle.eh_machine.specs.FrameEnds.{FramesEndAsTold};
 ghost use Rattle.eh_machine.specs.Landings.{LandingsMatch, LandingsAreInTheirActivation};
 ghost use Rattle.eh_machine.specs.RecordedGates.{FailedSearchesAddTheirEvent, CleanupsEndInTheirOwn};
-ghost use Rattle.eh_machine.specs.Throws.{ThrowsMatch, RethrowsMatch};
+ghost use Rattle.eh_machine.specs.Throws.{ThrowsMatch, RethrowsMatch, ThrowsToMatch};
 ghost use Rattle.eh_machine.specs.RecordedSlots.{SlotsAreGuarded, SavesBecomeSlots, ReturnsMatch, FirstEventsMatch};
 ghost use Rattle.eh_machine.specs.SlotWords.{ReturnsReadNoSlot};
 
@@ -109,6 +109,11 @@ pub fn throws_match()
 /// So does a rethrow.
 pub fn rethrows_match()
     ensures { RethrowsMatch }
+{}
+
+/// So does phase 2 from any site to a barrier, of an exception that flies.
+pub fn throws_to_match()
+    ensures { ThrowsToMatch }
 {}
 
 /// A return does the same whatever the slots hold, but where a POP loads one into r0 to r3.
