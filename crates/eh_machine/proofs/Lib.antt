@@ -26,3 +26,4 @@ pub mod Flying
 pub mod Throwing
 pub mod Rethrowing
 pub mod SlotWords
+pub mod Beyond

@@ -1,6 +1,6 @@
 -- Saved words and returns with recorded activations, in the words of their users (docs/machine.md, "Laws").
 use Rattle.std.specs.Prelude.{◌≡◌, ◌⊎◌, ◌↔◌, ℕ, ◌+◌, ◌%◌, ◌==◌, ◌<◌, ◌≤◌, true, List, [], ◌∷◌, slice_index, Err}
-use Rattle.event_runs.specs.Runs.{Goes}
+use Rattle.event_runs.specs.Runs.{Event, Goes, Ends}
 use Rattle.eh_bus.specs.Lists.{Has}
 use Rattle.eh_bus.specs.Map.{IsMap}
 use Rattle.eh_bus.specs.Memory.{Memory, store}
@@ -13,6 +13,7 @@ use Rattle.thumb_core.specs.Step.{step_of, instr_at}
 use Rattle.thumb_core.specs.declared.regs.TheConstants.{SP}
 use Rattle.thumb_core.specs.declared.regs.Regs.{Regs}
 use Rattle.thumb_core.specs.declared.regs.Stepped.TheVariants.{Done, Return}
+use Rattle.thumb_core.specs.declared.ends.End.{End}
 use Rattle.eh_machine.specs.Program.{Program}
 use Rattle.eh_machine.specs.Machine.{machine_event, saved_words}
 use Rattle.eh_machine.specs.Start.{start_of}
@@ -59,6 +60,20 @@ abbrev pub SavesBecomeSlots : Type 0
 SavesBecomeSlots =
     (p : Program) (s t : Recorded) (input text left : List ℕ) (regs : Regs) (m : Memory)
     → step_of s.regs (memory_of s) ≡ (Done, regs, m) → recorded_event p s input ≡ Goes t text left → AreSaved p s t
+
+-- ---- words beyond the running stack
+
+-- guarded words that lie outside a running stack
+abbrev pub AreOutside : ℕ × ℕ → List ℕ → Type 0
+AreOutside home gs = (g : ℕ) → Has gs g → (g < home.0) ⊎ (home.1 ≤ g)
+
+-- behind an event that leaves sp in the running stack they are the same, and so they are where the run ends
+abbrev pub LeavesBeyond : Recorded → Event Recorded End → Type 0
+LeavesBeyond s (Goes t text left) = (t.home ≡ s.home) × (reg_in t SP ≤ s.home.1 → t.beyond ≡ s.beyond)
+LeavesBeyond s (Ends end t) = (t.home ≡ s.home) × (t.beyond ≡ s.beyond)
+
+abbrev pub WordsBeyondStay : Type 0
+WordsBeyondStay = (p : Program) (s : Recorded) (input : List ℕ) → AreOutside s.home s.beyond → LeavesBeyond s (recorded_event p s input)
 
 -- ---- a return
 

@@ -6,7 +6,7 @@ ghost use Rattle.eh_machine.specs.FrameEnds.{FramesEndAsTold};
 ghost use Rattle.eh_machine.specs.Landings.{LandingsMatch, LandingsAreInTheirActivation};
 ghost use Rattle.eh_machine.specs.RecordedGates.{FailedSearchesAddTheirEvent, CleanupsEndInTheirOwn};
 ghost use Rattle.eh_machine.specs.Throws.{ThrowsMatch, RethrowsMatch, ThrowsToMatch};
-ghost use Rattle.eh_machine.specs.RecordedSlots.{SlotsAreGuarded, SavesBecomeSlots, ReturnsMatch, FirstEventsMatch};
+ghost use Rattle.eh_machine.specs.RecordedSlots.{SlotsAreGuarded, SavesBecomeSlots, ReturnsMatch, FirstEventsMatch, WordsBeyondStay};
 ghost use Rattle.eh_machine.specs.SlotWords.{ReturnsReadNoSlot};
 
 /// An instruction that is no return and no gate of exceptions does the same in both machines.
@@ -119,4 +119,9 @@ pub fn throws_to_match()
 /// A return does the same whatever the slots hold, but where a POP loads one into r0 to r3.
 pub fn returns_read_no_slot()
     ensures { ReturnsReadNoSlot }
+{}
+
+/// Guarded words outside the running stack stay behind every event that leaves sp in it.
+pub fn words_beyond_stay()
+    ensures { WordsBeyondStay }
 {}
