@@ -2,7 +2,7 @@
 ghost use Rattle.std.specs.Prelude.{◌≡◌, IfSome};
 ghost use Rattle.event_runs.specs.Runs.{Runs};
 ghost use Rattle.eh_gates.specs.State.{State, state_of};
-ghost use Rattle.eh_machine.specs.Machine.{machine_of};
+ghost use Rattle.two_machines.specs.Machine.{machine_of};
 ghost use Rattle.eh_machine.specs.Turns.{CountsFaults};
 
 use crate::checked::Checked;

@@ -5,8 +5,8 @@ ghost use Rattle.eh_cxa.specs.Words.{block_slot};
 ghost use Rattle.eh_gates.specs.State.{state_of};
 ghost use Rattle.eh_gates.specs.Throwing.{throw_to};
 ghost use Rattle.eh_trace.specs.Trace.{no_events};
-ghost use Rattle.eh_machine.specs.Program.{guide};
-ghost use Rattle.eh_machine.specs.Start.{start_of};
+ghost use Rattle.two_machines.specs.Program.{guide};
+ghost use Rattle.two_machines.specs.Start.{start_of};
 
 use crate::checked::Checked;
 use crate::event::Shared;

@@ -2,9 +2,9 @@
 use Rattle.std.proofs.Common.{◌≡◌, ◌⊎◌, ℕ, ◌<◌, ◌≤◌, List, [], ◌∷◌, ◌++◌, length, Option, Result, Ok, Err, false, refl, sym, inl, inr, arith}
 use Rattle.elf_image.specs.Image.{Image}
 use Rattle.eh_gates.specs.State.{State}
-use Rattle.eh_machine.specs.Checked.{program_of}
-use Rattle.eh_machine.specs.Machine.{machine_of}
-use Rattle.eh_machine.specs.Start.{start_of}
+use Rattle.two_machines.specs.Checked.{program_of}
+use Rattle.two_machines.specs.Machine.{machine_of}
+use Rattle.two_machines.specs.Start.{start_of}
 use Rattle.eh_port.specs.Causes.{Rose}
 use Rattle.event_runs.specs.Runs.{Runs, ran_of}
 use Rattle.frame_check.specs.Accepts.{Accepted, IsSound, IsAccepted}

@@ -5,9 +5,9 @@ use Rattle.elf_image.specs.Image.{Image}
 use Rattle.event_runs.specs.Runs.{Ran, ran_of}
 use Rattle.eh_gates.specs.State.{State}
 use Rattle.eh_kit.specs.ProgramText.{generated_text}
-use Rattle.eh_machine.specs.Checked.{program_of}
-use Rattle.eh_machine.specs.Machine.{machine_of}
-use Rattle.eh_machine.specs.Start.{start_of}
+use Rattle.two_machines.specs.Checked.{program_of}
+use Rattle.two_machines.specs.Machine.{machine_of}
+use Rattle.two_machines.specs.Start.{start_of}
 use Rattle.frame_check.specs.Accepts.{Accepted, IsSound}
 use Rattle.thumb_core.specs.declared.ends.End.{End}
 use Rattle.ehabi_top.specs.Building.{built, bytes_of_built}

@@ -4,9 +4,9 @@ use Rattle.elf_image.specs.Image.{Image}
 use Rattle.elf_image.specs.declared.fault.ImageFault.{ImageFault}
 use Rattle.event_runs.specs.Runs.{ran_of}
 use Rattle.eh_gates.specs.State.{State}
-use Rattle.eh_machine.specs.Checked.{program_of}
-use Rattle.eh_machine.specs.Machine.{machine_of}
-use Rattle.eh_machine.specs.Start.{start_of}
+use Rattle.two_machines.specs.Checked.{program_of}
+use Rattle.two_machines.specs.Machine.{machine_of}
+use Rattle.two_machines.specs.Start.{start_of}
 use Rattle.eh_trace.specs.Text.{trace_text}
 use Rattle.eh_types.specs.Graph.{name_of}
 use Rattle.frame_check.specs.Accepts.{Accepted, IsSound}

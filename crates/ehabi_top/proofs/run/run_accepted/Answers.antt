@@ -1,8 +1,8 @@
 use Rattle.std.proofs.Common.{refl}
 use Rattle.eh_gates.specs.State.{State}
-use Rattle.eh_machine.specs.Checked.{program_of}
-use Rattle.eh_machine.specs.Machine.{machine_of}
-use Rattle.eh_machine.specs.Start.{start_of}
+use Rattle.two_machines.specs.Checked.{program_of}
+use Rattle.two_machines.specs.Machine.{machine_of}
+use Rattle.two_machines.specs.Start.{start_of}
 use Rattle.ehabi_top.specs.RunReport.{accepted_report, trace}
 use Rattle.ehabi_top.specs.Yields.{Only}
 use Rattle.ehabi_top.proofs.Yielding.{yields_said, yields_memory}

@@ -1,7 +1,7 @@
 use Rattle.std.proofs.Common.{refl, ◌∙◌, arith}
 use Rattle.event_runs.proofs.Progress.{starts}
 use Rattle.eh_gates.specs.State.{State}
-use Rattle.eh_machine.specs.Machine.{machine_of}
+use Rattle.two_machines.specs.Machine.{machine_of}
 use Rattle.eh_machine.proofs.Running.{run_goes_on, run_ends, run_spent}
 use Rattle.thumb_core.specs.declared.ends.End.{End}
 use Rattle.eh_machine.proofs.run.Machine.run.Goals as goal
