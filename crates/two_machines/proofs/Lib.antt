@@ -23,3 +23,4 @@ pub mod Throwing
 pub mod Rethrowing
 pub mod SlotWords
 pub mod Beyond
+pub mod ThrowWords

@@ -7,7 +7,7 @@ ghost use Rattle.two_machines.specs.Landings.{LandingsMatch, LandingsAreInTheirA
 ghost use Rattle.two_machines.specs.RecordedGates.{FailedSearchesAddTheirEvent, CleanupsEndInTheirOwn};
 ghost use Rattle.two_machines.specs.Throws.{ThrowsMatch, RethrowsMatch, ThrowsToMatch};
 ghost use Rattle.two_machines.specs.RecordedSlots.{SlotsAreGuarded, SavesBecomeSlots, ReturnsMatch, FirstEventsMatch, WordsBeyondStay};
-ghost use Rattle.two_machines.specs.SlotWords.{ReturnsReadNoSlot};
+ghost use Rattle.two_machines.specs.SlotWords.{ReturnsReadNoSlot, ThrowsReadNoSlots};
 
 /// An instruction that is no return and no gate of exceptions does the same in both machines.
 pub fn plain_events_match()
@@ -124,4 +124,9 @@ pub fn returns_read_no_slot()
 /// Guarded words outside the running stack stay behind every event that leaves sp in it.
 pub fn words_beyond_stay()
     ensures { WordsBeyondStay }
+{}
+
+/// A throw and a rethrow do the same whatever the slots hold, where what is thrown and its matches read the same.
+pub fn throws_read_no_slot()
+    ensures { ThrowsReadNoSlots }
 {}
