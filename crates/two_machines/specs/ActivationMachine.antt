@@ -1,5 +1,5 @@
 -- One event of the machine with recorded activations, and its runs (docs/machine.md, "The same with recorded activations"): returns, throws
--- and the ends of cleanups go by what was recorded at the calls, and no saved word is read.
+-- and the ends of cleanups go by what was recorded at the calls, whatever saved words hold.
 use Rattle.std.specs.Prelude.{ℕ, suc, ◌+◌, ◌==◌, ◌&&◌, nat_lt, Bool, true, false, List, [], ◌∷◌, length, map, filter, drop, slice_index, Option, Some, None, is_some, Result, Ok, Err, if◌then◌else◌}
 use Rattle.std.specs.Int.{bit_at}
 use Rattle.std.specs.Option.{option_or}
