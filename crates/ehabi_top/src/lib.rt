@@ -17,6 +17,7 @@ mod generated;
 pub mod laws;
 mod line;
 mod named;
+mod recorded;
 mod refusal;
 mod run;
 mod sources;
