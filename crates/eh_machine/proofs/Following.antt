@@ -1,5 +1,5 @@
 -- One event of an accepted image, from what is told over bytes: the same with recorded activations.
-use Rattle.std.proofs.Common.{◌≡◌, ℕ, Bool, true, false, List, slice_index, Option, Some, None, IfSome, Ok, refl, sym, ap, subst, ◌∙◌}
+use Rattle.std.proofs.Common.{◌≡◌, ℕ, Bool, true, false, List, slice_index, Option, Some, None, IfSome, refl, sym, ap, subst, ◌∙◌}
 use Rattle.std.specs.Bool.{OnFalse, OnTrue}
 use Rattle.std.specs.Option.{option_or}
 use Rattle.std.specs.Io.KnownBytes.{Appends}
@@ -25,7 +25,7 @@ use Rattle.two_machines.specs.ActivationMachine as acts
 use Rattle.two_machines.specs.ActivationLaws.{Matches, KnowsLanding}
 use Rattle.two_machines.specs.Checked.{program_of}
 use Rattle.two_machines.proofs.CallEvents.{knows}
-use Rattle.stands_for.specs.Stands.{Keeps, StandsFor, IsProgram, OnEvent}
+use Rattle.stands_for.specs.Stands.{Keeps, IsProgram, OnEvent}
 use Rattle.stands_for.specs.Turned.{AreBytes}
 use Rattle.stands_for.proofs.OneEvent.{turns}
 use Rattle.eh_machine.specs.Turns.{TurnedOnce}

@@ -1,5 +1,5 @@
 -- The start of a run and a flight to a barrier, of an accepted image: the same with recorded activations.
-use Rattle.std.proofs.Common.{◌≡◌, ℕ, List, Some, sym, ap, subst, ◌∙◌}
+use Rattle.std.proofs.Common.{◌≡◌, ℕ, List, sym, ap, subst, ◌∙◌}
 use Rattle.elf_image.specs.Image.{Image}
 use Rattle.eh_types.specs.Graph.{Row}
 use Rattle.eh_bus.specs.Memory.{Memory}
@@ -8,7 +8,7 @@ use Rattle.eh_cxa.specs.declared.globals.Globals.{Globals}
 use Rattle.eh_trace.specs.Trace.{Trace, no_events}
 use Rattle.image_memory.specs.Start.{start_regs, image_start}
 use Rattle.thumb_core.specs.declared.regs.Regs.{Regs}
-use Rattle.eh_cxa.specs.Words.{block, block_slot}
+use Rattle.eh_cxa.specs.Words.{block}
 use Rattle.eh_cxa.proofs.Pools.{slot_block}
 use Rattle.eh_phase.specs.declared.phase1.Barrier.{Barrier}
 use Rattle.thumb_core.specs.declared.ends.End.{End}
@@ -23,7 +23,7 @@ use Rattle.two_machines.specs.Checked.{program_of}
 use Rattle.two_machines.specs.Activations.{Recorded, bytes_of}
 use Rattle.two_machines.specs.ActivationMachine as acts
 use Rattle.two_machines.specs.Corresponds.{OutcomesMatch}
-use Rattle.stands_for.specs.Stands.{Keeps, StandsFor, IsProgram}
+use Rattle.stands_for.specs.Stands.{Keeps, IsProgram}
 use Rattle.stands_for.specs.Flying.{fly_from, CanFly}
 use Rattle.stands_for.proofs.First.{starts_stand}
 use Rattle.stands_for.proofs.FlyFrom.{gates_fly, flights_match}

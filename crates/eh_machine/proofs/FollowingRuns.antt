@@ -3,7 +3,7 @@ use Rattle.std.specs.Prelude.{option_map}
 use Rattle.std.proofs.Common.{◌≡◌, ℕ, zero, suc, Bool, true, false, List, ◌++◌, Option, Some, None, IfSome, refl, sym, ap, subst, ◌∙◌}
 use Rattle.std.specs.Io.KnownBytes.{Appends}
 use Rattle.eh_port.specs.Writing.{AppendsPart}
-use Rattle.event_runs.specs.Runs.{Event, Goes, Ends, Ran, Reached, behind, reached, reached_after, ran_of, StopsAt, Runs}
+use Rattle.event_runs.specs.Runs.{Event, Goes, Ends, Reached, behind, reached, reached_after, ran_of, StopsAt, Runs}
 use Rattle.event_runs.specs.Laws.{SameRan}
 use Rattle.guest_gates.specs.Ends.{is_fault}
 use Rattle.thumb_core.specs.declared.ends.End.{End}
@@ -14,7 +14,6 @@ use Rattle.two_machines.specs.Program.{Program}
 use Rattle.two_machines.specs.Machine.{machine_event, machine_of, may_fail}
 use Rattle.two_machines.specs.Activations.{Recorded, bytes_of}
 use Rattle.two_machines.specs.ActivationMachine.{recorded_event, recorded_may_fail, recorded_machine}
-use Rattle.two_machines.specs.ActivationLaws.{Matches}
 use Rattle.two_machines.specs.Checked.{program_of}
 use Rattle.two_machines.proofs.CallEvents.{knows}
 use Rattle.stands_for.specs.Stands.{Keeps, StandsFor, IsProgram}
