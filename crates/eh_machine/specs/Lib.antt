@@ -1,3 +1,4 @@
 pub mod Passes
 pub mod Guarded
 pub mod Turns
+pub mod Follows
