@@ -18,8 +18,8 @@ use Rattle.elf_image.specs.Image.{Image}
 use Rattle.eh_types.specs.Graph.{Row}
 use Rattle.eh_gates.specs.State.{State, Outcome, guide_of}
 use Rattle.eh_gates.specs.Gates.{gate_of}
-use Rattle.eh_machine.specs.Program.{Program, guide}
-use Rattle.eh_machine.specs.Machine.{Passed, passed, event_of, in_state, acted, onward, machine_event, passed_fails, may_fail, with_pc_of}
+use Rattle.two_machines.specs.Program.{Program, guide}
+use Rattle.two_machines.specs.Machine.{Passed, passed, event_of, in_state, acted, onward, machine_event, passed_fails, may_fail, with_pc_of}
 use Rattle.eh_machine.specs.Turns.{TurnedOnce, IsCounted, CountsFaults}
 
 event_is : (p : Program) (s : State) (r : Passed) (input : List ℕ) → r ≡ passed p s → machine_event p s input ≡ onward p s r input

@@ -35,9 +35,9 @@ use Rattle.step_ahead.proofs.Straight.{GoesOn, effect_goes}
 use Rattle.eh_trace.specs.Trace.{Trace}
 use Rattle.eh_gates.specs.declared.state.Core.{Core}
 use Rattle.eh_gates.specs.State.{State, state_of, reg}
-use Rattle.eh_machine.specs.Program.{Program}
+use Rattle.two_machines.specs.Program.{Program}
 use Rattle.eh_machine.specs.Passes.{Passes, Tried}
-use Rattle.eh_machine.specs.Machine.{Passed, leaves_cleanup, way_end, refusal, tests, settled, settled_at, saved_words, tested, stepped, passed, with_pc_of}
+use Rattle.two_machines.specs.Machine.{Passed, leaves_cleanup, way_end, refusal, tests, settled, settled_at, saved_words, tested, stepped, passed, with_pc_of}
 
 -- ---- what a call has done, by its end
 

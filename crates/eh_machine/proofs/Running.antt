@@ -6,8 +6,8 @@ use Rattle.thumb_core.specs.declared.ends.End.{End}
 use Rattle.thumb_core.specs.declared.ends.End.TheVariants.{Budget}
 use Rattle.eh_gates.specs.declared.state.Turned.TheVariants.{Went, Ended}
 use Rattle.eh_gates.specs.State.{State}
-use Rattle.eh_machine.specs.Program.{Program}
-use Rattle.eh_machine.specs.Machine.{machine_of}
+use Rattle.two_machines.specs.Program.{Program}
+use Rattle.two_machines.specs.Machine.{machine_of}
 use Rattle.eh_machine.specs.Turns.{TurnedOnce}
 
 module _ (p : Program) (n0 : ℕ) (state0 : State) where

@@ -8,8 +8,8 @@ use Rattle.thumb_core.specs.declared.ends.End.{End}
 use Rattle.eh_trace.specs.Trace.{Trace}
 use Rattle.eh_gates.specs.declared.state.Core.{Core}
 use Rattle.eh_gates.specs.State.{state_of}
-use Rattle.eh_machine.specs.Program.{Program}
-use Rattle.eh_machine.specs.Machine.{Passed, passed, with_pc_of}
+use Rattle.two_machines.specs.Program.{Program}
+use Rattle.two_machines.specs.Machine.{Passed, passed, with_pc_of}
 
 -- from registers, globals and a memory to new ones, whatever the events are: it is `passed`; its end is no fault of the outside; and a gate's
 -- instruction changes pc alone

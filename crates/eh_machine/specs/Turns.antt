@@ -8,8 +8,8 @@ use Rattle.thumb_core.specs.declared.ends.End.TheVariants.{ReadFault, WriteFault
 use Rattle.eh_gates.specs.declared.state.Turned.{Turned}
 use Rattle.eh_gates.specs.declared.state.Turned.TheVariants.{Went, Ended}
 use Rattle.eh_gates.specs.State.{State}
-use Rattle.eh_machine.specs.Program.{Program}
-use Rattle.eh_machine.specs.Machine.{machine_event, may_fail}
+use Rattle.two_machines.specs.Program.{Program}
+use Rattle.two_machines.specs.Machine.{machine_event, may_fail}
 
 -- one event was done: it went on, or it ended the run, or a fault of the outside stopped it where one may
 abbrev pub TurnedOnce : Program → State → List ℕ → Turned → State → Option (List ℕ) → Option (List ℕ) → Option (List ℕ) → Type 0

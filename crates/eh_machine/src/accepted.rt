@@ -4,7 +4,7 @@ use eh_phase::Tables;
 use frame_check::Accepted;
 
 impl<'a> Checked for Accepted<'a> {
-    ghost use Rattle.eh_machine.specs.Checked.{program_of};
+    ghost use Rattle.two_machines.specs.Checked.{program_of};
 
     ghost program = { program_of };
 

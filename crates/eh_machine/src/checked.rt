@@ -1,6 +1,6 @@
 //! What a run asks of a checked program (docs/machine.md).
 ghost use Rattle.std.specs.Prelude.{◌≡◌};
-ghost use Rattle.eh_machine.specs.Program.{Program};
+ghost use Rattle.two_machines.specs.Program.{Program};
 
 use eh_phase::Tables;
 

@@ -2,6 +2,7 @@
 ghost use Rattle.std.specs.Prelude.{◌≡◌, IfSome};
 ghost use Rattle.eh_gates.specs.State.{State, state_of};
 ghost use Rattle.eh_machine.specs.Turns.{TurnedOnce, CountsFaults};
+ghost use Rattle.eh_machine.specs.Follows.{FollowsOnce};
 
 use crate::checked::Checked;
 use crate::pass::{found, goes_on, pass};
@@ -22,7 +23,8 @@ pub struct Shared<B> {
 
 /// One event of a run of a checked program: its instruction is done, and its gate. A trap, an exit and a fault leave registers, globals and
 /// memory as they were; so does a terminate before the exception flies. `ReadFault` comes only at the input gate, and `WriteFault` only at
-/// the output gate, where the count of the source or of the sink rose in this call. Takes no memory, and a constant time but for a throw.
+/// the output gate, where the count of the source or of the sink rose in this call. Of an accepted image it does what the machine with recorded
+/// activations does. Takes no memory, and a constant time but for a throw.
 pub fn turn<C: Checked, B: Bus, I: Source, O: Sink>(
     a: &C,
     core: &mut Core,
@@ -35,6 +37,10 @@ pub fn turn<C: Checked, B: Bus, I: Source, O: Sink>(
         let old : State = state_of core.old (B.memory shared.old.bus) events.old in
         let new : State = state_of core.new (B.memory shared.new.bus) events.new in
         TurnedOnce (C.program a.now) old bytes result new (I.left input.new) (O.written out.old) (O.written out.new)) }
+    ensures recorded { IfSome (I.left input.old) (λ bytes.
+        let old : State = state_of core.old (B.memory shared.old.bus) events.old in
+        let new : State = state_of core.new (B.memory shared.new.bus) events.new in
+        FollowsOnce (C.program a.now) old bytes result new (I.left input.new) (O.written out.old) (O.written out.new)) }
     ensures faults { CountsFaults (λ end. result ≡ Turned.Ended end) (I.faults input.old) (I.faults input.new) (O.faults out.old) (O.faults out.new) }
 {
     let mut known = a.is_instr(core.regs.pc);

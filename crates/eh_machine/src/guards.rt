@@ -2,7 +2,7 @@
 ghost use Rattle.std.specs.Prelude.{◌≡◌, ◌+◌, ◌*◌, ◌%◌, ◌<◌, ◌≤◌};
 ghost use Rattle.eh_bus.specs.Memory.{guard_all};
 ghost use Rattle.eh_bus.specs.declared.map.TheConstants.{STACK_START, STACK_END};
-ghost use Rattle.eh_machine.specs.Machine.{saved_words, settled};
+ghost use Rattle.two_machines.specs.Machine.{saved_words, settled};
 
 use crate::checked::Checked;
 use eh_bus::bus::Bus;

@@ -3,11 +3,9 @@
 #![tactic(auto)]
 
 mod accepted;
-pub mod activation_laws;
 pub mod checked;
 mod event;
 mod guards;
-pub mod laws;
 pub mod memory;
 mod pass;
 pub mod run;

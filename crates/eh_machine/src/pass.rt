@@ -4,7 +4,7 @@ ghost use Rattle.thumb_isa.specs.Range.{InRange};
 ghost use Rattle.thumb_core.specs.Step.{instr_at};
 ghost use Rattle.step_ahead.specs.Ahead.{IsAhead, IsJump, IsLevel, branches, pushed};
 ghost use Rattle.step_ahead.specs.Kept.{TakesBack};
-ghost use Rattle.eh_machine.specs.Program.{Program};
+ghost use Rattle.two_machines.specs.Program.{Program};
 ghost use Rattle.eh_machine.specs.Passes.{Passes, Tried};
 
 use crate::checked::Checked;

@@ -2,8 +2,9 @@
 ghost use Rattle.std.specs.Prelude.{◌≡◌, IfSome};
 ghost use Rattle.event_runs.specs.Runs.{Runs};
 ghost use Rattle.eh_gates.specs.State.{State, state_of};
-ghost use Rattle.eh_machine.specs.Machine.{machine_of};
+ghost use Rattle.two_machines.specs.Machine.{machine_of};
 ghost use Rattle.eh_machine.specs.Turns.{CountsFaults};
+ghost use Rattle.eh_machine.specs.Follows.{FollowsRun};
 
 use crate::checked::Checked;
 use crate::event::{Shared, turn_from};
@@ -26,12 +27,16 @@ pub struct Machine<'a, C: Checked, B: Bus> {
 
 impl<'a, C: Checked, B: Bus> Machine<'a, C, B> {
     /// Runs until an event ends the run or none is left of the budget; the event that ends it counts too. A further run goes on from where
-    /// this one came to. Takes no memory.
+    /// this one came to. Of an accepted image it is a run with recorded activations. Takes no memory.
     pub fn run<I: Source, O: Sink>(&mut self, input: &mut I, out: &mut O) -> End
         ensures told { IfSome (I.left input.old) (λ bytes.
             let old : State = state_of self.old.core (B.memory self.old.shared.bus) self.old.events in
             let new : State = state_of self.new.core (B.memory self.new.shared.bus) self.new.events in
             Runs (machine_of (C.program self.old.accepted.now)) self.old.left old bytes result new self.new.left (I.left input.new) (O.written out.old) (O.written out.new)) }
+        ensures recorded { IfSome (I.left input.old) (λ bytes.
+            let old : State = state_of self.old.core (B.memory self.old.shared.bus) self.old.events in
+            let new : State = state_of self.new.core (B.memory self.new.shared.bus) self.new.events in
+            FollowsRun (C.program self.old.accepted.now) self.old.left old bytes result new self.new.left (I.left input.new) (O.written out.old) (O.written out.new)) }
         ensures faults { CountsFaults (λ end. result ≡ end) (I.faults input.old) (I.faults input.new) (O.faults out.old) (O.faults out.new) }
         ensures accepted { self.new.accepted ≡ self.old.accepted }
     {

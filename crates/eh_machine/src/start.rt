@@ -5,8 +5,9 @@ ghost use Rattle.eh_cxa.specs.Words.{block_slot};
 ghost use Rattle.eh_gates.specs.State.{state_of};
 ghost use Rattle.eh_gates.specs.Throwing.{throw_to};
 ghost use Rattle.eh_trace.specs.Trace.{no_events};
-ghost use Rattle.eh_machine.specs.Program.{guide};
-ghost use Rattle.eh_machine.specs.Start.{start_of};
+ghost use Rattle.two_machines.specs.Program.{guide};
+ghost use Rattle.two_machines.specs.Start.{start_of};
+ghost use Rattle.eh_machine.specs.Follows.{StartsAlike, FollowsFlight};
 
 use crate::checked::Checked;
 use crate::event::Shared;
@@ -27,7 +28,8 @@ pub fn start_parts<C: Checked>(
     alloc: Global,
     a: &C,
 ) -> Result<(Core, Shared<PagedBus>, Events), MachineMemory>
-    ensures { IfOk result (λ parts. state_of parts.0 (memory_of parts.1.bus) parts.2 ≡ start_of (C.program a.now)) }
+    ensures state { IfOk result (λ parts. state_of parts.0 (memory_of parts.1.bus) parts.2 ≡ start_of (C.program a.now)) }
+    ensures recorded { IfOk result (λ parts. StartsAlike (C.program a.now) (state_of parts.0 (memory_of parts.1.bus) parts.2)) }
 {
     let tables = a.tables();
     let image = tables.index.image();
@@ -44,6 +46,7 @@ impl<'a, C: Checked> Machine<'a, C, PagedBus> {
     /// A run from the start, of at most `budget` events.
     pub fn start(alloc: Global, a: &'a C, budget: u64) -> Result<Self, MachineMemory>
         ensures state { IfOk result (λ m. state_of m.core (memory_of m.shared.bus) m.events ≡ start_of (C.program a.now)) }
+        ensures recorded { IfOk result (λ m. StartsAlike (C.program a.now) (state_of m.core (memory_of m.shared.bus) m.events)) }
         ensures budget { IfOk result (λ m. m.left ≡ budget) }
         ensures program { IfOk result (λ m. m.accepted.now ≡ a.now) }
     {
@@ -94,7 +97,8 @@ pub fn throw_to<C: Checked, B: Bus>(
     b: &Barrier,
 ) -> Turned
     requires { IsSome (block_slot ucb) }
-    ensures { (result, state_of core.new (B.memory shared.new.bus) events.new) ≡ throw_to (guide (C.program a.now)) (state_of core.old (B.memory shared.old.bus) events.old) site ucb b.now }
+    ensures told { (result, state_of core.new (B.memory shared.new.bus) events.new) ≡ throw_to (guide (C.program a.now)) (state_of core.old (B.memory shared.old.bus) events.old) site ucb b.now }
+    ensures recorded { FollowsFlight (C.program a.now) (state_of core.old (B.memory shared.old.bus) events.old) site ucb b.now result (state_of core.new (B.memory shared.new.bus) events.new) }
 {
     eh_gates::throw_to(&a.tables(), core, &mut shared.bus, events, site, ucb, b)
 }

@@ -3,7 +3,7 @@ ghost use Rattle.std.specs.Prelude.{◌≡◌, ◌≤◌, ◌+◌, ◌*◌, ◌%
 ghost use Rattle.guest_gates.specs.Ends.{is_fault};
 ghost use Rattle.step_ahead.specs.Kept.{lowest};
 ghost use Rattle.thumb_core.specs.Registers.{even, reg};
-ghost use Rattle.eh_machine.specs.Machine.{leaves_cleanup, sp_end, fell_off, goes_behind, way_end, refusal};
+ghost use Rattle.two_machines.specs.Machine.{leaves_cleanup, sp_end, fell_off, goes_behind, way_end, refusal};
 
 use crate::checked::Checked;
 use eh_gates::gates::{ALLOCATE_GATE, BEGIN_CATCH_GATE, END_CATCH_GATE, FREE_GATE, UNCAUGHT_GATE};

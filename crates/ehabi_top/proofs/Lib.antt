@@ -7,6 +7,7 @@ mod Buildings
 mod Statuses
 mod Yielding
 mod FlatReports
+mod SameRuns
 mod RunReports
 mod Checking
 mod Doing

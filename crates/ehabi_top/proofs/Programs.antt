@@ -1,23 +1,26 @@
 -- The reports of a generated program, from what the parts of a call have done.
-use Rattle.std.proofs.Common.{◌≡◌, ◌⊎◌, ℕ, ◌<◌, ◌≤◌, List, [], ◌∷◌, ◌++◌, length, Option, Result, Ok, Err, false, refl, sym, inl, inr, arith}
+use Rattle.std.proofs.Common.{◌≡◌, ◌⊎◌, ℕ, ◌<◌, List, [], ◌∷◌, ◌++◌, length, Option, Result, Ok, Err, false, refl, inl, inr, arith}
+use Rattle.std.proofs.lemmas.List.Elements.{All-nil}
 use Rattle.elf_image.specs.Image.{Image}
 use Rattle.eh_gates.specs.State.{State}
-use Rattle.eh_machine.specs.Checked.{program_of}
-use Rattle.eh_machine.specs.Machine.{machine_of}
-use Rattle.eh_machine.specs.Start.{start_of}
+use Rattle.two_machines.specs.Activations.{Recorded}
+use Rattle.two_machines.specs.Checked.{program_of}
+use Rattle.two_machines.specs.Machine.{machine_of}
+use Rattle.two_machines.specs.Start.{start_of}
 use Rattle.eh_port.specs.Causes.{Rose}
-use Rattle.event_runs.specs.Runs.{Runs, ran_of}
+use Rattle.event_runs.specs.Laws.{SameRan}
+use Rattle.event_runs.specs.Runs.{Ran, Runs, ran_of}
 use Rattle.frame_check.specs.Accepts.{Accepted, IsSound, IsAccepted}
 use Rattle.guest_gates.specs.Ends.{is_fault}
 use Rattle.thumb_core.specs.declared.ends.End.{End}
 use Rattle.thumb_core.specs.declared.ends.End.TheVariants.{Exit, Terminate, Trap, Budget, ReadFault, WriteFault}
+use Rattle.ehabi_top.specs.BothRuns.{bytes_run, recorded_run, bytes_events, recorded_events, HaveSameEvents, RunSame}
 use Rattle.ehabi_top.specs.Building.{built}
 use Rattle.ehabi_top.specs.CheckReport.{ImageReportsBy, BytesReportsBy, IsUnaccepted}
-use Rattle.ehabi_top.specs.GenerateReport.{CountsImage, GenerateReports, IsUnfitProgram, counted_report, generated, summary_report}
-use Rattle.ehabi_top.specs.Loading.{Report, status_of}
+use Rattle.ehabi_top.specs.GenerateReport.{CountsAccepted, CountsImage, GenerateReports, IsUnfitProgram, counted_report, generated, summary_report, recorded_summary}
+use Rattle.ehabi_top.specs.Loading.{status_of}
 use Rattle.ehabi_top.specs.Text.{end_line, summary}
 use Rattle.ehabi_top.specs.Writes.{Answers, AnswersOrLacks, AnswersRun, Stopped}
-use Rattle.ehabi_top.specs.Yields.{Only}
 use Rattle.ehabi_top.specs.declared.status.TheConstants.{REFUSED}
 use Rattle.ehabi_top.specs.declared.stop.Stop.{Stop}
 use Rattle.ehabi_top.specs.declared.stop.Stop.TheVariants.{Memory}
@@ -34,6 +37,13 @@ no_fault Budget read write = refl
 no_fault ReadFault read write = absurd (let r : Rose 0 0 = read refl in omega arith)
 no_fault WriteFault read write = absurd (let r : Rose 0 0 = write refl in omega arith)
 
+same_counts : (a : Accepted) (one : Ran State End) (two : Ran Recorded End) (input : List ℕ) → SameRan HaveSameEvents one two → counted_report bytes_events a one input ≡ counted_report recorded_events a two input
+same_counts a one two input w = rw (w.end, w.state) refl
+
+counts_same : (a : Accepted) (input : List ℕ) → RunSame a → CountsAccepted a input (summary_report a input)
+unfolding summary_report recorded_summary
+counts_same a input same = record { is = refl; recorded = same_counts a (bytes_run MOST_INSTRUCTIONS a []) (recorded_run MOST_INSTRUCTIONS a []) input (same MOST_INSTRUCTIONS [] (All-nil (λ (b : ℕ). b < 256))) }
+
 summary_is : (a : Accepted) (end : End) (new : State) (input : List ℕ)
     → end ≡ (ran_of (machine_of (program_of a)) MOST_INSTRUCTIONS (start_of (program_of a)) []).end
     → new ≡ (ran_of (machine_of (program_of a)) MOST_INSTRUCTIONS (start_of (program_of a)) []).state
@@ -43,23 +53,23 @@ summary_is a end new input e s = rw (e, s) refl
 
 module _ (result : Result ℕ Stop) (before now : Option (List ℕ)) (f g : ℕ) where
   -- a run of an accepted image that neither its source nor its sink stops
-  pub accepted_counted : (a : Accepted) (end : End) (new : State) (unspent : ℕ) (left dropped dropped' : Option (List ℕ))
+  pub accepted_counted : (a : Accepted) → RunSame a → (end : End) (new : State) (unspent : ℕ) (left dropped dropped' : Option (List ℕ))
       → Runs (machine_of (program_of a)) MOST_INSTRUCTIONS (start_of (program_of a)) [] end new unspent left dropped dropped'
       → (end ≡ ReadFault → Rose 0 0) → (end ≡ WriteFault → Rose 0 0)
       → AnswersRun (summary (length a.image.functions) new.events) end result before now f g
-      → AnswersOrLacks (Only (summary_report a)) ⊥ result before now f g
-  accepted_counted a end new unspent left dropped dropped' r read write answers = go (at_false (is_fault end) _ fine answers.fine)
+      → AnswersOrLacks (CountsAccepted a) ⊥ result before now f g
+  accepted_counted a same end new unspent left dropped dropped' r read write answers = go (at_false (is_fault end) _ fine answers.fine)
     where
       fine : is_fault end ≡ false
       fine = no_fault end read write
 
       go : Answers (summary (length a.image.functions) new.events ++ end_line end) (status_of end) result before now f g ⊎ Stopped Memory result before now f g
-          → AnswersOrLacks (Only (summary_report a)) ⊥ result before now f g
+          → AnswersOrLacks (CountsAccepted a) ⊥ result before now f g
       go (inr stopped) = inr stopped
       go (inl w) = inl (record {
         text = summary (length a.image.functions) new.events ++ end_line end;
         status = status_of end;
-        says = λ input. summary_is a end new input (at_false (is_fault end) _ fine r.ends) (at_false (is_fault end) _ fine r.state_is);
+        says = λ input. rw (summary_is a end new input (at_false (is_fault end) _ fine r.ends) (at_false (is_fault end) _ fine r.state_is)) (counts_same a input same);
         why = says_end end ⊥ fine (λ l. l);
         of = IsOfRun.reported (end_of_run end fine);
         answers = w;
@@ -67,13 +77,13 @@ module _ (result : Result ℕ Stop) (before now : Option (List ℕ)) (f g : ℕ)
 
   -- the image was accepted before
   pub image_counted : (image : Image) (a : Accepted) → IsSound a → a.image ≡ image → IsAccepted image
-      → AnswersOrLacks (Only (summary_report a)) ⊥ result before now f g
+      → AnswersOrLacks (CountsAccepted a) ⊥ result before now f g
       → AnswersOrLacks (ImageReportsBy CountsImage (Ok image)) (¬ (IsAccepted image)) result before now f g
   image_counted image a sound same accepted (inr stopped) = inr stopped
   image_counted image a sound same accepted (inl one) = inl (record {
     text = one.text;
     status = one.status;
-    says = λ input. inl (record { accepted = a; sound = sound; same = same; is = one.says input });
+    says = λ input. let says = one.says input in inl (record { accepted = a; sound = sound; same = same; is = says.is; recorded = says.recorded });
     why = record { missing = one.why.missing; refused = ((λ e. absurd (one.why.refused.0 e)), (λ n. absurd (n accepted))) };
     of = one.of;
     answers = one.answers;

@@ -4,15 +4,21 @@ use Rattle.std.proofs.Common.{◌≡◌, ◌⊎◌, ℕ, List, Option, Some, Non
 use Rattle.std.specs.Prelude.{IfOk}
 use Rattle.elf_image.specs.Image.{Image, image_of}
 use Rattle.elf_image.specs.declared.fault.ImageFault.{ImageFault}
+use Rattle.eh_gates.specs.State.{State}
+use Rattle.two_machines.specs.Activations.{Recorded}
+use Rattle.event_runs.specs.Laws.{SameRan}
+use Rattle.event_runs.specs.Runs.{Ran}
 use Rattle.frame_check.specs.Accepts.{Accepted, IsSound, IsAccepted, Refuses}
 use Rattle.frame_check.specs.declared.fault.CheckFault.{CheckFault}
 use Rattle.frame_check.specs.declared.fault.CheckFault.TheVariants.{OutOfMemory}
+use Rattle.thumb_core.specs.declared.ends.End.{End}
+use Rattle.ehabi_top.specs.BothRuns.{bytes_run, recorded_run, bytes_events, recorded_events, HaveSameEvents, RunSame, SlotsStay}
 use Rattle.ehabi_top.specs.CheckReport.{check_fault_line, BytesReportsBy, IsUnaccepted}
 use Rattle.ehabi_top.specs.Loading.{Report, SaysWhy}
-use Rattle.ehabi_top.specs.RunReport.{RunReportsOf, RunBytesReports, accepted_report}
+use Rattle.ehabi_top.specs.RunReport.{RunReportsOf, RunBytesReports, RunsAccepted, accepted_report, recorded_report, run_report}
 use Rattle.ehabi_top.specs.Text.{image_fault_line}
 use Rattle.ehabi_top.specs.Writes.{Answers, Stopped}
-use Rattle.ehabi_top.specs.Yields.{Only, Gave, given, nothing, Streams, streams, Yields}
+use Rattle.ehabi_top.specs.Yields.{Gave, given, nothing, Streams, streams, Yields}
 use Rattle.ehabi_top.specs.declared.status.TheConstants.{REFUSED}
 use Rattle.ehabi_top.specs.declared.stop.Stop.{Stop}
 use Rattle.ehabi_top.specs.declared.stop.Stop.TheVariants.{Memory}
@@ -35,12 +41,24 @@ fit_other : (unfit other : Type 0) (result : Result ℕ Stop) → (unfit → ⊥
 fit_other unfit other (Ok s) n m w = record { missing = w.missing; refused = ((λ e. absurd (n (w.refused.0 e))), (λ u. absurd (m u))) }
 fit_other unfit other (Err stop) n m w = tt
 
+-- the report of a run over bytes is that of the run with recorded activations
+same_report : (a : Accepted) (one : Ran State End) (two : Ran Recorded End) → SameRan HaveSameEvents one two → run_report bytes_events a one ≡ run_report recorded_events a two
+same_report a one two w = rw (w.text, w.end, w.left, w.state) refl
+
+pub run_accepted : (budget : ℕ) (a : Accepted) (input : List ℕ) → RunSame a → SlotsStay a → RunsAccepted budget a input (accepted_report budget a input)
+unfolding accepted_report recorded_report
+run_accepted budget a input same guarded = record {
+  is = refl;
+  recorded = λ bytes. same_report a (bytes_run budget a input) (recorded_run budget a input) (same budget input bytes);
+  guarded = guarded input;
+}
+
 -- an image that is accepted, and its run
 pub image_runs : (budget : ℕ) (image : Image) (a : Accepted) (old new : Streams) (result : Result ℕ Stop) → IsSound a → a.image ≡ image → IsAccepted image
-    → Yields (Only (accepted_report budget a)) ⊥ old new result → Yields (RunReportsOf budget (Ok image)) (¬ (IsAccepted image)) old new result
+    → Yields (RunsAccepted budget a) ⊥ old new result → Yields (RunReportsOf budget (Ok image)) (¬ (IsAccepted image)) old new result
 image_runs budget image a old new result sound same accepted y = record {
-  told = told_other (Only (accepted_report budget a)) (RunReportsOf budget (Ok image)) old.input result new.input old.output new.output
-      (λ b r is. inl (record { accepted = a; sound = sound; same = same; is = is })) y.told;
+  told = told_other (RunsAccepted budget a) (RunReportsOf budget (Ok image)) old.input result new.input old.output new.output
+      (λ b r is. inl (record { accepted = a; sound = sound; same = same; is = is.is; recorded = is.recorded; guarded = is.guarded })) y.told;
   why = fit_other ⊥ (¬ (IsAccepted image)) result (λ l. l) (λ n. n accepted) y.why;
   read = y.read;
   write = y.write;

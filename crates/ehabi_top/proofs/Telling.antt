@@ -1,5 +1,5 @@
 -- What is said where files and input are told.
-use Rattle.std.proofs.Common.{◌≡◌, ℕ, List, Option, Some, None, IfSome}
+use Rattle.std.proofs.Common.{ℕ, List, Option, Some, None, IfSome}
 use Rattle.ehabi_top.specs.Report.{IfTold}
 use Rattle.ehabi_top.specs.Words.{Command, FlatFile, BuildSources, CheckFile, CheckSources, RunFile, RunSources, GenerateProgram}
 

@@ -5,7 +5,7 @@ use Rattle.std.specs.Prelude.{IfOk}
 use Rattle.std.proofs.KnownBytes.{Appends-trans}
 use Rattle.std.specs.Io.KnownBytes.{Appends}
 use Rattle.eh_port.specs.Causes.{Rose}
-use Rattle.eh_port.proofs.Parts.{part_none, part_first, part_then}
+use Rattle.eh_port.proofs.Parts.{part_first, part_then}
 use Rattle.event_runs.specs.Runs.{Machine, Ran, Runs, ran_of}
 use Rattle.guest_gates.specs.Ends.{is_fault}
 use Rattle.thumb_core.specs.declared.ends.End.{End}

@@ -2,14 +2,12 @@
 -- events are counted. The input is left.
 use Rattle.std.specs.Prelude.{ℕ, ◌≡◌, ◌++◌, List, [], ◌∷◌, length, codes, Result}
 use Rattle.elf_image.specs.Image.{Image}
-use Rattle.event_runs.specs.Runs.{Ran, ran_of}
-use Rattle.eh_gates.specs.State.{State}
+use Rattle.event_runs.specs.Runs.{Ran}
 use Rattle.eh_kit.specs.ProgramText.{generated_text}
-use Rattle.eh_machine.specs.Checked.{program_of}
-use Rattle.eh_machine.specs.Machine.{machine_of}
-use Rattle.eh_machine.specs.Start.{start_of}
+use Rattle.eh_trace.specs.Trace.{Trace}
 use Rattle.frame_check.specs.Accepts.{Accepted, IsSound}
 use Rattle.thumb_core.specs.declared.ends.End.{End}
+use Rattle.ehabi_top.specs.BothRuns.{bytes_run, recorded_run, bytes_events, recorded_events}
 use Rattle.ehabi_top.specs.Building.{built, bytes_of_built}
 use Rattle.ehabi_top.specs.CheckReport.{BytesReportsBy, IsUnaccepted}
 use Rattle.ehabi_top.specs.Finding.{FoundReports}
@@ -32,19 +30,29 @@ generated_bytes number functions = bytes_of_built (built (generated number funct
 -- ---- the report
 
 -- how many functions the image has, how many events came of the run, and how it ended
-abbrev pub counted_report : Accepted → Ran State End → List ℕ → Report
-counted_report a ran input = record { text = summary (length a.image.functions) ran.state.events ++ end_line ran.end; status = status_of ran.end; left = input }
+abbrev pub counted_report : {S : Type 0} → (S → Trace) → Accepted → Ran S End → List ℕ → Report
+counted_report events a ran input = record { text = summary (length a.image.functions) (events ran.state) ++ end_line ran.end; status = status_of ran.end; left = input }
 
--- .. of a run of an accepted image with nothing to read
+-- .. of a run of an accepted image with nothing to read, of the machine over bytes
 unfoldable pub summary_report : Accepted → List ℕ → Report
-summary_report a input = counted_report a (ran_of (machine_of (program_of a)) MOST_INSTRUCTIONS (start_of (program_of a)) []) input
+summary_report a input = counted_report bytes_events a (bytes_run MOST_INSTRUCTIONS a []) input
 
--- the image is accepted, and r is the report of its run
+-- .. and of the machine with recorded activations
+unfoldable pub recorded_summary : Accepted → List ℕ → Report
+recorded_summary a input = counted_report recorded_events a (recorded_run MOST_INSTRUCTIONS a []) input
+
+-- r is the report of a run of an accepted image, over bytes and with recorded activations
+pub record CountsAccepted (a : Accepted) (input : List ℕ) (r : Report) : Type 0 where
+  pub is : r ≡ summary_report a input
+  pub recorded : r ≡ recorded_summary a input
+
+-- the image is accepted, and r is the report of its run, of either machine
 pub record CountsImage (image : Image) (input : List ℕ) (r : Report) : Type 0 where
   pub accepted : Accepted
   pub sound : IsSound accepted
   pub same : accepted.image ≡ image
   pub is : r ≡ summary_report accepted input
+  pub recorded : r ≡ recorded_summary accepted input
 
 -- .. or what `check` would say of the image
 abbrev pub GenerateReports : ℕ → ℕ → List ℕ → Report → Type 0

@@ -4,6 +4,7 @@ pub mod Loading
 pub mod Writes
 pub mod Yields
 pub mod FlatReport
+pub mod BothRuns
 pub mod RunReport
 pub mod GenerateReport
 pub mod Sources

@@ -2,34 +2,51 @@
 use Rattle.std.specs.Prelude.{ℕ, ◌≡◌, ◌++◌, List, Result}
 use Rattle.elf_image.specs.Image.{Image}
 use Rattle.elf_image.specs.declared.fault.ImageFault.{ImageFault}
-use Rattle.event_runs.specs.Runs.{ran_of}
-use Rattle.eh_gates.specs.State.{State}
-use Rattle.eh_machine.specs.Checked.{program_of}
-use Rattle.eh_machine.specs.Machine.{machine_of}
-use Rattle.eh_machine.specs.Start.{start_of}
+use Rattle.eh_bus.specs.Segment.{AreBytes}
 use Rattle.eh_trace.specs.Text.{trace_text}
+use Rattle.eh_trace.specs.Trace.{Trace}
 use Rattle.eh_types.specs.Graph.{name_of}
+use Rattle.event_runs.specs.Runs.{Ran}
 use Rattle.frame_check.specs.Accepts.{Accepted, IsSound}
+use Rattle.thumb_core.specs.declared.ends.End.{End}
+use Rattle.ehabi_top.specs.BothRuns.{bytes_run, recorded_run, bytes_events, recorded_events, RefusesStores}
 use Rattle.ehabi_top.specs.Building.{image_bytes}
 use Rattle.ehabi_top.specs.CheckReport.{ImageReportsBy, BytesReportsBy}
 use Rattle.ehabi_top.specs.Finding.{file_bytes, FoundReports}
 use Rattle.ehabi_top.specs.Loading.{Report, ran_report}
 use Rattle.ehabi_top.specs.Text.{trace_head}
 
--- what the last state says behind the guest's bytes: the trace of its events
-abbrev pub trace : Accepted → State → List ℕ
-trace a s = trace_head ++ trace_text a.image (name_of a.types) s.events
+-- what stands behind the guest's bytes: the trace of these events
+abbrev pub trace : Accepted → Trace → List ℕ
+trace a events = trace_head ++ trace_text a.image (name_of a.types) events
 
--- the report of a run of an accepted image, from the start
+-- the report of a run of an accepted image, by the events that the machine's last state has
+abbrev pub run_report : {S : Type 0} → (S → Trace) → Accepted → Ran S End → Report
+run_report events a ran = ran_report (λ s. trace a (events s)) ran
+
+-- .. from the start, of the machine over bytes
 unfoldable pub accepted_report : ℕ → Accepted → List ℕ → Report
-accepted_report budget a input = ran_report (trace a) (ran_of (machine_of (program_of a)) budget (start_of (program_of a)) input)
+accepted_report budget a input = run_report bytes_events a (bytes_run budget a input)
 
--- the image is accepted, and r is the report of its run
+-- .. and of the machine with recorded activations: returns go to their recorded callers, and throws go over the live activations
+unfoldable pub recorded_report : ℕ → Accepted → List ℕ → Report
+recorded_report budget a input = run_report recorded_events a (recorded_run budget a input)
+
+-- r is the report of the run of an accepted image: over bytes; and, where the numbers of the input are bytes, with recorded activations too,
+-- and then no store reaches a slot of a live activation
+pub record RunsAccepted (budget : ℕ) (a : Accepted) (input : List ℕ) (r : Report) : Type 0 where
+  pub is : r ≡ accepted_report budget a input
+  pub recorded : AreBytes input → r ≡ recorded_report budget a input
+  pub guarded : AreBytes input → RefusesStores a input
+
+-- the image is accepted, and r is the report of its run, in the same way
 pub record RunsImage (budget : ℕ) (image : Image) (input : List ℕ) (r : Report) : Type 0 where
   pub accepted : Accepted
   pub sound : IsSound accepted
   pub same : accepted.image ≡ image
   pub is : r ≡ accepted_report budget accepted input
+  pub recorded : AreBytes input → r ≡ recorded_report budget accepted input
+  pub guarded : AreBytes input → RefusesStores accepted input
 
 -- of an image that isn't accepted the report is that of its check
 abbrev pub RunReportsOf : ℕ → Result Image ImageFault → List ℕ → Report → Type 0

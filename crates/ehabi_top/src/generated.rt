@@ -3,17 +3,18 @@ ghost use Rattle.std.specs.Prelude.{◌≡◌, ◌<◌, ◌≤◌, [], ◌∷◌
 ghost use Rattle.frame_check.specs.Accepts.{IsAccepted};
 ghost use Rattle.ehabi_top.specs.Building.{built, fault_line, is_memory};
 ghost use Rattle.ehabi_top.specs.CheckReport.{ImageReportsBy, BytesReportsBy, IsUnaccepted};
-ghost use Rattle.ehabi_top.specs.GenerateReport.{CountsImage, generated, summary_report};
+ghost use Rattle.ehabi_top.specs.GenerateReport.{CountsAccepted, CountsImage, generated};
 ghost use Rattle.ehabi_top.specs.Report.{Does};
 ghost use Rattle.ehabi_top.specs.Words.{GenerateProgram};
 ghost use Rattle.ehabi_top.specs.Writes.{AnswersOrLacks};
-ghost use Rattle.ehabi_top.specs.Yields.{Only, Shelf, streams};
+ghost use Rattle.ehabi_top.specs.Yields.{Shelf, streams};
 
 use crate::answer::{answer_summary, answer_text};
 use crate::build::built;
 use crate::check::answer_fault;
 use crate::line::image_fault_line;
 use crate::named::SourceText;
+use crate::recorded::runs_same;
 use crate::refusal::{BuildFault, answer_build_fault, is_memory};
 use crate::status::REFUSED;
 use crate::stop::Stop;
@@ -38,12 +39,13 @@ fn nothing(alloc: Global) -> SureSource
 
 // Runs an accepted image with nothing to read, and counts its events.
 fn count_accepted<O: Sink>(alloc: Global, accepted: &Accepted, out: &mut O) -> Result<u8, Stop>
-    ensures { AnswersOrLacks (Only (summary_report accepted.now)) ⊥ result (O.written out.old) (O.written out.new) (O.faults out.old) (O.faults out.new) }
+    ensures { AnswersOrLacks (CountsAccepted accepted.now) ⊥ result (O.written out.old) (O.written out.new) (O.faults out.old) (O.faults out.new) }
 {
     let mut machine = match Machine::start(alloc, accepted, MOST_INSTRUCTIONS) {
         Ok(machine) => machine,
         Err(_) => return Err(Stop::Memory),
     };
+    runs_same(accepted, &machine.shared.bus);
     let mut input = nothing(alloc);
     let mut dropped = SureSink { taken: 0 };
     let end = machine.run(&mut input, &mut dropped);

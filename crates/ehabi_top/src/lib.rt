@@ -17,6 +17,7 @@ mod generated;
 pub mod laws;
 mod line;
 mod named;
+mod recorded;
 mod refusal;
 mod run;
 mod sources;
@@ -90,7 +91,8 @@ pub fn ehabi_main<F: Files, I: Source, O: Sink>(
     input: &mut I,
     out: &mut O,
 ) -> u8
-    // Unless a read, a write or memory failed, it wrote all of the report, and answered its status.
+    // Unless a read, a write or memory failed, it wrote all of the report, and answered its status. Of an accepted image that is run, the
+    // report is that of the machine with recorded activations too (`RunsImage`, `CountsImage`).
     ensures report { is_settled result ≡ true → IfTold (command_of (texts words.now)) (F.held files.old) (I.left input.old) (I.left input.new) (λ held bytes left.
         DoesWhole (command_of (texts words.now)) held bytes result left (O.written out.old) (O.written out.new)) }
 

@@ -4,14 +4,15 @@ ghost use Rattle.std.specs.Prelude.{Ok, Some};
 ghost use Rattle.frame_check.specs.Accepts.{IsAccepted};
 ghost use Rattle.ehabi_top.specs.CheckReport.{IsUnaccepted};
 ghost use Rattle.ehabi_top.specs.Report.{Does};
-ghost use Rattle.ehabi_top.specs.RunReport.{RunReportsOf, RunBytesReports, accepted_report};
+ghost use Rattle.ehabi_top.specs.RunReport.{RunReportsOf, RunBytesReports, RunsAccepted};
 ghost use Rattle.ehabi_top.specs.Words.{RunFile, RunSources, texts};
-ghost use Rattle.ehabi_top.specs.Yields.{Only, Yields, shelf, streams};
+ghost use Rattle.ehabi_top.specs.Yields.{Yields, shelf, streams};
 
 use crate::answer::{answer_run, answer_text};
 use crate::build::built_files;
 use crate::check::answer_fault;
 use crate::line::image_fault_line;
+use crate::recorded::runs_same;
 use crate::refusal::answer_files_fault;
 use crate::sources::read_file;
 use crate::status::REFUSED;
@@ -32,7 +33,7 @@ fn run_accepted<I: Source, O: Sink>(
     input: &mut I,
     out: &mut O,
 ) -> Result<u8, Stop>
-    ensures { Yields (Only (accepted_report budget accepted.now)) ⊥
+    ensures { Yields (RunsAccepted budget accepted.now) ⊥
         (streams (I.left input.old) (I.faults input.old) (O.written out.old) (O.faults out.old))
         (streams (I.left input.new) (I.faults input.new) (O.written out.new) (O.faults out.new)) result }
 {
@@ -40,6 +41,7 @@ fn run_accepted<I: Source, O: Sink>(
         Ok(machine) => machine,
         Err(_) => return Err(Stop::Memory),
     };
+    runs_same(accepted, &machine.shared.bus);
     let end = machine.run(input, out);
     answer_run(alloc, out, accepted, machine.events(), end)
 }

@@ -3,7 +3,7 @@ use Rattle.std.specs.Prelude.{ℕ, ◌==◌, List, if◌then◌else◌}
 use Rattle.elf_image.specs.Image.{Image, is_code_in}
 use Rattle.eh_types.specs.Graph.{Row}
 use Rattle.image_memory.specs.Start.{begins_function}
-use Rattle.eh_machine.specs.Program.{Program}
+use Rattle.two_machines.specs.Program.{Program}
 
 abbrev pub open_program : Image → List Row → ℕ → ℕ → Program
 open_program image types push saves = record {

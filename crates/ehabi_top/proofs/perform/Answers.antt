@@ -1,4 +1,4 @@
-use Rattle.ehabi_top.proofs.Asking.{AreAsked, asked_of}
+use Rattle.ehabi_top.proofs.Asking.{asked_of}
 use Rattle.ehabi_top.proofs.Doing.{usage_does}
 use Rattle.ehabi_top.specs.Words.{texts}
 use Rattle.ehabi_top.specs.Yields.{shelf}

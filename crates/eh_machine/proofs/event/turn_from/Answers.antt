@@ -1,4 +1,4 @@
-use Rattle.std.proofs.Common.{false, true, Some, None, refl}
+use Rattle.std.proofs.Common.{Some, None, refl}
 use Rattle.std.proofs.lemmas.Bool.{lt-ltb, le-ltb}
 use Rattle.guest_gates.specs.declared.gates.TheConstants.{INPUT_GATE}
 use Rattle.thumb_core.specs.declared.regs.Stepped.TheVariants.{Done}

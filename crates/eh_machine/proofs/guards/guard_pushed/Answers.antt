@@ -1,6 +1,6 @@
 use Rattle.std.proofs.Common.{ℕ, ap, ◌∙◌}
 use Rattle.eh_bus.specs.Memory.{guard_all}
-use Rattle.eh_machine.specs.Machine.{saved_words}
+use Rattle.two_machines.specs.Machine.{saved_words}
 use Rattle.eh_machine.proofs.Saved.{guard_none}
 use Rattle.eh_machine.proofs.guards.guard_pushed.Goals as goal
 

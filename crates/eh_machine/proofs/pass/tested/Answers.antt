@@ -1,5 +1,4 @@
-use Rattle.std.proofs.Common.{◌≡◌, ℕ, ◌+◌, ◌≤◌, length, slice_index, refl, sym, ap, ◌∙◌, arith, Option, None, Some}
-use Rattle.eh_bus.specs.Memory.{Memory}
+use Rattle.std.proofs.Common.{ℕ, slice_index, refl, sym, ap, ◌∙◌, arith}
 use Rattle.eh_gates.specs.State.{State, state_of}
 use Rattle.eh_machine.proofs.Passing.{ended, went_on, by_trap, trap_passes, stopped, tested_passes, kept_back, left_as_it_was, tests_are, settled_is, gate_done, gate_passes, above_low, at_step, branches_there, pushes_there, leaves_there, in_stack}
 use Rattle.eh_machine.proofs.pass.tested.Goals as goal

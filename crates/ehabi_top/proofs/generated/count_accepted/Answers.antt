@@ -7,7 +7,7 @@ pub returns : goal.returns
 returns g c =
     let runs = rw (c.in-Ok.ensures.program, c.in-Ok.ensures.budget, c.in-Ok.ensures.state, c.nothing-input.ensures) at c.run-end.ensures.told in
     let functions = c.functions-functions.ensures.functions ∙ ap (λ (i : Image). i.functions) c.image.ensures.image in
-    accepted_counted _ _ _ _ _ c.args.accepted.now c.run-end.result _ _ _ _ _ runs c.run-end.ensures.faults.input.rose c.run-end.ensures.faults.out.rose
+    accepted_counted _ _ _ _ _ c.args.accepted.now c.runs_same.ensures.same c.run-end.result _ _ _ _ _ runs c.run-end.ensures.faults.input.rose c.run-end.ensures.faults.out.rose
     (rw (c.events.ensures, functions) at c.answer_summary.ensures)
 
 pub returns-in-Err : goal.returns-in-Err

@@ -1,10 +1,11 @@
 use Rattle.std.proofs.Common.{refl}
 use Rattle.eh_gates.specs.State.{State}
-use Rattle.eh_machine.specs.Checked.{program_of}
-use Rattle.eh_machine.specs.Machine.{machine_of}
-use Rattle.eh_machine.specs.Start.{start_of}
-use Rattle.ehabi_top.specs.RunReport.{accepted_report, trace}
-use Rattle.ehabi_top.specs.Yields.{Only}
+use Rattle.two_machines.specs.Checked.{program_of}
+use Rattle.two_machines.specs.Machine.{machine_of}
+use Rattle.two_machines.specs.Start.{start_of}
+use Rattle.ehabi_top.specs.BothRuns.{bytes_events}
+use Rattle.ehabi_top.specs.RunReport.{RunsAccepted, accepted_report, trace}
+use Rattle.ehabi_top.proofs.RunReports.{run_accepted}
 use Rattle.ehabi_top.proofs.Yielding.{yields_said, yields_memory}
 use Rattle.ehabi_top.proofs.run.run_accepted.Goals as goal
 
@@ -12,9 +13,9 @@ pub returns : goal.returns
 unfolding accepted_report
 returns g c =
     let a = c.args.accepted.now in
-    yields_said State (machine_of (program_of a)) (λ _. refl) (trace a) c.args.budget (start_of (program_of a)) (Only (accepted_report c.args.budget a)) ⊥ _ _ c.run-end.result _ _ _ _ _ _ _ _ _ _ _
-    (λ _. refl) (λ l. l) (rw (c.in-Ok.ensures.program, c.in-Ok.ensures.budget, c.in-Ok.ensures.state) at c.run-end.ensures.told) c.run-end.ensures.faults.input.rose c.run-end.ensures.faults.out.rose
+    yields_said State (machine_of (program_of a)) (λ _. refl) (λ s. trace a (bytes_events s)) c.args.budget (start_of (program_of a)) (RunsAccepted c.args.budget a) ⊥ _ _ c.run-end.result _ _ _ _ _ _ _ _ _ _ _
+    (λ b. run_accepted c.args.budget a b c.runs_same.ensures.same c.runs_same.ensures.guarded) (λ l. l) (rw (c.in-Ok.ensures.program, c.in-Ok.ensures.budget, c.in-Ok.ensures.state) at c.run-end.ensures.told) c.run-end.ensures.faults.input.rose c.run-end.ensures.faults.out.rose
     c.run-end.ensures.faults.out.later c.run-end.ensures.faults.input.kept c.run-end.ensures.faults.out.kept (rw c.events.ensures at c.answer_run.ensures)
 
 pub returns-in-Err : goal.returns-in-Err
-returns-in-Err g c = yields_memory (Only (accepted_report c.args.budget c.args.accepted.now)) ⊥ _ _ _ _
+returns-in-Err g c = yields_memory (RunsAccepted c.args.budget c.args.accepted.now) ⊥ _ _ _ _

@@ -1,7 +1,7 @@
 use Rattle.std.proofs.Common.{◌≡◌, IfSome}
 use Rattle.event_runs.proofs.Progress.{Progress}
 use Rattle.eh_gates.specs.State.{State, state_of}
-use Rattle.eh_machine.specs.Machine.{machine_of}
+use Rattle.two_machines.specs.Machine.{machine_of}
 use Rattle.thumb_core.specs.declared.ends.End.{End}
 use Rattle.eh_machine.proofs.run.Machine.run.Given as goal
 

@@ -1,0 +1,167 @@
+-- One event of an accepted image, from what is told over bytes: the same with recorded activations.
+use Rattle.std.proofs.Common.{◌≡◌, ℕ, Bool, true, false, List, slice_index, Option, Some, None, IfSome, refl, sym, ap, subst, ◌∙◌}
+use Rattle.std.specs.Bool.{OnFalse, OnTrue}
+use Rattle.std.specs.Option.{option_or}
+use Rattle.std.specs.Io.KnownBytes.{Appends}
+use Rattle.event_runs.specs.Runs.{Event, Goes, Ends, GoesOn, Fails, EndsBy}
+use Rattle.guest_gates.specs.Ends.{is_fault}
+use Rattle.thumb_core.specs.Outcome.{Outcome as Stepping}
+use Rattle.thumb_core.specs.Step.{step_of, instr_at}
+use Rattle.thumb_core.specs.declared.regs.TheConstants.{SP}
+use Rattle.step_ahead.specs.Ahead.{branches_some}
+use Rattle.thumb_core.specs.declared.regs.Regs.{Regs}
+use Rattle.thumb_core.specs.declared.regs.Stepped.{Stepped}
+use Rattle.thumb_core.specs.declared.regs.Stepped.TheVariants.{Done, Call, Return, Gate, Trap}
+use Rattle.thumb_core.specs.declared.ends.End.{End}
+use Rattle.eh_bus.specs.Memory.{Memory}
+use Rattle.eh_gates.specs.declared.state.Turned.{Turned}
+use Rattle.eh_gates.specs.declared.state.Turned.TheVariants.{Went, Ended}
+use Rattle.eh_gates.specs.State.{State}
+use Rattle.frame_check.specs.Accepts.{Accepted}
+use Rattle.two_machines.specs.Program.{Program}
+use Rattle.two_machines.specs.Machine as bytes
+use Rattle.two_machines.specs.Activations.{Recorded, reg_in, memory_of, bytes_of}
+use Rattle.two_machines.specs.ActivationMachine as acts
+use Rattle.two_machines.specs.ActivationLaws.{Matches, KnowsLanding}
+use Rattle.two_machines.specs.Checked.{program_of}
+use Rattle.two_machines.proofs.CallEvents.{knows}
+use Rattle.stands_for.specs.Stands.{Keeps, IsProgram, OnEvent}
+use Rattle.stands_for.specs.Turned.{AreBytes}
+use Rattle.stands_for.proofs.OneEvent.{turns}
+use Rattle.eh_machine.specs.Turns.{TurnedOnce}
+use Rattle.eh_machine.specs.Follows.{WentAlike, EndedAlike, TurnedAlike, FollowsOnce}
+
+-- ---- faults may come at the same events
+
+module _ (p : Program) (s : Recorded) (end : End) where
+  -- no fault comes where no gate is
+  never : (what : Stepped) (regs : Regs) (m : Memory) (o : Option End) → ((number : ℕ) → what ≡ Gate number → ⊥)
+      → (bytes.passed_fails (bytes.tested p (bytes_of s) what regs m o) end ≡ false) × (acts.passed_fails (acts.tested p s what regs m o) end ≡ false)
+  never what regs m (Some why) none = (refl, refl)
+  never Done regs m None none = (refl, refl)
+  never (Call target ret) regs m None none = (refl, refl)
+  never (Return to) regs m None none = (refl, refl)
+  never (Trap trap) regs m None none = (refl, refl)
+  never (Gate number) regs m None none = absurd (none number refl)
+
+  gate_same : (number : ℕ) (regs : Regs) (m : Memory) (o : Option End)
+      → bytes.passed_fails (bytes.tested p (bytes_of s) (Gate number) regs m o) end ≡ acts.passed_fails (acts.tested p s (Gate number) regs m o) end
+  gate_same number regs m (Some why) = refl
+  gate_same number regs m None = refl
+
+  tests_same : KnowsLanding s → (number : ℕ) (regs : Regs) → bytes.tests p (bytes_of s) (Gate number) regs ≡ acts.tests p s (Gate number) regs
+  tests_same landing number regs =
+      ap (λ (l : Option ℕ). option_or (bytes.sp_end l s.home.0 s.regs.pc (reg_in s SP) (slice_index regs.r SP)) (bytes.way_end p (branches_some (instr_at (memory_of s) s.regs.pc) s.regs) s.regs.pc (Gate number) regs)) landing
+
+  stepped_same : KnowsLanding s → (o : Stepping) → bytes.passed_fails (bytes.stepped p (bytes_of s) o) end ≡ acts.passed_fails (acts.stepped p s o) end
+  stepped_same landing (Done, regs, m) =
+      (never Done regs m (bytes.tests p (bytes_of s) Done regs) (λ n e. cc)).0 ∙ sym (never Done regs m (acts.tests p s Done regs) (λ n e. cc)).1
+  stepped_same landing (Call target ret, regs, m) =
+      (never (Call target ret) regs m (bytes.tests p (bytes_of s) (Call target ret) regs) (λ n e. cc)).0 ∙ sym (never (Call target ret) regs m (acts.tests p s (Call target ret) regs) (λ n e. cc)).1
+  stepped_same landing (Return to, regs, m) =
+      let back = acts.returned s.first.caller regs in
+      (never (Return to) regs m (bytes.tests p (bytes_of s) (Return to) regs) (λ n e. cc)).0 ∙ sym (never (Return to) back m (acts.tests p s (Return to) back) (λ n e. cc)).1
+  stepped_same landing (Gate number, regs, m) =
+      subst (λ (o : Option End). bytes.passed_fails (bytes.tested p (bytes_of s) (Gate number) regs m o) end ≡ acts.passed_fails (acts.with_tests p s (Gate number) regs m) end)
+      (sym (tests_same landing number regs)) (gate_same number regs m (acts.tests p s (Gate number) regs))
+  stepped_same landing (Trap trap, regs, m) = trapped (acts.pops_back s)
+    where
+      trapped : (o : Option Regs) → false ≡ acts.passed_fails (acts.trapped_by p s trap o) end
+      trapped None = refl
+      trapped (Some regs) =
+          let back = acts.returned s.first.caller regs in
+          sym (never (Return s.first.caller.back) back (memory_of s) (acts.tests p s (Return s.first.caller.back) back) (λ n e. cc)).1
+
+  pub may_same : KnowsLanding s → bytes.may_fail p (bytes_of s) end ≡ acts.recorded_may_fail p s end
+  unfolding bytes.may_fail acts.recorded_may_fail bytes.passed acts.passed
+  may_same landing = by_check (p.look s.regs.pc).is_instr
+    where
+      by_check : (b : Bool) → bytes.passed_fails (bytes.checked p (bytes_of s) b) end ≡ acts.passed_fails (acts.checked p s b) end
+      by_check true = stepped_same landing (step_of s.regs (memory_of s))
+      by_check false = refl
+
+-- ---- one event
+
+pub at_false : (b : Bool) (P : Type 0) → b ≡ false → OnFalse b P → P
+at_false true P e p = absurd (cc)
+at_false false P e p = p
+
+pub at_true : (b : Bool) (P : Type 0) → b ≡ true → OnTrue b P → P
+at_true true P e p = p
+at_true false P e p = absurd (cc)
+
+pub if_false : (b : Bool) (P : Type 0) → P → OnFalse b P
+if_false true P p = tt
+if_false false P p = p
+
+pub if_true : (b : Bool) (P : Type 0) → P → OnTrue b P
+if_true true P p = p
+if_true false P p = tt
+
+pub no_false : (b : Bool) (P : Type 0) → b ≡ true → OnFalse b P
+no_false true P e = tt
+no_false false P e = absurd (cc)
+
+pub no_true : (b : Bool) (P : Type 0) → b ≡ false → OnTrue b P
+no_true true P e = absurd (cc)
+no_true false P e = tt
+
+module _ (x : Accepted) (s : Recorded) (is : IsProgram x) (k : Keeps x s) (input : List ℕ) (fits : AreBytes input) (left before now : Option (List ℕ)) where
+  went : (new : State) → GoesOn (bytes.machine_event (program_of x) (bytes_of s) input) new left before now → WentAlike x s input new left before now
+  went new t =
+      let w = turns x s input is k fits in
+      go (acts.recorded_event (program_of x) s input) refl (subst (λ (e : Event State End). Matches e (acts.recorded_event (program_of x) s input)) t.is w.same) w.keeps
+    where
+      go : (d : Event Recorded End) → acts.recorded_event (program_of x) s input ≡ d → Matches (Goes new t.text t.rest) d → OnEvent x d → WentAlike x s input new left before now
+      go (Goes u said rest) e m keeps = record {
+        state = u;
+        goes = record { text = said; rest = rest; is = e; leaves = t.leaves ∙ ap Some m.2; wrote = subst (λ (text : List ℕ). Appends before now text) m.1 t.wrote };
+        stands = record { same = m.0; keeps = keeps };
+      }
+      go (Ends why u) e m keeps = absurd m
+
+  ended : (end : End) (new : State) (b : Bool) → is_fault end ≡ b
+      → EndsBy is_fault (bytes.may_fail (program_of x) (bytes_of s)) (bytes.machine_event (program_of x) (bytes_of s) input) end (bytes_of s) new input left before now
+      → EndedAlike x s input end new left before now
+  ended end new true e t =
+      let f = at_true (is_fault end) _ e t.fails in
+      record {
+        state = s;
+        ends = record {
+          is = no_false (is_fault end) _ e;
+          fails = if_true (is_fault end) _ (record { may = sym (may_same (program_of x) s end (knows s k.corresponds)) ∙ Fails.may f; same = refl });
+          leaves = t.leaves;
+          wrote = t.wrote;
+        };
+        stands = record { same = Fails.same f; keeps = k };
+      }
+  ended end new false e t =
+      let w = turns x s input is k fits in
+      let ends : bytes.machine_event (program_of x) (bytes_of s) input ≡ Ends end new = at_false (is_fault end) _ e t.is in
+      go (acts.recorded_event (program_of x) s input) refl (subst (λ (v : Event State End). Matches v (acts.recorded_event (program_of x) s input)) ends w.same) w.keeps
+    where
+      go : (d : Event Recorded End) → acts.recorded_event (program_of x) s input ≡ d → Matches (Ends end new) d → OnEvent x d → EndedAlike x s input end new left before now
+      go (Ends why u) q m keeps = record {
+        state = u;
+        ends = record {
+          is = if_false (is_fault end) _ (q ∙ ap (λ (w : End). Ends w u) (sym m.0));
+          fails = no_true (is_fault end) _ e;
+          leaves = t.leaves;
+          wrote = t.wrote;
+        };
+        stands = record { same = m.1; keeps = keeps };
+      }
+      go (Goes u said rest) q m keeps = absurd m
+
+  turned : (result : Turned) (new : State) → TurnedOnce (program_of x) (bytes_of s) input result new left before now → TurnedAlike x s input result new left before now
+  turned Went new t = went new t
+  turned (Ended end) new t = ended end new (is_fault end) refl t
+
+-- what is told of a call says it
+pub follows_once : (told left before now : Option (List ℕ)) (p : Program) (old new : State) (result : Turned)
+    → IfSome told (λ input. TurnedOnce p old input result new left before now) → IfSome told (λ input. FollowsOnce p old input result new left before now)
+follows_once None left before now p old new result t = tt
+follows_once (Some input) left before now p old new result t = λ fits x s is e r.
+    turned x s is r.keeps input fits left before now result new
+    (subst (λ (b : State). TurnedOnce (program_of x) b input result new left before now) r.same
+    (subst (λ (q : Program). TurnedOnce q old input result new left before now) e t))

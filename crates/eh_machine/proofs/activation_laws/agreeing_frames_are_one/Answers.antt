@@ -1,5 +1,0 @@
-use Rattle.eh_machine.proofs.Agreeing.{are_one}
-use Rattle.eh_machine.proofs.activation_laws.agreeing_frames_are_one.Goals as goal
-
-pub returns : goal.returns
-returns c = are_one

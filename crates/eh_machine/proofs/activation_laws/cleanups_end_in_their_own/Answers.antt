@@ -1,5 +1,0 @@
-use Rattle.eh_machine.proofs.RecordedGates.{cleanups_end}
-use Rattle.eh_machine.proofs.activation_laws.cleanups_end_in_their_own.Goals as goal
-
-pub returns : goal.returns
-returns c = cleanups_end

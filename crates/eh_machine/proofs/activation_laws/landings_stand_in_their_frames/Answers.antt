@@ -1,5 +1,0 @@
-use Rattle.eh_machine.proofs.Passed.{landings_stand}
-use Rattle.eh_machine.proofs.activation_laws.landings_stand_in_their_frames.Goals as goal
-
-pub returns : goal.returns
-returns c = landings_stand

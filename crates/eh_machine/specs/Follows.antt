@@ -1,0 +1,73 @@
+-- What a call on an accepted image has done, told by the machine with recorded activations (docs/machine.md, "The same with recorded activations").
+use Rattle.std.specs.Prelude.{◌≡◌, ℕ, List, Option, Some}
+use Rattle.event_runs.specs.Runs.{GoesOn, EndsBy, Runs}
+use Rattle.guest_gates.specs.Ends.{is_fault}
+use Rattle.thumb_core.specs.declared.ends.End.{End}
+use Rattle.eh_cxa.specs.Words.{block_slot}
+use Rattle.eh_phase.specs.declared.phase1.Barrier.{Barrier}
+use Rattle.eh_gates.specs.declared.state.Turned.{Turned}
+use Rattle.eh_gates.specs.declared.state.Turned.TheVariants.{Went, Ended}
+use Rattle.eh_gates.specs.State.{State}
+use Rattle.frame_check.specs.Accepts.{Accepted}
+use Rattle.two_machines.specs.Program.{Program, guide}
+use Rattle.two_machines.specs.Checked.{program_of}
+use Rattle.two_machines.specs.Activations.{Recorded, recorded_start}
+use Rattle.two_machines.specs.ActivationMachine.{Outcome, recorded_event, recorded_may_fail, recorded_machine, throw_to}
+use Rattle.stands_for.specs.Stands.{StandsFor, IsProgram}
+use Rattle.stands_for.specs.Turned.{AreBytes}
+use Rattle.stands_for.specs.Flying.{CanFly}
+
+-- for an accepted image of this program, from each state with recorded activations that this one stands for
+abbrev pub Follows : Program → State → (Accepted → Recorded → Type 0) → Type 0
+Follows p old Done = (x : Accepted) (s : Recorded) → IsProgram x → p ≡ program_of x → StandsFor x old s → Done x s
+
+-- ---- one event
+
+-- with recorded activations it went on, and what the call left stands for what it leads to
+pub record WentAlike (x : Accepted) (s : Recorded) (input : List ℕ) (new : State) (left before now : Option (List ℕ)) : Type 0 where
+  pub state : Recorded
+  pub goes : GoesOn (recorded_event (program_of x) s input) state left before now
+  pub stands : StandsFor x new state
+
+-- or it ended the run there, or a fault did that may come there too; and so again
+pub record EndedAlike (x : Accepted) (s : Recorded) (input : List ℕ) (end : End) (new : State) (left before now : Option (List ℕ)) : Type 0 where
+  pub state : Recorded
+  pub ends : EndsBy is_fault (recorded_may_fail (program_of x) s) (recorded_event (program_of x) s input) end s state input left before now
+  pub stands : StandsFor x new state
+
+abbrev pub TurnedAlike : Accepted → Recorded → List ℕ → Turned → State → Option (List ℕ) → Option (List ℕ) → Option (List ℕ) → Type 0
+TurnedAlike x s input Went new left before now = WentAlike x s input new left before now
+TurnedAlike x s input (Ended end) new left before now = EndedAlike x s input end new left before now
+
+-- on an input of bytes
+abbrev pub FollowsOnce : Program → State → List ℕ → Turned → State → Option (List ℕ) → Option (List ℕ) → Option (List ℕ) → Type 0
+FollowsOnce p old input result new left before now = AreBytes input → Follows p old (λ x s. TurnedAlike x s input result new left before now)
+
+-- ---- a run
+
+-- a run of at most n events with recorded activations was done, wholly or up to a fault, and what the call left stands for what that left
+pub record RanAlike (x : Accepted) (n : ℕ) (s : Recorded) (input : List ℕ)
+    (end : End) (new : State) (unspent : ℕ) (left before now : Option (List ℕ)) : Type 0 where
+  pub state : Recorded
+  pub runs : Runs (recorded_machine (program_of x)) n s input end state unspent left before now
+  pub stands : StandsFor x new state
+
+abbrev pub FollowsRun : Program → ℕ → State → List ℕ → End → State → ℕ → Option (List ℕ) → Option (List ℕ) → Option (List ℕ) → Type 0
+FollowsRun p n old input end new unspent left before now = AreBytes input → Follows p old (λ x s. RanAlike x n s input end new unspent left before now)
+
+-- ---- the start
+
+abbrev pub StartsAlike : Program → State → Type 0
+StartsAlike p new = (x : Accepted) → IsProgram x → p ≡ program_of x → StandsFor x new (recorded_start (program_of x))
+
+-- ---- a flight to a barrier
+
+-- what a throw does with recorded activations from a site, and what the call left stands for what it leaves
+pub record FlownAlike (x : Accepted) (s : Recorded) (site control : ℕ) (b : Barrier) (result : Turned) (new : State) : Type 0 where
+  pub state : Recorded
+  pub is : ◌≡◌ {A = Outcome} (result, state) (throw_to (guide (program_of x)) site control b s)
+  pub stands : StandsFor x new state
+
+abbrev pub FollowsFlight : Program → State → ℕ → ℕ → Barrier → Turned → State → Type 0
+FollowsFlight p old site control b result new =
+    Follows p old (λ x s. (slot : ℕ) → block_slot control ≡ Some slot → CanFly x s site slot b → FlownAlike x s site control b result new)

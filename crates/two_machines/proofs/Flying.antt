@@ -1,0 +1,173 @@
+-- An exception that flies to its barrier, and the search before it: what a throw and a rethrow have in common, over bytes and with recorded
+-- activations, where the frames of both agree.
+use Rattle.std.proofs.Common.{◌≡◌, ℕ, ◌<◌, Bool, true, false, cond, List, [], ◌∷◌, ◌++◌, length, Option, Some, None, Err, refl, sym, ap, subst, ◌∙◌, arith}
+use Rattle.std.specs.Prelude.{is_some}
+use Rattle.eh_bus.specs.Lists.{Has}
+use Rattle.eh_bus.specs.Map.{IsMap}
+use Rattle.eh_bus.specs.Memory.{Memory}
+use Rattle.eh_cxa.specs.declared.layout.TheConstants.{SLOTS}
+use Rattle.eh_cxa.specs.declared.state.State.TheVariants.{Flying}
+use Rattle.eh_cxa.specs.Allocate.{size_at}
+use Rattle.eh_cxa.specs.Lists.{Lists, entry, slots, state_in}
+use Rattle.eh_cxa.specs.Throw.{set_barrier_of}
+use Rattle.eh_cxa.specs.Stands.{Stands}
+use Rattle.eh_cxa.specs.Words.{Write, word, block, block_slot, object_slot, put, put_all}
+use Rattle.eh_cxa.proofs.Meets.{barrier_meets}
+use Rattle.eh_cxa.proofs.Pools.{slot_of_block_is, all_is_map}
+use Rattle.eh_types.specs.Graph.{row_of}
+use Rattle.eh_phase.specs.Calls.{meeting}
+use Rattle.eh_phase.specs.Laws.{goal_of}
+use Rattle.eh_phase.specs.Phases.{phase2}
+use Rattle.eh_phase.specs.declared.verdict.Thrown.{Thrown}
+use Rattle.eh_phase.specs.declared.phase1.Barrier.{Barrier}
+use Rattle.eh_phase.specs.declared.phase1.Found.{Found}
+use Rattle.eh_phase.specs.declared.phase1.Found.TheVariants as found
+use Rattle.eh_phase.specs.declared.phase2.Entered.{Entered}
+use Rattle.eh_trace.specs.Trace.{Trace, pushed}
+use Rattle.eh_trace.specs.declared.event.Event.{Event}
+use Rattle.eh_trace.specs.declared.event.EventKind.{EventKind}
+use Rattle.thumb_core.specs.declared.ends.TrapKind.TheVariants as trap
+use Rattle.thumb_core.specs.declared.ends.End.TheVariants as the_end
+use Rattle.eh_gates.specs.State.{State, Guide, Outcome, logged}
+use Rattle.eh_gates.specs.Landing.{entered}
+use Rattle.eh_gates.specs.Throwing as bytes
+use Rattle.eh_gates.specs.Throwing.{handed, barrier_words, throw_event, barrier_in, from_barrier}
+use Rattle.two_machines.specs.Activations.{Activation, Recorded, memory_of, heads, with_words, with_lists, bytes_of, first_place}
+use Rattle.two_machines.specs.ActivationMachine as machine
+use Rattle.two_machines.specs.Agreeing.{Agree}
+use Rattle.two_machines.specs.Corresponds.{Corresponds, GateMatches}
+use Rattle.two_machines.specs.Landings.{IsInFlight}
+use Rattle.two_machines.specs.Throws.{AreInPool, AdvancesAlike, SeesAlike, CanLand, ThrowsToMatch}
+use Rattle.two_machines.proofs.Agreeing.{are_one}
+use Rattle.two_machines.proofs.FirstEvent.{segments_alone}
+use Rattle.two_machines.proofs.Landed.{landings_match}
+
+put_append : (xs ys : List Write) (m : Memory) → put_all (xs ++ ys) m ≡ put_all ys (put_all xs m)
+put_append [] ys m = refl
+put_append (x ∷ xs) ys m = put_append xs ys (put m x.slot x.place x.value)
+
+-- what a call has left by which the exception of a slot flies: these words in the pool, and these lists
+pub record HasFlown (s : Recorded) (slot : ℕ) (writes : List Write) (flown : Lists) : Type 0 where
+  pub small : slot < SLOTS
+  pub stands : Stands (word (put_all writes (memory_of s))) (heads flown) flown
+  pub placed : length s.places ≡ length flown.cleanups
+  pub flies : state_in (entry flown slot) ≡ Some Flying
+  pub idle : Has (slots flown.cleanups) slot → ⊥
+  pub in_pool : (more : List Write) → AreInPool more → AreInPool (writes ++ more)
+
+-- the same over bytes, behind the event of the throw
+abbrev pub flown_bytes : Recorded → List Write → Lists → Event → State
+flown_bytes s writes flown e = record { regs = s.regs; globals = heads flown; memory = put_all writes (memory_of s); events = pushed s.events e }
+
+module _ (g : Guide) (s : Recorded) (c : Corresponds s) where
+  -- ---- to its barrier
+
+  module _ (slot : ℕ) (writes : List Write) (flown : Lists) (flight : HasFlown s slot writes flown) (events : Trace) (site : ℕ) (alike : AdvancesAlike g s site) (b : Barrier)
+      (can : CanLand g s site slot b) where
+    abbrev barred : List Write
+    barred = set_barrier_of (block_slot (block slot)) (barrier_words (block slot) b)
+
+    abbrev behind : Recorded
+    behind = with_words barred (with_lists flown writes (record s { events = events }))
+
+    abbrev middle : Memory
+    middle = put_all writes (memory_of s)
+
+    memory_is : put_all barred middle ≡ memory_of behind
+    memory_is =
+        ap (put_all barred) (segments_alone writes (memory_of s)) ∙ segments_alone barred (record (memory_of s) { segments = middle.segments })
+
+    corresponds : Corresponds behind
+    corresponds = record {
+      map = subst (λ (m : Memory). IsMap m) memory_is (all_is_map barred middle (all_is_map writes (memory_of s) c.map));
+      stands = subst (λ (m : Memory). Stands (word m) (heads flown) flown) memory_is
+          (barrier_meets middle (put_all barred middle) (block slot) (barrier_words (block slot) b) (all_is_map writes (memory_of s) c.map)
+          (record { sp = can.sp; object = can.object; desc = can.desc; pointer = can.pointer }) refl (heads flown) flown flight.stands);
+      placed = flight.placed;
+    }
+
+    in_flight : IsInFlight behind slot
+    in_flight = record { small = flight.small; flies = flight.flies; idle = flight.idle }
+
+    abbrev goes : Entered
+    goes = phase2 (goal_of b) 0 (machine.frames_from g s None site)
+
+    landed_match : GateMatches (entered (bytes_of behind) (block slot) (handed (block slot) b.hit) goes) (machine.entered behind (can.first ∷ can.more) (block slot) (handed (block slot) b.hit) goes)
+    landed_match = landings_match behind can.cut can.first can.more slot (handed (block slot) b.hit) goes corresponds in_flight can.all can.lands
+
+    barred_in : AreInPool barred
+    barred_in =
+        let small = flight.small in
+        subst (λ (o : Option ℕ). AreInPool (set_barrier_of o (barrier_words (block slot) b))) (sym (slot_of_block_is slot small))
+        (small, omega arith, (small, omega arith, (small, omega arith, (small, omega arith, (small, omega arith, (small, omega arith, tt))))))
+
+    abbrev after : Memory → State
+    after m = record { regs = s.regs; globals = heads flown; memory = m; events = events }
+
+    bytes_same : bytes.throw_to g (after middle) site (block slot) b ≡ entered (bytes_of behind) (block slot) (handed (block slot) b.hit) goes
+    unfolding bytes.throw_to
+    bytes_same =
+        let one = are_one (bytes.frames_from g (after (put_all barred middle)) None site) (machine.frames_from g s None site)
+        (subst (λ (m : Memory). Agree (bytes.frames_from g (after m) None site) (machine.frames_from g s None site)) (put_append writes barred (memory_of s))
+        (alike (writes ++ barred) (flight.in_pool barred barred_in))) in
+        one.bytes (goal_of b) 0 (after (put_all barred middle)) (block slot) (handed (block slot) b.hit)
+        ∙ ap (λ (m : Memory). entered (after m) (block slot) (handed (block slot) b.hit) goes) memory_is
+
+    recorded_same : machine.throw_to g site (block slot) b (with_lists flown writes (record s { events = events })) ≡ machine.entered behind (can.first ∷ can.more) (block slot) (handed (block slot) b.hit) goes
+    unfolding machine.throw_to
+    recorded_same = ap (λ (acts : List Activation). machine.entered behind acts (block slot) (handed (block slot) b.hit) goes) can.passed
+
+    thrown_match : GateMatches (bytes.throw_to g (after middle) site (block slot) b) (machine.throw_to g site (block slot) b (with_lists flown writes (record s { events = events })))
+    thrown_match =
+        subst (λ (o : Outcome). GateMatches o (machine.throw_to g site (block slot) b (with_lists flown writes (record s { events = events })))) (sym bytes_same)
+        (subst (λ (q : machine.Outcome). GateMatches (entered (bytes_of behind) (block slot) (handed (block slot) b.hit) goes) q) (sym recorded_same) landed_match)
+
+    -- .. however it was said
+    pub flies_match : (o : Outcome) (t : Recorded) → o ≡ bytes.throw_to g (after middle) site (block slot) b → t ≡ with_lists flown writes (record s { events = events })
+        → GateMatches o (machine.throw_to g site (block slot) b t)
+    flies_match o t on_bytes on_lists =
+        subst (λ (x : Outcome). GateMatches x (machine.throw_to g site (block slot) b t)) (sym on_bytes)
+        (subst (λ (y : Recorded). GateMatches (bytes.throw_to g (after middle) site (block slot) b) (machine.throw_to g site (block slot) b y)) (sym on_lists) thrown_match)
+
+-- ---- the search before it
+
+module _ (g : Guide) (s : Recorded) (c : Corresponds s) (sees : SeesAlike g s) where
+  module _ (what : EventKind) (thrown : Thrown) (on_bytes : Barrier → State → Outcome) (on_lists : Barrier → Recorded → machine.Outcome)
+      (same_size : size_at (word (memory_of s)) (object_slot thrown.object) ≡ machine.size_of s.lists (object_slot thrown.object))
+      (flies : (e : Event) (b : Barrier) → machine.searched g s thrown ≡ found.Barrier b → GateMatches (on_bytes b (logged (bytes_of s) e)) (on_lists b (machine.logged s e))) where
+    by_found : (e : Event) (f : Found) → machine.searched g s thrown ≡ f
+        → GateMatches (from_barrier on_bytes (barrier_in s.regs.pc f, logged (bytes_of s) e)) (machine.from_barrier on_lists (barrier_in s.regs.pc f, machine.logged s e))
+    by_found e (found.Barrier b) q = flies e b q
+    by_found e (found.Terminate why) q = record { same = (refl, refl); still = record { map = c.map; stands = c.stands; placed = c.placed } }
+    by_found e (found.ObjectRead a) q = record { same = (refl, refl); still = record { map = c.map; stands = c.stands; placed = c.placed } }
+
+    abbrev event_of : ℕ → Event
+    event_of size = throw_event what (memory_of s) thrown size
+
+    same_search : bytes.searched g (bytes_of s) thrown ≡ machine.searched g s thrown
+    same_search = (are_one (bytes.frames_seen g (bytes_of s)) (machine.frames_from g s (first_place s.places) s.regs.pc) sees.search).search (meeting g.image g.types s.segments thrown)
+
+    pub sought_match : GateMatches (from_barrier on_bytes (bytes.sought g (bytes_of s) what thrown)) (machine.from_barrier on_lists (machine.sought g s what thrown))
+    unfolding bytes.sought machine.sought
+    sought_match = by_row (is_some (row_of g.types thrown.ty))
+      where
+        by_row : (row : Bool) → GateMatches (from_barrier on_bytes (cond row
+            (barrier_in s.regs.pc (bytes.searched g (bytes_of s) thrown), logged (bytes_of s) (event_of (size_at (word (memory_of s)) (object_slot thrown.object))))
+            (Err (the_end.Trap trap.BadType thrown.ty s.regs.pc), bytes_of s)))
+            (machine.from_barrier on_lists (cond row
+            (barrier_in s.regs.pc (machine.searched g s thrown), machine.logged s (event_of (machine.size_of s.lists (object_slot thrown.object))))
+            (Err (the_end.Trap trap.BadType thrown.ty s.regs.pc), s)))
+        by_row false = record { same = (refl, refl); still = c }
+        by_row true =
+            subst (λ (n : ℕ). GateMatches (from_barrier on_bytes (barrier_in s.regs.pc (bytes.searched g (bytes_of s) thrown), logged (bytes_of s) (event_of n)))
+            (machine.from_barrier on_lists (barrier_in s.regs.pc (machine.searched g s thrown), machine.logged s (event_of (machine.size_of s.lists (object_slot thrown.object)))))) (sym same_size)
+            (subst (λ (f : Found). GateMatches (from_barrier on_bytes (barrier_in s.regs.pc f, logged (bytes_of s) (event_of (machine.size_of s.lists (object_slot thrown.object)))))
+            (machine.from_barrier on_lists (barrier_in s.regs.pc (machine.searched g s thrown), machine.logged s (event_of (machine.size_of s.lists (object_slot thrown.object)))))) (sym same_search)
+            (by_found (event_of (machine.size_of s.lists (object_slot thrown.object))) (machine.searched g s thrown) refl))
+
+-- ---- from any site
+
+pub throws_to_match : ThrowsToMatch
+throws_to_match g s site slot b c f alike can =
+    flies_match g s c slot [] s.lists (record { small = f.small; stands = c.stands; placed = c.placed; flies = f.flies; idle = f.idle; in_pool = λ more rest. rest }) s.events site alike b can
+    (bytes.throw_to g (bytes_of s) site (block slot) b) s refl refl

@@ -1,0 +1,161 @@
+-- How the machine with recorded activations and the one over bytes fit, in the words of their users (docs/machine.md, "Laws").
+use Rattle.std.specs.Prelude.{◌≡◌, ℕ, ◌≤◌, List, [], ◌∷◌, length, map, take, drop, slice_index, Option, None, IsSome}
+use Rattle.event_runs.specs.Runs.{Event, Goes, Ends}
+use Rattle.elf_image.specs.Image.{Image}
+use Rattle.guest_gates.specs.declared.gates.TheConstants.{INPUT_GATE}
+use Rattle.eh_bus.specs.Memory.{Memory}
+use Rattle.eh_cxa.specs.Words.{word}
+use Rattle.eh_cxa.specs.Cleanup.{innermost_of}
+use Rattle.eh_cxa.specs.ListCalls.{innermost_in}
+use Rattle.eh_phase.specs.Frames.{site_of}
+use Rattle.eh_phase.specs.Phases.{Frame, Frames, vrs_of, phase2}
+use Rattle.eh_phase.specs.declared.phase2.Entered.{Entered}
+use Rattle.eh_phase.specs.declared.phase2.Entered.TheVariants as enters
+use Rattle.eh_phase.specs.declared.phase2.Goal.{Goal}
+use Rattle.thumb_core.specs.Registers.{even}
+use Rattle.thumb_core.specs.Step.{step_of}
+use Rattle.thumb_core.specs.declared.regs.TheConstants.{SP}
+use Rattle.thumb_core.specs.declared.regs.Regs.{Regs}
+use Rattle.thumb_core.specs.declared.regs.Stepped.{Stepped}
+use Rattle.thumb_core.specs.declared.regs.Stepped.TheVariants.{Done, Call, Return, Gate, Trap}
+use Rattle.thumb_core.specs.declared.ends.End.{End}
+use Rattle.eh_gates.specs.State.{State}
+use Rattle.two_machines.specs.Program.{Program}
+use Rattle.two_machines.specs.Machine.{machine_event}
+use Rattle.two_machines.specs.Start.{start_of}
+use Rattle.two_machines.specs.Activations.{Caller, Activation, Recorded, memory_of, heads, bytes_of, callee, registers_of, frames_at, recorded_start}
+use Rattle.two_machines.specs.ActivationMachine.{pops_back, recorded_event, passed_by}
+
+-- ---- the same event
+
+-- both go on or both end, alike, and the states are the same but for what stands in place of what
+abbrev pub Matches : Event State End → Event Recorded End → Type 0
+Matches (Goes b text left) (Goes s said rest) = (b ≡ bytes_of s) × (text ≡ said) × (left ≡ rest)
+Matches (Ends end b) (Ends why s) = (end ≡ why) × (b ≡ bytes_of s)
+Matches (Goes b text left) (Ends why s) = ⊥
+Matches (Ends end b) (Goes s said rest) = ⊥
+
+-- all that instructions do but a return and the gates of exceptions; a POP into pc is a return, whatever word it finds
+abbrev pub IsPlain : Recorded → Stepped → Type 0
+IsPlain s Done = Unit {0}
+IsPlain s (Call target ret) = Unit {0}
+IsPlain s (Return to) = ⊥
+IsPlain s (Gate number) = number ≤ INPUT_GATE
+IsPlain s (Trap trap) = pops_back s ≡ None
+
+-- the landing sp of the innermost cleanup stands in the pool as in the list
+abbrev pub KnowsLanding : Recorded → Type 0
+KnowsLanding s = innermost_of (word (memory_of s)) (heads s.lists) ≡ innermost_in s.lists.cleanups
+
+-- an instruction that is no return and no gate of exceptions does the same in both machines
+abbrev pub PlainEventsMatch : Type 0
+PlainEventsMatch =
+    (p : Program) (s : Recorded) (input : List ℕ) → KnowsLanding s → IsPlain s (step_of s.regs (memory_of s)).0
+    → Matches (machine_event p (bytes_of s) input) (recorded_event p s input)
+
+-- ---- the start
+
+abbrev pub IsNoReturn : Recorded → Stepped → Type 0
+IsNoReturn s Done = Unit {0}
+IsNoReturn s (Call target ret) = Unit {0}
+IsNoReturn s (Return to) = ⊥
+IsNoReturn s (Gate number) = Unit {0}
+IsNoReturn s (Trap trap) = pops_back s ≡ None
+
+-- both start in the same state, and with an instruction that is no return both do the same first event
+pub record StartsAlike (p : Program) : Type 0 where
+  pub same : bytes_of (recorded_start p) ≡ start_of p
+  pub first : (input : List ℕ) → IsNoReturn (recorded_start p) (step_of (start_of p).regs (start_of p).memory).0
+      → Matches (machine_event p (start_of p) input) (recorded_event p (recorded_start p) input)
+
+abbrev pub MachinesStartAlike : Type 0
+MachinesStartAlike = (p : Program) → StartsAlike p
+
+-- ---- a return
+
+-- r4 to r11 are eight
+abbrev pub IsWhole : Activation → Type 0
+IsWhole a = length a.caller.saved ≡ 8
+
+abbrev pub AreWhole : List Activation → Type 0
+AreWhole [] = Unit {0}
+AreWhole (a ∷ more) = IsWhole a × AreWhole more
+
+-- the registers that the first activation recorded at its call
+pub record IsBack (c : Caller) (t : Recorded) : Type 0 where
+  pub pc : t.regs.pc ≡ even c.back
+  pub sp : slice_index t.regs.r SP ≡ c.sp
+  pub saved : callee t.regs.r ≡ c.saved
+
+-- what an instruction does is a return; a POP into pc whose words can be loaded is one whatever they are
+abbrev pub IsReturn : Recorded → Stepped → Type 0
+IsReturn s (Return to) = Unit {0}
+IsReturn s (Trap trap) = IsSome (pops_back s)
+IsReturn s Done = ⊥
+IsReturn s (Call target ret) = ⊥
+IsReturn s (Gate number) = ⊥
+
+-- a return that goes on gives back what was recorded, whatever the stack holds
+abbrev pub ReturnsGiveBack : Type 0
+ReturnsGiveBack =
+    (p : Program) (s t : Recorded) (input text left : List ℕ) → IsReturn s (step_of s.regs (memory_of s)).0
+    → recorded_event p s input ≡ Goes t text left → IsWhole s.first → IsBack s.first.caller t
+
+-- ---- a call
+
+-- an activation without slots, of the function that was called, records where it returns to, and sp and r4 to r11 as they are
+pub record IsRecorded (target ret : ℕ) (t : Recorded) : Type 0 where
+  pub function : t.first.function ≡ target
+  pub back : t.first.caller.back ≡ ret
+  pub sp : t.first.caller.sp ≡ slice_index t.regs.r SP
+  pub saved : t.first.caller.saved ≡ callee t.regs.r
+  pub slots : t.first.slots ≡ []
+
+abbrev pub callers : List Activation → List Caller
+callers acts = map (λ (a : Activation). a.caller) acts
+
+-- a call that goes on puts it in front of those that were there
+pub record IsCalled (target ret : ℕ) (s t : Recorded) : Type 0 where
+  pub recorded : IsRecorded target ret t
+  pub outer : callers t.outer ≡ callers (s.first ∷ s.outer)
+
+abbrev pub CallsRecord : Type 0
+CallsRecord =
+    (p : Program) (s t : Recorded) (input text left : List ℕ) (target ret : ℕ) (regs : Regs) (m : Memory)
+    → step_of s.regs (memory_of s) ≡ (Call target ret, regs, m) → recorded_event p s input ≡ Goes t text left → IsCalled target ret s t
+
+-- ---- the frames of a throw
+
+-- where an activation stands, and its sp
+abbrev pub place_of : Frame → ℕ × ℕ
+place_of f = (f.site, f.sp)
+
+-- of each activation, by what the one inside it recorded
+abbrev pub recorded_places : Caller → List Activation → List (ℕ × ℕ)
+recorded_places c [] = []
+recorded_places c (a ∷ more) = (site_of (registers_of c), c.sp) ∷ recorded_places a.caller more
+
+-- the frames of a throw are one for each activation, from the first up to where they end
+abbrev pub FramesAreActivations : Type 0
+FramesAreActivations =
+    (image : Image) (place : Option ℕ) (site : ℕ) (r : List ℕ) (a : Activation) (outer : List Activation) → AreWhole (a ∷ outer)
+    → map place_of (frames_at image place site r a outer).frames
+    ≡ take (length (frames_at image place site r a outer).frames) ((site, slice_index r SP) ∷ recorded_places a.caller outer)
+
+-- ---- a landing
+
+-- what phase 2 enters is entered in this frame
+abbrev pub StandsIn : Frame → Entered → Type 0
+StandsIn f (enters.Cleanup vrs pad next site) = (vrs ≡ vrs_of f) × (site ≡ f.site)
+StandsIn f (enters.Catch vrs pad) = vrs ≡ vrs_of f
+StandsIn f (enters.Spec vrs pad) = vrs ≡ vrs_of f
+StandsIn f enters.Unexpected = Unit {0}
+StandsIn f (enters.Terminate why) = Unit {0}
+
+-- behind the frames that are passed stands the one that phase 2 enters; where all are passed it ends by the cause by which they end
+pub record IsPassed (g : Goal) (from : ℕ) (fs : Frames) : Type 0 where
+  pub lands : (f : Frame) (rest : List Frame) → drop (passed_by g from fs.frames) fs.frames ≡ f ∷ rest → StandsIn f (phase2 g from fs)
+  pub ends : drop (passed_by g from fs.frames) fs.frames ≡ [] → phase2 g from fs ≡ enters.Terminate fs.last
+
+abbrev pub LandingsStandInTheirFrames : Type 0
+LandingsStandInTheirFrames = (g : Goal) (from : ℕ) (fs : Frames) → IsPassed g from fs

@@ -1,0 +1,498 @@
+-- One event of the machine with recorded activations, and its runs (docs/machine.md, "The same with recorded activations"): returns, throws
+-- and the ends of cleanups go by what was recorded at the calls, whatever saved words hold.
+use Rattle.std.specs.Prelude.{ℕ, suc, ◌+◌, ◌==◌, ◌&&◌, nat_lt, Bool, true, false, List, [], ◌∷◌, length, map, filter, drop, slice_index, Option, Some, None, is_some, Result, Ok, Err, if◌then◌else◌}
+use Rattle.std.specs.Int.{bit_at}
+use Rattle.std.specs.Option.{option_or}
+use Rattle.event_runs.specs.Runs.{Event, Goes, Ends, Machine}
+use Rattle.eh_bus.specs.Memory.{Memory, stays_guarded}
+use Rattle.eh_bus.specs.declared.fault.BusFault.{BusFault}
+use Rattle.guest_gates.specs.declared.gates.TheConstants.{INPUT_GATE}
+use Rattle.guest_gates.specs.Ends.{trap_end, is_fault}
+use Rattle.guest_gates.specs.Gates.{r0, with_r0, gate_event, gate_fails}
+use Rattle.eh_cxa.specs.Allocate.{allocate_of, free_of}
+use Rattle.eh_cxa.specs.Catch.{begin_catch_of, end_catch_of, rethrow_of}
+use Rattle.eh_cxa.specs.Cleanup.{begin_cleanup_of}
+use Rattle.eh_cxa.specs.ListCalls.{allocate_list, free_list, size_in, throw_list, land_list, catch_list, end_list, rethrow_list, begin_cleanup_list, innermost_in}
+use Rattle.eh_cxa.specs.Lists.{Entry, Free, OutOfUse, Live, Cleanup, Lists, entry}
+use Rattle.eh_cxa.specs.Lists.{Outcome as Call}
+use Rattle.eh_cxa.specs.Throw.{Throw, start_throw_of, set_barrier_of, barrier_of, land_of}
+use Rattle.eh_cxa.specs.Words.{word, block, object, block_slot, object_slot}
+use Rattle.eh_cxa.specs.declared.globals.BarrierWords.{BarrierWords}
+use Rattle.eh_cxa.specs.declared.globals.CleanupWords.{CleanupWords}
+use Rattle.eh_cxa.specs.declared.globals.CxaFault.{CxaFault}
+use Rattle.eh_cxa.specs.declared.globals.CxaFault.TheVariants as fault
+use Rattle.eh_cxa.specs.declared.layout.TheConstants.{BARRIER_OBJECT}
+use Rattle.eh_phase.specs.Calls.{meeting}
+use Rattle.eh_phase.specs.Firsts.{first_some}
+use Rattle.eh_phase.specs.Frames.{covered_at}
+use Rattle.eh_phase.specs.Laws.{goal_of}
+use Rattle.eh_phase.specs.Phases.{Frame, Frames, phase1, phase2, placed, from_address, entered_at}
+use Rattle.eh_phase.specs.declared.walk.Covered.{Covered}
+use Rattle.eh_phase.specs.declared.phase1.Barrier.{Barrier}
+use Rattle.eh_phase.specs.declared.phase1.Found.{Found}
+use Rattle.eh_phase.specs.declared.phase2.Entered.{Entered}
+use Rattle.eh_phase.specs.declared.phase2.Entered.TheVariants as enters
+use Rattle.eh_phase.specs.declared.phase2.Goal.{Goal}
+use Rattle.eh_phase.specs.declared.verdict.Thrown.{Thrown}
+use Rattle.eh_trace.specs.Trace.{pushed}
+use Rattle.eh_trace.specs.declared.event.Event.{Event as Traced}
+use Rattle.eh_trace.specs.declared.event.EventKind.{EventKind}
+use Rattle.eh_trace.specs.declared.event.EventKind.TheVariants as event
+use Rattle.eh_types.specs.Graph.{row_of}
+use Rattle.unwind_codes.specs.Cut.{cut}
+use Rattle.eh_bytecode.specs.Recipe.{recipe}
+use Rattle.eh_bytecode.specs.declared.recipe.Recipe.{Recipe}
+use Rattle.eh_bytecode.specs.declared.recipe.RecipeFault.{RecipeFault}
+use Rattle.step_ahead.specs.Ahead.{branches_some, pushes_some}
+use Rattle.thumb_isa.specs.declared.instr.Instr.{Instr}
+use Rattle.thumb_isa.specs.declared.instr.Instr.TheVariants.{Pop}
+use Rattle.thumb_core.specs.Lists.{bytes_of, load_list}
+use Rattle.thumb_core.specs.Outcome.{Outcome as Stepping}
+use Rattle.thumb_core.specs.Registers.{all_of, even, put, with_all}
+use Rattle.thumb_core.specs.Step.{step_of, instr_at}
+use Rattle.thumb_core.specs.declared.regs.CoreTrap.{CoreTrap}
+use Rattle.thumb_core.specs.declared.regs.TheConstants.{SP, PC}
+use Rattle.thumb_core.specs.declared.regs.Regs.{Regs}
+use Rattle.thumb_core.specs.declared.regs.Stepped.{Stepped}
+use Rattle.thumb_core.specs.declared.regs.Stepped.TheVariants.{Done, Call as Calls, Return, Gate, Trap}
+use Rattle.thumb_core.specs.declared.ends.Cause.{Cause}
+use Rattle.thumb_core.specs.declared.ends.Cause.TheVariants as cause
+use Rattle.thumb_core.specs.declared.ends.TrapKind.{TrapKind}
+use Rattle.thumb_core.specs.declared.ends.TrapKind.TheVariants as kind
+use Rattle.thumb_core.specs.declared.ends.End.{End}
+use Rattle.thumb_core.specs.declared.ends.End.TheVariants as the_end
+use Rattle.eh_gates.specs.declared.gates.TheConstants.{ALLOCATE_GATE, FREE_GATE, THROW_GATE, BEGIN_CATCH_GATE, END_CATCH_GATE, RETHROW_GATE, END_CLEANUP_GATE, UNEXPECTED_GATE, TERMINATE_GATE, UNCAUGHT_GATE}
+use Rattle.eh_gates.specs.declared.state.Turned.{Turned}
+use Rattle.eh_gates.specs.declared.state.Turned.TheVariants.{Went, Ended}
+use Rattle.eh_gates.specs.State.{Guide, behind}
+use Rattle.eh_gates.specs.CallGates.{fault_end, with_r1}
+use Rattle.eh_gates.specs.Landing.{landed, pad_event, words_of}
+use Rattle.eh_gates.specs.Throwing.{handed, barrier_words, throw_event, barrier_in, rethrow_end}
+use Rattle.eh_gates.specs.Resuming.{goal_in}
+use Rattle.two_machines.specs.Program.{Program, guide}
+use Rattle.two_machines.specs.Machine.{sp_end, way_end, fell_off, saved_words}
+use Rattle.two_machines.specs.Activations.{Caller, Activation, Recorded, callee, with_caller, registers_of, released_in, freed_in, staying, with_slots, reg_in, memory_of, words_in, heads, with_words, with_lists, first_place, frames_at}
+
+-- ---- what a gate does
+
+-- whether the run goes on, and the state that is left in either case
+abbrev pub Outcome : Type 0
+Outcome = Turned × Recorded
+
+abbrev pub trapped : TrapKind → ℕ → Recorded → Outcome
+trapped kind value s = (Ended (the_end.Trap kind value s.regs.pc), s)
+
+abbrev pub terminated : Cause → Recorded → Outcome
+terminated cause s = (Ended (the_end.Terminate cause), s)
+
+abbrev pub refused : CxaFault → ℕ → Recorded → Outcome
+refused why given s = (Ended (fault_end why given s.regs.pc), s)
+
+abbrev pub logged : Recorded → Traced → Recorded
+logged s e = record s { events = pushed s.events e }
+
+-- on behind the gate, with its answers in r0 and r1
+abbrev pub went : ℕ → Recorded → Outcome
+went next s = (Went, record s { regs = behind next s.regs })
+
+abbrev pub with_answer : ℕ → Recorded → Recorded
+with_answer x s = record s { regs = with_r0 x s.regs }
+
+abbrev pub with_second : ℕ → Recorded → Recorded
+with_second x s = record s { regs = with_r1 x s.regs }
+
+-- ---- gates that are calls on exceptions alone
+
+abbrev pub allocated : ℕ → Recorded → Recorded → Result ℕ CxaFault → Outcome
+allocated next s new (Ok object) = went next (with_answer object new)
+allocated next s new (Err why) = refused why (reg_in s 0) s
+
+abbrev pub freed : ℕ → Recorded → Recorded → Result (Unit {0}) CxaFault → Outcome
+freed next s new (Ok done) = went next new
+freed next s new (Err why) = refused why (reg_in s 0) s
+
+abbrev pub caught : ℕ → Recorded → Recorded → Result ℕ CxaFault → Outcome
+caught next s new (Ok object) = went next (with_answer object new)
+caught next s new (Err why) = refused why (reg_in s 0) s
+
+abbrev pub dropped : ℕ → Recorded → Recorded → Result (ℕ × ℕ) CxaFault → Outcome
+dropped next s new (Ok (object, destructor)) = went next (with_second destructor (with_answer object new))
+dropped next s new (Err why) = refused why 0 s
+
+abbrev pub allocate_gate : ℕ → Recorded → Outcome
+allocate_gate next s =
+    allocated next s (with_lists (allocate_list s.lists (reg_in s 0)).lists (allocate_of (words_in s.lists) (reg_in s 0)).writes s)
+    (allocate_list s.lists (reg_in s 0)).answer
+
+abbrev pub free_gate : ℕ → Recorded → Outcome
+free_gate next s =
+    freed next s
+    (with_lists (free_list s.lists (object_slot (reg_in s 0))).lists (free_of (words_in s.lists) (object_slot (reg_in s 0))).writes s)
+    (free_list s.lists (object_slot (reg_in s 0))).answer
+
+-- the object that the barrier of a slot gives its handler
+abbrev pub given : Recorded → ℕ → ℕ
+given s slot = word (memory_of s) slot BARRIER_OBJECT
+
+abbrev pub begin_catch : Recorded → Call (Result ℕ CxaFault)
+begin_catch s = catch_list (given s) s.lists (block_slot (reg_in s 0))
+
+abbrev pub begin_catch_gate : ℕ → Recorded → Outcome
+begin_catch_gate next s =
+    caught next s (with_lists (begin_catch s).lists (begin_catch_of (words_in s.lists) (heads s.lists) (reg_in s 0)).writes s) (begin_catch s).answer
+
+abbrev pub end_catch_gate : ℕ → Recorded → Outcome
+end_catch_gate next s =
+    dropped next s (with_lists (end_list s.lists).lists (end_catch_of (words_in s.lists) (heads s.lists)).writes s) (end_list s.lists).answer
+
+abbrev pub uncaught_gate : ℕ → Recorded → Outcome
+uncaught_gate next s = went next (with_answer s.lists.uncaught s)
+
+-- ---- landing
+
+-- whether something of a frame is entered; of the first frame the descriptors from an address on count
+abbrev pub is_entered : Goal → ℕ → Frame → Bool
+is_entered g from f = is_some (first_some (entered_at g) (placed f (from_address from f.items)))
+
+-- how many frames are passed before the one that is entered
+unfoldable pub passed_by : Goal → ℕ → List Frame → ℕ
+passed_by g from [] = 0
+passed_by g from (f ∷ more) = if is_entered g from f then 0 else suc (passed_by g 0 more)
+
+-- The activation that is entered is the first now, those inside it have gone, and sp and r4 to r11 are those of its frame. Slots below sp
+-- leave
+abbrev pub at_pad : Recorded → List Activation → List ℕ → ℕ → ℕ → Recorded
+at_pad s [] r pad answer = record s { regs = landed s.regs r pad answer }
+at_pad s (a ∷ more) r pad answer = record s {
+  regs = landed s.regs r pad answer;
+  first = released_in s.home (slice_index r SP) a;
+  outer = map (λ b. released_in s.home (slice_index r SP) b) more;
+  beyond = filter (stays_guarded s.home (slice_index r SP)) s.beyond;
+}
+
+-- a cleanup is in progress, in the activation with so many outside it
+abbrev pub in_progress : Recorded → ℕ → ℕ → CleanupWords → Option ℕ → Recorded
+in_progress s outside block w None = s
+in_progress s outside block w (Some slot) =
+    record (with_lists (begin_cleanup_list s.lists slot w) (begin_cleanup_of (heads s.lists) block w).writes s) { places = outside ∷ s.places }
+
+-- the number of the activations outside the first of some
+abbrev pub outside_of : List Activation → ℕ
+outside_of [] = 0
+outside_of (a ∷ more) = length more
+
+abbrev pub enter_cleanup : Recorded → List Activation → ℕ → List ℕ → ℕ → CleanupWords → Recorded
+enter_cleanup s acts block r pad w =
+    logged (at_pad (in_progress s (outside_of acts) block w (block_slot block)) acts r pad 0) (pad_event event.Cleanup pad (slice_index r SP) 0)
+
+-- the exception landed
+abbrev pub flown : Recorded → Option ℕ → Recorded
+flown s None = s
+flown s (Some slot) = with_lists (land_list s.lists slot) (land_of (words_in s.lists) (Some slot)) s
+
+abbrev pub enter_handler : Recorded → List Activation → ℕ → List ℕ → ℕ → Traced → Recorded
+enter_handler s acts block r pad e = logged (at_pad (flown s (block_slot block)) acts r pad block) e
+
+-- what phase 2 enters, in the first of these activations; an end leaves the state
+abbrev pub entered : Recorded → List Activation → ℕ → ℕ → Entered → Outcome
+entered s acts block object (enters.Cleanup vrs pad next site) = (Went, enter_cleanup s acts block vrs.r pad (words_of vrs.r next site))
+entered s acts block object (enters.Catch vrs pad) =
+    (Went, enter_handler s acts block vrs.r pad (pad_event event.Catch pad (slice_index vrs.r SP) object))
+entered s acts block object (enters.Spec vrs pad) =
+    (Went, enter_handler s acts block vrs.r pad (pad_event event.Unexpected pad (slice_index vrs.r SP) 0))
+entered s acts block object enters.Unexpected = terminated cause.Unexpected s
+entered s acts block object (enters.Terminate why) = terminated why s
+
+-- phase 2 over the frames of these activations, from an address in the first
+abbrev pub advances : Recorded → List Activation → ℕ → ℕ → Goal → ℕ → Frames → Outcome
+advances s acts block object g from fs = entered s (drop (passed_by g from fs.frames) acts) block object (phase2 g from fs)
+
+-- ---- a throw
+
+-- the innermost frame stands at a site with the registers as they are
+abbrev pub frames_from : Guide → Recorded → Option ℕ → ℕ → Frames
+frames_from g s place site = frames_at g.image place site (all_of s.regs) s.first s.outer
+
+-- of a throw at a gate that is the gate's own address. Phase 1 goes no further than the activation of the innermost cleanup in progress
+abbrev pub searched : Guide → Recorded → Thrown → Found
+searched g s thrown = phase1 (meeting g.image g.types s.segments thrown) (frames_from g s (first_place s.places) s.regs.pc)
+
+abbrev pub size_of : Lists → Option ℕ → ℕ
+size_of l None = 0
+size_of l (Some slot) = size_in (entry l slot)
+
+-- of a type that the graph holds, behind the event of the throw
+unfoldable pub sought : Guide → Recorded → EventKind → Thrown → Result Barrier End × Recorded
+sought g s what thrown =
+    if is_some (row_of g.types thrown.ty)
+    then (
+      barrier_in s.regs.pc (searched g s thrown),
+      logged s (throw_event what (memory_of s) thrown (size_of s.lists (object_slot thrown.object))),
+    )
+    else (Err (the_end.Trap kind.BadType thrown.ty s.regs.pc), s)
+
+abbrev pub from_barrier : (Barrier → Recorded → Outcome) → Result Barrier End × Recorded → Outcome
+from_barrier further (Ok b, s) = further b s
+from_barrier further (Err end, s) = (Ended end, s)
+
+-- the barrier is written, and phase 2 goes to it from a site
+abbrev pub lands : Guide → Recorded → ℕ → ℕ → Barrier → Outcome
+lands g s site block b = advances s (s.first ∷ s.outer) block (handed block b.hit) (goal_of b) 0 (frames_from g s None site)
+
+unfoldable pub throw_to : Guide → ℕ → ℕ → Barrier → Recorded → Outcome
+throw_to g site block b s = lands g (with_words (set_barrier_of (block_slot block) (barrier_words block b)) s) site block b
+
+-- of the object at r0, of the type at r1, with the destructor at r2
+abbrev pub thrown_first : Recorded → Thrown
+thrown_first s = record { object = reg_in s 0; ty = reg_in s 1 }
+
+abbrev pub thrown_words : Recorded → Throw
+thrown_words s = record { ty = reg_in s 1; destructor = reg_in s 2 }
+
+abbrev pub first_flight : Recorded → Call (Result ℕ CxaFault)
+first_flight s = throw_list s.lists (object_slot (reg_in s 0)) (thrown_words s)
+
+abbrev pub flies_first : Recorded → Recorded
+flies_first s =
+    with_lists (first_flight s).lists (start_throw_of (words_in s.lists) (heads s.lists) (object_slot (reg_in s 0)) (thrown_words s)).writes s
+
+abbrev pub throws : Guide → Recorded → Result ℕ CxaFault → Outcome
+throws g s (Err why) = refused why (reg_in s 0) s
+throws g s (Ok block) = from_barrier (λ b t. throw_to g s.regs.pc block b (flies_first t)) (sought g s event.Throw (thrown_first s))
+
+abbrev pub throw_gate : Guide → Recorded → Outcome
+throw_gate g s = throws g s (first_flight s).answer
+
+-- a rethrow of the top of the caught stack
+
+abbrev pub type_in : Entry → ℕ
+type_in Free = 0
+type_in OutOfUse = 0
+type_in (Live r) = r.ty
+
+abbrev pub thrown_of_slot : Lists → Option ℕ → Thrown
+thrown_of_slot l None = record { object = 0; ty = 0 }
+thrown_of_slot l (Some slot) = record { object = object slot; ty = type_in (entry l slot) }
+
+abbrev pub flies_again : Recorded → Recorded
+flies_again s = with_lists (rethrow_list s.lists).lists (rethrow_of (words_in s.lists) (heads s.lists)).writes s
+
+abbrev pub rethrows : Guide → Recorded → Result ℕ CxaFault → Outcome
+rethrows g s (Err why) = (Ended (rethrow_end why (heads s.lists).caught s.regs.pc), s)
+rethrows g s (Ok block) =
+    from_barrier (λ b t. throw_to g s.regs.pc block b (flies_again t)) (sought g s event.Rethrow (thrown_of_slot s.lists (block_slot block)))
+
+abbrev pub rethrow_gate : Guide → Recorded → Outcome
+rethrow_gate g s = rethrows g s (rethrow_list s.lists).answer
+
+-- ---- the end of a cleanup
+
+-- the cleanup isn't in progress any more
+abbrev pub without_cleanup : Recorded → List Cleanup → Recorded
+without_cleanup s more = record s {
+  lists = record { entries = s.lists.entries; caught = s.lists.caught; cleanups = more; uncaught = s.lists.uncaught };
+  places = drop 1 s.places;
+}
+
+-- phase 2 goes on in the cleanup's activation, from its site and next descriptor, to the barrier of its exception; the registers there are
+-- those at the call of the gate's function
+abbrev pub goes_on : Guide → Recorded → Cleanup → Caller → Activation → List Activation → BarrierWords → Outcome
+goes_on g s c gate a outer b =
+    advances s (a ∷ outer) (block c.slot) b.object (goal_in b) c.next (frames_at g.image None c.site (registers_of gate) a outer)
+
+-- the cleanup's activation is the one outside the gate's
+abbrev pub resumes_in : Guide → Recorded → Cleanup → List Cleanup → List Activation → Option ℕ → Outcome
+resumes_in g s c more [] place = refused fault.CleanupElsewhere s.first.caller.sp s
+resumes_in g s c more (a ∷ outer) None = refused fault.CleanupElsewhere s.first.caller.sp s
+resumes_in g s c more (a ∷ outer) (Some outside) =
+    if (s.first.caller.sp == c.sp) && (length outer == outside)
+    then goes_on g (without_cleanup s more) c s.first.caller a outer (barrier_of (word (memory_of s)) (Some c.slot))
+    else refused fault.CleanupElsewhere s.first.caller.sp s
+
+-- an activation can be unwound where its entry has codes with a recipe
+abbrev pub has_recipe : Result Recipe RecipeFault → Bool
+has_recipe (Ok done) = true
+has_recipe (Err why) = false
+
+abbrev pub can_unwind : Option Covered → Bool
+can_unwind None = false
+can_unwind (Some c) = has_recipe (recipe (cut c.codes))
+
+abbrev pub resumes : Guide → Recorded → List Cleanup → Outcome
+resumes g s [] = refused fault.NoCleanup 0 s
+resumes g s (c ∷ more) =
+    if can_unwind (covered_at g.image s.regs.pc) then resumes_in g s c more s.outer (first_place s.places)
+    else refused fault.CleanupElsewhere 0 s
+
+abbrev pub end_cleanup_gate : Guide → Recorded → Outcome
+end_cleanup_gate g s = resumes g s s.lists.cleanups
+
+-- ---- gates by their numbers, in the state before the instruction, where the next one is at `next`
+
+unfoldable pub gate_of : Guide → ℕ → ℕ → Recorded → Outcome
+gate_of g number next s =
+    if number == ALLOCATE_GATE then allocate_gate next s
+    else (if number == FREE_GATE then free_gate next s
+    else (if number == THROW_GATE then throw_gate g s
+    else (if number == BEGIN_CATCH_GATE then begin_catch_gate next s
+    else (if number == END_CATCH_GATE then end_catch_gate next s
+    else (if number == RETHROW_GATE then rethrow_gate g s
+    else (if number == END_CLEANUP_GATE then end_cleanup_gate g s
+    else (if number == UNEXPECTED_GATE then terminated cause.Unexpected s
+    else (if number == TERMINATE_GATE then terminated cause.Called s
+    else (if number == UNCAUGHT_GATE then uncaught_gate next s else trapped kind.UnknownGate number s)))))))))
+
+-- ---- up to the gates
+
+-- the registers behind an instruction: a return gives the caller's, as they were recorded at its call
+abbrev pub returned : Caller → Regs → Regs
+returned c regs = record regs { r = with_caller c regs.r; pc = even c.back }
+
+abbrev pub registers_behind : Caller → Stepped → Regs → Regs
+registers_behind c Done regs = regs
+registers_behind c (Calls target ret) regs = regs
+registers_behind c (Return to) regs = returned c regs
+registers_behind c (Gate number) regs = regs
+registers_behind c (Trap trap) regs = regs
+
+-- the last activation returns to nobody, and that ends the run with r0
+abbrev pub return_end : Program → ℕ → List Activation → Regs → Option End
+return_end p pc [] regs = Some (the_end.Exit (r0 regs))
+return_end p pc (a ∷ more) regs = fell_off p pc regs.pc
+
+abbrev pub way_end_of : Program → Recorded → Bool → Stepped → Regs → Option End
+way_end_of p s branches Done regs = way_end p branches s.regs.pc Done regs
+way_end_of p s branches (Calls target ret) regs = way_end p branches s.regs.pc (Calls target ret) regs
+way_end_of p s branches (Return to) regs = return_end p s.regs.pc s.outer regs
+way_end_of p s branches (Gate number) regs = way_end p branches s.regs.pc (Gate number) regs
+way_end_of p s branches (Trap trap) regs = None
+
+abbrev pub tests : Program → Recorded → Stepped → Regs → Option End
+tests p s what regs =
+    option_or (sp_end (innermost_in s.lists.cleanups) s.home.0 s.regs.pc (reg_in s SP) (slice_index regs.r SP))
+    (way_end_of p s (branches_some (instr_at (memory_of s) s.regs.pc) s.regs) what regs)
+
+-- the slots behind an instruction: a push adds those of its words that are saves to the first activation's, and where sp rose those below
+-- it leave
+abbrev pub settled_in : ℕ → ℕ → ℕ → ℕ → Recorded → Recorded
+settled_in saves count old new s = record s {
+  first = freed_in s.home old new (with_slots (saved_words saves count new) s.first);
+  outer = map (λ a. freed_in s.home old new a) s.outer;
+  beyond = staying s.home old new s.beyond;
+}
+
+abbrev pub settled_at : Program → Recorded → Regs → Recorded → Recorded
+settled_at p s regs t =
+    settled_in (p.look s.regs.pc).saves (pushes_some (instr_at (memory_of s) s.regs.pc)) (reg_in s SP) (slice_index regs.r SP) t
+
+-- the activations behind it: a call has a new one in front, and a return takes the first off
+abbrev pub called : ℕ → ℕ → Recorded → Recorded
+called target ret s = record s {
+  first = record { function = target; caller = record { back = ret; sp = reg_in s SP; saved = callee s.regs.r }; slots = [] };
+  outer = s.first ∷ s.outer;
+}
+
+abbrev pub left_by : List Activation → Recorded → Recorded
+left_by [] s = s
+left_by (a ∷ more) s = record s { first = a; outer = more }
+
+abbrev pub activations_behind : Stepped → Recorded → Recorded
+activations_behind Done s = s
+activations_behind (Calls target ret) s = called target ret s
+activations_behind (Return to) s = left_by s.outer s
+activations_behind (Gate number) s = s
+activations_behind (Trap trap) s = s
+
+abbrev pub moved : Program → Recorded → Stepped → Regs → Memory → Recorded
+moved p s what regs m = activations_behind what (settled_at p s regs (record s { regs = regs; segments = m.segments }))
+
+abbrev pub Passed : Type 0
+Passed = Result Stepped End × Recorded
+
+abbrev pub tested : Program → Recorded → Stepped → Regs → Memory → Option End → Passed
+tested p s what regs m (Some end) = (Err end, s)
+tested p s what regs m None = (Ok what, moved p s what regs m)
+
+abbrev pub with_tests : Program → Recorded → Stepped → Regs → Memory → Passed
+with_tests p s what regs m = tested p s what regs m (tests p s what regs)
+
+-- a POP, by its registers
+abbrev pub pops : Instr → Option ℕ
+pops (Pop list) = Some list
+pops i = None
+
+abbrev pub pops_some : Option (Instr × ℕ) → Option ℕ
+pops_some (Some (i, size)) = pops i
+pops_some None = None
+
+-- the registers that a POP leaves, where its words can be loaded
+abbrev pub popped : Recorded → ℕ → Result (List ℕ) BusFault → Option Regs
+popped s list (Ok words) = Some (with_all s.regs (put words SP (reg_in s SP + bytes_of list)))
+popped s list (Err why) = None
+
+-- .. of a POP into pc
+abbrev pub popped_back : Recorded → Option ℕ → Option Regs
+popped_back s (Some list) = if bit_at list PC == 1 then popped s list (load_list list (reg_in s SP) s.regs (memory_of s)) else None
+popped_back s None = None
+
+-- .. where it stands at pc
+abbrev pub pops_back : Recorded → Option Regs
+pops_back s = popped_back s (pops_some (instr_at (memory_of s) s.regs.pc))
+
+-- a trap ends the run; but a POP into pc returns whatever word it finds for pc, which may be a saved one
+abbrev pub trapped_by : Program → Recorded → CoreTrap → Option Regs → Passed
+trapped_by p s trap None = (Err (trap_end trap s.regs.pc), s)
+trapped_by p s trap (Some regs) = with_tests p s (Return s.first.caller.back) (returned s.first.caller regs) (memory_of s)
+
+abbrev pub stepped : Program → Recorded → Stepping → Passed
+stepped p s (Trap trap, regs, m) = trapped_by p s trap (pops_back s)
+stepped p s (what, regs, m) = with_tests p s what (registers_behind s.first.caller what regs) m
+
+abbrev pub checked : Program → Recorded → Bool → Passed
+checked p s true = stepped p s (step_of s.regs (memory_of s))
+checked p s false = (Err (the_end.Trap kind.FellOff s.regs.pc s.regs.pc), s)
+
+unfoldable pub passed : Program → Recorded → Passed
+passed p s = checked p s (p.look s.regs.pc).is_instr
+
+-- ---- one event
+
+abbrev pub event_of : Outcome → List ℕ → Event Recorded End
+event_of (Went, s) input = Goes s [] input
+event_of (Ended end, s) input = Ends end s
+
+-- a gate of every machine changes registers alone
+abbrev pub in_state : Recorded → Event Regs End → Event Recorded End
+in_state s (Goes regs text left) = Goes (record s { regs = regs }) text left
+in_state s (Ends end regs) = Ends end (record s { regs = regs })
+
+abbrev pub gated : Program → ℕ → Recorded → Regs → List ℕ → Event Recorded End
+gated p number s regs input =
+    if nat_lt INPUT_GATE number then event_of (gate_of (guide p) number regs.pc s) input
+    else in_state s (gate_event number s.regs regs input)
+
+abbrev pub acted : Program → Recorded → Stepped → Recorded → List ℕ → Event Recorded End
+acted p s (Gate number) t input = gated p number s t.regs input
+acted p s Done t input = Goes t [] input
+acted p s (Calls target ret) t input = Goes t [] input
+acted p s (Return to) t input = Goes t [] input
+acted p s (Trap trap) t input = Goes t [] input
+
+abbrev pub onward : Program → Recorded → Passed → List ℕ → Event Recorded End
+onward p s (Err end, t) input = Ends end t
+onward p s (Ok what, t) input = acted p s what t input
+
+unfoldable pub recorded_event : Program → Recorded → List ℕ → Event Recorded End
+recorded_event p s input = onward p s (passed p s) input
+
+-- ---- runs
+
+abbrev pub passed_fails : Passed → End → Bool
+passed_fails (Err why, t) end = false
+passed_fails (Ok what, t) end = gate_fails what end
+
+unfoldable pub recorded_may_fail : Program → Recorded → End → Bool
+recorded_may_fail p s end = passed_fails (passed p s) end
+
+abbrev pub recorded_machine : Program → Machine Recorded End
+recorded_machine p = record { event = recorded_event p; spent = the_end.Budget; is_fault = is_fault; may_fail = recorded_may_fail p }

@@ -1,0 +1,82 @@
+-- Words and lists of exceptions that stand for each other, and the gates that walk no frames (docs/machine.md, "Laws").
+use Rattle.std.specs.Prelude.{◌≡◌, ℕ, ◌<◌, ◌≤◌, ◌^◌, List, length, None}
+use Rattle.event_runs.specs.Runs.{Goes}
+use Rattle.guest_gates.specs.declared.gates.TheConstants.{INPUT_GATE}
+use Rattle.eh_bus.specs.Map.{IsMap}
+use Rattle.eh_cxa.specs.Stands.{Stands}
+use Rattle.eh_cxa.specs.Words.{word}
+use Rattle.thumb_core.specs.Step.{step_of}
+use Rattle.thumb_core.specs.declared.regs.Stepped.{Stepped}
+use Rattle.thumb_core.specs.declared.regs.Stepped.TheVariants.{Done, Call, Return, Gate, Trap}
+use Rattle.eh_gates.specs.declared.gates.TheConstants.{THROW_GATE, RETHROW_GATE, END_CLEANUP_GATE}
+use Rattle.eh_gates.specs.declared.state.Turned.TheVariants.{Went, Ended}
+use Rattle.eh_gates.specs.State.{Guide, Outcome}
+use Rattle.eh_gates.specs.Gates.{gate_of}
+use Rattle.two_machines.specs.Program.{Program}
+use Rattle.two_machines.specs.Machine.{machine_event}
+use Rattle.two_machines.specs.Start.{start_of}
+use Rattle.two_machines.specs.Activations.{Recorded, reg_in, memory_of, heads, bytes_of, recorded_start}
+use Rattle.two_machines.specs.ActivationMachine as acts
+use Rattle.two_machines.specs.ActivationLaws.{Matches, KnowsLanding}
+
+-- the memory is one that a bus may have, the words of its pool and the heads of the lists stand for the lists, and each cleanup in progress
+-- has the place of its activation
+pub record Corresponds (s : Recorded) : Type 0 where
+  pub map : IsMap (memory_of s)
+  pub stands : Stands (word (memory_of s)) (heads s.lists) s.lists
+  pub placed : length s.places ≡ length s.lists.cleanups
+
+-- both go on or both end, alike, and the states are the same but for what stands in place of what
+abbrev pub OutcomesMatch : Outcome → acts.Outcome → Type 0
+OutcomesMatch (Went, b) (Went, s) = b ≡ bytes_of s
+OutcomesMatch (Ended end, b) (Ended why, s) = (end ≡ why) × (b ≡ bytes_of s)
+OutcomesMatch (Went, b) (Ended why, s) = ⊥
+OutcomesMatch (Ended end, b) (Went, s) = ⊥
+
+-- a gate that walks no frames: no throw, no rethrow and no end of a cleanup
+pub record WalksNone (number : ℕ) : Type 0 where
+  pub throw : number ≡ THROW_GATE → ⊥
+  pub rethrow : number ≡ RETHROW_GATE → ⊥
+  pub cleanup : number ≡ END_CLEANUP_GATE → ⊥
+
+-- such a gate does the same over bytes and with recorded activations, and what it leaves stands for each other again
+pub record GateMatches (o : Outcome) (q : acts.Outcome) : Type 0 where
+  pub same : OutcomesMatch o q
+  pub still : Corresponds q.1
+
+-- all that instructions do but a return, a throw, a rethrow and the end of a cleanup
+abbrev pub IsInPlace : Recorded → Stepped → Type 0
+IsInPlace s Done = Unit {0}
+IsInPlace s (Call target ret) = Unit {0}
+IsInPlace s (Return to) = ⊥
+IsInPlace s (Gate number) = WalksNone number
+IsInPlace s (Trap trap) = acts.pops_back s ≡ None
+
+pub record CallsMatch : Type 0 where
+  pub start : (p : Program) → IsMap (start_of p).memory → Corresponds (recorded_start p)
+  pub landing : (s : Recorded) → Corresponds s → KnowsLanding s
+  pub gates :
+      (g : Guide) (number next : ℕ) (s : Recorded) → Corresponds s → reg_in s 0 < 2 ^ 32 → WalksNone number
+      → GateMatches (gate_of g number next (bytes_of s)) (acts.gate_of g number next s)
+  pub events :
+      (p : Program) (s : Recorded) (input : List ℕ) → Corresponds s → reg_in s 0 < 2 ^ 32 → IsInPlace s (step_of s.regs (memory_of s)).0
+      → Matches (machine_event p (bytes_of s) input) (acts.recorded_event p s input)
+
+-- all but gates of exceptions
+abbrev pub IsNoCall : Stepped → Type 0
+IsNoCall Done = Unit {0}
+IsNoCall (Call target ret) = Unit {0}
+IsNoCall (Return to) = Unit {0}
+IsNoCall (Gate number) = number ≤ INPUT_GATE
+IsNoCall (Trap trap) = Unit {0}
+
+-- behind an instruction that is no gate of exceptions the lists are the same, and the words of the pool stand for them still
+pub record KeepLists (s t : Recorded) : Type 0 where
+  pub lists : t.lists ≡ s.lists
+  pub places : t.places ≡ s.places
+  pub stands : Stands (word (memory_of t)) (heads t.lists) t.lists
+
+abbrev pub ListsAreKept : Type 0
+ListsAreKept =
+    (p : Program) (s t : Recorded) (input text left : List ℕ) → Stands (word (memory_of s)) (heads s.lists) s.lists → IsNoCall (step_of s.regs (memory_of s)).0
+    → acts.recorded_event p s input ≡ Goes t text left → KeepLists s t

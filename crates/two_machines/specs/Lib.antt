@@ -1,0 +1,16 @@
+pub mod Program
+pub mod Checked
+pub mod Machine
+pub mod Start
+pub mod Laws
+pub mod Activations
+pub mod ActivationMachine
+pub mod ActivationLaws
+pub mod FrameEnds
+pub mod RecordedGates
+pub mod RecordedSlots
+pub mod SlotWords
+pub mod Corresponds
+pub mod Landings
+pub mod Agreeing
+pub mod Throws

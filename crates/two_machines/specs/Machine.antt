@@ -1,0 +1,161 @@
+-- One event of the machine that unwinds, and its runs (docs/machine.md, "An event"). In order: the instruction is a checked one; it is done;
+-- the tests of sp; the tests of where the run goes on; guards; gates.
+use Rattle.std.specs.Prelude.{ℕ, ◌+◌, ◌*◌, ◌==◌, ◌&&◌, ◌||◌, nat_lt, Bool, true, false, List, [], map, filter, slice_index, Option, Some, None, Result, Ok, Err, if◌then◌else◌}
+use Rattle.std.specs.Int.{bit_at}
+use Rattle.std.specs.List.{range_with_len}
+use Rattle.std.specs.Option.{option_or}
+use Rattle.event_runs.specs.Runs.{Event, Goes, Ends, Machine}
+use Rattle.eh_bus.specs.Memory.{Memory, guard_all, released}
+use Rattle.eh_cxa.specs.Words.{word}
+use Rattle.eh_cxa.specs.Cleanup.{innermost_of}
+use Rattle.guest_gates.specs.declared.gates.TheConstants.{NO_CALLER, OUTPUT_GATE, INPUT_GATE}
+use Rattle.guest_gates.specs.Ends.{trap_end, is_fault}
+use Rattle.guest_gates.specs.Gates.{r0, gate_event, gate_fails}
+use Rattle.eh_gates.specs.declared.gates.TheConstants.{ALLOCATE_GATE, FREE_GATE, BEGIN_CATCH_GATE, END_CATCH_GATE, UNCAUGHT_GATE}
+use Rattle.eh_gates.specs.declared.state.Turned.TheVariants.{Went, Ended}
+use Rattle.eh_gates.specs.State.{State, Outcome, reg}
+use Rattle.eh_gates.specs.Gates.{gate_of}
+use Rattle.step_ahead.specs.Ahead.{branches_some, pushes_some}
+use Rattle.thumb_core.specs.Outcome.{Outcome as Stepping}
+use Rattle.thumb_core.specs.Step.{step_of, instr_at}
+use Rattle.thumb_core.specs.declared.regs.TheConstants.{SP}
+use Rattle.thumb_core.specs.declared.regs.Regs.{Regs}
+use Rattle.thumb_core.specs.declared.regs.Stepped.{Stepped}
+use Rattle.thumb_core.specs.declared.regs.Stepped.TheVariants.{Done, Call, Return, Gate, Trap}
+use Rattle.thumb_core.specs.declared.ends.TrapKind.TheVariants as kind
+use Rattle.thumb_core.specs.declared.ends.End.{End}
+use Rattle.thumb_core.specs.declared.ends.End.TheVariants as the_end
+use Rattle.two_machines.specs.Program.{Program, guide}
+
+-- ---- the tests of sp
+
+-- sp rises above the landing sp of the innermost cleanup in progress
+abbrev pub leaves_cleanup : Option ℕ → ℕ → ℕ → Bool
+leaves_cleanup None old new = false
+leaves_cleanup (Some landing) old new = nat_lt old new && nat_lt landing new
+
+-- and it stays at or above the start of the running stack
+abbrev pub sp_end : Option ℕ → ℕ → ℕ → ℕ → ℕ → Option End
+sp_end landing low pc old new =
+    if leaves_cleanup landing old new then Some (the_end.Trap kind.SpInCleanup new pc)
+    else (if nat_lt new low then Some (the_end.Trap kind.StackLimit new pc) else None)
+
+-- ---- the tests of where the run goes on
+
+-- a run that goes on past the end of its function comes to the start of the function that follows
+abbrev pub fell_off : Program → ℕ → ℕ → Option End
+fell_off p pc to = if (p.look to).is_function then Some (the_end.Trap kind.FellOff to pc) else None
+
+-- the gates behind which a run goes on
+abbrev pub goes_behind : ℕ → Bool
+goes_behind n =
+    n == OUTPUT_GATE || (n == INPUT_GATE || (n == ALLOCATE_GATE || (n == FREE_GATE || (n == BEGIN_CATCH_GATE || (n == END_CATCH_GATE || n == UNCAUGHT_GATE)))))
+
+-- by what was done: an instruction that takes no branch goes on to the next one, a call to a function's start, a return to where nobody
+-- called ends the run with r0, and any other return goes on behind its call
+abbrev pub way_end : Program → Bool → ℕ → Stepped → Regs → Option End
+way_end p branches pc Done regs = if branches then None else fell_off p pc regs.pc
+way_end p branches pc (Call target ret) regs =
+    if (p.look target).is_function then None else Some (the_end.Trap kind.BadCallTarget target pc)
+way_end p branches pc (Return to) regs = if to == NO_CALLER then Some (the_end.Exit (r0 regs)) else fell_off p pc regs.pc
+way_end p branches pc (Gate number) regs = if goes_behind number then fell_off p pc regs.pc else None
+way_end p branches pc (Trap trap) regs = None
+
+-- the end by a test: first of sp, by the landing sp of the innermost cleanup, the start of the running stack, and pc and sp before the
+-- instruction; then of where the run goes on
+abbrev pub refusal : Program → Option ℕ × ℕ → ℕ × ℕ → Bool → Stepped → Regs → Option End
+refusal p stack at branches what regs = option_or (sp_end stack.0 stack.1 at.0 at.1 (slice_index regs.r SP)) (way_end p branches at.0 what regs)
+
+-- .. of what was done in a state and the registers behind it
+abbrev pub tests : Program → State → Stepped → Regs → Option End
+tests p s what regs =
+    refusal p (innermost_of (word s.memory) s.globals, s.memory.home.0) (s.regs.pc, reg s SP) (branches_some (instr_at s.memory s.regs.pc) s.regs) what regs
+
+-- ---- guards
+
+-- of `count` words from sp on, those that the bits of `saves` name
+abbrev pub saved_words : ℕ → ℕ → ℕ → List ℕ
+saved_words saves count sp = map (λ k. sp + 4 * k) (filter (λ k. bit_at saves k == 1) (range_with_len 0 count))
+
+-- where sp rose, the guarded words below it are released
+abbrev pub freed_below : ℕ → ℕ → Memory → Memory
+freed_below old new m = if nat_lt old new then released m new else m
+
+-- the words of a push that are saves are guarded
+abbrev pub settled : ℕ → ℕ → ℕ → ℕ → Memory → Memory
+settled saves count old new m = freed_below old new (guard_all (saved_words saves count new) m)
+
+abbrev pub settled_at : Program → State → Regs → Memory → Memory
+settled_at p s regs m =
+    settled (p.look s.regs.pc).saves (pushes_some (instr_at s.memory s.regs.pc)) (reg s SP) (slice_index regs.r SP) m
+
+-- ---- up to the gates: the end, which leaves the state as it was, or what was done and the state behind it
+
+abbrev pub Passed : Type 0
+Passed = Result Stepped End × State
+
+abbrev pub tested : Program → State → Stepped → Regs → Memory → Option End → Passed
+tested p s what regs m (Some end) = (Err end, s)
+tested p s what regs m None = (Ok what, record s { regs = regs; memory = settled_at p s regs m })
+
+abbrev pub stepped : Program → State → Stepping → Passed
+stepped p s (Trap trap, regs, m) = (Err (trap_end trap s.regs.pc), s)
+stepped p s (what, regs, m) = tested p s what regs m (tests p s what regs)
+
+abbrev pub checked : Program → State → Bool → Passed
+checked p s true = stepped p s (step_of s.regs s.memory)
+checked p s false = (Err (the_end.Trap kind.FellOff s.regs.pc s.regs.pc), s)
+
+unfoldable pub passed : Program → State → Passed
+passed p s = checked p s (p.look s.regs.pc).is_instr
+
+-- a state with another pc
+abbrev pub with_pc_of : State → ℕ → State
+with_pc_of s pc = record s { regs = record s.regs { pc = pc } }
+
+-- ---- gates
+
+abbrev pub event_of : Outcome → List ℕ → Event State End
+event_of (Went, s) input = Goes s [] input
+event_of (Ended end, s) input = Ends end s
+
+-- a gate of every machine changes registers alone
+abbrev pub in_state : State → Event Regs End → Event State End
+in_state s (Goes regs text left) = Goes (record s { regs = regs }) text left
+in_state s (Ends end regs) = Ends end (record s { regs = regs })
+
+-- in the state before its instruction, with the registers behind it
+abbrev pub gated : Program → ℕ → State → Regs → List ℕ → Event State End
+gated p number s regs input =
+    if nat_lt INPUT_GATE number then event_of (gate_of (guide p) number regs.pc s) input
+    else in_state s (gate_event number s.regs regs input)
+
+-- ---- one event
+
+abbrev pub acted : Program → State → Stepped → State → List ℕ → Event State End
+acted p s (Gate number) t input = gated p number s t.regs input
+acted p s Done t input = Goes t [] input
+acted p s (Call target ret) t input = Goes t [] input
+acted p s (Return to) t input = Goes t [] input
+acted p s (Trap trap) t input = Goes t [] input
+
+abbrev pub onward : Program → State → Passed → List ℕ → Event State End
+onward p s (Err end, t) input = Ends end t
+onward p s (Ok what, t) input = acted p s what t input
+
+unfoldable pub machine_event : Program → State → List ℕ → Event State End
+machine_event p s input = onward p s (passed p s) input
+
+-- ---- faults of the outside: at a gate that asks for it, and that the tests let pass
+
+abbrev pub passed_fails : Passed → End → Bool
+passed_fails (Err why, t) end = false
+passed_fails (Ok what, t) end = gate_fails what end
+
+unfoldable pub may_fail : Program → State → End → Bool
+may_fail p s end = passed_fails (passed p s) end
+
+-- ---- runs
+
+abbrev pub machine_of : Program → Machine State End
+machine_of p = record { event = machine_event p; spent = the_end.Budget; is_fault = is_fault; may_fail = may_fail p }

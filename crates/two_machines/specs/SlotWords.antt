@@ -1,0 +1,81 @@
+-- What the words of slots have no part in, in the words of their users (docs/machine.md, "Laws").
+use Rattle.std.specs.Prelude.{◌≡◌, ℕ, ◌+◌, ◌%◌, ◌^◌, ◌==◌, ◌||◌, nat_lt, Bool, true, List, [], ◌∷◌, Some, Ok}
+use Rattle.std.specs.Int.{bit_at}
+use Rattle.event_runs.specs.Runs.{Event, Goes, Ends}
+use Rattle.eh_bus.specs.Lists.{Has}
+use Rattle.eh_bus.specs.Map.{SameMap}
+use Rattle.eh_bus.specs.Memory.{loads, fetches}
+use Rattle.eh_bus.specs.Segment.{Segment}
+use Rattle.eh_cxa.specs.ListCalls.{rethrow_list}
+use Rattle.eh_cxa.specs.Words.{block_slot}
+use Rattle.eh_phase.specs.declared.verdict.Thrown.{Thrown}
+use Rattle.thumb_isa.specs.declared.instr.Instr.TheVariants.{Bx, Pop}
+use Rattle.thumb_core.specs.Step.{instr_at}
+use Rattle.thumb_core.specs.Words.{Load, listed, loads_from}
+use Rattle.thumb_core.specs.declared.ends.End.{End}
+use Rattle.thumb_core.specs.declared.regs.TheConstants.{SP, LR, PC}
+use Rattle.eh_gates.specs.declared.gates.TheConstants.{THROW_GATE, RETHROW_GATE}
+use Rattle.eh_gates.specs.State.{Guide}
+use Rattle.eh_gates.specs.Throwing.{bytes_of}
+use Rattle.two_machines.specs.Program.{Program}
+use Rattle.two_machines.specs.Activations.{Recorded, slots_of, reg_in, memory_of}
+use Rattle.two_machines.specs.ActivationMachine.{Outcome, gate_of, searched, thrown_first, thrown_of_slot, recorded_event}
+
+-- the same state over other segments
+abbrev pub over : List Segment → Recorded → Recorded
+over segments s = record s { segments = segments }
+
+abbrev pub event_over : List Segment → Event Recorded End → Event Recorded End
+event_over segments (Goes t text left) = Goes (over segments t) text left
+event_over segments (Ends end t) = Ends end (over segments t)
+
+-- Other bytes in words of slots alone: where segments lie, their rights, the code, and each word that is no slot are the same.
+pub record DifferInSlots (s : Recorded) (segments : List Segment) : Type 0 where
+  pub map : SameMap s.segments segments
+  pub code : (a : ℕ) → fetches segments a ≡ fetches s.segments a
+  pub others : (a : ℕ) → (Has (slots_of (s.first ∷ s.outer)) a → ⊥) → loads 4 segments a ≡ loads 4 s.segments a
+
+-- the registers that no activation records: r0 to r3, r12 and lr
+abbrev pub is_free : ℕ → Bool
+is_free k = nat_lt k 4 || (k == 12 || k == LR)
+
+-- of words that are loaded from a base on, no slot goes to such a register
+abbrev pub LoadNoSlot : List ℕ → ℕ → List Load → Type 0
+LoadNoSlot slots base [] = Unit {0}
+LoadNoSlot slots base (w ∷ more) = (is_free w.reg ≡ true → Has slots ((base + w.at) % 2 ^ 32) → ⊥) × LoadNoSlot slots base more
+
+-- A return does the same whatever the slots hold: by BX, and by a POP into pc, of which r0 to r3 may be loaded from other words alone. A slot
+-- that it loads there is data, as for LDR.
+pub record ReadsNoSlot (p : Program) (s : Recorded) (segments : List Segment) (input : List ℕ) : Type 0 where
+  pub bx :
+      (m size : ℕ) → instr_at (memory_of s) s.regs.pc ≡ Some (Bx m, size)
+      → recorded_event p (over segments s) input ≡ event_over segments (recorded_event p s input)
+  pub pop :
+      (list size : ℕ) → instr_at (memory_of s) s.regs.pc ≡ Some (Pop list, size) → bit_at list PC ≡ 1
+      → LoadNoSlot (slots_of (s.first ∷ s.outer)) (reg_in s SP) (loads_from 0 (listed list))
+      → recorded_event p (over segments s) input ≡ event_over segments (recorded_event p s input)
+
+abbrev pub ReturnsReadNoSlot : Type 0
+ReturnsReadNoSlot = (p : Program) (s : Recorded) (segments : List Segment) (input : List ℕ) → DifferInSlots s segments → ReadsNoSlot p s segments input
+
+-- ---- throws
+
+-- the same outcome, whatever bytes the segments hold
+abbrev pub SameBut : Outcome → Outcome → Type 0
+SameBut o q = (o.0 ≡ q.0) × (over [] o.1 ≡ over [] q.1)
+
+-- what a throw reads of the memory is the same: the first bytes of what it throws, and what its matches read
+pub record ReadsAlike (g : Guide) (s : Recorded) (segments : List Segment) (thrown : Thrown) : Type 0 where
+  pub bytes : (n : ℕ) → bytes_of (memory_of (over segments s)) thrown.object n ≡ bytes_of (memory_of s) thrown.object n
+  pub matches : searched g (over segments s) thrown ≡ searched g s thrown
+
+-- A throw and a rethrow do the same then, whatever else the segments hold, the slots too: where they land and with which registers comes from
+-- what was recorded.
+pub record ThrowsReadNoSlot (g : Guide) (next : ℕ) (s : Recorded) (segments : List Segment) : Type 0 where
+  pub throw : ReadsAlike g s segments (thrown_first s) → SameBut (gate_of g THROW_GATE next (over segments s)) (gate_of g THROW_GATE next s)
+  pub rethrow :
+      ((block : ℕ) → (rethrow_list s.lists).answer ≡ Ok block → ReadsAlike g s segments (thrown_of_slot s.lists (block_slot block)))
+      → SameBut (gate_of g RETHROW_GATE next (over segments s)) (gate_of g RETHROW_GATE next s)
+
+abbrev pub ThrowsReadNoSlots : Type 0
+ThrowsReadNoSlots = (g : Guide) (next : ℕ) (s : Recorded) (segments : List Segment) → ThrowsReadNoSlot g next s segments

@@ -1,0 +1,69 @@
+-- A throw over bytes and with recorded activations, where the frames of both agree (docs/machine.md, "Laws").
+use Rattle.std.specs.Prelude.{◌≡◌, ℕ, ◌<◌, ◌^◌, List, [], ◌∷◌, ◌++◌, drop, Some, None}
+use Rattle.eh_cxa.specs.Words.{Write, block, block_slot, object_slot, put_all}
+use Rattle.eh_cxa.specs.declared.layout.TheConstants.{SLOTS, SLOT_WORDS}
+use Rattle.eh_phase.specs.Calls.{stack_of}
+use Rattle.eh_phase.specs.Frames.{frames_of}
+use Rattle.eh_phase.specs.Laws.{goal_of}
+use Rattle.eh_phase.specs.Phases.{phase2}
+use Rattle.eh_phase.specs.declared.phase1.Barrier.{Barrier}
+use Rattle.eh_phase.specs.declared.phase1.Found.TheVariants as found
+use Rattle.thumb_core.specs.Registers.{all_of}
+use Rattle.eh_gates.specs.declared.gates.TheConstants.{THROW_GATE, RETHROW_GATE}
+use Rattle.eh_gates.specs.State.{Guide}
+use Rattle.eh_gates.specs.Gates.{gate_of}
+use Rattle.eh_gates.specs.Throwing.{frames_seen, barrier_words, throw_to}
+use Rattle.two_machines.specs.Activations.{Activation, Recorded, reg_in, memory_of, heads, bytes_of, first_place}
+use Rattle.two_machines.specs.ActivationMachine as machine
+use Rattle.two_machines.specs.Agreeing.{Agree}
+use Rattle.two_machines.specs.Corresponds.{Corresponds, GateMatches}
+use Rattle.two_machines.specs.Landings.{IsInFlight, Lands}
+
+-- words of the pool's slots
+abbrev pub AreInPool : List Write → Type 0
+AreInPool [] = Unit {0}
+AreInPool (w ∷ more) = (w.slot < SLOTS) × (w.place < SLOT_WORDS) × AreInPool more
+
+-- the frames that phase 2 goes over from a site agree in both machines, whatever words the runtime has written into the pool before it
+abbrev pub AdvancesAlike : Guide → Recorded → ℕ → Type 0
+AdvancesAlike g s site =
+    (ws : List Write) → AreInPool ws → Agree (frames_of g.image (stack_of (put_all ws (memory_of s))) None site (all_of s.regs)) (machine.frames_from g s None site)
+
+-- the frames of a state agree at a gate: those that phase 1 sees, and those that phase 2 goes over
+pub record SeesAlike (g : Guide) (s : Recorded) : Type 0 where
+  pub search : Agree (frames_seen g (bytes_of s)) (machine.frames_from g s (first_place s.places) s.regs.pc)
+  pub advance : AdvancesAlike g s s.regs.pc
+
+-- what phase 2 enters from a site, for a barrier that was found, stands in an activation, and leaves no slot of those that it cuts
+pub record CanLand (g : Guide) (s : Recorded) (site slot : ℕ) (b : Barrier) : Type 0 where
+  pub sp : (barrier_words (block slot) b).sp < 2 ^ 32
+  pub object : (barrier_words (block slot) b).object < 2 ^ 32
+  pub desc : (barrier_words (block slot) b).desc < 2 ^ 32
+  pub pointer : (barrier_words (block slot) b).pointer < 2 ^ 32
+  pub cut : List Activation
+  pub first : Activation
+  pub more : List Activation
+  pub all : s.first ∷ s.outer ≡ cut ++ first ∷ more
+  pub passed : drop (machine.passed_by (goal_of b) 0 (machine.frames_from g s None site).frames) (s.first ∷ s.outer) ≡ first ∷ more
+  pub lands : Lands s cut (phase2 (goal_of b) 0 (machine.frames_from g s None site))
+
+-- a throw does the same in both machines then, and what it leaves stands for each other
+abbrev pub ThrowsMatch : Type 0
+ThrowsMatch =
+    (g : Guide) (next : ℕ) (s : Recorded) → Corresponds s → reg_in s 1 < 2 ^ 32 → reg_in s 2 < 2 ^ 32 → SeesAlike g s
+    → ((slot : ℕ) (b : Barrier) → object_slot (reg_in s 0) ≡ Some slot → machine.searched g s (machine.thrown_first s) ≡ found.Barrier b → CanLand g s s.regs.pc slot b)
+    → GateMatches (gate_of g THROW_GATE next (bytes_of s)) (machine.gate_of g THROW_GATE next s)
+
+-- so does a rethrow of the top of the caught stack
+abbrev pub RethrowsMatch : Type 0
+RethrowsMatch =
+    (g : Guide) (next : ℕ) (s : Recorded) → Corresponds s → SeesAlike g s
+    → ((slot : ℕ) (b : Barrier) → block_slot (heads s.lists).caught ≡ Some slot → machine.searched g s (machine.thrown_of_slot s.lists (Some slot)) ≡ found.Barrier b
+    → CanLand g s s.regs.pc slot b)
+    → GateMatches (gate_of g RETHROW_GATE next (bytes_of s)) (machine.gate_of g RETHROW_GATE next s)
+
+-- .. and phase 2 from any site to a barrier, of an exception that flies
+abbrev pub ThrowsToMatch : Type 0
+ThrowsToMatch =
+    (g : Guide) (s : Recorded) (site slot : ℕ) (b : Barrier) → Corresponds s → IsInFlight s slot → AdvancesAlike g s site → CanLand g s site slot b
+    → GateMatches (throw_to g (bytes_of s) site (block slot) b) (machine.throw_to g site (block slot) b s)
