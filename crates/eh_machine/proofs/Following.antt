@@ -26,8 +26,8 @@ use Rattle.two_machines.specs.ActivationLaws.{Matches, KnowsLanding}
 use Rattle.two_machines.specs.Checked.{program_of}
 use Rattle.two_machines.proofs.CallEvents.{knows}
 use Rattle.stands_for.specs.Stands.{Keeps, IsProgram, OnEvent}
-use Rattle.stands_for.specs.Turned.{AreBytes}
-use Rattle.stands_for.proofs.OneEvent.{turns}
+use Rattle.machines_agree.specs.Turned.{AreBytes}
+use Rattle.machines_agree.proofs.OneEvent.{turns}
 use Rattle.eh_machine.specs.Turns.{TurnedOnce}
 use Rattle.eh_machine.specs.Follows.{WentAlike, EndedAlike, TurnedAlike, FollowsOnce}
 

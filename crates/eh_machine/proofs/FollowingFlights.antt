@@ -24,9 +24,9 @@ use Rattle.two_machines.specs.Activations.{Recorded, bytes_of}
 use Rattle.two_machines.specs.ActivationMachine as acts
 use Rattle.two_machines.specs.Corresponds.{OutcomesMatch}
 use Rattle.stands_for.specs.Stands.{Keeps, IsProgram}
-use Rattle.stands_for.specs.Flying.{fly_from, CanFly}
+use Rattle.resumes_keep.specs.Flying.{fly_from, CanFly}
 use Rattle.stands_for.proofs.First.{starts_stand}
-use Rattle.stands_for.proofs.FlyFrom.{gates_fly, flights_match}
+use Rattle.resumes_keep.proofs.FlyFrom.{gates_fly, flights_match}
 use Rattle.eh_machine.specs.Follows.{StartsAlike, FlownAlike, FollowsFlight}
 
 start_follows : (p : Program) (new : State) → new ≡ start_of p → StartsAlike p new

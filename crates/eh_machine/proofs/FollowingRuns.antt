@@ -17,9 +17,9 @@ use Rattle.two_machines.specs.ActivationMachine.{recorded_event, recorded_may_fa
 use Rattle.two_machines.specs.Checked.{program_of}
 use Rattle.two_machines.proofs.CallEvents.{knows}
 use Rattle.stands_for.specs.Stands.{Keeps, StandsFor, IsProgram}
-use Rattle.stands_for.specs.Turned.{AreBytes}
-use Rattle.stands_for.proofs.RunsOn.{AlikeOn, same_on}
-use Rattle.stands_for.proofs.WholeRuns.{alike}
+use Rattle.machines_agree.specs.Turned.{AreBytes}
+use Rattle.machines_agree.proofs.RunsOn.{AlikeOn, same_on}
+use Rattle.machines_agree.proofs.WholeRuns.{alike}
 use Rattle.eh_machine.specs.Follows.{RanAlike, FollowsRun}
 use Rattle.eh_machine.proofs.Following.{may_same, at_false, at_true, if_false, if_true, no_false, no_true}
 

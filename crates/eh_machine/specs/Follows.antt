@@ -14,8 +14,8 @@ use Rattle.two_machines.specs.Checked.{program_of}
 use Rattle.two_machines.specs.Activations.{Recorded, recorded_start}
 use Rattle.two_machines.specs.ActivationMachine.{Outcome, recorded_event, recorded_may_fail, recorded_machine, throw_to}
 use Rattle.stands_for.specs.Stands.{StandsFor, IsProgram}
-use Rattle.stands_for.specs.Turned.{AreBytes}
-use Rattle.stands_for.specs.Flying.{CanFly}
+use Rattle.machines_agree.specs.Turned.{AreBytes}
+use Rattle.resumes_keep.specs.Flying.{CanFly}
 
 -- for an accepted image of this program, from each state with recorded activations that this one stands for
 abbrev pub Follows : Program → State → (Accepted → Recorded → Type 0) → Type 0

@@ -8,7 +8,7 @@ use Rattle.two_machines.specs.Start.{start_of}
 use Rattle.elf_image.specs.Image.{IsSound as IsImage}
 use Rattle.frame_check.specs.Accepts.{Accepted, IsSound}
 use Rattle.stands_for.specs.Stands.{IsProgram}
-use Rattle.stands_for.specs.Turned.{RunsSame, RunsGuard}
+use Rattle.machines_agree.specs.Turned.{RunsSame, RunsGuard}
 use Rattle.ehabi_top.specs.BothRuns.{RunSame, SlotsStay}
 
 pub program_here : (a : Accepted) (m : Memory) → IsImage a.image → IsSound a → IsMap m → m ≡ (start_of (program_of a)).memory → IsProgram a

@@ -6,7 +6,7 @@ ghost use Rattle.ehabi_top.specs.BothRuns.{RunSame, SlotsStay};
 
 use eh_bus::bus::Bus;
 use frame_check::Accepted;
-use stands_for::{runs_guard, runs_same as all_runs_same};
+use machines_agree::{runs_guard, runs_same as all_runs_same};
 
 /// From the start of an accepted image, over any bus that has its memory, the machine over bytes does what the one with recorded activations
 /// does, and no store of it reaches a slot of a live activation.

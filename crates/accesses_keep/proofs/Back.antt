@@ -1,0 +1,231 @@
+-- A return, whichever instruction does it: where the registers that it leaves are those that the activation recorded, both machines do the same,
+-- and what every event keeps is kept: the caller's activation stands behind its call.
+use Rattle.std.proofs.Common.{◌≡◌, ℕ, inl, List, [], ◌∷◌, refl, ◌+◌, ◌<◌, ◌≤◌, ◌&&◌, inr, nat_lt, Bool, true, false, cond, ◌++◌, filter, Option, Some, None, slice_index, sym, ap, subst, ◌∙◌, arith}
+use Rattle.std.proofs.lemmas.Bool.{cases_lt, lt-ltb}
+use Rattle.steps_keep.specs.eh_bus.Lists.{Has}
+use Rattle.steps_keep.specs.eh_bus.Guards.{insert_all}
+use Rattle.steps_keep.specs.eh_bus.Memory.{Memory, stays_guarded}
+use Rattle.steps_keep.specs.eh_bus.Map.{IsMap}
+use Rattle.steps_keep.specs.eh_cxa.Lists.{Cleanup}
+use Rattle.steps_keep.specs.eh_cxa.ListCalls.{innermost_in}
+use Rattle.steps_keep.proofs.eh_cxa.Kept.{still_stands}
+use Rattle.steps_keep.specs.eh_phase.declared.phase2.Goal.{Goal}
+use Rattle.steps_keep.specs.guest_gates.declared.gates.TheConstants.{NO_CALLER}
+use Rattle.steps_keep.specs.image_memory.Start.{begins_function}
+use Rattle.steps_keep.specs.thumb_isa.declared.instr.Instr.{Instr}
+use Rattle.steps_keep.specs.thumb_core.Laws.{AreSound, KeepsMap}
+use Rattle.steps_keep.specs.thumb_core.Outcome.{Outcome as Stepping}
+use Rattle.steps_keep.specs.thumb_core.Registers.{even}
+use Rattle.steps_keep.specs.thumb_core.Step.{step_of, instr_at}
+use Rattle.steps_keep.proofs.thumb_core.Follows.{step_follows}
+use Rattle.steps_keep.specs.thumb_core.declared.regs.TheConstants.{SP}
+use Rattle.steps_keep.specs.thumb_core.declared.regs.Regs.{Regs}
+use Rattle.steps_keep.specs.thumb_core.declared.regs.Stepped.TheVariants.{Return}
+use Rattle.steps_keep.specs.thumb_core.declared.ends.End.{End}
+use Rattle.steps_keep.specs.step_ahead.Ahead.{pushes_some}
+use Rattle.steps_keep.specs.frame_scene.declared.places.Standing.TheVariants.{Instruction}
+use Rattle.steps_keep.specs.frame_scene.Places.{address_of, standing_at}
+use Rattle.steps_keep.proofs.frame_reach.Stands.{stands_inside}
+use Rattle.steps_keep.specs.frame_check.Accepts.{Accepted}
+use Rattle.steps_keep.specs.frame_check.Judged.{IsPlaced}
+use Rattle.steps_keep.specs.frame_check.Roots.{scene_of}
+use Rattle.steps_keep.specs.frame_check.Spots.{look}
+use Rattle.steps_keep.proofs.frame_check.Wells.{placed_at}
+use Rattle.steps_keep.specs.two_machines.Machine.{sp_end, leaves_cleanup}
+use Rattle.steps_keep.specs.two_machines.Activations.{Caller, Activation, Recorded, reg_in, memory_of, guarded_of, heads}
+use Rattle.steps_keep.specs.two_machines.ActivationMachine.{settled_in, returned}
+use Rattle.steps_keep.specs.two_machines.RecordedSlots.{FindsCaller}
+use Rattle.steps_keep.specs.two_machines.Checked.{program_of}
+use Rattle.steps_keep.proofs.two_machines.CallEvents.{knows}
+use Rattle.steps_keep.proofs.two_machines.Returning.{returns_match, none_pass, leaves_home}
+use Rattle.steps_keep.specs.thumb_core.declared.ends.End.TheVariants as the_end
+use Rattle.steps_keep.specs.thumb_core.declared.ends.TrapKind.TheVariants as kind
+use Rattle.steps_keep.specs.two_machines.ActivationMachine as acts
+use Rattle.steps_keep.specs.stands_for.Chain.{StandsAt, StandsAtCall, Chain}
+use Rattle.steps_keep.specs.stands_for.Cleanups.{goal_at, IsHeld, IsWithin, AreInProgress}
+use Rattle.steps_keep.specs.stands_for.Stands.{Keeps, IsProgram, OnEvent, Turns}
+use Rattle.accesses_keep.proofs.Left.{stands_behind}
+use Rattle.steps_keep.proofs.stands_for.Slots.{first_slots, none_or}
+use Rattle.steps_keep.proofs.stands_for.Onward.{settled_is, map_left}
+use Rattle.accesses_keep.proofs.Returns.{caller_same}
+use Rattle.steps_keep.proofs.stands_for.Written.{SameClosed, AreSmall, with_gs, same_word, same_goal, linked_small}
+
+none_there : (gs : List ℕ) → ((g : ℕ) → Has gs g → ⊥) → gs ≡ []
+none_there [] h = refl
+none_there (g ∷ more) h = absurd (h g (inl refl))
+
+module _ (x : Accepted) (is : IsProgram x) (s : Recorded) (k : Keeps x s) (at : StandsAt x s.first s.segments s.regs s.regs.pc) (i : Instr) (size : ℕ)
+    (stands : standing_at (scene_of x.image at.function) at.place ≡ Instruction i size)
+    (regs : Regs) (step : step_of s.regs (memory_of s) ≡ (Return s.first.caller.back, regs, memory_of s)) (sp_is : slice_index regs.r SP ≡ s.first.caller.sp)
+    (saved_is : (j : ℕ) → j < 8 → slice_index regs.r (j + 4) ≡ slice_index s.first.caller.saved j) (pc_is : regs.pc ≡ even s.first.caller.back)
+    (none : pushes_some (instr_at (memory_of s) s.regs.pc) ≡ 0) where
+  abbrev caller : Caller
+  caller = s.first.caller
+
+  abbrev new : ℕ
+  new = slice_index regs.r SP
+
+  sound : AreSound regs.r regs.pc
+  sound = subst (λ (o : Stepping). AreSound o.1.r o.1.pc) step ((step_follows s.regs (memory_of s)).sound k.sound)
+
+  keeps_map : KeepsMap (memory_of s) (memory_of s)
+  keeps_map = subst (λ (o : Stepping). KeepsMap (memory_of s) o.2) step (step_follows s.regs (memory_of s)).memory
+
+  same_regs : returned caller regs ≡ regs
+  same_regs =
+      ap (λ (r : _). let t : Regs = record regs { r = r; pc = even caller.back } in t) (caller_same caller regs.r k.whole.count sound.words.count (sym sp_is) saved_is)
+      ∙ ap (λ (n : ℕ). let t : Regs = record regs { pc = n } in t) (sym pc_is)
+
+  called_low : (a : Activation) (more : List Activation) → s.outer ≡ a ∷ more → caller.back ≡ NO_CALLER → ⊥
+  called_low a more e f =
+      let out : StandsAtCall x s.segments caller a = (subst (Chain x s.segments s.home caller) e k.chain).0 in
+      let placed : IsPlaced out.function = subst IsPlaced out.of.among.2 (placed_at x.image out.of.among.0 out.function is.image out.of.among.1) in
+      let inside = stands_inside (scene_of x.image out.function) out.place out.instr out.size out.stands in
+      omega (arith, out.back, placed.low, inside, f)
+
+  pub finds : FindsCaller s caller.back regs
+  finds = record {
+    same = same_regs;
+    last = λ e. (subst (Chain x s.segments s.home caller) e k.chain).0;
+    called = called_low;
+    slots = λ g h. let within = k.slots g h in (omega (arith, within.0, k.low), within.0, omega (arith, within.1, sp_is));
+  }
+
+  high : new ≤ caller.sp
+  high = omega (arith, sp_is)
+
+  -- no slot of the activation that is left stays
+  no_slots : first_slots s (reg_in s SP) new ≡ []
+  no_slots = go (nat_lt (reg_in s SP) new) refl
+    where
+      go : (b : Bool) → nat_lt (reg_in s SP) new ≡ b → cond b (filter (stays_guarded s.home new) s.first.slots) s.first.slots ≡ []
+      go true e = none_pass (stays_guarded s.home new) s.first.slots (λ g h. let f = finds.slots g h in leaves_home s.home.0 new g f.0 f.2)
+      go false e = none_there s.first.slots (λ g h. let f = finds.slots g h in elim (cases_lt (reg_in s SP) new) [ inl w ↦ absurd (let t = lt-ltb (reg_in s SP) new w in cc) | inr w ↦ omega (arith, f.1, f.2, w) ])
+
+  abbrev u : Recorded
+  u = record s { regs = regs; segments = s.segments; first = with_gs s.first (first_slots s (reg_in s SP) new) }
+
+  module _ (a : Activation) (more : List Activation) (out : s.outer ≡ a ∷ more) where
+    abbrev t : Recorded
+    t = record s { regs = regs; segments = s.segments; first = a; outer = more }
+
+    same_memory : memory_of u ≡ memory_of t
+    same_memory = ap (λ (gs : List ℕ). let n : Memory = record { segments = s.segments; guards = insert_all gs []; home = s.home } in n)
+        (ap (λ (gs : List ℕ). gs ++ guarded_of s.beyond s.outer) no_slots ∙ ap (guarded_of s.beyond) out)
+
+    links : StandsAtCall x s.segments caller a × Chain x s.segments s.home a.caller more
+    links = let c = subst (Chain x s.segments s.home caller) out k.chain in (c.0, c.1)
+
+    closed : SameClosed (memory_of s) (memory_of t)
+    closed b e c = refl
+
+    held : (g : Goal) (n : ℕ) (c : Cleanup) → new ≤ c.sp → IsHeld x s.segments g n c (s.first ∷ s.outer) → IsHeld x s.segments g n c (a ∷ more)
+    held g n c low (inl here) = absurd (let below = here.1.below in omega (arith, below, low, sp_is))
+    held g n c low (inr outside) = subst (IsHeld x s.segments g n c) out outside.1
+
+    in_progress : (low up : ℕ) (places : List ℕ) (cleanups : List Cleanup) → AreSmall cleanups → new ≤ up → IsWithin up cleanups → AreInProgress x s low places cleanups → AreInProgress x t up places cleanups
+    in_progress low up [] [] small h w p = tt
+    in_progress low up [] (c ∷ later) small h w p = p
+    in_progress low up (n ∷ places) [] small h w p = p
+    in_progress low up (n ∷ places) (c ∷ later) small h w p =
+        let goal = same_goal s t c.slot closed small.0 in
+        let above : new ≤ c.sp = omega (arith, h, w) in (
+          w,
+          subst (λ (g : Goal). IsHeld x s.segments g n c (a ∷ more)) goal (held (goal_at s c.slot) n c above p.1),
+          subst (λ (g : Goal). IsWithin g.sp later) goal p.2,
+          in_progress c.sp c.sp places later small.1 above (next places later p.3) p.3,
+        )
+      where
+        next : (places : List ℕ) (later : List Cleanup) → AreInProgress x s c.sp places later → IsWithin c.sp later
+        next [] [] q = tt
+        next [] (d ∷ rest) q = absurd q
+        next (n ∷ places) [] q = tt
+        next (n ∷ places) (d ∷ rest) q = q.0
+
+    at_landing : (cs : List Cleanup) (places : List ℕ) → AreInProgress x s (reg_in s SP) places cs → leaves_cleanup (innermost_in cs) (reg_in s SP) new ≡ false → IsWithin new cs
+    at_landing [] places h l = tt
+    at_landing (c ∷ rest) [] h l = absurd h
+    at_landing (c ∷ rest) (n ∷ later) h l = go (nat_lt (reg_in s SP) new) refl (nat_lt c.sp new) refl l
+      where
+        go : (p : Bool) → nat_lt (reg_in s SP) new ≡ p → (q : Bool) → nat_lt c.sp new ≡ q → (p && q) ≡ false → new ≤ c.sp
+        go true d true f z = absurd cc
+        go true d false f z = elim (cases_lt c.sp new) [ inl w ↦ absurd (let t = lt-ltb c.sp new w in cc) | inr w ↦ w ]
+        go false d b f z = elim (cases_lt (reg_in s SP) new) [ inl w ↦ absurd (let t = lt-ltb (reg_in s SP) new w in cc) | inr w ↦ omega (arith, w, h.0) ]
+
+    pc : regs.pc ≡ address_of (scene_of x.image links.0.function) links.0.place + links.0.size
+    pc =
+        let placed : IsPlaced links.0.function = subst IsPlaced links.0.of.among.2 (placed_at x.image links.0.of.among.0 links.0.function is.image links.0.of.among.1) in
+        let inside = stands_inside (scene_of x.image links.0.function) links.0.place links.0.instr links.0.size links.0.stands in
+        omega (arith, pc_is, links.0.back, placed.low, inside, k.whole.odd)
+
+    left_keeps : leaves_cleanup (innermost_in s.lists.cleanups) (reg_in s SP) new ≡ false → begins_function x.image.functions regs.pc ≡ false → Keeps x t
+    left_keeps landing fresh = record {
+      corresponds = record {
+        map = subst IsMap same_memory (map_left x is s k at i size stands regs (memory_of s) keeps_map k.corresponds.map high);
+        stands = still_stands (memory_of s) (memory_of t) (heads s.lists) s.lists (same_word (memory_of s) (memory_of t) closed) k.corresponds.stands;
+        placed = k.corresponds.placed;
+      };
+      counted = k.counted;
+      image = k.image;
+      sound = sound;
+      low = let l = k.low in let h = k.high in omega (arith, l, h, sp_is);
+      high = let room = links.0.room in omega (arith, room, sp_is);
+      whole = links.0.whole;
+      slots = subst (λ n. (g : ℕ) → Has a.slots g → (n ≤ g) × (g + 4 ≤ a.caller.sp)) (sym sp_is) links.0.slots;
+      first = λ reached. stands_behind x is s.segments caller a links.0 regs k.whole.count sound.words.count saved_is sp_is pc reached fresh;
+      beyond = k.beyond;
+      chain = links.1;
+      cleanups = in_progress (reg_in s SP) new s.places s.lists.cleanups (linked_small _ _ s.lists.cleanups k.corresponds.stands.shows.cleanups) (omega arith)
+          (at_landing s.lists.cleanups s.places k.cleanups landing) k.cleanups;
+    }
+
+  -- ---- the event
+
+  abbrev base : Recorded
+  base = record s { regs = regs; segments = s.segments }
+
+  abbrev moved : Recorded
+  moved = acts.activations_behind (Return caller.back) (acts.settled_at (program_of x) s regs base)
+
+  moved_keeps : (outer : List Activation) → s.outer ≡ outer → leaves_cleanup (innermost_in s.lists.cleanups) (reg_in s SP) new ≡ false → acts.return_end (program_of x) s.regs.pc outer regs ≡ None → Keeps x moved
+  moved_keeps [] e l h = absurd cc
+  moved_keeps (a ∷ more) e l h =
+      let fell : begins_function x.image.functions regs.pc ≡ false = go (begins_function x.image.functions regs.pc) h in
+      let settled : acts.settled_at (program_of x) s regs base ≡ u =
+      ap (λ (n : ℕ). settled_in (look x.spots s.regs.pc).saves n (reg_in s SP) new base) none ∙ settled_is x is s k at i size stands regs (memory_of s) keeps_map k.corresponds.map high (look x.spots s.regs.pc).saves in
+      subst (Keeps x) (sym (ap (acts.activations_behind (Return caller.back)) settled ∙ ap (λ (o : List Activation). acts.left_by o u) e)) (left_keeps a more e l fell)
+    where
+      go : (b : Bool) → cond b (Some (the_end.Trap kind.FellOff regs.pc s.regs.pc)) None ≡ None → b ≡ false
+      go true h = absurd cc
+      go false h = refl
+
+  module _ (input : List ℕ) where
+    no_landing : (b : Bool) → leaves_cleanup (innermost_in s.lists.cleanups) (reg_in s SP) new ≡ b
+        → cond b (Some (the_end.Trap kind.SpInCleanup new s.regs.pc)) (cond (nat_lt new s.home.0) (Some (the_end.Trap kind.StackLimit new s.regs.pc)) None) ≡ None
+        → leaves_cleanup (innermost_in s.lists.cleanups) (reg_in s SP) new ≡ false
+    no_landing true l h = absurd cc
+    no_landing false l h = l
+
+    tested : (o : Option End) → acts.tests (program_of x) s (Return caller.back) regs ≡ o
+        → OnEvent x (acts.onward (program_of x) s (acts.tested (program_of x) s (Return caller.back) regs (memory_of s) o) input)
+    tested (Some end) e = k
+    tested None e =
+        let two = none_or (sp_end (innermost_in s.lists.cleanups) s.home.0 s.regs.pc (reg_in s SP) new) (acts.return_end (program_of x) s.regs.pc s.outer regs) e in
+        moved_keeps s.outer refl (no_landing (leaves_cleanup (innermost_in s.lists.cleanups) (reg_in s SP) new) refl two.0) two.1
+
+    checked : OnEvent x (acts.onward (program_of x) s (acts.stepped (program_of x) s (step_of s.regs (memory_of s))) input)
+    checked =
+        subst (λ (o : Stepping). OnEvent x (acts.onward (program_of x) s (acts.stepped (program_of x) s o) input)) (sym step)
+        (subst (λ (r : Regs). OnEvent x (acts.onward (program_of x) s (acts.with_tests (program_of x) s (Return caller.back) r (memory_of s)) input)) (sym same_regs)
+        (tested (acts.tests (program_of x) s (Return caller.back) regs) refl))
+
+    keeps : (look x.spots s.regs.pc).is_instr ≡ true → OnEvent x (acts.recorded_event (program_of x) s input)
+    unfolding acts.recorded_event acts.passed
+    keeps reached = subst (λ (b : Bool). OnEvent x (acts.onward (program_of x) s (acts.checked (program_of x) s b) input)) (sym reached) checked
+
+    -- Such a return is the same in both machines, and keeps.
+    pub back_turns : (look x.spots s.regs.pc).is_instr ≡ true → Turns x s input
+    back_turns reached = record {
+      same = returns_match (program_of x) s input caller.back regs (memory_of s) (knows s k.corresponds) k.sound.words step finds;
+      keeps = keeps reached;
+    }

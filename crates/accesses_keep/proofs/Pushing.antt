@@ -1,0 +1,280 @@
+-- PUSH: whatever its new slots are, what every event keeps is kept where the fact behind it holds of the words that it stored.
+use Rattle.std.proofs.Common.{◌≡◌, ℕ, ◌+◌, ◌-◌, ◌*◌, ◌%◌, ◌^◌, ◌<◌, ◌≤◌, inl, inr, nat_lt, Bool, true, false, cond, List, [], ◌∷◌, ◌++◌, map, filter, length, Option, Some, None, Result, Ok, Err, slice_index, set, refl, sym, ap, subst, ◌∙◌, arith, pos}
+use Rattle.std.specs.Prelude.{option_map, ◌+ℤ◌}
+use Rattle.std.proofs.lemmas.Bool.{cases_lt, le-ltb, lt-ltb}
+use Rattle.std.proofs.lemmas.Int.{ints}
+use Rattle.std.proofs.lemmas.List.{get_or-set_same}
+use Rattle.steps_keep.specs.eh_bus.Guards.{insert_all}
+use Rattle.steps_keep.specs.eh_bus.Lists.{Has}
+use Rattle.steps_keep.specs.eh_bus.Map.{IsMap}
+use Rattle.steps_keep.specs.eh_bus.Memory.{Memory, store_run, guard_all, stays_guarded, released}
+use Rattle.steps_keep.specs.eh_bus.declared.fault.BusFault.{BusFault}
+use Rattle.steps_keep.proofs.eh_bus.MapLaws.{map_trans, run_is_map}
+use Rattle.steps_keep.specs.eh_cxa.Lists.{Cleanup}
+use Rattle.steps_keep.specs.eh_cxa.ListCalls.{innermost_in}
+use Rattle.steps_keep.proofs.eh_cxa.Kept.{still_stands}
+use Rattle.steps_keep.specs.image_memory.Start.{begins_function, image_start}
+use Rattle.steps_keep.specs.thumb_isa.declared.instr.Instr.{Instr}
+use Rattle.steps_keep.specs.thumb_isa.declared.instr.Instr.TheVariants.{Push}
+use Rattle.steps_keep.specs.thumb_core.Access.{store_end}
+use Rattle.steps_keep.specs.thumb_core.Laws.{AreSound, KeepsMap}
+use Rattle.steps_keep.specs.thumb_core.Lists.{words_of, bytes_of}
+use Rattle.steps_keep.specs.thumb_core.Outcome.{Outcome as Stepping}
+use Rattle.steps_keep.specs.thumb_core.Registers.{word_in, with_reg, with_next}
+use Rattle.steps_keep.specs.thumb_core.Step.{step_of, instr_at}
+use Rattle.steps_keep.specs.thumb_core.Words.{listed}
+use Rattle.steps_keep.proofs.thumb_core.Follows.{step_follows}
+use Rattle.steps_keep.specs.thumb_core.declared.regs.TheConstants.{SP}
+use Rattle.steps_keep.specs.thumb_core.declared.regs.Regs.{Regs}
+use Rattle.steps_keep.specs.thumb_core.declared.regs.Stepped.TheVariants.{Done}
+use Rattle.steps_keep.specs.thumb_core.declared.ends.End.{End}
+use Rattle.steps_keep.specs.step_ahead.Ahead.{branches_some, pushes_some}
+use Rattle.steps_keep.specs.frame_facts.declared.facts.Fact.{Fact}
+use Rattle.steps_keep.specs.frame_facts.declared.facts.TheConstants.{DEEPEST}
+use Rattle.steps_keep.specs.frame_facts.declared.saves.Prologue.{Prologue}
+use Rattle.steps_keep.specs.frame_facts.After.{after_of, gone_on}
+use Rattle.steps_keep.specs.frame_facts.Facts.{within}
+use Rattle.steps_keep.specs.frame_facts.Lists.{pushed_to}
+use Rattle.steps_keep.specs.frame_scene.Places.{address_of}
+use Rattle.steps_keep.specs.frame_check.Accepts.{Accepted}
+use Rattle.steps_keep.specs.frame_check.Roots.{scene_of}
+use Rattle.steps_keep.specs.frame_check.Spots.{look}
+use Rattle.steps_keep.specs.two_machines.Machine.{fell_off, sp_end, leaves_cleanup, settled, saved_words}
+use Rattle.steps_keep.specs.two_machines.Activations.{Activation, Recorded, reg_in, memory_of, freed_in, staying, guarded_of, heads}
+use Rattle.steps_keep.specs.two_machines.ActivationLaws.{IsPlain}
+use Rattle.steps_keep.specs.two_machines.ActivationMachine.{settled_in}
+use Rattle.steps_keep.specs.two_machines.Checked.{program_of}
+use Rattle.steps_keep.proofs.two_machines.Beyond.{freed_outside}
+use Rattle.steps_keep.proofs.two_machines.CallEvents.{knows}
+use Rattle.steps_keep.proofs.two_machines.Matching.{plain_match}
+use Rattle.steps_keep.proofs.two_machines.SameSlots.{same_slots}
+use Rattle.steps_keep.specs.thumb_core.declared.regs.CoreTrap.TheVariants as trap
+use Rattle.steps_keep.specs.thumb_core.declared.ends.End.TheVariants as the_end
+use Rattle.steps_keep.specs.thumb_core.declared.ends.TrapKind.TheVariants as kind
+use Rattle.steps_keep.specs.two_machines.ActivationMachine as acts
+use Rattle.steps_keep.specs.stands_for.Holds.{Holds}
+use Rattle.steps_keep.specs.stands_for.Chain.{code, StandsAt}
+use Rattle.steps_keep.specs.stands_for.Cleanups.{IsWithin, AreInProgress}
+use Rattle.steps_keep.specs.stands_for.Stands.{Keeps, IsProgram, OnEvent, DoesAt, Turns}
+use Rattle.accesses_keep.proofs.Accesses.{pc_behind}
+use Rattle.steps_keep.proofs.stands_for.Goes.{chain_top, next_stands}
+use Rattle.steps_keep.proofs.stands_for.Slots.{outer_same, same_slot_words, none_or}
+use Rattle.steps_keep.proofs.stands_for.Onward.{fetch, left}
+use Rattle.steps_keep.proofs.prologue_states.Ordered.{within_pos}
+use Rattle.accesses_keep.proofs.Trapped.{trap_turns}
+use Rattle.steps_keep.proofs.stands_for.Written.{Moves, SameWords, SameClosed, with_gs, chain_moves, same_word, linked_small, in_progress}
+use Rattle.accesses_keep.proofs.SavedWords.{in_saved, all_guarded, has_either, has_old}
+
+-- ---- the event
+
+module _ (x : Accepted) (is : IsProgram x) (s : Recorded) (k : Keeps x s) (list : ℕ) (does : DoesAt x s (Push list)) where
+  abbrev at : StandsAt x s.first s.segments s.regs s.regs.pc
+  at = does.at
+
+  abbrev f : Fact
+  f = at.fact
+
+  abbrev P : Prologue
+  P = (code x at.function at.marks).prologue
+
+  abbrev place : ℕ
+  place = address_of (scene_of x.image at.function) at.place
+
+  abbrev n : ℕ
+  n = length (listed list)
+
+  abbrev old : ℕ
+  old = reg_in s SP
+
+  -- the depth behind it
+  pub record Behind (g : Fact) : Type 0 where
+    pub depth : ℕ
+    pub sum : depth ≡ f.depth + 4 * n
+    pub deep : depth ≤ DEEPEST
+    pub gives : g ≡ pushed_to P place depth f
+
+  pub is_behind : (g : Fact) → after_of P false place (Push list) f ≡ Ok g → Behind g
+  is_behind g e = go (within (pos f.depth +ℤ pos (4 * n))) refl e
+    where
+      go : (o : Option ℕ) → within (pos f.depth +ℤ pos (4 * n)) ≡ o → gone_on None (option_map (λ d. pushed_to P place d f) o) ≡ Ok g → Behind g
+      go None h q = absurd cc
+      go (Some d) h q = let v = within_pos (pos f.depth +ℤ pos (4 * n)) d h in record { depth = d; sum = omega (arith, ints, v.0); deep = v.1; gives = cc }
+
+  pub the : Behind (left x is s k at (Push list) does.size does.stands).0
+  the = is_behind (left x is s k at (Push list) does.size does.stands).0 (left x is s k at (Push list) does.size does.stands).1
+
+  abbrev pub a : ℕ
+  a = (old + (2 ^ 32 - bytes_of list)) % 2 ^ 32
+
+  abbrev pub regs : Regs
+  regs = with_next does.size (with_reg s.regs SP a)
+
+  abbrev pub new : ℕ
+  new = slice_index regs.r SP
+
+  pub new_is : new ≡ word_in SP a
+  new_is = at_sp s.regs.r k.sound.words.count
+    where
+      at_sp : (r : List ℕ) → length r ≡ 15 → slice_index (set r 13 (word_in SP a)) 13 ≡ word_in SP a
+      at_sp r count = get_or-set_same r 13 (word_in SP a) 0 (let l : 13 < length r = omega (arith, count) in l)
+
+  -- sp falls by the words
+  pub falls : (new + 4 * n ≡ old) × (new ≡ a) × (new % 4 ≡ 0) × (old < 2 ^ 32)
+  falls =
+      let home = k.corresponds.map.home in
+      let small = k.sound.words.small SP in
+      let quad = k.sound.words.aligned in
+      let t = the in
+      let low = k.low in
+      let e = new_is in
+      (omega (arith, e, t.sum, t.deep, home.low, low, small, quad), omega (arith, e, t.sum, t.deep, home.low, low, small, quad), omega (arith, e, quad, t.sum), small)
+
+  level : nat_lt old new ≡ false
+  level = let w = falls in le-ltb old new (omega (arith, w.0))
+
+  abbrev pub saves : ℕ
+  saves = (look x.spots s.regs.pc).saves
+
+  abbrev pub ws : List ℕ
+  ws = saved_words saves n new
+
+  abbrev pub gs : List ℕ
+  gs = ws ++ s.first.slots
+
+  in_frame : (g : ℕ) → Has ws g → (new ≤ g) × (g + 4 ≤ old) × (g % 4 ≡ 0)
+  in_frame g h = let w = in_saved saves n new g h in let q = falls in (omega (arith, w.2), omega (arith, w.1, w.2, q.0), omega (arith, w.2, q.2))
+
+  module _ (m : Memory) (stores : store_run (memory_of s) a (words_of list s.regs) ≡ (Ok tt, m)) where
+    abbrev pub u : Recorded
+    u = record s { regs = regs; segments = m.segments; first = with_gs s.first gs }
+
+    step : step_of s.regs (memory_of s) ≡ (Done, regs, m)
+    step = (fetch x is s k at (Push list) does.size does.stands).step ∙ ap (λ (o : Result (Unit {0}) BusFault × Memory). store_end o does.size s.regs (with_reg s.regs SP a)) stores
+
+    pub keeps : KeepsMap (memory_of s) m
+    keeps = subst (λ (o : Stepping). KeepsMap (memory_of s) o.2) step (step_follows s.regs (memory_of s)).memory
+
+    sound : AreSound regs.r regs.pc
+    sound = subst (λ (o : Stepping). AreSound o.1.r o.1.pc) step ((step_follows s.regs (memory_of s)).sound k.sound)
+
+    words : SameWords s.segments m.segments (s.first ∷ s.outer)
+    words = same_slot_words s m keeps
+
+    pub moves : (low : ℕ) → Moves s.segments m.segments low s.first gs
+    moves low g h l = (has_old ws s.first.slots g h, words.0 g h)
+
+    within_frame : (g : ℕ) → Has gs g → (new ≤ g) × (g + 4 ≤ s.first.caller.sp)
+    within_frame g h = elim (has_either ws s.first.slots g h) [
+      | inl i ↦ (let w = in_frame g i in let top = k.high in (w.0, omega (arith, w.1, top)))
+      | inr i ↦ (let w = k.slots g i in let q = falls in (omega (arith, w.0, q.0), w.1))
+    ]
+
+    closed : SameClosed (memory_of s) (memory_of u)
+    closed b e c = keeps.closed b e c
+
+    high : new ≤ s.first.caller.sp
+    high = let q = falls in let top = k.high in omega (arith, q.0, top)
+
+    same_outer : map (λ (b : Activation). freed_in s.home old new b) s.outer ≡ s.outer
+    same_outer = outer_same x s.segments s.home old new s.first.caller s.outer k.chain high
+
+    same_beyond : staying s.home old new s.beyond ≡ s.beyond
+    same_beyond = let top = chain_top x s.segments s.home s.first.caller s.outer k.chain in let h = high in freed_outside s.home old new s.beyond (omega (arith, h, top)) k.beyond
+
+    settled_is : settled_in saves n old new (record s { regs = regs; segments = m.segments }) ≡ u
+    settled_is =
+        ap (λ (b : Bool). let r : Recorded = record u { first = with_gs s.first (cond b (filter (stays_guarded s.home new) gs) gs); outer = map (λ (b : Activation). freed_in s.home old new b) s.outer; beyond = staying s.home old new s.beyond } in r) level
+        ∙ ap (λ (o : List Activation). let r : Recorded = record u { outer = o; beyond = staying s.home old new s.beyond } in r) same_outer
+        ∙ ap (λ (b : List ℕ). let r : Recorded = record u { beyond = b } in r) same_beyond
+
+    map_left : s.home.0 ≤ new → IsMap (memory_of u)
+    map_left low =
+        let is_map = run_is_map (memory_of s) a (words_of list s.regs) m stores k.corresponds.map in
+        let base_is : IsMap (record { segments = m.segments; guards = insert_all (guarded_of s.beyond (s.first ∷ s.outer)) []; home = s.home }) = record { segments = is_map.segments; guards = k.corresponds.map.guards; home = k.corresponds.map.home } in
+        let home = k.corresponds.map.home in
+        let above = chain_top x s.segments s.home s.first.caller s.outer k.chain in
+        let top = k.high in
+        let guarded_all : IsMap (guard_all ws (record { segments = m.segments; guards = insert_all (guarded_of s.beyond (s.first ∷ s.outer)) []; home = s.home })) =
+        all_guarded ws (record { segments = m.segments; guards = insert_all (guarded_of s.beyond (s.first ∷ s.outer)) []; home = s.home })
+        (λ g h. let w = in_frame g h in (w.2, omega (arith, w.0, low, home.low), omega (arith, w.1, top, above, home.high))) base_is in
+        let settled_map : IsMap (settled saves n old new (record { segments = m.segments; guards = insert_all (guarded_of s.beyond (s.first ∷ s.outer)) []; home = s.home })) =
+        subst (λ (b : Bool). IsMap (cond b (released (guard_all ws (record { segments = m.segments; guards = insert_all (guarded_of s.beyond (s.first ∷ s.outer)) []; home = s.home })) new)
+        (guard_all ws (record { segments = m.segments; guards = insert_all (guarded_of s.beyond (s.first ∷ s.outer)) []; home = s.home })))) (sym level) guarded_all in
+        subst (λ (b : List ℕ). IsMap (record { segments = m.segments; guards = insert_all (guarded_of b (with_gs s.first gs ∷ s.outer)) []; home = s.home })) same_beyond
+        (subst (λ (o : List Activation). IsMap (record { segments = m.segments; guards = insert_all (guarded_of (staying s.home old new s.beyond) (with_gs s.first gs ∷ o)) []; home = s.home })) same_outer
+        (subst (λ (b : Bool). IsMap (record { segments = m.segments; guards = insert_all (guarded_of (staying s.home old new s.beyond) (with_gs s.first (cond b (filter (stays_guarded s.home new) gs) gs) ∷ map (λ (b : Activation). freed_in s.home old new b) s.outer)) []; home = s.home })) level
+        (subst IsMap (same_slots s.home m.segments saves n old new s.first s.outer s.beyond) settled_map)))
+
+    push_keeps : (g : Fact) → after_of P false place (Push list) f ≡ Ok g → s.home.0 ≤ new → Holds P g (with_gs s.first gs) m.segments regs → begins_function x.image.functions regs.pc ≡ false → Keeps x u
+    push_keeps g e low holds fresh = record {
+      corresponds = record {
+        map = map_left low;
+        stands = still_stands (memory_of s) (memory_of u) (heads s.lists) s.lists (same_word (memory_of s) (memory_of u) closed) k.corresponds.stands;
+        placed = k.corresponds.placed;
+      };
+      counted = k.counted;
+      image = map_trans (image_start x.image).memory.segments s.segments m.segments k.image keeps.map;
+      sound = sound;
+      low = low;
+      high = high;
+      whole = k.whole;
+      slots = within_frame;
+      first = λ reached. next_stands x is s k at (Push list) does.size does.stands g regs m.segments (with_gs s.first gs) refl refl e (pc_behind x is s k at (Push list) does.size does.stands) holds reached fresh;
+      beyond = k.beyond;
+      chain = chain_moves s.segments m.segments x s.home s.first.caller s.outer words.1 k.chain;
+      cleanups = in_progress x s u gs new refl refl closed (moves new) words.1 old new s.places s.lists.cleanups
+          (linked_small _ _ s.lists.cleanups k.corresponds.stands.shows.cleanups) (omega arith) (at_landing s.lists.cleanups s.places k.cleanups) k.cleanups;
+    }
+      where
+        at_landing : (cs : List Cleanup) (places : List ℕ) → AreInProgress x s old places cs → IsWithin new cs
+        at_landing [] places h = tt
+        at_landing (c ∷ more) [] h = absurd h
+        at_landing (c ∷ more) (j ∷ later) h = let q = falls in omega (arith, h.0, q.0)
+
+    module _ (holds : (g : Fact) → after_of P false place (Push list) f ≡ Ok g → Holds P g (with_gs s.first gs) m.segments regs) (input : List ℕ) where
+      by_tests : (o : Option End) → acts.tests (program_of x) s Done regs ≡ o → OnEvent x (acts.onward (program_of x) s (acts.tested (program_of x) s Done regs m o) input)
+      by_tests (Some end) t = k
+      by_tests None t =
+          let fetched = fetch x is s k at (Push list) does.size does.stands in
+          let count : pushes_some (instr_at (memory_of s) s.regs.pc) ≡ n = ap pushes_some fetched.stands in
+          let two = none_or (sp_end (innermost_in s.lists.cleanups) s.home.0 s.regs.pc old new) (acts.way_end_of (program_of x) s (branches_some (instr_at (memory_of s) s.regs.pc) s.regs) Done regs) t in
+          let straight : branches_some (instr_at (memory_of s) s.regs.pc) s.regs ≡ false = ap (λ (o : Option (Instr × ℕ)). branches_some o s.regs) fetched.stands in
+          let fell : fell_off (program_of x) s.regs.pc regs.pc ≡ None = subst (λ (b : Bool). cond b None (fell_off (program_of x) s.regs.pc regs.pc) ≡ None) straight two.1 in
+          let low = sp_tests (leaves_cleanup (innermost_in s.lists.cleanups) old new) two.0 in
+          let l = left x is s k at (Push list) does.size does.stands in
+          subst (Keeps x) (sym (ap (λ (c : ℕ). settled_in saves c old new (record s { regs = regs; segments = m.segments })) count ∙ settled_is))
+          (push_keeps l.0 l.1 low (holds l.0 l.1) (not_start (begins_function x.image.functions regs.pc) fell))
+        where
+          not_start : (b : Bool) → cond b (Some (the_end.Trap kind.FellOff regs.pc s.regs.pc)) None ≡ None → b ≡ false
+          not_start true h = absurd cc
+          not_start false h = refl
+
+          sp_tests : (b : Bool) → cond b (Some (the_end.Trap kind.SpInCleanup new s.regs.pc)) (cond (nat_lt new s.home.0) (Some (the_end.Trap kind.StackLimit new s.regs.pc)) None) ≡ None → s.home.0 ≤ new
+          sp_tests true h = absurd cc
+          sp_tests false h = go (nat_lt new s.home.0) refl h
+            where
+              go : (c : Bool) → nat_lt new s.home.0 ≡ c → cond c (Some (the_end.Trap kind.StackLimit new s.regs.pc)) None ≡ None → s.home.0 ≤ new
+              go true e f = absurd cc
+              go false e f = elim (cases_lt new s.home.0) [ inl w ↦ absurd (let t = lt-ltb new s.home.0 w in cc) | inr w ↦ w ]
+
+      keeps_on : OnEvent x (acts.recorded_event (program_of x) s input)
+      unfolding acts.recorded_event acts.passed
+      keeps_on = subst (λ (b : Bool). OnEvent x (acts.onward (program_of x) s (acts.checked (program_of x) s b) input)) (sym does.reached)
+          (subst (λ (o : Stepping). OnEvent x (acts.onward (program_of x) s (acts.stepped (program_of x) s o) input)) (sym step) (by_tests (acts.tests (program_of x) s Done regs) refl))
+
+      stored_turns : Turns x s input
+      stored_turns = record {
+        same = plain_match (program_of x) s input (knows s k.corresponds) (subst (λ (o : Stepping). IsPlain s o.0) (sym step) tt);
+        keeps = keeps_on;
+      }
+
+  -- A push whose fact behind holds of what it stored is the same in both machines, and keeps.
+  pub push_turns : ((m : Memory) → store_run (memory_of s) a (words_of list s.regs) ≡ (Ok tt, m) → (g : Fact) → after_of P false place (Push list) f ≡ Ok g → Holds P g (with_gs s.first gs) m.segments regs)
+      → (input : List ℕ) → Turns x s input
+  push_turns holds input = go (store_run (memory_of s) a (words_of list s.regs)) refl
+    where
+      go : (o : Result (Unit {0}) BusFault × Memory) → store_run (memory_of s) a (words_of list s.regs) ≡ o → Turns x s input
+      go (Err fault, m) e = trap_turns x s k input (trap.Memory fault) s.regs m
+          ((fetch x is s k at (Push list) does.size does.stands).step ∙ ap (λ (o : Result (Unit {0}) BusFault × Memory). store_end o does.size s.regs (with_reg s.regs SP a)) e)
+          (ap (λ (q : Option (Instr × ℕ)). acts.popped_back s (acts.pops_some q)) (fetch x is s k at (Push list) does.size does.stands).stands) does.reached
+      go (Ok tt, m) e = stored_turns m e (holds m e) input

@@ -1,0 +1,26 @@
+pub mod accesses_keep
+pub use Rattle.accesses_keep.proofs.two_machines
+pub use Rattle.accesses_keep.proofs.frame_check
+pub use Rattle.accesses_keep.proofs.frame_flow
+pub use Rattle.accesses_keep.proofs.frame_reach
+pub use Rattle.accesses_keep.proofs.eh_phase
+pub use Rattle.accesses_keep.proofs.eh_cxa
+pub use Rattle.accesses_keep.proofs.eh_bus
+pub use Rattle.accesses_keep.proofs.accepted_code
+pub use Rattle.accesses_keep.proofs.stands_for
+pub use Rattle.accesses_keep.proofs.steps_keep
+pub mod FramePlaces
+mod Unwinds
+pub mod Outwards
+pub mod Sites
+pub mod CodeBytes
+pub mod Agreement
+pub mod FramesSame
+pub mod GoesHere
+pub mod Landing
+pub mod Located
+pub mod Forgets
+pub mod Pads
+pub mod PadStands
+pub mod ReachBySp
+pub mod WithinReach

@@ -1,0 +1,263 @@
+-- An activation that a landing enters stands at the pad: there is a way from the site to each pad of its descriptors in scope, which forgets
+-- r0 to r3, r12 and lr, and behind a cleanup those of r4 to r11 that its resume may change.
+use Rattle.std.proofs.Common.{◌≡◌, ℕ, length, get_or, ap, ◌∙◌, arith, ◌<◌, ◌≤◌, ◌⊎◌, List, slice_index, ◌==◌, nat_lt, Bool, true, false, cond, refl, zero, suc, inl, inr, ◌%◌, ◌&&◌, ◌||◌, sym, subst, [], ◌∷◌, ◌++◌, ◌-◌, ◌/◌, ◌^◌, nat_le, not, Option, Some, None, Ok}
+use Rattle.std.proofs.lemmas.List.{get_or_past}
+use Rattle.std.proofs.lemmas.Bool.{eqb-true, ltb-true, and_parts, leb-true}
+use Rattle.std.specs.List.{list_any}
+use Rattle.std.specs.Prelude.{Contains, option_and_then}
+use Rattle.std.specs.Option.{option_map_or}
+use Rattle.std.proofs.lemmas.List.Elements.{Contains-append_left, Contains-append_right}
+use Rattle.std.proofs.lemmas.Option.{none-some}
+use Rattle.accesses_keep.specs.frame_facts.Facts.{source, slot, forgotten}
+use Rattle.accesses_keep.specs.frame_facts.declared.facts.Fact.{Fact}
+use Rattle.accesses_keep.specs.frame_facts.declared.facts.Source.TheVariants.{Other}
+use Rattle.accesses_keep.specs.thumb_core.Registers.{reg}
+use Rattle.accesses_keep.specs.thumb_core.declared.regs.Regs.{Regs}
+use Rattle.accesses_keep.specs.eh_bus.Segment.{Segment}
+use Rattle.accesses_keep.specs.eh_gates.Landing.{landed}
+use Rattle.accesses_keep.specs.thumb_core.Words.{listed}
+use Rattle.accesses_keep.specs.thumb_core.declared.regs.TheConstants.{SP}
+use Rattle.accesses_keep.specs.frame_facts.declared.saves.Prologue.{Prologue}
+use Rattle.accesses_keep.specs.frame_scene.declared.unwinding.Unwinding.{Unwinding}
+use Rattle.accesses_keep.specs.frame_scene.Unwinding.{landing_changes}
+use Rattle.accesses_keep.specs.two_machines.Activations.{Activation}
+use Rattle.accesses_keep.specs.elf_image.Image.{Image, is_code_in}
+use Rattle.accesses_keep.specs.elf_image.Marks.{marked}
+use Rattle.accesses_keep.specs.elf_image.Segments.{holds}
+use Rattle.accesses_keep.specs.frame_scene.Sites.{Item, is_one, cleans, covers, lands_out, pads_out, pad_of, pad_for, pad_ways, site_at, site_of, items_at, unwinding_at, ways_from, ways_of}
+use Rattle.accesses_keep.specs.frame_facts.Branches.{gate_changes, call_changes}
+use Rattle.accesses_keep.specs.flow.Flow.{met}
+use Rattle.accesses_keep.proofs.flow.Work.{contains_head}
+use Rattle.accesses_keep.specs.elf_image.Functions.{Function}
+use Rattle.accesses_keep.specs.eh_desc.declared.descriptor.Desc.{Desc}
+use Rattle.accesses_keep.specs.thumb_isa.declared.instr.Instr.{Instr}
+use Rattle.accesses_keep.specs.thumb_isa.declared.instr.Instr.TheVariants.{Svc, Bl, Blx}
+use Rattle.accesses_keep.specs.frame_facts.After.{after_of}
+use Rattle.accesses_keep.specs.frame_facts.Agrees.{at_site}
+use Rattle.accesses_keep.specs.frame_facts.declared.cause.FrameCause.{FrameCause}
+use Rattle.accesses_keep.specs.frame_facts.declared.cause.FrameCause.TheVariants.{Undecodable, BranchOut, CallNotFunction, PadDepth, ThrowInLeafScope}
+use Rattle.accesses_keep.specs.frame_scene.declared.ways.Way.{Way}
+use Rattle.accesses_keep.specs.frame_scene.Places.{address_of, place_of, is_code_of}
+use Rattle.accesses_keep.specs.frame_scene.Scene.{Scene}
+use Rattle.accesses_keep.specs.frame_scene.Ways.{is_undecodable, branches_out, calls_nothing, instruction_at, straight_ways, ways_to}
+use Rattle.accesses_keep.proofs.frame_scene.Landings.{landings_follow}
+use Rattle.accesses_keep.specs.frame_reach.Marks.{Marks}
+use Rattle.accesses_keep.specs.frame_flow.Causes.{shown, answered, after_at, unwound, throws_in_leaf, site_causes, is_call, instruction_causes, found}
+use Rattle.accesses_keep.specs.frame_flow.Flows.{IsStateOf}
+use Rattle.accesses_keep.proofs.frame_flow.Causing.{found_are_met}
+use Rattle.accesses_keep.specs.frame_check.Accepts.{Accepted}
+use Rattle.accesses_keep.specs.frame_check.Judged.{IsPlaced}
+use Rattle.accesses_keep.specs.frame_check.Roots.{scene_of}
+use Rattle.accesses_keep.proofs.frame_check.Wells.{placed_at}
+use Rattle.accesses_keep.specs.stands_for.Holds.{Holds}
+use Rattle.frames_same.proofs.Forgets.{landing_keeps_sp, landing_forgets}
+use Rattle.accesses_keep.proofs.stands_for.Moves.{moved_holds, forgotten_here}
+use Rattle.frames_same.proofs.Sites.{forgotten_holds}
+use Rattle.accesses_keep.specs.stands_for.Chain.{IsOf, code, StandsAt}
+use Rattle.accesses_keep.specs.stands_for.Stands.{IsProgram}
+use Rattle.accesses_keep.proofs.stands_for.Flows.{none_stands, goes_along}
+
+-- ---- the registers at a pad
+
+-- what a fact says of sp, and past lr, it says by the depth
+pub none_past : (f : Fact) (k : ℕ) → length f.regs ≡ 14 → slot k ≡ 14 → source f k ≡ Other
+none_past f k long e = ap (λ n. get_or f.regs n Other) e ∙ get_or_past f.regs 14 Other (omega (arith, long))
+
+-- r4 to r11 of the frame that is entered are those of which a fact speaks, or it doesn't
+abbrev pub AreAt : Fact → List ℕ → Regs → Type 0
+AreAt f r old = (k : ℕ) → 4 ≤ k → k < 12 → (source f k ≡ Other) ⊎ (slice_index r k ≡ reg old k)
+
+pub past_lr : (k : ℕ) → 15 ≤ k → slot k ≡ 14
+past_lr k h = go (nat_lt k 13) (k == 14) refl refl
+  where
+    go : (b c : Bool) → nat_lt k 13 ≡ b → (k == 14) ≡ c → cond b k (cond c 13 14) ≡ 14
+    go true c i j = absurd (let l = ltb-true k 13 i in omega (arith, h, l))
+    go false true i j = absurd (let l = eqb-true k 14 j in omega (arith, h, l))
+    go false false i j = refl
+
+pub pad_holds : (p : Prologue) (u : Unwinding) (resumed : Bool) (g : Fact) (a : Activation) (segments : List Segment) (old regs : Regs) (r : List ℕ) (pad first : ℕ) → Holds p g a segments old
+    → AreAt (forgotten (listed (landing_changes u resumed)) g) r old → slice_index r SP ≡ reg old SP → Holds p (forgotten (listed (landing_changes u resumed)) g) a segments (landed regs r pad first)
+pad_holds p u resumed g a segments old regs r pad first h same sp = moved_holds p f a segments old (landed regs r pad first) less each sp
+  where
+    f : Fact
+    f = forgotten (listed (landing_changes u resumed)) g
+
+    less : Holds p f a segments old
+    less = forgotten_holds p g a segments old (listed (landing_changes u resumed)) (landing_keeps_sp u resumed) h
+
+    lost_here : (k : ℕ) → (k < 4) ⊎ ((k ≡ 12) ⊎ (k ≡ 14)) → source f k ≡ Other
+    lost_here k e = forgotten_here (listed (landing_changes u resumed)) g k (landing_forgets u resumed k e)
+
+    each : (k : ℕ) → (source f k ≡ Other) ⊎ (reg (landed regs r pad first) k ≡ reg old k)
+    each zero = inl (lost_here 0 (inl (omega arith)))
+    each (suc zero) = inl (lost_here 1 (inl (omega arith)))
+    each (suc (suc zero)) = inl (lost_here 2 (inl (omega arith)))
+    each (suc (suc (suc zero))) = inl (lost_here 3 (inl (omega arith)))
+    each (suc (suc (suc (suc zero)))) = same 4 (omega arith) (omega arith)
+    each (suc (suc (suc (suc (suc zero))))) = same 5 (omega arith) (omega arith)
+    each (suc (suc (suc (suc (suc (suc zero)))))) = same 6 (omega arith) (omega arith)
+    each (suc (suc (suc (suc (suc (suc (suc zero))))))) = same 7 (omega arith) (omega arith)
+    each (suc (suc (suc (suc (suc (suc (suc (suc zero)))))))) = same 8 (omega arith) (omega arith)
+    each (suc (suc (suc (suc (suc (suc (suc (suc (suc zero))))))))) = same 9 (omega arith) (omega arith)
+    each (suc (suc (suc (suc (suc (suc (suc (suc (suc (suc zero)))))))))) = same 10 (omega arith) (omega arith)
+    each (suc (suc (suc (suc (suc (suc (suc (suc (suc (suc (suc zero))))))))))) = same 11 (omega arith) (omega arith)
+    each (suc (suc (suc (suc (suc (suc (suc (suc (suc (suc (suc (suc zero)))))))))))) = inl (lost_here 12 (inr (inl refl)))
+    each (suc (suc (suc (suc (suc (suc (suc (suc (suc (suc (suc (suc (suc zero))))))))))))) = inr sp
+    each (suc (suc (suc (suc (suc (suc (suc (suc (suc (suc (suc (suc (suc (suc zero)))))))))))))) = inl (lost_here 14 (inr (inr refl)))
+    each (suc (suc (suc (suc (suc (suc (suc (suc (suc (suc (suc (suc (suc (suc (suc k))))))))))))))) = inl (none_past f (suc (suc (suc (suc (suc (suc (suc (suc (suc (suc (suc (suc (suc (suc (suc k))))))))))))))) less.describes.long (past_lr (suc (suc (suc (suc (suc (suc (suc (suc (suc (suc (suc (suc (suc (suc (suc k))))))))))))))) (omega arith)))
+
+-- ---- the pad's address
+
+even_code : (image : Image) (start a : ℕ) → start % 2 ≡ 0 → ((a == start) || is_code_in image a) ≡ true → a % 2 ≡ 0
+even_code image start a h e = go (a == start) refl (a % 2 == 0) refl e
+  where
+    go : (b : Bool) → (a == start) ≡ b → (c : Bool) → (a % 2 == 0) ≡ c → (b || (c && list_any (λ s. holds a s && s.exec) image.segments && marked image.marks a)) ≡ true → a % 2 ≡ 0
+    go true is c d f = let same : a ≡ start = eqb-true a start is in subst (λ x. x % 2 ≡ 0) (sym same) h
+    go false is true d f = eqb-true (a % 2) 0 d
+    go false is false d f = absurd cc
+
+pub any_there : (t : Item → Bool) (before : List Item) (i : Item) (after : List Item) → t i ≡ true → list_any t (before ++ i ∷ after) ≡ true
+any_there t [] i after e = ap (λ b. b || list_any t after) e
+any_there t (x ∷ before) i after e = go (t x) (any_there t before i after e)
+  where
+    go : (b : Bool) → list_any t (before ++ i ∷ after) ≡ true → (b || list_any t (before ++ i ∷ after)) ≡ true
+    go true h = refl
+    go false h = h
+
+gates_keep_sp : list_any (λ (j : ℕ). j == 13) gate_changes ≡ false
+unfolding listed
+gates_keep_sp = refl
+
+-- ---- a descriptor in scope of a site
+
+module _ (x : Accepted) (is : IsProgram x) (f : Function) (m : Marks) (start : ℕ) (of : IsOf x start f m) (p : ℕ) (fact : Fact) (state : IsStateOf (code x f m) p fact) (i : Instr)
+    (at : instruction_at (scene_of x.image f) p ≡ Some i) (site : ℕ) (site_is : site_at (scene_of x.image f) p ≡ Some site) where
+  abbrev s : Scene
+  s = scene_of x.image f
+
+  not_found : (cause : FrameCause) → Contains (found (code x f m) p fact) cause → ⊥
+  not_found cause h = none_stands x f m is.sound of.among of.are p cause (met state ((found_are_met (code x f m) cause p fact).1 h))
+
+  at_the_site : (cause : FrameCause) → Contains (site_causes (code x f m) (is_call i) fact site) cause → Contains (found (code x f m) p fact) cause
+  unfolding found
+  at_the_site cause here =
+      let site_part : Contains (option_map_or (site_causes (code x f m) (is_call i) fact) (site_at s p) []) cause = rw site_is here in
+      let instr_part : Contains (instruction_causes (code x f m) p fact i) cause = Contains-append_right (answered (after_at (code x f m) p fact i)) _ cause site_part in
+      let last : Contains (option_map_or (instruction_causes (code x f m) p fact) (instruction_at s p) []) cause = rw at instr_part in
+      Contains-append_right (shown (is_undecodable s p) Undecodable) _ cause
+      (Contains-append_right (shown (branches_out s p) BranchOut) _ cause
+      (Contains-append_right (shown (calls_nothing s p) CallNotFunction) _ cause last))
+
+  pads_in : pads_out s site ≡ true → ⊥
+  pads_in e =
+      let one : Contains (shown (pads_out s site) PadDepth) PadDepth = rw e (contains_head PadDepth []) in
+      not_found PadDepth (at_the_site PadDepth (Contains-append_right (unwound (code x f m).prologue (unwinding_at s site) (is_call i) fact) _ PadDepth (Contains-append_left (shown (pads_out s site) PadDepth) _ PadDepth one)))
+
+  -- a gate in the scope of a descriptor has something on the stack
+  pub no_leaf : throws_in_leaf s site (is_call i) fact ≡ true → ⊥
+  no_leaf e =
+      let one : Contains (shown (throws_in_leaf s site (is_call i) fact) ThrowInLeafScope) ThrowInLeafScope = rw e (contains_head ThrowInLeafScope []) in
+      not_found ThrowInLeafScope (at_the_site ThrowInLeafScope (Contains-append_right (unwound (code x f m).prologue (unwinding_at s site) (is_call i) fact) _ ThrowInLeafScope
+      (Contains-append_right (shown (pads_out s site) PadDepth) _ ThrowInLeafScope one)))
+
+  -- what a call or a gate leaves
+  pub record Leaves : Type 0 where
+    pub fact_behind : Fact
+    pub is_behind : after_of (code x f m).prologue false (address_of s p) i fact ≡ Ok fact_behind
+    pub holds_behind : (a : Activation) (segments : List Segment) (regs : Regs) → Holds (code x f m).prologue (at_site (is_call i) fact) a segments regs → Holds (code x f m).prologue fact_behind a segments regs
+
+  leaves_by : (j : Instr) → i ≡ j → site_of (address_of s p) j ≡ Some site → Leaves
+  leaves_by (Bl off) e h = record {
+    fact_behind = forgotten call_changes fact;
+    is_behind = ap (λ (j : Instr). after_of (code x f m).prologue false (address_of s p) j fact) e;
+    holds_behind = λ a segments regs w. subst (λ (j : Instr). Holds (code x f m).prologue (at_site (is_call j) fact) a segments regs) e w;
+  }
+  leaves_by (Blx n) e h = record {
+    fact_behind = forgotten call_changes fact;
+    is_behind = ap (λ (j : Instr). after_of (code x f m).prologue false (address_of s p) j fact) e;
+    holds_behind = λ a segments regs w. subst (λ (j : Instr). Holds (code x f m).prologue (at_site (is_call j) fact) a segments regs) e w;
+  }
+  leaves_by (Svc imm) e h = record {
+    fact_behind = forgotten gate_changes fact;
+    is_behind = ap (λ (j : Instr). after_of (code x f m).prologue false (address_of s p) j fact) e;
+    holds_behind = λ a segments regs w.
+        forgotten_holds (code x f m).prologue fact a segments regs gate_changes gates_keep_sp (subst (λ (j : Instr). Holds (code x f m).prologue (at_site (is_call j) fact) a segments regs) e w);
+  }
+  leaves_by j e h = absurd (none-some site h)
+
+  pub leaves : Leaves
+  leaves = leaves_by i refl (ap (option_and_then (site_of (address_of s p))) (sym at) ∙ site_is)
+
+  module _ (before : List Item) (d : Desc) (after : List Item) (items : items_at s site ≡ before ++ Ok d ∷ after) (scope : covers site d ≡ true) (pad : ℕ) (has : pad_of d.kind ≡ Some pad) where
+    pad_is : pad_for site d ≡ Some pad
+    pad_is = ap (λ (b : Bool). cond b (pad_of d.kind) None) scope ∙ has
+
+    is_code : is_code_of s pad ≡ true
+    is_code = go (is_code_of s pad) refl
+      where
+        go : (b : Bool) → is_code_of s pad ≡ b → is_code_of s pad ≡ true
+        go true e = e
+        go false e =
+            let out : lands_out s site d ≡ true = ap (λ (o : Option ℕ). option_map_or (λ q. not (is_code_of s q)) o false) pad_is ∙ ap not e in
+            absurd (pads_in (ap (list_any (is_one (lands_out s site))) items ∙ any_there (is_one (lands_out s site)) before (Ok d) after out))
+
+    placed : IsPlaced f
+    placed = subst IsPlaced of.among.2 (placed_at x.image of.among.0 f is.image of.among.1)
+
+    pub even_pad : pad % 2 ≡ 0
+    even_pad = even_code x.image f.start pad placed.even (and_parts (nat_le f.start pad && nat_lt pad f.end) ((pad == f.start) || is_code_in x.image pad) is_code).1
+
+    abbrev pub q : ℕ
+    q = (pad - f.start) / 2
+
+    above : f.start ≤ pad
+    above = leb-true f.start pad (and_parts (nat_le f.start pad) (nat_lt pad f.end) (and_parts (nat_le f.start pad && nat_lt pad f.end) ((pad == f.start) || is_code_in x.image pad) is_code).0).0
+
+    pub low_pad : pad < 2 ^ 31
+    low_pad = let l = ltb-true pad f.end (and_parts (nat_le f.start pad) (nat_lt pad f.end) (and_parts (nat_le f.start pad && nat_lt pad f.end) ((pad == f.start) || is_code_in x.image pad) is_code).0).1 in
+        let top = placed.low in omega (arith, l, top)
+
+    pub stands : address_of s q ≡ pad
+    stands = let e = even_pad in let a = above in let h = placed.even in omega (arith, e, a, h)
+
+    at_place : place_of s pad ≡ Some q
+    at_place = ap (λ (b : Bool). cond b (Some ((pad - f.start) / 2)) None) is_code
+
+    abbrev pub resumed : Bool
+    resumed = list_any (is_one (cleans site)) before
+
+    abbrev pub u : Unwinding
+    u = unwinding_at s site
+
+    abbrev pub way : Way
+    way = record { to = q; forgets = landing_changes u resumed }
+
+    pub is_way : Contains (ways_of s p) way
+    unfolding ways_of
+    is_way =
+        let here : Contains (ways_to (landing_changes u resumed) (option_and_then (place_of s) (pad_for site d))) way =
+        subst (λ (o : Option ℕ). Contains (ways_to (landing_changes u resumed) o) way) (sym (ap (option_and_then (place_of s)) pad_is ∙ at_place)) (contains_head way []) in
+        let all : Contains (pad_ways s site u false (before ++ Ok d ∷ after)) way =
+        subst (λ (ws : List Way). Contains ws way) (sym (landings_follow s site u before after d))
+        (Contains-append_right (pad_ways s site u false before) _ way (Contains-append_left (ways_to (landing_changes u resumed) (option_and_then (place_of s) (pad_for site d))) _ way here)) in
+        let from_site : Contains (pad_ways s site u false (items_at s site)) way = subst (λ (is : List Item). Contains (pad_ways s site u false is) way) (sym items) all in
+        let from_place : Contains (ways_from s (site_at s p)) way = subst (λ (o : Option ℕ). Contains (ways_from s o) way) (sym site_is) from_site in
+        Contains-append_right (straight_ways s p) (ways_from s (site_at s p)) way from_place
+
+    -- the fact at the pad
+    abbrev pub pad_fact : Fact
+    pad_fact = forgotten (listed (landing_changes u resumed)) leaves.fact_behind
+
+    -- The activation stands there, with what the fact at the site says of it at the registers that it has there.
+    pub stands_at_pad : (a : Activation) (segments : List Segment) (old regs : Regs) (r : List ℕ) (first : ℕ) → a.function ≡ start → Holds (code x f m).prologue (at_site (is_call i) fact) a segments old
+        → AreAt pad_fact r old → slice_index r SP ≡ reg old SP → StandsAt x a segments (landed regs r pad first) (landed regs r pad first).pc
+    stands_at_pad a segments old regs r first fn h same sp = record {
+      function = f;
+      marks = m;
+      of = record { among = of.among; begins = of.begins ∙ sym fn; are = of.are };
+      place = q;
+      address = (let e = even_pad in let same_address = stands in omega (arith, e, same_address));
+      fact = pad_fact;
+      state = goes_along (code x f m) p fact (none_stands x f m is.sound of.among of.are) state i leaves.fact_behind way at leaves.is_behind is_way;
+      holds = pad_holds (code x f m).prologue u resumed leaves.fact_behind a segments old regs r pad first (leaves.holds_behind a segments old h) same sp;
+    }

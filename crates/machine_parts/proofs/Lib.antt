@@ -1,0 +1,13 @@
+pub mod two_machines
+pub mod frame_check
+pub mod frame_flow
+pub mod frame_reach
+pub mod frame_scene
+pub mod frame_facts
+pub mod flow
+pub mod eh_phase
+pub mod eh_bytecode
+pub mod unwind_codes
+pub mod eh_cxa
+pub mod thumb_core
+pub mod eh_bus

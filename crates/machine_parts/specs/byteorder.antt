@@ -1,0 +1,2 @@
+-- What the crates above cite of byteorder.
+pub use Rattle.byteorder.specs.Endian

@@ -1,0 +1,2 @@
+-- What the crates above cite of eh_list.
+pub use Rattle.eh_list.specs.Bytes

@@ -1,0 +1,2 @@
+-- What the crates above cite of flow.
+pub use Rattle.flow.specs.Flow

@@ -1,0 +1,3 @@
+-- What the crates above cite of guest_gates.
+pub use Rattle.guest_gates.specs.Gates
+pub use Rattle.guest_gates.specs.declared

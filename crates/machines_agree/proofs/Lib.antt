@@ -1,0 +1,6 @@
+mod WalkingGates
+mod Fitting
+mod RunsOn
+mod OneEvent
+mod WholeRuns
+mod BeyondStays

@@ -1,0 +1,100 @@
+-- One event, by the instruction.
+use Rattle.std.proofs.Common.{ℕ, List, refl, ◌≡◌, Some, inl, inr, pos, negsuc, subst}
+use Rattle.std.proofs.lemmas.Bool.{cases_eq}
+use Rattle.resumes_keep.specs.thumb_isa.declared.instr.Instr.TheVariants.{Svc, ShiftImm, AddSubReg, AddSubImm3, Imm8, Alu, AddHigh, CmpHigh, MovHigh, Bx, Blx, LdrLit, MemReg, MemImm, MemSp, Adr, AddRdSp, AddSp, SubSp, Extend, Rev, Push, Pop, Hint, Stm, Ldm, BCond, B, Bl, Barrier}
+use Rattle.resumes_keep.specs.eh_gates.declared.gates.TheConstants.{THROW_GATE, RETHROW_GATE, END_CLEANUP_GATE}
+use Rattle.resumes_keep.specs.frame_check.Accepts.{Accepted}
+use Rattle.resumes_keep.specs.two_machines.Activations.{Recorded}
+use Rattle.resumes_keep.specs.two_machines.Checked.{program_of}
+use Rattle.resumes_keep.specs.two_machines.Program.{guide}
+use Rattle.resumes_keep.specs.thumb_isa.declared.instr.Instr.{Instr}
+use Rattle.resumes_keep.specs.frame_facts.Machine.{works_on}
+use Rattle.resumes_keep.specs.frame_check.Roots.{scene_of}
+use Rattle.resumes_keep.specs.stands_for.Stands.{Keeps, IsProgram, Turns, DoesAt}
+use Rattle.resumes_keep.proofs.ResumeKeeps.{resume_keeps}
+use Rattle.resumes_keep.proofs.ResumeMatches.{resume_matches}
+use Rattle.resumes_keep.proofs.throws_keep.ThrowGates.{throw_gates_match}
+use Rattle.resumes_keep.proofs.throws_keep.ThrowLeaves.{throw_gate_keeps, rethrow_gate_keeps}
+use Rattle.machines_agree.proofs.WalkingGates.{walking_turns}
+use Rattle.machines_agree.specs.Turned.{AreBytes, TurnsSame}
+use Rattle.resumes_keep.proofs.steps_keep.DataTurns.{data_turns}
+use Rattle.resumes_keep.proofs.accesses_keep.BxTurns.{bx_turns}
+use Rattle.resumes_keep.proofs.steps_keep.Jumps.{b_turns, bcond_turns, cmp_high_turns, hint_turns, barrier_turns}
+use Rattle.resumes_keep.proofs.steps_keep.High.{add_high_turns, mov_high_turns}
+use Rattle.resumes_keep.proofs.steps_keep.Calls.{bl_turns, blx_turns}
+use Rattle.resumes_keep.proofs.steps_keep.Gates.{gate_turns}
+use Rattle.resumes_keep.proofs.accepted_code.Bounded.{standing_bounds, works_low}
+use Rattle.resumes_keep.proofs.accesses_keep.Events.{accesses, stacks}
+use Rattle.resumes_keep.proofs.accesses_keep.PopTurns.{pops}
+use Rattle.resumes_keep.proofs.accesses_keep.PushTurns.{pushes}
+use Rattle.machines_agree.proofs.Fitting.{byte_small}
+use Rattle.resumes_keep.proofs.steps_keep.Cases.{turns_by_instruction}
+
+-- a throw, a rethrow and the end of a cleanup walk frames
+module _ (x : Accepted) (s : Recorded) (input : List ℕ) (is : IsProgram x) (k : Keeps x s) where
+  throws : DoesAt x s (Svc THROW_GATE) → Turns x s input
+  throws does =
+      walking_turns x is s k does.at THROW_GATE does.size does.stands refl (λ next. (throw_gates_match x s next THROW_GATE is k does).0) (throw_gate_keeps x is s k THROW_GATE does (guide (program_of x))) input does.reached
+
+  rethrows : DoesAt x s (Svc RETHROW_GATE) → Turns x s input
+  rethrows does =
+      walking_turns x is s k does.at RETHROW_GATE does.size does.stands refl (λ next. (throw_gates_match x s next RETHROW_GATE is k does).1) (rethrow_gate_keeps x is s k RETHROW_GATE does (guide (program_of x))) input does.reached
+
+  resumes : DoesAt x s (Svc END_CLEANUP_GATE) → Turns x s input
+  resumes does =
+      walking_turns x is s k does.at END_CLEANUP_GATE does.size does.stands refl (resume_matches x is s k (guide (program_of x)) END_CLEANUP_GATE does) (resume_keeps x is s k END_CLEANUP_GATE does (guide (program_of x))) input does.reached
+
+module _ (x : Accepted) (s : Recorded) (input : List ℕ) (is : IsProgram x) (k : Keeps x s) (bytes : AreBytes input) where
+  gate : (number : ℕ) → DoesAt x s (Svc number) → Turns x s input
+  gate number does = elim (cases_eq number THROW_GATE) [
+    | inl e ↦ throws x s input is k (subst (λ n. DoesAt x s (Svc n)) e does)
+    | inr a ↦ elim (cases_eq number RETHROW_GATE) [
+      | inl e ↦ rethrows x s input is k (subst (λ n. DoesAt x s (Svc n)) e does)
+      | inr b ↦ elim (cases_eq number END_CLEANUP_GATE) [
+        | inl e ↦ resumes x s input is k (subst (λ n. DoesAt x s (Svc n)) e does)
+        | inr c ↦ gate_turns x s number input is k does (record { throw = a; rethrow = b; cleanup = c }) (byte_small input bytes)
+      ]
+    ]
+  ]
+
+  low : (i : Instr) (d : ℕ) → works_on i ≡ Some d → DoesAt x s i → Turns x s input
+  low i d works does = data_turns x s i d input is k does works (works_low i d works (standing_bounds (scene_of x.image does.at.function) does.at.place i does.size does.stands))
+
+  each : (i : Instr) → DoesAt x s i → Turns x s input
+  each (ShiftImm op d m n) does = low (ShiftImm op d m n) d refl does
+  each (AddSubReg sub d n m) does = low (AddSubReg sub d n m) d refl does
+  each (AddSubImm3 sub d n imm) does = low (AddSubImm3 sub d n imm) d refl does
+  each (Imm8 op d imm) does = low (Imm8 op d imm) d refl does
+  each (Alu op d m) does = low (Alu op d m) d refl does
+  each (Adr d off) does = low (Adr d off) d refl does
+  each (Extend op d m) does = low (Extend op d m) d refl does
+  each (Rev op d m) does = low (Rev op d m) d refl does
+  each (AddRdSp d (pos off)) does = low (AddRdSp d (pos off)) d refl does
+  each (AddRdSp d (negsuc off)) does = absurd (standing_bounds (scene_of x.image does.at.function) does.at.place (AddRdSp d (negsuc off)) does.size does.stands).1
+  each (LdrLit t off) does = accesses x s (LdrLit t off) input is k does tt
+  each (MemReg op t n m) does = accesses x s (MemReg op t n m) input is k does tt
+  each (MemImm op t n off) does = accesses x s (MemImm op t n off) input is k does tt
+  each (MemSp load t off) does = accesses x s (MemSp load t off) input is k does tt
+  each (Stm n list) does = accesses x s (Stm n list) input is k does tt
+  each (Ldm n list) does = accesses x s (Ldm n list) input is k does tt
+  each (AddSp off) does = stacks x s (AddSp off) input is k does tt
+  each (SubSp off) does = stacks x s (SubSp off) input is k does tt
+  each (Push list) does = pushes x s list input is k does
+  each (Pop list) does = pops x s list input is k does
+  each (Svc number) does = gate number does
+  each (AddHigh d m) does = add_high_turns x s d m input is k does
+  each (MovHigh d m) does = elim (cases_eq d 13) [
+    | inl e ↦ stacks x s (MovHigh d m) input is k does e
+    | inr other ↦ mov_high_turns x s d m input is k does other
+  ]
+  each (CmpHigh n m) does = cmp_high_turns x s n m input is k does
+  each (Bx m) does = bx_turns x s m input is k does
+  each (Blx m) does = blx_turns x s m input is k does
+  each (Hint n) does = hint_turns x s n input is k does
+  each (BCond cc off) does = bcond_turns x s cc off input is k does
+  each (B off) does = b_turns x s off input is k does
+  each (Bl off) does = bl_turns x s off input is k does
+  each (Barrier op option) does = barrier_turns x s op option input is k does
+
+pub turns : TurnsSame
+turns x s input is k bytes = turns_by_instruction x s input is k (each x s input is k bytes)

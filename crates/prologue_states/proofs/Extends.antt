@@ -1,0 +1,289 @@
+-- The saves of a prologue are those that its run has found so far, and further ones that lie deeper: so the effects of its instructions are the
+-- same by the whole prologue as by the part that the run has come to.
+use Rattle.std.proofs.Common.{ℕ, ◌<◌, List, [], ◌∷◌, ◌≤◌, arith, ◌++◌, Bool, nat_le, ◌≡◌, ◌+◌, cond, ◌∙◌, ap, refl, sym, length, take, ℤ, ◌*◌, ◌==◌, ◌&&◌, not, true, false, nat_lt, Option, Some, None, min, pos, Err, zero, suc, set, subst, append-nil, ◌%◌, ◌^◌}
+use Rattle.std.specs.List.{count_by}
+use Rattle.std.proofs.lemmas.Bool.{lt-leb, and_parts, ltb-true}
+use Rattle.std.proofs.lemmas.List.Sums.{sum_by-cons}
+use Rattle.std.specs.Prelude.{find, option_map, ◌+ℤ◌, slice_set, option_and_then}
+use Rattle.std.specs.Option.{option_map_or}
+use Rattle.std.proofs.lemmas.List.{take-append-le, length-take, length-set, append_assoc}
+use Rattle.std.proofs.lemmas.Option.{same_Some}
+use Rattle.accepted_code.specs.frame_facts.declared.saves.Save.{Save}
+use Rattle.accepted_code.specs.frame_facts.declared.saves.Prologue.{Prologue}
+use Rattle.accepted_code.specs.frame_facts.Saves.{saves_of, saves_within, lies_at, word, moved_to}
+use Rattle.accepted_code.specs.frame_facts.declared.facts.Source.TheVariants.{Entry, Other, SpAt}
+use Rattle.accepted_code.specs.thumb_isa.declared.instr.Instr.{Instr}
+use Rattle.accepted_code.specs.thumb_isa.declared.instr.Instr.TheVariants.{ShiftImm, AddSubReg, AddSubImm3, Imm8, Alu, AddHigh, CmpHigh, MovHigh, Bx, Blx, LdrLit, MemReg, MemImm, MemSp, Adr, AddRdSp, AddSp, SubSp, Extend, Rev, Push, Pop, Hint, Stm, Ldm, BCond, Svc, B, Bl, Barrier}
+use Rattle.accepted_code.specs.thumb_core.Words.{listed}
+use Rattle.accepted_code.specs.frame_facts.declared.facts.Fact.{Fact}
+use Rattle.accepted_code.specs.frame_facts.declared.facts.Source.{Source}
+use Rattle.accepted_code.specs.frame_facts.After.{effect, after_of, gone_on}
+use Rattle.accepted_code.specs.frame_facts.Facts.{within, with_source, source}
+use Rattle.accepted_code.specs.frame_facts.Lists.{pushed_to}
+use Rattle.accepted_code.specs.frame_facts.Data.{sp_set, copied}
+use Rattle.accepted_code.specs.frame_facts.Prologues.{may_stand, is_callers, with_save, saved, with_pushed, pushed_by, ended, taken}
+use Rattle.accepted_code.specs.frame_facts.declared.cause.FrameCause.TheVariants.{IndirectBranch}
+use Rattle.accepted_code.specs.frame_facts.declared.straight.Straight.{Straight}
+use Rattle.accepted_code.specs.frame_facts.declared.saves.TheConstants.{MOST_SAVES}
+use Rattle.accepted_code.specs.frame_facts.declared.facts.TheConstants.{DEEPEST}
+
+-- ---- deeper saves
+
+abbrev pub Above : ℕ → List Save → Type 0
+Above d [] = Unit {0}
+Above d (v ∷ more) = (d < v.offset) × Above d more
+
+pub above_less : (d e : ℕ) (vs : List Save) → e ≤ d → Above d vs → Above e vs
+above_less d e [] l h = tt
+above_less d e (v ∷ more) l h = (omega (arith, h.0, l), above_less d e more l h.1)
+
+pub above_both : (d : ℕ) (xs ys : List Save) → Above d xs → Above d ys → Above d (xs ++ ys)
+above_both d [] ys h k = k
+above_both d (v ∷ more) ys h k = (h.0, above_both d more ys h.1 k)
+
+-- those that lie deeper don't count
+abbrev is_within : ℕ → Save → Bool
+is_within d v = nat_le v.offset d
+
+none_within : (d : ℕ) (ys : List Save) → Above d ys → count_by (λ (s : Save). nat_le s.offset d) ys ≡ 0
+none_within d [] h = refl
+none_within d (v ∷ more) h = sum_by-cons (λ (s : Save). cond (nat_le s.offset d) 1 0) v more ∙ ap (λ b. cond b 1 0 + count_by (λ (s : Save). nat_le s.offset d) more) (lt-leb v.offset d h.0)
+    ∙ ap (λ n. 0 + n) (none_within d more h.1) ∙ omega arith
+
+pub same_within : (d : ℕ) (xs ys : List Save) → Above d ys → count_by (λ (s : Save). nat_le s.offset d) (xs ++ ys) ≡ count_by (λ (s : Save). nat_le s.offset d) xs
+same_within d [] ys h = none_within d ys h
+same_within d (v ∷ more) ys h =
+    sum_by-cons (λ (s : Save). cond (nat_le s.offset d) 1 0) v (more ++ ys) ∙ ap (λ n. cond (nat_le v.offset d) 1 0 + n) (same_within d more ys h)
+    ∙ sym (sum_by-cons (λ (s : Save). cond (nat_le s.offset d) 1 0) v more)
+
+-- ---- a prologue with deeper saves
+
+-- the saves of P are those of q, and others that lie deeper than d
+pub record Deeper (q P : Prologue) (d : ℕ) : Type 0 where
+  pub newer : List Save
+  pub are : saves_of P ≡ saves_of q ++ newer
+  pub above : Above d newer
+
+pub within_same : (q P : Prologue) (d e : ℕ) → e ≤ d → Deeper q P d → saves_within P e ≡ saves_within q e
+within_same q P d e l h = ap (count_by (λ (s : Save). nat_le s.offset e)) h.are ∙ same_within e (saves_of q) h.newer (above_less d e h.newer l h.above)
+
+word_same : (q P : Prologue) (d kept at : ℕ) (off : ℤ) → kept ≤ length (saves_of q) → Deeper q P d → word P kept at off ≡ word q kept at off
+word_same q P d kept at off l h =
+    ap (λ (vs : List Save). option_map_or (λ (s : Save). Entry s.reg) (find (lies_at at off) vs) Other) (ap (take kept) h.are ∙ take-append-le kept (saves_of q) h.newer l)
+
+-- ---- effects
+
+-- by q an instruction that may stand in a prologue gives g; it gives the same by P
+pub effect_same : (q P : Prologue) (at : ℕ) (i : Instr) (f g : Fact) → may_stand i ≡ true → f.kept ≤ length (saves_of q) → nat_lt at q.end ≡ true → nat_lt at P.end ≡ true
+    → effect q false at i f ≡ Some g → Deeper q P g.depth → effect P false at i f ≡ Some g
+effect_same q P at (ShiftImm op d m n) f g may k a b e h = e
+effect_same q P at (AddSubReg sub d n m) f g may k a b e h = e
+effect_same q P at (AddSubImm3 sub d n imm) f g may k a b e h = e
+effect_same q P at (Imm8 op d imm) f g may k a b e h = e
+effect_same q P at (Alu op d m) f g may k a b e h = e
+effect_same q P at (AddHigh d m) f g may k a b e h = e
+effect_same q P at (CmpHigh n m) f g may k a b e h = e
+effect_same q P at (MovHigh d m) f g may k a b e h = go (d == 13) may e
+  where
+    go : (s : Bool) → (not s && not (d == 15)) ≡ true → cond s (sp_set q (copied m f) f) (Some (with_source f d (copied m f))) ≡ Some g → cond s (sp_set P (copied m f) f) (Some (with_source f d (copied m f))) ≡ Some g
+    go true x y = absurd cc
+    go false x y = y
+effect_same q P at (Bx m) f g may k a b e h = absurd cc
+effect_same q P at (Blx m) f g may k a b e h = absurd cc
+effect_same q P at (LdrLit t off) f g may k a b e h = e
+effect_same q P at (MemReg op t n m) f g may k a b e h = e
+effect_same q P at (MemImm op t n off) f g may k a b e h = e
+effect_same q P at (MemSp load t off) f g may k a b e h =
+    ap (λ (s : Source). Some (cond load (with_source f t s) f)) (same f.below) ∙ e
+  where
+    same : (b : Bool) → cond b Other (word P f.kept f.depth off) ≡ cond b Other (word q f.kept f.depth off)
+    same true = refl
+    same false = word_same q P g.depth f.kept f.depth off k h
+effect_same q P at (Adr d off) f g may k a b e h = e
+effect_same q P at (AddRdSp d off) f g may k a b e h = e
+effect_same q P at (AddSp off) f g may k a b e h = absurd cc
+effect_same q P at (SubSp off) f g may k a b e h = go (within (pos f.depth +ℤ off)) e
+  where
+    go : (o : Option ℕ) → option_map (λ d. moved_to q d f) o ≡ Some g → option_map (λ d. moved_to P d f) o ≡ Some g
+    go None x = absurd cc
+    go (Some d) x =
+        let is : moved_to q d f ≡ g = same_Some (moved_to q d f) g x in
+        let depth : d ≡ g.depth = ap (λ (y : Fact). y.depth) is in
+        ap (λ n. Some (let y : Fact = record f { depth = d; kept = min f.kept n } in y)) (within_same q P g.depth d (omega (arith, depth)) h) ∙ x
+effect_same q P at (Extend op d m) f g may k a b e h = e
+effect_same q P at (Rev op d m) f g may k a b e h = e
+effect_same q P at (Push list) f g may k a b e h = go (within (pos f.depth +ℤ pos (4 * length (listed list)))) e
+  where
+    to_q : (d : ℕ) → pushed_to q at d f ≡ (let y : Fact = record f { depth = d; kept = saves_within q d } in y)
+    to_q d = ap (λ t. cond t (let y : Fact = record f { depth = d; kept = saves_within q d } in y) (moved_to q d f)) a
+
+    to_P : (d : ℕ) → pushed_to P at d f ≡ (let y : Fact = record f { depth = d; kept = saves_within P d } in y)
+    to_P d = ap (λ t. cond t (let y : Fact = record f { depth = d; kept = saves_within P d } in y) (moved_to P d f)) b
+
+    go : (o : Option ℕ) → option_map (λ d. pushed_to q at d f) o ≡ Some g → option_map (λ d. pushed_to P at d f) o ≡ Some g
+    go None x = absurd cc
+    go (Some d) x =
+        let is : (let y : Fact = record f { depth = d; kept = saves_within q d } in y) ≡ g = sym (to_q d) ∙ same_Some (pushed_to q at d f) g x in
+        let depth : d ≡ g.depth = ap (λ (y : Fact). y.depth) is in
+        ap (λ (y : Fact). Some y) (to_P d ∙ ap (λ n. let y : Fact = record f { depth = d; kept = n } in y) (within_same q P g.depth d (omega (arith, depth)) h) ∙ is)
+effect_same q P at (Pop list) f g may k a b e h = absurd cc
+effect_same q P at (Hint n) f g may k a b e h = e
+effect_same q P at (Stm n list) f g may k a b e h = e
+effect_same q P at (Ldm n list) f g may k a b e h = e
+effect_same q P at (BCond c off) f g may k a b e h = absurd cc
+effect_same q P at (Svc imm) f g may k a b e h = absurd cc
+effect_same q P at (B off) f g may k a b e h = absurd cc
+effect_same q P at (Bl off) f g may k a b e h = absurd cc
+effect_same q P at (Barrier op option) f g may k a b e h = e
+
+-- an instruction that may stand there shows no cause but by its effect
+pub plain_after : (p : Prologue) (at : ℕ) (i : Instr) (f : Fact) → may_stand i ≡ true → after_of p false at i f ≡ gone_on None (effect p false at i f)
+plain_after p at (AddHigh d m) f may = go (d == 15) may
+  where
+    go : (b : Bool) → (not (is_callers d) && not (d == 13) && not b) ≡ true → cond b (Err IndirectBranch) (gone_on None (effect p false at (AddHigh d m) f)) ≡ gone_on None (effect p false at (AddHigh d m) f)
+    go true x = absurd (let two = and_parts (not (is_callers d) && not (d == 13)) false x in cc)
+    go false x = refl
+plain_after p at (MovHigh d m) f may = go (d == 15) may
+  where
+    go : (b : Bool) → (not (d == 13) && not b) ≡ true → cond b (Err IndirectBranch) (gone_on None (effect p false at (MovHigh d m) f)) ≡ gone_on None (effect p false at (MovHigh d m) f)
+    go true x = absurd (let two = and_parts (not (d == 13)) false x in cc)
+    go false x = refl
+plain_after p at (Bx m) f may = absurd cc
+plain_after p at (Pop list) f may = absurd cc
+plain_after p at (ShiftImm op d m n) f may = refl
+plain_after p at (AddSubReg sub d n m) f may = refl
+plain_after p at (AddSubImm3 sub d n imm) f may = refl
+plain_after p at (Imm8 op d imm) f may = refl
+plain_after p at (Alu op d m) f may = refl
+plain_after p at (CmpHigh n m) f may = refl
+plain_after p at (Blx m) f may = refl
+plain_after p at (LdrLit t off) f may = refl
+plain_after p at (MemReg op t n m) f may = refl
+plain_after p at (MemImm op t n off) f may = refl
+plain_after p at (MemSp load t off) f may = refl
+plain_after p at (Adr d off) f may = refl
+plain_after p at (AddRdSp d off) f may = refl
+plain_after p at (AddSp off) f may = refl
+plain_after p at (SubSp off) f may = refl
+plain_after p at (Extend op d m) f may = refl
+plain_after p at (Rev op d m) f may = refl
+plain_after p at (Push list) f may = refl
+plain_after p at (Hint n) f may = refl
+plain_after p at (Stm n list) f may = refl
+plain_after p at (Ldm n list) f may = refl
+plain_after p at (BCond c off) f may = refl
+plain_after p at (Svc imm) f may = refl
+plain_after p at (B off) f may = refl
+plain_after p at (Bl off) f may = refl
+plain_after p at (Barrier op option) f may = refl
+
+-- ---- a run, instruction by instruction
+
+-- what a run keeps of its prologue: room for sixteen saves, of which it has so many
+pub record IsGood (run : Straight) : Type 0 where
+  pub long : length run.prologue.saves ≡ 16
+  pub few : run.prologue.count ≤ 16
+  pub kept : run.fact.kept ≤ run.prologue.count
+
+pub length_saves : (p : Prologue) → length p.saves ≡ 16 → p.count ≤ 16 → length (saves_of p) ≡ p.count
+length_saves p long few = length-take p.count p.saves ∙ omega (arith, long, few)
+
+pub take_last : (n : ℕ) (xs : List Save) (v : Save) → n < length xs → take (n + 1) (set xs n v) ≡ take n xs ++ (v ∷ [])
+take_last n [] v l = absurd (omega (arith, l))
+take_last zero (x ∷ xs) v l = refl
+take_last (suc n) (x ∷ xs) v l = ap (λ k. take k (set (x ∷ xs) (suc n) v)) (let e : suc n + 1 ≡ suc (n + 1) = omega arith in e) ∙ ap (λ ys. x ∷ ys) (take_last n xs v (omega (arith, l)))
+
+-- with further saves, all deeper
+record Grown (p q : Prologue) (d : ℕ) : Type 0 where
+  pub newer : List Save
+  pub are : saves_of q ≡ saves_of p ++ newer
+  pub above : Above d newer
+  pub long : length q.saves ≡ 16
+  pub few : q.count ≤ 16
+  pub more : p.count ≤ q.count
+  pub end : q.end ≡ p.end
+
+one_grown : (p q r : Prologue) (d offset : ℕ) (s : Option Save) → Grown p q d → ((v : Save) → s ≡ Some v → v.offset ≡ offset) → d < offset → with_save s q ≡ Some r → Grown p r d
+one_grown p q r d offset None g h l e = subst (λ x. Grown p x d) (same_Some q r e) g
+one_grown p q r d offset (Some v) g h l e = go (nat_lt q.count MOST_SAVES) refl e
+  where
+    next : Prologue
+    next = record q { count = q.count + 1; saves = slice_set q.saves q.count v }
+
+    go : (b : Bool) → nat_lt q.count MOST_SAVES ≡ b → cond b (Some next) None ≡ Some r → Grown p r d
+    go false is x = absurd cc
+    go true is x =
+        let less : q.count < 16 = ltb-true q.count MOST_SAVES is in
+        let same_offset = h v refl in
+        subst (λ y. Grown p y d) (same_Some next r x) (record {
+          newer = g.newer ++ (v ∷ []);
+          are = take_last q.count q.saves v (omega (arith, less, g.long)) ∙ ap (λ vs. vs ++ (v ∷ [])) g.are ∙ append_assoc (saves_of p) g.newer (v ∷ []);
+          above = above_both d g.newer (v ∷ []) g.above (omega (arith, same_offset, l), tt);
+          long = length-set q.saves q.count v ∙ g.long;
+          few = omega (arith, less);
+          more = omega (arith, g.more);
+          end = g.end;
+        })
+
+saved_offset : (offset : ℕ) (s : Source) (v : Save) → saved offset s ≡ Some v → v.offset ≡ offset
+saved_offset offset (Entry k) v e = go (is_callers k) e
+  where
+    go : (b : Bool) → cond b (Some (let x : Save = record { reg = k; offset = offset } in x)) None ≡ Some v → v.offset ≡ offset
+    go true x = ap (λ (y : Save). y.offset) (sym (same_Some (record { reg = k; offset = offset }) v x))
+    go false x = absurd cc
+saved_offset offset (SpAt at) v e = absurd cc
+saved_offset offset Other v e = absurd cc
+
+pushed_grown : (p q : Prologue) (f : Fact) (regs : List ℕ) → length p.saves ≡ 16 → p.count ≤ 16 → with_pushed p f regs ≡ Some q → Grown p q f.depth
+pushed_grown p q f [] long few e =
+    subst (λ x. Grown p x f.depth) (same_Some p q e) (record { newer = []; are = sym (append-nil (saves_of p)); above = tt; long = long; few = few; more = omega arith; end = refl })
+pushed_grown p q f (reg ∷ more) long few e = go (with_pushed p f more) refl e (λ r w. pushed_grown p r f more long few w)
+  where
+    offset : ℕ
+    offset = f.depth + 4 * length (reg ∷ more)
+
+    go : (o : Option Prologue) → with_pushed p f more ≡ o → option_and_then (with_save (saved (f.depth + 4 * length (reg ∷ more)) (source f reg))) o ≡ Some q
+        → ((r : Prologue) → with_pushed p f more ≡ Some r → Grown p r f.depth) → Grown p q f.depth
+    go None is x each = absurd cc
+    go (Some r) is x each =
+        one_grown p r q f.depth (f.depth + 4 * length (reg ∷ more)) (saved (f.depth + 4 * length (reg ∷ more)) (source f reg)) (each r is)
+        (λ v w. saved_offset (f.depth + 4 * length (reg ∷ more)) (source f reg) v w) (omega arith) x
+
+-- an instruction that a run takes: it may stand there, its saves are added, and its effect is that by the prologue up to its end
+pub record Step (run next : Straight) (i : Instr) (size : ℕ) : Type 0 where
+  pub may : may_stand i ≡ true
+  pub newer : List Save
+  pub are : saves_of next.prologue ≡ saves_of run.prologue ++ newer
+  pub above : Above run.fact.depth newer
+  pub long : length next.prologue.saves ≡ 16
+  pub few : next.prologue.count ≤ 16
+  pub more : run.prologue.count ≤ next.prologue.count
+  pub end : next.prologue.end ≡ (run.prologue.end + size) % 2 ^ 32
+  pub does : effect next.prologue false run.prologue.end i run.fact ≡ Some next.fact
+
+pub step_of_run : (run next : Straight) (i : Instr) (size : ℕ) → IsGood run → taken run i size ≡ Some next → Step run next i size
+step_of_run run next i size good e = by_test (nat_le run.fact.depth DEEPEST && may_stand i) refl e
+  where
+    by_effect : (q : Prologue) (g : Grown run.prologue q run.fact.depth) → may_stand i ≡ true → (o : Option Fact)
+        → (let r : Prologue = record q { end = (run.prologue.end + size) % 2 ^ 32 } in effect r false run.prologue.end i run.fact) ≡ o
+        → option_map (λ f. let x : Straight = record { fact = f; prologue = (let r : Prologue = record q { end = (run.prologue.end + size) % 2 ^ 32 } in r) } in x) o ≡ Some next → Step run next i size
+    by_effect q g may None is x = absurd cc
+    by_effect q g may (Some f) is x =
+        subst (λ y. Step run y i size) (same_Some (let y : Straight = record { fact = f; prologue = (let r : Prologue = record q { end = (run.prologue.end + size) % 2 ^ 32 } in r) } in y) next x)
+        (record { may = may; newer = g.newer; are = g.are; above = g.above; long = g.long; few = g.few; more = g.more; end = refl; does = is })
+
+    by_pushed : may_stand i ≡ true → (o : Option Prologue) → ((q : Prologue) → o ≡ Some q → Grown run.prologue q run.fact.depth) → option_and_then (ended run i size) o ≡ Some next → Step run next i size
+    by_pushed may None h x = absurd cc
+    by_pushed may (Some q) h x = by_effect q (h q refl) may (let r : Prologue = record q { end = (run.prologue.end + size) % 2 ^ 32 } in effect r false run.prologue.end i run.fact) refl x
+
+    none_new : (q : Prologue) → Some run.prologue ≡ Some q → Grown run.prologue q run.fact.depth
+    none_new q x = subst (λ y. Grown run.prologue y run.fact.depth) (same_Some run.prologue q x)
+        (record { newer = []; are = sym (append-nil (saves_of run.prologue)); above = tt; long = good.long; few = good.few; more = omega arith; end = refl })
+
+    grown : (i : Instr) (q : Prologue) → pushed_by run i ≡ Some q → Grown run.prologue q run.fact.depth
+    grown (Push list) q x = pushed_grown run.prologue q run.fact (listed list) good.long good.few x
+    grown i q x = none_new q x
+
+    by_test : (b : Bool) → (nat_le run.fact.depth DEEPEST && may_stand i) ≡ b → cond b (option_and_then (ended run i size) (pushed_by run i)) None ≡ Some next → Step run next i size
+    by_test false is x = absurd cc
+    by_test true is x = by_pushed (and_parts (nat_le run.fact.depth DEEPEST) (may_stand i) is).1 (pushed_by run i) (grown i) x

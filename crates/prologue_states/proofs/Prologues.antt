@@ -1,0 +1,255 @@
+-- The states in a prologue are the facts of its run.
+use Rattle.std.proofs.Common.{negsuc, ◌≡◌, ◌≤◌, Some, subst, cond, Bool, true, false, ℕ, List, [], ◌∷◌, refl, nat_le, None, sym, ℤ, pos, Option, ◌∙◌, ap, arith, nat_lt, ◌+◌, ◌*◌, ◌==◌, ◌&&◌, ◌||◌, not, length, ◌<◌, ◌/◌, ◌%◌, ◌^◌, inl, inr, ◌++◌, append-nil, Ok, zero, suc}
+use Rattle.std.proofs.lemmas.Option.{same_Some}
+use Rattle.std.specs.Prelude.{option_map, ◌+ℤ◌, Result}
+use Rattle.std.proofs.lemmas.Int.{ints}
+use Rattle.std.specs.Option.{option_map_or}
+use Rattle.std.proofs.lemmas.Bool.{lt-ltb}
+use Rattle.std.proofs.lemmas.List.{append_assoc}
+use Rattle.accepted_code.specs.thumb_isa.declared.instr.Instr.{Instr}
+use Rattle.accepted_code.specs.thumb_isa.declared.instr.Instr.TheVariants.{SubSp, ShiftImm, AddSubReg, AddSubImm3, Imm8, Alu, AddHigh, CmpHigh, MovHigh, Bx, Blx, LdrLit, MemReg, MemImm, MemSp, Adr, AddRdSp, AddSp, Extend, Rev, Push, Pop, Hint, Stm, Ldm, BCond, Svc, B, Bl, Barrier}
+use Rattle.accepted_code.specs.frame_facts.declared.facts.Fact.{Fact}
+use Rattle.accepted_code.specs.frame_facts.Facts.{lost, forgotten, within, source, with_source, IsFit}
+use Rattle.accepted_code.specs.frame_facts.declared.facts.TheConstants.{DEEPEST}
+use Rattle.accepted_code.specs.frame_facts.declared.saves.Prologue.{Prologue}
+use Rattle.accepted_code.specs.frame_facts.Lists.{pushed_to}
+use Rattle.accepted_code.specs.frame_facts.Saves.{moved_to, saves_within, stack_word, saves_of}
+use Rattle.accepted_code.specs.thumb_core.Words.{listed}
+use Rattle.accepted_code.specs.frame_facts.After.{effect, after_of, gone_on}
+use Rattle.accepted_code.specs.frame_facts.Data.{add_sub_imm3, imm8, alu, copied, sp_set}
+use Rattle.accepted_code.specs.frame_facts.Access.{mem_reg, mem_imm}
+use Rattle.accepted_code.specs.frame_facts.Prologues.{may_stand, taken, run_on}
+use Rattle.accepted_code.specs.frame_facts.Shifts.{shift_imm}
+use Rattle.accepted_code.specs.frame_scene.declared.places.Standing.TheVariants.{Instruction}
+use Rattle.accepted_code.specs.frame_scene.Scene.{Scene}
+use Rattle.accepted_code.specs.frame_scene.Places.{standing_at, address_of}
+use Rattle.accepted_code.specs.frame_facts.declared.cause.FrameCause.{FrameCause}
+use Rattle.accepted_code.specs.frame_facts.declared.saves.Save.{Save}
+use Rattle.accepted_code.specs.frame_facts.declared.straight.Straight.{Straight}
+use Rattle.accepted_code.proofs.frame_facts.Fitting.{after_fits, entered_fits}
+use Rattle.accepted_code.specs.frame_reach.Marks.{Marks, AreMarks}
+use Rattle.accepted_code.specs.frame_reach.Prologue.{places, is_led_to, line_by, line_at, lines, prologue}
+use Rattle.accepted_code.specs.frame_reach.Laws.{IsRun, begins, takes}
+use Rattle.accepted_code.proofs.frame_reach.Runs.{line_stands}
+use Rattle.accepted_code.proofs.frame_reach.Stands.{stands_inside, stands_size, stands_below}
+use Rattle.prologue_states.proofs.Widths.{sub_sp_falls}
+use Rattle.prologue_states.proofs.Extends.{Above, above_less, above_both, Deeper, length_saves, effect_same, plain_after, IsGood, Step, step_of_run}
+use Rattle.prologue_states.proofs.Straight.{EffectsAgree}
+
+-- ---- in a prologue the depth never falls
+
+-- SUB sp has an offset of 0 or more, as every instruction that is decoded
+abbrev pub IsDown : Instr → Type 0
+IsDown (SubSp (negsuc n)) = ⊥
+IsDown i = Unit {0}
+
+deeper : (f h g : Fact) → f.depth ≤ h.depth → Some h ≡ Some g → f.depth ≤ g.depth
+deeper f h g l e = subst (λ (x : Fact). f.depth ≤ x.depth) (same_Some h g e) l
+
+either : (f g h : Fact) (b : Bool) → f.depth ≤ g.depth → f.depth ≤ h.depth → f.depth ≤ (cond b g h).depth
+either f g h true x y = x
+either f g h false x y = y
+
+pub forgotten_depth : (regs : List ℕ) (f : Fact) → (forgotten regs f).depth ≡ f.depth
+forgotten_depth [] f = refl
+forgotten_depth (r ∷ more) f = forgotten_depth more (lost r f)
+
+within_is : (z : ℤ) (d n : ℕ) → within z ≡ Some d → z ≡ pos n → d ≡ n
+within_is z d n e is = go (nat_le n DEEPEST) (subst (λ y. within y ≡ Some d) is e)
+  where
+    go : (b : Bool) → cond b (Some n) None ≡ Some d → d ≡ n
+    go true x = sym (same_Some n d x)
+    go false x = absurd cc
+
+to_deeper : (f g : Fact) (z : ℤ) (n : ℕ) (P : ℕ → Fact) → ((d : ℕ) → (P d).depth ≡ d) → z ≡ pos n → f.depth ≤ n → option_map P (within z) ≡ Some g → f.depth ≤ g.depth
+to_deeper f g z n P is at l e = go (within z) refl e
+  where
+    go : (o : Option ℕ) → within z ≡ o → option_map P o ≡ Some g → f.depth ≤ g.depth
+    go None h x = absurd cc
+    go (Some d) h x = let same = within_is z d n h at in let depth : d ≡ g.depth = sym (is d) ∙ ap (λ (y : Fact). y.depth) (same_Some (P d) g x) in omega (arith, same, depth, l)
+
+pub pushed_depth : (q : Prologue) (at : ℕ) (f : Fact) (d : ℕ) → (pushed_to q at d f).depth ≡ d
+pushed_depth q at f d = go (nat_lt at q.end)
+  where
+    go : (b : Bool) → (cond b (let y : Fact = record f { depth = d; kept = saves_within q d } in y) (moved_to q d f)).depth ≡ d
+    go true = refl
+    go false = refl
+
+pub effect_deeper : (q : Prologue) (at : ℕ) (i : Instr) (f g : Fact) → may_stand i ≡ true → IsDown i → effect q false at i f ≡ Some g → f.depth ≤ g.depth
+effect_deeper q at (ShiftImm op d m n) f g may down e = deeper f (shift_imm op d m n f) g (either f (with_source f d (source f m)) (lost d f) ((op == 0) && (n == 0)) (omega arith) (omega arith)) e
+effect_deeper q at (AddSubReg sub d n m) f g may down e = deeper f (lost d f) g (omega arith) e
+effect_deeper q at (AddSubImm3 sub d n imm) f g may down e = deeper f (add_sub_imm3 sub d n imm f) g (omega arith) e
+effect_deeper q at (Imm8 op d imm) f g may down e = deeper f (imm8 op d imm f) g (either f (lost d f) _ (op == 0) (omega arith) (either f f _ (op == 1) (omega arith) (omega arith))) e
+effect_deeper q at (Alu op d m) f g may down e = deeper f (alu op d f) g (either f f (lost d f) ((op == 8) || (op == 10) || (op == 11)) (omega arith) (omega arith)) e
+effect_deeper q at (AddHigh d m) f g may down e = go (d == 13) e
+  where
+    go : (b : Bool) → cond b None (Some (lost d f)) ≡ Some g → f.depth ≤ g.depth
+    go true x = absurd cc
+    go false x = deeper f (lost d f) g (omega arith) x
+effect_deeper q at (CmpHigh n m) f g may down e = deeper f f g (omega arith) e
+effect_deeper q at (MovHigh d m) f g may down e = go (d == 13) may e
+  where
+    go : (b : Bool) → (not b && not (d == 15)) ≡ true → cond b (sp_set q (copied m f) f) (Some (with_source f d (copied m f))) ≡ Some g → f.depth ≤ g.depth
+    go true x y = absurd cc
+    go false x y = deeper f (with_source f d (copied m f)) g (omega arith) y
+effect_deeper q at (Bx m) f g may down e = absurd cc
+effect_deeper q at (Blx m) f g may down e = absurd cc
+effect_deeper q at (LdrLit t off) f g may down e = deeper f (lost t f) g (omega arith) e
+effect_deeper q at (MemReg op t n m) f g may down e = deeper f (mem_reg op t f) g (either f f (lost t f) (nat_lt op 3) (omega arith) (omega arith)) e
+effect_deeper q at (MemImm op t n off) f g may down e = deeper f (mem_imm op t f) g (either f (lost t f) f ((op == 1) || (op == 3) || (op == 5)) (omega arith) (omega arith)) e
+effect_deeper q at (MemSp load t off) f g may down e = go load e
+  where
+    go : (b : Bool) → Some (cond b (with_source f t (stack_word q f off)) f) ≡ Some g → f.depth ≤ g.depth
+    go true x = deeper f (with_source f t (stack_word q f off)) g (omega arith) x
+    go false x = deeper f f g (omega arith) x
+effect_deeper q at (Adr d off) f g may down e = deeper f (lost d f) g (omega arith) e
+effect_deeper q at (AddRdSp d off) f g may down e = deeper f (with_source f d _) g (omega arith) e
+effect_deeper q at (AddSp off) f g may down e = absurd cc
+effect_deeper q at (SubSp (pos n)) f g may down e = to_deeper f g (pos f.depth +ℤ pos n) (f.depth + n) (λ d. moved_to q d f) (λ d. refl) (let z : pos f.depth +ℤ pos n ≡ pos (f.depth + n) = omega (arith, ints) in z) (omega arith) e
+effect_deeper q at (SubSp (negsuc n)) f g may down e = absurd down
+effect_deeper q at (Extend op d m) f g may down e = deeper f (lost d f) g (omega arith) e
+effect_deeper q at (Rev op d m) f g may down e = deeper f (lost d f) g (omega arith) e
+effect_deeper q at (Push list) f g may down e =
+    let n = 4 * length (listed list) in
+    to_deeper f g (pos f.depth +ℤ pos n) (f.depth + n) (λ d. pushed_to q at d f) (λ d. pushed_depth q at f d) (let z : pos f.depth +ℤ pos n ≡ pos (f.depth + n) = omega (arith, ints) in z) (omega arith) e
+effect_deeper q at (Pop list) f g may down e = absurd cc
+effect_deeper q at (Hint n) f g may down e = deeper f f g (omega arith) e
+effect_deeper q at (Stm n list) f g may down e = deeper f (lost n f) g (omega arith) e
+effect_deeper q at (Ldm n list) f g may down e = deeper f (lost n (forgotten (listed list) f)) g (omega (arith, forgotten_depth (listed list) f)) e
+effect_deeper q at (BCond c off) f g may down e = absurd cc
+effect_deeper q at (Svc imm) f g may down e = absurd cc
+effect_deeper q at (B off) f g may down e = absurd cc
+effect_deeper q at (Bl off) f g may down e = absurd cc
+effect_deeper q at (Barrier op option) f g may down e = deeper f f g (omega arith) e
+
+never_up : (s : Scene) (p : ℕ) (i : Instr) (size : ℕ) → standing_at s p ≡ Instruction i size → IsDown i
+never_up s p (SubSp (pos n)) size e = tt
+never_up s p (SubSp (negsuc n)) size e = sub_sp_falls s p n size e
+never_up s p i size e = tt
+
+-- ---- runs
+
+module _ (s : Scene) (m : Marks) (even : s.start % 2 ≡ 0) (low : s.end + 4 ≤ 2 ^ 32) where
+  down : (p : ℕ) (i : Instr) (size : ℕ) → standing_at s p ≡ Instruction i size → IsDown i
+  down = never_up s
+
+  -- what is known of each run
+  pub record Knows (p : ℕ) (run : Straight) : Type 0 where
+    pub long : length run.prologue.saves ≡ 16
+    pub few : run.prologue.count ≤ 16
+    pub fits : IsFit run.prologue.count run.fact
+    pub ends : run.prologue.end ≡ s.start + 2 * p
+
+  pub good : (p : ℕ) (run : Straight) → Knows p run → IsGood run
+  good p run k = record { long = k.long; few = k.few; kept = k.fits.kept }
+
+  pub behind : (p : ℕ) (run next : Straight) (i : Instr) (size : ℕ) → Knows p run → standing_at s p ≡ Instruction i size → Step run next i size → Knows (p + size / 2) next
+  behind p run next i size k e t = record {
+    long = t.long;
+    few = t.few;
+    fits = after_fits next.prologue false run.prologue.end i run.fact next.fact (record { depth = k.fits.depth; kept = omega (arith, k.fits.kept, t.more); long = k.fits.long })
+        (plain_after next.prologue run.prologue.end i run.fact t.may ∙ ap (gone_on None) t.does);
+    ends = let inside = stands_inside s p i size e in elim (stands_size s p i size e) [
+      | inl two ↦ omega (arith, t.end, k.ends, inside, low, two)
+      | inr four ↦ omega (arith, t.end, k.ends, inside, low, four)
+    ];
+  }
+
+  pub knows : (p : ℕ) (run : Straight) → IsRun s m p run → Knows p run
+  knows _ _ begins = record { long = refl; few = omega arith; fits = entered_fits 0; ends = omega arith }
+  knows _ _ (takes {p} {run} {next} {i} {size} r e free t) = let k = knows p run r in behind p run next i size k e (step_of_run run next i size (good p run k) t)
+
+  -- the instructions from a place on
+  abbrev pub from : ℕ → ℕ → Straight → Straight
+  from fuel p run = run_on run (lines s m.target fuel p)
+
+  pub record Grows (run last : Straight) : Type 0 where
+    pub newer : List Save
+    pub are : saves_of last.prologue ≡ saves_of run.prologue ++ newer
+    pub above : Above run.fact.depth newer
+    pub end : run.prologue.end ≤ last.prologue.end
+
+  pub stays : (run : Straight) → Grows run run
+  stays run = record { newer = []; are = sym (append-nil (saves_of run.prologue)); above = tt; end = omega arith }
+
+  pub grows : (fuel p : ℕ) (run : Straight) → IsRun s m p run → Grows run (from fuel p run)
+  grows zero p run r = stays run
+  grows (suc fuel) p run r = by_line (line_at s m.target p) refl (λ i size next e free t. grows fuel (p + size / 2) next (takes r e free t))
+    where
+      by_taken : (i : Instr) (size : ℕ) → standing_at s p ≡ Instruction i size → is_led_to m.target p size ≡ false → (o : Option Straight) → taken run i size ≡ o
+          → ((next : Straight) → taken run i size ≡ Some next → Grows next (from fuel (p + size / 2) next))
+          → Grows run (option_map_or (λ (t : Straight). run_on t (lines s m.target fuel (p + size / 2))) o run)
+      by_taken i size e free None is later = stays run
+      by_taken i size e free (Some next) is later =
+          let k = knows p run r in
+          let t = step_of_run run next i size (good p run k) is in
+          let g = later next is in
+          let depth : run.fact.depth ≤ next.fact.depth = effect_deeper next.prologue run.prologue.end i run.fact next.fact t.may (down p i size e) t.does in
+          let ends = (behind p run next i size k e t).ends in
+          record {
+            newer = t.newer ++ g.newer;
+            are = g.are ∙ ap (λ vs. vs ++ g.newer) t.are ∙ append_assoc (saves_of run.prologue) t.newer g.newer;
+            above = above_both run.fact.depth t.newer g.newer t.above (above_less next.fact.depth run.fact.depth g.newer depth g.above);
+            end = let first : run.prologue.end ≤ next.prologue.end = omega (arith, k.ends, ends) in omega (arith, first, g.end);
+          }
+
+      by_line : (o : Option (Instr × ℕ)) → line_at s m.target p ≡ o
+          → ((i : Instr) (size : ℕ) (next : Straight) → standing_at s p ≡ Instruction i size → is_led_to m.target p size ≡ false → taken run i size ≡ Some next → Grows next (from fuel (p + size / 2) next))
+          → Grows run (run_on run (option_map_or (λ (line : Instr × ℕ). line ∷ lines s m.target fuel (p + line.1 / 2)) o []))
+      by_line None is later = stays run
+      by_line (Some (i, size)) is later =
+          let w = line_stands m.target p (standing_at s p) (i, size) is in
+          by_taken i size w.0 w.1 (taken run i size) refl (λ next t. later i size next w.0 w.1 t)
+
+  -- the prologue is what the instructions from any place of the run on make of it
+  pub record Reaches (p : ℕ) (run : Straight) : Type 0 where
+    pub fuel : ℕ
+    pub enough : places s ≤ fuel + p
+    pub is : (from fuel p run).prologue ≡ prologue s m
+
+  line_is : (p : ℕ) (i : Instr) (size : ℕ) → standing_at s p ≡ Instruction i size → is_led_to m.target p size ≡ false → line_at s m.target p ≡ Some (i, size)
+  line_is p i size e free = ap (line_by m.target p) e ∙ ap (λ b. cond b None (Some (i, size))) free
+
+  pub reaches : (p : ℕ) (run : Straight) → IsRun s m p run → Reaches p run
+  unfolding prologue
+  reaches _ _ begins = record { fuel = places s; enough = omega arith; is = refl }
+  reaches _ _ (takes {p} {run} {next} {i} {size} r e free t) = go (reaches p run r)
+    where
+      go : Reaches p run → Reaches (p + size / 2) next
+      go k = by_fuel k.fuel k.enough k.is
+        where
+          by_fuel : (fuel : ℕ) → places s ≤ fuel + p → (from fuel p run).prologue ≡ prologue s m → Reaches (p + size / 2) next
+          by_fuel zero l is = absurd (let in_there = stands_below s p i size e in omega (arith, l, in_there))
+          by_fuel (suc fuel) l is = record {
+            fuel = fuel;
+            enough = elim (stands_size s p i size e) [ inl two ↦ omega (arith, l, two) | inr four ↦ omega (arith, l, four) ];
+            is = sym (ap (λ (o : Option (Instr × ℕ)). (run_on run (option_map_or (λ (line : Instr × ℕ). line ∷ lines s m.target fuel (p + line.1 / 2)) o [])).prologue) (line_is p i size e free)
+                ∙ ap (λ (o : Option Straight). (option_map_or (λ (x : Straight). run_on x (lines s m.target fuel (p + size / 2))) o run).prologue) t) ∙ is;
+          }
+
+  -- The effects of its instructions are the same by the whole prologue.
+  pub effects_agree : (are : AreMarks s m) → EffectsAgree s m are
+  effects_agree are p run next i size k r e free t h =
+      let known = knows p run r in
+      let step = step_of_run run next i size (good p run known) t in
+      let there : IsRun s m (p + size / 2) next = takes r e free t in
+      let last = reaches (p + size / 2) next there in
+      let g = grows last.fuel (p + size / 2) next there in
+      let behind_it = behind p run next i size known e step in
+      let P : Prologue = prologue s m in
+      let at : address_of s p ≡ run.prologue.end = sym known.ends in
+      let further : Deeper next.prologue P next.fact.depth = record { newer = g.newer; are = ap saves_of (sym last.is) ∙ g.are; above = g.above } in
+      let past : run.prologue.end < next.prologue.end = elim (stands_size s p i size e) [
+        | inl two ↦ omega (arith, known.ends, behind_it.ends, two)
+        | inr four ↦ omega (arith, known.ends, behind_it.ends, four)
+      ] in
+      let end_is : next.prologue.end ≤ P.end = subst (λ (x : Prologue). next.prologue.end ≤ x.end) last.is g.end in
+      let count : run.fact.kept ≤ length (saves_of next.prologue) = omega (arith, known.fits.kept, step.more, length_saves next.prologue step.long step.few) in
+      let by_P : effect P false run.prologue.end i run.fact ≡ Some next.fact =
+      effect_same next.prologue P run.prologue.end i run.fact next.fact step.may count (lt-ltb run.prologue.end next.prologue.end past) (lt-ltb run.prologue.end P.end (omega (arith, past, end_is))) step.does further in
+      let whole : after_of P false (address_of s p) i run.fact ≡ Ok next.fact =
+      ap (λ a. after_of P false a i run.fact) at ∙ plain_after P run.prologue.end i run.fact step.may ∙ ap (gone_on None) by_P in
+      same_ok k next.fact (sym h ∙ whole)
+    where
+      same_ok : (a b : Fact) → ◌≡◌ {A = Result Fact FrameCause} (Ok a) (Ok b) → a ≡ b
+      same_ok a b x = cc

@@ -1,0 +1,171 @@
+-- An exception flies from any site: its barrier is written, and then phase 2 enters the same in both machines.
+use Rattle.std.proofs.Common.{refl, ◌≡◌, ℕ, inl, inr, true, List, ◌∷◌, Option, Some, None, sym, ap, subst, ◌∙◌, arith}
+use Rattle.throws_keep.specs.eh_bus.Map.{IsMap}
+use Rattle.throws_keep.specs.eh_bus.Memory.{Memory}
+use Rattle.throws_keep.specs.eh_cxa.Stands.{Stands}
+use Rattle.throws_keep.specs.eh_cxa.Throw.{set_barrier_of}
+use Rattle.throws_keep.specs.eh_cxa.Words.{Write, word, block, block_slot, put_all}
+use Rattle.throws_keep.specs.eh_cxa.declared.globals.BarrierWords.{BarrierWords}
+use Rattle.throws_keep.specs.eh_cxa.declared.layout.TheConstants.{BARRIER_SP, BARRIER_DESCRIPTOR}
+use Rattle.throws_keep.proofs.eh_cxa.Meets.{barrier_meets}
+use Rattle.throws_keep.proofs.eh_cxa.Pools.{slot_of_block_is, all_is_map}
+use Rattle.throws_keep.specs.eh_phase.Calls.{stack_of}
+use Rattle.throws_keep.specs.eh_phase.Cleanups.{is_reached}
+use Rattle.throws_keep.specs.eh_phase.Frames.{frames_of}
+use Rattle.throws_keep.specs.eh_phase.Laws.{goal_of}
+use Rattle.throws_keep.specs.eh_phase.Phases.{phase2}
+use Rattle.throws_keep.specs.eh_phase.declared.phase1.Barrier.{Barrier}
+use Rattle.throws_keep.specs.eh_phase.declared.phase2.Goal.{Goal}
+use Rattle.throws_keep.specs.thumb_isa.declared.instr.Instr.{Instr}
+use Rattle.throws_keep.specs.thumb_core.Registers.{all_of}
+use Rattle.throws_keep.specs.thumb_core.declared.regs.TheConstants.{SP}
+use Rattle.throws_keep.specs.frame_check.Accepts.{Accepted}
+use Rattle.throws_keep.specs.eh_gates.Landing.{entered}
+use Rattle.throws_keep.specs.eh_gates.State.{State, Outcome}
+use Rattle.throws_keep.specs.eh_gates.Throwing.{handed, barrier_words, throw_to}
+use Rattle.throws_keep.specs.two_machines.Activations.{Recorded, reg_in, memory_of, heads, bytes_of, with_words}
+use Rattle.throws_keep.specs.two_machines.Checked.{program_of}
+use Rattle.throws_keep.specs.two_machines.Corresponds.{Corresponds, GateMatches}
+use Rattle.throws_keep.specs.two_machines.Landings.{IsInFlight}
+use Rattle.throws_keep.specs.two_machines.Program.{guide}
+use Rattle.throws_keep.proofs.two_machines.FirstEvent.{segments_alone}
+use Rattle.throws_keep.specs.two_machines.ActivationMachine as machine
+use Rattle.resumes_keep.specs.Flying.{GatesFly, SearchesReach, all_frames, fly_from, CanFly, FlightsMatch}
+use Rattle.throws_keep.proofs.ThrowKeeps.{throw_within}
+use Rattle.throws_keep.proofs.ThrowReached.{throw_reached}
+use Rattle.throws_keep.specs.stands_for.Chain.{code}
+use Rattle.throws_keep.specs.stands_for.Cleanups.{goal_at, IsWithin}
+use Rattle.throws_keep.specs.frames_same.Frames.{ThrowsAt}
+use Rattle.throws_keep.specs.stands_for.Stands.{Keeps, IsProgram, DoesAt}
+use Rattle.throws_keep.proofs.frames_same.Agreement.{holds_there}
+use Rattle.throws_keep.proofs.CleanupEntered.{barrier_sp, barrier_desc}
+use Rattle.throws_keep.proofs.EndsKeep.{poured_keeps}
+use Rattle.resumes_keep.proofs.FlyKeeps.{fly_matches, fly_keeps}
+use Rattle.throws_keep.proofs.stands_for.Goes.{chain_top}
+use Rattle.throws_keep.proofs.Handler.{Wrote, wrote_one, barred_of}
+use Rattle.throws_keep.proofs.CleanupKeeps.{word_same}
+use Rattle.resumes_keep.proofs.FlyLands.{fly_enters}
+
+pub gates_fly : GatesFly
+unfolding machine.throw_to
+gates_fly g site control b s = refl
+
+pub searches_reach : SearchesReach
+searches_reach x s site m b is k throws search = (throw_reached x is s k site throws m b search, throw_within x is s k site throws m b search)
+
+module _ (x : Accepted) (is : IsProgram x) (s : Recorded) (k : Keeps x s) (site slot : ℕ) (b : Barrier) (can : CanFly x s site slot b) where
+  abbrev words : BarrierWords
+  words = barrier_words (block slot) b
+
+  abbrev writes : List Write
+  writes = set_barrier_of (Some slot) (barrier_words (block slot) b)
+
+  -- behind the words of the barrier
+  abbrev behind : Recorded
+  behind = with_words (set_barrier_of (Some slot) (barrier_words (block slot) b)) s
+
+  is_slot : block_slot (block slot) ≡ Some slot
+  is_slot = slot_of_block_is slot can.flight.small
+
+  memory_is : put_all writes (memory_of s) ≡ memory_of behind
+  memory_is = segments_alone writes (memory_of s)
+
+  still : Corresponds behind
+  still = record {
+    map = subst (λ (m : Memory). IsMap m) memory_is (all_is_map writes (memory_of s) k.corresponds.map);
+    stands = subst (λ (m : Memory). Stands (word m) (heads s.lists) s.lists) memory_is
+        (barrier_meets (memory_of s) (put_all writes (memory_of s)) (block slot) words k.corresponds.map (record { sp = can.sp; object = can.object; desc = can.desc; pointer = can.pointer })
+        (ap (λ (o : Option ℕ). put_all (set_barrier_of o words) (memory_of s)) (sym is_slot)) (heads s.lists) s.lists k.corresponds.stands);
+    placed = k.corresponds.placed;
+  }
+
+  wrote : Wrote slot s behind
+  wrote = wrote_one slot writes s behind can.flight.small (barred_of slot words) k.corresponds.map refl
+
+  behind_keeps : Keeps x behind
+  behind_keeps = poured_keeps x s k s.lists behind.segments s.events k.counted slot wrote refl can.flight.idle still
+
+  -- it stands at the site as before
+  does_there : (i : Instr) → DoesAt x s i → DoesAt x behind i
+  does_there i does =
+      let low = k.corresponds.map.home.low in
+      let high = k.corresponds.map.home.high in
+      let above = k.low in
+      let top = chain_top x s.segments s.home s.first.caller s.outer k.chain in
+      record {
+        reached = does.reached;
+        at = record {
+          function = does.at.function;
+          marks = does.at.marks;
+          of = does.at.of;
+          place = does.at.place;
+          address = does.at.address;
+          fact = does.at.fact;
+          state = does.at.state;
+          holds =
+              holds_there s.segments behind.segments wrote.stack (code x does.at.function does.at.marks).prologue does.at.fact s.first s.regs (reg_in s SP) k.slots (omega (arith, low, above)) (omega (arith, top, high))
+              does.at.holds;
+        };
+        size = does.size;
+        stands = does.stands;
+      }
+
+  throws_there : ThrowsAt x behind site
+  throws_there = go can.throws
+    where
+      go : ThrowsAt x s site → ThrowsAt x behind site
+      go (inl (imm, does, e)) = inl (imm, does_there _ does, e)
+      go (inr (inl (m, does, e))) = inr (inl (m, does_there _ does, e))
+      go (inr (inr (off, does, e))) = inr (inr (off, does_there _ does, e))
+
+  same_goal : goal_at behind slot ≡ goal_of b
+  same_goal =
+      let sp = word_same (put_all writes (memory_of s)) (memory_of behind) refl slot BARRIER_SP ∙ barrier_sp (memory_of s) slot words k.corresponds.map can.flight.small can.sp in
+      let desc = word_same (put_all writes (memory_of s)) (memory_of behind) refl slot BARRIER_DESCRIPTOR ∙ barrier_desc (memory_of s) slot words k.corresponds.map can.flight.small can.desc in
+      ap (λ (v : ℕ). let g : Goal = record { sp = v; desc = word (memory_of behind) slot BARRIER_DESCRIPTOR } in g) sp ∙ ap (λ (v : ℕ). let g : Goal = record { sp = b.sp; desc = v } in g) desc
+
+  reached_there : is_reached (goal_at behind slot) 0 (all_frames x behind site).frames ≡ true
+  reached_there = subst (λ (g : Goal). is_reached g 0 (all_frames x s site).frames ≡ true) (sym same_goal) can.reached
+
+  within_there : IsWithin (goal_at behind slot).sp s.lists.cleanups
+  within_there = subst (λ (g : Goal). IsWithin g.sp s.lists.cleanups) (sym same_goal) can.within
+
+  abbrev flight : IsInFlight behind slot
+  flight = record { small = can.flight.small; flies = can.flight.flies; idle = can.flight.idle }
+
+  -- what both machines do, from the state behind those words
+  abbrev on_bytes : Goal → Outcome
+  on_bytes g = entered (bytes_of behind) (block slot) (handed (block slot) b.hit) (phase2 g 0 (frames_of x.image (stack_of (memory_of behind)) None site (all_of s.regs)))
+
+  abbrev on_lists : Goal → machine.Outcome
+  on_lists g = machine.advances behind (s.first ∷ s.outer) (block slot) (handed (block slot) b.hit) g 0 (all_frames x s site)
+
+  bytes_fly : throw_to (guide (program_of x)) (bytes_of s) site (block slot) b ≡ on_bytes (goal_of b)
+  unfolding throw_to
+  bytes_fly =
+      let after : Memory → State = λ m. record { regs = s.regs; globals = heads s.lists; memory = m; events = s.events } in
+      let one : Memory → Outcome = λ m. entered (after m) (block slot) (handed (block slot) b.hit) (phase2 (goal_of b) 0 (frames_of x.image (stack_of m) None site (all_of s.regs))) in
+      ap (λ (o : Option ℕ). one (put_all (set_barrier_of o words) (memory_of s))) is_slot ∙ ap one memory_is
+
+  lists_fly : fly_from (guide (program_of x)) site (block slot) b s ≡ on_lists (goal_of b)
+  lists_fly =
+      ap (λ (o : Option ℕ). machine.advances (with_words (set_barrier_of o words) s) (s.first ∷ s.outer) (block slot) (handed (block slot) b.hit) (goal_of b) 0 (all_frames x s site)) is_slot
+
+  pub flies_same : GateMatches (throw_to (guide (program_of x)) (bytes_of s) site (block slot) b) (fly_from (guide (program_of x)) site (block slot) b s)
+  flies_same =
+      subst (λ (o : Outcome). GateMatches o (fly_from (guide (program_of x)) site (block slot) b s)) (sym bytes_fly)
+      (subst (λ (q : machine.Outcome). GateMatches (on_bytes (goal_of b)) q) (sym lists_fly)
+      (subst (λ (g : Goal). GateMatches (on_bytes g) (on_lists g)) same_goal
+      (fly_matches x is behind behind_keeps site throws_there slot (handed (block slot) b.hit) flight reached_there within_there)))
+
+  pub flies_keep : Keeps x (fly_from (guide (program_of x)) site (block slot) b s).1
+  flies_keep =
+      subst (λ (q : machine.Outcome). Keeps x q.1) (sym lists_fly)
+      (subst (λ (g : Goal). Keeps x (on_lists g).1) same_goal (fly_keeps x is behind behind_keeps site throws_there slot (handed (block slot) b.hit) flight reached_there within_there))
+
+pub flights_match : FlightsMatch
+flights_match x s site slot b is k can = record {
+  same = flies_same x is s k site slot b can;
+  keeps = flies_keep x is s k site slot b can;
+  lands = fly_enters x is s k site can.throws (goal_of b) can.reached;
+}

@@ -1,0 +1,220 @@
+-- What the gate at the end of a cleanup does, over bytes and with recorded activations: both end alike and leave the state, or both go on to what
+-- phase 2 enters over the recorded frames.
+use Rattle.std.proofs.Common.{◌≡◌, ℕ, List, [], ◌∷◌, ap, ◌∙◌, ◌==◌, true, arith, ◌&&◌, ◌⊎◌, inl, inr, Bool, false, cond, length, Option, Some, None, refl, sym, subst}
+use Rattle.std.proofs.lemmas.Bool.Decides.{nat_tests}
+use Rattle.std.specs.Prelude.{Result, slice_index, drop}
+use Rattle.std.proofs.lemmas.Bool.{eqb-true}
+use Rattle.throws_keep.specs.eh_cxa.Words.{chained, linked, Done, word, block, block_slot, with_all}
+use Rattle.throws_keep.proofs.eh_cxa.Pools.{slot_block, slot_of_block_is}
+use Rattle.throws_keep.specs.two_machines.Activations.{head_of, Activation, Recorded, memory_of, heads, bytes_of, first_place}
+use Rattle.throws_keep.specs.thumb_core.declared.ends.Cause.{Cause}
+use Rattle.throws_keep.specs.thumb_core.declared.ends.TrapKind.{TrapKind}
+use Rattle.throws_keep.specs.eh_bytecode.declared.frame.Vrs.{Vrs}
+use Rattle.throws_keep.specs.eh_cxa.Cleanup.{end_cleanup_by, end_cleanup_at, end_cleanup_of}
+use Rattle.throws_keep.specs.eh_cxa.ListCalls.{innermost_in, end_cleanup_by_list, end_cleanup_from, end_cleanup_list}
+use Rattle.throws_keep.specs.eh_cxa.Lists.{Cleanup, slots, Outcome as Call}
+use Rattle.throws_keep.specs.eh_cxa.Stands.{Stands, cleanup_of}
+use Rattle.throws_keep.specs.eh_cxa.Throw.{barrier_of}
+use Rattle.throws_keep.specs.eh_cxa.declared.globals.BarrierWords.{BarrierWords}
+use Rattle.throws_keep.specs.eh_cxa.declared.globals.CleanupWords.{CleanupWords}
+use Rattle.throws_keep.specs.eh_cxa.declared.globals.CxaFault.{CxaFault}
+use Rattle.throws_keep.specs.eh_cxa.declared.globals.Globals.{Globals}
+use Rattle.throws_keep.specs.eh_cxa.declared.layout.TheConstants.{CLEANUP_SP, NEXT_CLEANUP}
+use Rattle.throws_keep.proofs.eh_cxa.CleanupLaws.{end_cleanup_follows}
+use Rattle.throws_keep.specs.eh_phase.Calls.{stack_of}
+use Rattle.throws_keep.specs.eh_phase.Frames.{caller_at, frames_of}
+use Rattle.throws_keep.specs.eh_phase.Phases.{phase2}
+use Rattle.throws_keep.specs.eh_phase.declared.phase2.Entered.{Entered}
+use Rattle.throws_keep.specs.thumb_core.Registers.{all_of}
+use Rattle.throws_keep.specs.thumb_core.declared.regs.TheConstants.{SP}
+use Rattle.throws_keep.specs.thumb_core.declared.ends.End.{End}
+use Rattle.throws_keep.specs.frame_check.Accepts.{Accepted}
+use Rattle.throws_keep.specs.eh_gates.Landing.{entered}
+use Rattle.throws_keep.specs.eh_gates.Resuming.{goal_in}
+use Rattle.throws_keep.specs.eh_gates.State.{Guide, Outcome}
+use Rattle.throws_keep.specs.eh_gates.declared.state.Turned.TheVariants.{Ended}
+use Rattle.throws_keep.specs.two_machines.Corresponds.{Corresponds}
+use Rattle.throws_keep.proofs.two_machines.Agreeing.{are_one}
+use Rattle.throws_keep.proofs.two_machines.CallEvents.{knows}
+use Rattle.throws_keep.specs.eh_cxa.Stands as cxa
+use Rattle.throws_keep.specs.thumb_core.declared.ends.End.TheVariants as the_end
+use Rattle.throws_keep.specs.thumb_core.declared.ends.TrapKind.TheVariants as kind
+use Rattle.throws_keep.specs.eh_gates.Resuming as bytes
+use Rattle.throws_keep.specs.two_machines.ActivationMachine as machine
+use Rattle.throws_keep.specs.stands_for.Cleanups.{AreInProgress}
+use Rattle.throws_keep.specs.stands_for.Stands.{Keeps, IsProgram}
+use Rattle.throws_keep.specs.frames_same.Frames.{IsSiteOf}
+use Rattle.throws_keep.proofs.frames_same.Outwards.{IsNew}
+use Rattle.resumes_keep.proofs.Resumed.{HasCaller, first_caller}
+use Rattle.resumes_keep.proofs.ResumeLands.{Resumes}
+use Rattle.resumes_keep.proofs.Resuming.{innermost_outside}
+use Rattle.resumes_keep.proofs.ResumeLands as resume
+
+-- a link leads to the next of a chain
+chained_is : (next : ℕ → ℕ) (n : ℕ) (xs : List ℕ) → cxa.Chain next n xs → chained n ≡ head_of xs
+chained_is next n [] h = ap (linked n) h
+chained_is next n (t ∷ more) h = ap (linked n) h.0 ∙ slot_block n t h.0
+
+same_number : (n m : ℕ) → n ≡ m → (n == m) ≡ true
+same_number n m e = grind (arith, nat_tests)
+
+-- a trap terminates nothing
+no_trap : (what : TrapKind) (value pc : ℕ) (why : Cause) → the_end.Trap what value pc ≡ the_end.Terminate why → ⊥
+no_trap what value pc why e = absurd cc
+
+module _ (x : Accepted) (is : IsProgram x) (s : Recorded) (k : Keeps x s) (g : Guide) where
+  abbrev pub ours : Guide
+  ours = record g { image = x.image }
+
+  -- ---- the throw goes on
+
+  module _ (r : Resumes x s) where
+    abbrev slot : ℕ
+    slot = r.cleanup.slot
+
+    abbrev pub ended : Recorded
+    ended = machine.without_cleanup s r.others
+
+    abbrev barrier : BarrierWords
+    barrier = barrier_of (word (memory_of s)) (Some r.cleanup.slot)
+
+    abbrev pub enters : Entered
+    enters = phase2 (goal_in barrier) r.cleanup.next (resume.frames x is s k r)
+
+    next_is : chained (word (memory_of s) slot NEXT_CLEANUP) ≡ head_of (slots r.others)
+    next_is =
+        let chain = subst (λ (cs : List Cleanup). cxa.Chain (λ t. word (memory_of s) t NEXT_CLEANUP) (heads s.lists).cleanup (slots cs)) r.cleanups k.corresponds.stands.shows.cleanups in
+        chained_is (λ t. word (memory_of s) t NEXT_CLEANUP) (word (memory_of s) slot NEXT_CLEANUP) (slots r.others) chain.1
+
+    abbrev with_head : ℕ → Globals
+    with_head n = record { caught = (heads s.lists).caught; cleanup = n; uncaught = (heads s.lists).uncaught }
+
+    stands : Stands (word (memory_of s)) (heads ended.lists) ended.lists
+    stands =
+        let w = word (memory_of s) in
+        let low : r.cleanup.sp ≡ w slot CLEANUP_SP = ap (λ (d : Cleanup). d.sp) (resume.words x is s k r) in
+        let on_words : end_cleanup_of w (heads s.lists) r.cleanup.sp ≡ end_cleanup_by true w (heads s.lists) slot =
+        ap (end_cleanup_at w (heads s.lists) r.cleanup.sp) (resume.head x is s k r)
+        ∙ ap (λ (b : Bool). end_cleanup_by b w (heads s.lists) slot) (same_number (w slot CLEANUP_SP) r.cleanup.sp (sym low)) in
+        let on_lists : end_cleanup_list s.lists r.cleanup.sp ≡ end_cleanup_by_list true s.lists r.cleanup r.others =
+        ap (end_cleanup_from s.lists r.cleanup.sp) r.cleanups ∙ ap (λ (b : Bool). end_cleanup_by_list b s.lists r.cleanup r.others) (same_number r.cleanup.sp r.cleanup.sp refl) in
+        let f = end_cleanup_follows w (heads s.lists) s.lists r.cleanup.sp k.corresponds.stands in
+        let f1 = subst (λ (d : Done (Result (ℕ × CleanupWords) CxaFault)). Stands (with_all d.writes w) d.globals (end_cleanup_list s.lists r.cleanup.sp).lists) on_words f.stands in
+        let f2 = subst (λ (o : Call (Result (ℕ × CleanupWords) CxaFault)). Stands w (with_head (chained (w slot NEXT_CLEANUP))) o.lists) on_lists f1 in
+        subst (λ (n : ℕ). Stands w (with_head n) ended.lists) next_is f2
+
+    pub still : Corresponds ended
+    still = record {
+      map = k.corresponds.map;
+      stands = stands;
+      placed =
+          let all : length (r.place ∷ r.later) ≡ length (r.cleanup ∷ r.others) = sym (ap (λ (ps : List ℕ). length ps) r.places) ∙ k.corresponds.placed ∙ ap (λ (cs : List Cleanup). length cs) r.cleanups in
+          ap (λ (ps : List ℕ). length (drop 1 ps)) r.places ∙ (let n : length r.later ≡ length r.others = omega (arith, all) in n);
+    }
+
+    -- over bytes
+    bytes_go : bytes.ends_cleanup ours (bytes_of s) (record { r = r.new }) (end_cleanup_by true (word (memory_of s)) (heads s.lists) slot) ≡ entered (bytes_of ended) (block slot) barrier.object enters
+    bytes_go =
+        let m = memory_of s in
+        let v : Vrs = record { r = r.new } in
+        let w : CleanupWords = record { next = (cleanup_of (word m) slot).next; sp = (cleanup_of (word m) slot).sp; site = (cleanup_of (word m) slot).site } in
+        let one : Globals → Outcome = λ h. bytes.goes_on_to ours (record (bytes_of s) { globals = h }) v w (block slot) (barrier_of (word m) (block_slot (block slot))) in
+        let two : Option ℕ → Outcome = λ o. bytes.goes_on_to ours (bytes_of ended) v w (block slot) (barrier_of (word m) o) in
+        let three : Cleanup → Outcome = λ d. entered (bytes_of ended) (block slot) barrier.object (phase2 (goal_in barrier) d.next (frames_of x.image (stack_of m) None d.site r.new)) in
+        ap one (ap with_head next_is) ∙ ap two (slot_of_block_is slot (resume.small x is s k r)) ∙ ap three (sym (resume.words x is s k r))
+        ∙ (are_one (frames_of x.image (stack_of m) None r.cleanup.site r.new) (resume.frames x is s k r) (resume.kept x is s k r)).bytes (goal_in barrier) r.cleanup.next (bytes_of ended) (block slot) barrier.object
+
+    -- with recorded activations
+    recorded_go : machine.resumes_in ours s r.cleanup r.others s.outer (first_place s.places)
+        ≡ machine.entered ended ((resume.there x is s k r).first ∷ (resume.there x is s k r).more) (block slot) barrier.object enters
+    recorded_go =
+        let a = r.holder.first in
+        let outer = r.holder.more in
+        let yes : machine.Outcome = machine.goes_on ours ended r.cleanup s.first.caller a outer barrier in
+        let no : machine.Outcome = machine.refused Rattle.throws_keep.specs.eh_cxa.declared.globals.CxaFault.TheVariants.CleanupElsewhere s.first.caller.sp s in
+        ap (λ (acts : List Activation). machine.resumes_in ours s r.cleanup r.others acts (first_place s.places)) r.holder.is
+        ∙ ap (λ (ps : List ℕ). machine.resumes_in ours s r.cleanup r.others (a ∷ outer) (first_place ps)) r.places
+        ∙ ap (λ (b : Bool). cond (b && (length outer == r.place)) yes no) (same_number s.first.caller.sp r.cleanup.sp r.called)
+        ∙ ap (λ (b : Bool). cond b yes no) (same_number (length outer) r.place r.holder.place)
+        ∙ ap (λ (acts : List Activation). machine.entered ended acts (block slot) barrier.object enters) (resume.there x is s k r).passed
+
+  -- ---- both
+
+  -- they end alike, by a trap, in the state as it was; or both enter the same
+  abbrev pub Alike : Outcome → machine.Outcome → Type 0
+  Alike o q =
+      ((end : End) × (o ≡ (Ended end, bytes_of s)) × (q ≡ (Ended end, s)) × ((why : Cause) → end ≡ the_end.Terminate why → ⊥))
+      ⊎ ((r : Resumes x s) × (o ≡ entered (bytes_of (machine.without_cleanup s r.others)) (block r.cleanup.slot) (barrier_of (word (memory_of s)) (Some r.cleanup.slot)).object (enters r))
+      × (q ≡ machine.entered (machine.without_cleanup s r.others) ((resume.there x is s k r).first ∷ (resume.there x is s k r).more) (block r.cleanup.slot) (barrier_of (word (memory_of s)) (Some r.cleanup.slot)).object (enters r)))
+
+  module _ (c : Cleanup) (others : List Cleanup) (cleanups : s.lists.cleanups ≡ c ∷ others) where
+    head_there : block_slot (heads s.lists).cleanup ≡ Some c.slot
+    head_there =
+        (subst (λ (cs : List Cleanup). cxa.Chain (λ t. word (memory_of s) t NEXT_CLEANUP) (heads s.lists).cleanup (slots cs)) cleanups k.corresponds.stands.shows.cleanups).0
+
+    words_there : c ≡ cleanup_of (word (memory_of s)) c.slot
+    words_there = (subst (λ (cs : List Cleanup). cxa.Frames (word (memory_of s)) cs) cleanups k.corresponds.stands.shows.frames).0
+
+    by_words : (sp : ℕ) → end_cleanup_of (word (memory_of s)) (heads s.lists) sp ≡ end_cleanup_by (c.sp == sp) (word (memory_of s)) (heads s.lists) c.slot
+    by_words sp =
+        ap (end_cleanup_at (word (memory_of s)) (heads s.lists) sp) head_there
+        ∙ ap (λ (n : ℕ). end_cleanup_by (n == sp) (word (memory_of s)) (heads s.lists) c.slot) (sym (ap (λ (d : Cleanup). d.sp) words_there))
+
+    abbrev elsewhere : End
+    elsewhere = the_end.Trap kind.CleanupElsewhere s.first.caller.sp s.regs.pc
+
+    not_there : (acts : List Activation) (place : Option ℕ) → (s.first.caller.sp == c.sp) ≡ false → ◌≡◌ {A = machine.Outcome} (machine.resumes_in ours s c others acts place) (Ended elsewhere, s)
+    not_there [] place e = refl
+    not_there (a ∷ outer) None e = refl
+    not_there (a ∷ outer) (Some n) e =
+        let yes : machine.Outcome = machine.goes_on ours (machine.without_cleanup s others) c s.first.caller a outer (barrier_of (word (memory_of s)) (Some c.slot)) in
+        let no : machine.Outcome = (Ended elsewhere, s) in
+        ap (λ (b : Bool). cond (b && (length outer == n)) yes no) e
+
+    by_places : (new : List ℕ) → IsNew s.first.caller new → s.first.caller.sp ≡ c.sp → (ps : List ℕ) → s.places ≡ ps → AreInProgress x s (slice_index s.regs.r SP) ps (c ∷ others)
+        → Alike (bytes.ends_cleanup ours (bytes_of s) (record { r = new }) (end_cleanup_by true (word (memory_of s)) (heads s.lists) c.slot)) (machine.resumes_in ours s c others s.outer (first_place s.places))
+    by_places new n e [] at h = absurd h
+    by_places new n e (place ∷ later) at h =
+        let r : Resumes x s = record {
+          cleanup = c;
+          others = others;
+          cleanups = cleanups;
+          place = place;
+          later = later;
+          places = at;
+          holder = innermost_outside x s (slice_index s.regs.r SP) place later c others k.chain h e;
+          called = e;
+          new = new;
+          is_new = n;
+        } in inr (r, bytes_go r, recorded_go r)
+
+    by_sp : (new : List ℕ) → IsNew s.first.caller new → (b : Bool) → (c.sp == slice_index new SP) ≡ b
+        → Alike (bytes.ends_cleanup ours (bytes_of s) (record { r = new }) (end_cleanup_by b (word (memory_of s)) (heads s.lists) c.slot)) (machine.resumes_in ours s c others s.outer (first_place s.places))
+    by_sp new n true e =
+        let same : c.sp ≡ slice_index new SP = eqb-true c.sp (slice_index new SP) e in
+        by_places new n (sym n.sp ∙ sym same) s.places refl (subst (λ (cs : List Cleanup). AreInProgress x s (slice_index s.regs.r SP) s.places cs) cleanups k.cleanups)
+    by_sp new n false e =
+        let sp = n.sp in
+        let other : (s.first.caller.sp == c.sp) ≡ false = grind (arith, nat_tests) in
+        inl (elsewhere, ap (λ (v : ℕ). let o : Outcome = (Ended (the_end.Trap kind.CleanupElsewhere v s.regs.pc), bytes_of s) in o) n.sp, not_there s.outer (first_place s.places) other, no_trap kind.CleanupElsewhere s.first.caller.sp s.regs.pc)
+
+    by_caller : HasCaller x.image s.segments s.regs.pc (all_of s.regs) s.first.caller
+        → Alike (bytes.resumes_in ours (bytes_of s) (caller_at x.image s.segments s.regs.pc (all_of s.regs))) (machine.resumes ours s (c ∷ others))
+    by_caller (inl none) =
+        let yes : machine.Outcome = machine.resumes_in ours s c others s.outer (first_place s.places) in
+        let no : machine.Outcome = (Ended (the_end.Trap kind.CleanupElsewhere 0 s.regs.pc), s) in
+        inl (the_end.Trap kind.CleanupElsewhere 0 s.regs.pc, ap (bytes.resumes_in ours (bytes_of s)) none.0, ap (λ (b : Bool). cond b yes no) none.1, no_trap kind.CleanupElsewhere 0 s.regs.pc)
+    by_caller (inr (new, found, can, n)) =
+        let yes : machine.Outcome = machine.resumes_in ours s c others s.outer (first_place s.places) in
+        let no : machine.Outcome = (Ended (the_end.Trap kind.CleanupElsewhere 0 s.regs.pc), s) in
+        subst (λ (o : Option Vrs). Alike (bytes.resumes_in ours (bytes_of s) o) (machine.resumes ours s (c ∷ others))) (sym found)
+        (subst (λ (b : Bool). Alike (bytes.resumes_in ours (bytes_of s) (Some (record { r = new }))) (cond b yes no)) (sym can)
+        (subst (λ (d : Done (Result (ℕ × CleanupWords) CxaFault)). Alike (bytes.ends_cleanup ours (bytes_of s) (record { r = new }) d) yes) (sym (by_words (slice_index new SP)))
+        (by_sp new n (c.sp == slice_index new SP) refl)))
+
+  pub end_alike : IsSiteOf x s s.regs.pc → Alike (bytes.end_cleanup_gate ours (bytes_of s)) (machine.end_cleanup_gate ours s)
+  end_alike here = subst (λ (o : Option ℕ). Alike (bytes.resumes ours (bytes_of s) o) (machine.end_cleanup_gate ours s)) (sym (knows s k.corresponds)) (by_cleanups s.lists.cleanups refl)
+    where
+      by_cleanups : (cs : List Cleanup) → s.lists.cleanups ≡ cs → Alike (bytes.resumes ours (bytes_of s) (innermost_in cs)) (machine.resumes ours s cs)
+      by_cleanups [] e = inl (the_end.Trap kind.NoCleanup 0 s.regs.pc, refl, refl, no_trap kind.NoCleanup 0 s.regs.pc)
+      by_cleanups (c ∷ others) e = by_caller c others e (first_caller x is s k s.regs.pc here)

@@ -1,0 +1,78 @@
+-- An exception that flies to its barrier from any site of the first activation, at a gate or in a call; and the end of a cleanup, from where it
+-- flies on.
+use Rattle.std.specs.Prelude.{ℕ, None, ◌∷◌, ◌≡◌, ◌<◌, ◌^◌, true}
+use Rattle.throws_keep.specs.eh_phase.Phases.{Frames, phase2, phase1}
+use Rattle.throws_keep.specs.thumb_core.Registers.{all_of}
+use Rattle.throws_keep.specs.frame_check.Accepts.{Accepted}
+use Rattle.throws_keep.specs.two_machines.Activations.{Recorded, frames_at, with_words, bytes_of, first_place}
+use Rattle.throws_keep.specs.eh_cxa.Throw.{set_barrier_of}
+use Rattle.throws_keep.specs.eh_cxa.Words.{block_slot, block}
+use Rattle.throws_keep.specs.eh_phase.Laws.{goal_of}
+use Rattle.throws_keep.specs.eh_phase.declared.phase1.Barrier.{Barrier}
+use Rattle.throws_keep.specs.eh_gates.State.{Guide}
+use Rattle.throws_keep.specs.eh_gates.Throwing.{handed, barrier_words, throw_to}
+use Rattle.throws_keep.specs.eh_phase.Cleanups.{is_reached}
+use Rattle.throws_keep.specs.two_machines.Landings.{IsInFlight}
+use Rattle.throws_keep.specs.two_machines.Checked.{program_of}
+use Rattle.throws_keep.specs.two_machines.Corresponds.{GateMatches}
+use Rattle.throws_keep.specs.two_machines.Program.{guide}
+use Rattle.throws_keep.specs.eh_phase.Verdict.{Meeting}
+use Rattle.throws_keep.specs.thumb_core.declared.ends.Cause.{Cause}
+use Rattle.throws_keep.specs.eh_gates.Gates.{gate_of}
+use Rattle.throws_keep.specs.eh_gates.declared.gates.TheConstants.{END_CLEANUP_GATE}
+use Rattle.throws_keep.specs.eh_gates.declared.state.Turned.TheVariants.{Ended}
+use Rattle.throws_keep.specs.two_machines.ActivationMachine as acts
+use Rattle.throws_keep.specs.eh_phase.Laws as phase_law
+use Rattle.throws_keep.specs.eh_phase.declared.phase1.Found.TheVariants as found
+use Rattle.throws_keep.specs.thumb_core.declared.ends.Cause.TheVariants as cause
+use Rattle.throws_keep.specs.thumb_core.declared.ends.End.TheVariants as the_end
+use Rattle.throws_keep.specs.stands_for.Cleanups.{IsWithin}
+use Rattle.throws_keep.specs.frames_same.Frames.{ThrowsAt}
+use Rattle.throws_keep.specs.stands_for.Stands.{Keeps, IsProgram}
+
+-- the frames of all activations from a site of the first on
+abbrev pub all_frames : Accepted → Recorded → ℕ → Frames
+all_frames x s site = frames_at x.image None site (all_of s.regs) s.first s.outer
+
+-- The barrier is written, and phase 2 goes to it from the site: this is what the recorded machine's throw does.
+abbrev pub fly_from : Guide → ℕ → ℕ → Barrier → Recorded → acts.Outcome
+fly_from g site control b s =
+    acts.advances (with_words (set_barrier_of (block_slot control) (barrier_words control b)) s) (s.first ∷ s.outer) control (handed control b.hit) (goal_of b) 0
+    (frames_at g.image None site (all_of s.regs) s.first s.outer)
+
+abbrev pub GatesFly : Type 0
+GatesFly = (g : Guide) (site control : ℕ) (b : Barrier) (s : Recorded) → acts.throw_to g site control b s ≡ fly_from g site control b s
+
+-- The exception of a slot flies, none of its cleanups is in progress, and its barrier is within reach from the site, at or below the landing sp
+-- of the innermost cleanup in progress.
+pub record CanFly (x : Accepted) (s : Recorded) (site slot : ℕ) (b : Barrier) : Type 0 where
+  pub throws : ThrowsAt x s site
+  pub flight : IsInFlight s slot
+  pub sp : (barrier_words (block slot) b).sp < 2 ^ 32
+  pub object : (barrier_words (block slot) b).object < 2 ^ 32
+  pub desc : (barrier_words (block slot) b).desc < 2 ^ 32
+  pub pointer : (barrier_words (block slot) b).pointer < 2 ^ 32
+  pub reached : is_reached (goal_of b) 0 (all_frames x s site).frames ≡ true
+  pub within : IsWithin b.sp s.lists.cleanups
+
+-- Then both machines do the same, phase 2 enters a cleanup or the barrier, and what they leave stands for each other.
+pub record Flies (x : Accepted) (s : Recorded) (site slot : ℕ) (b : Barrier) : Type 0 where
+  pub same : GateMatches (throw_to (guide (program_of x)) (bytes_of s) site (block slot) b) (fly_from (guide (program_of x)) site (block slot) b s)
+  pub keeps : Keeps x (fly_from (guide (program_of x)) site (block slot) b s).1
+  pub lands : phase_law.Lands (phase2 (goal_of b) 0 (all_frames x s site))
+
+abbrev pub FlightsMatch : Type 0
+FlightsMatch = (x : Accepted) (s : Recorded) (site slot : ℕ) (b : Barrier) → IsProgram x → Keeps x s → CanFly x s site slot b → Flies x s site slot b
+
+-- a barrier that a search finds is such a one
+abbrev pub SearchesReach : Type 0
+SearchesReach = (x : Accepted) (s : Recorded) (site : ℕ) (m : Meeting) (b : Barrier) → IsProgram x → Keeps x s → ThrowsAt x s site
+    → phase1 m (frames_at x.image (first_place s.places) site (all_of s.regs) s.first s.outer) ≡ found.Barrier b
+    → (is_reached (goal_of b) 0 (all_frames x s site).frames ≡ true) × IsWithin b.sp s.lists.cleanups
+
+-- The end of a cleanup does the same in both machines, and keeps. Phase 2 that goes on there never ends without a pad but at a specification that
+-- has none.
+pub record CleanupEnds (x : Accepted) (s : Recorded) (next : ℕ) : Type 0 where
+  pub same : GateMatches (gate_of (guide (program_of x)) END_CLEANUP_GATE next (bytes_of s)) (acts.gate_of (guide (program_of x)) END_CLEANUP_GATE next s)
+  pub keeps : Keeps x (acts.gate_of (guide (program_of x)) END_CLEANUP_GATE next s).1
+  pub lands : (why : Cause) → (acts.gate_of (guide (program_of x)) END_CLEANUP_GATE next s).0 ≡ Ended (the_end.Terminate why) → why ≡ cause.Unexpected

@@ -1,0 +1,16 @@
+pub use Rattle.throws_keep.specs.two_machines
+pub use Rattle.throws_keep.specs.frame_check
+pub use Rattle.throws_keep.specs.frame_scene
+pub use Rattle.throws_keep.specs.frame_facts
+pub use Rattle.throws_keep.specs.eh_gates
+pub use Rattle.throws_keep.specs.eh_trace
+pub use Rattle.throws_keep.specs.guest_gates
+pub use Rattle.throws_keep.specs.thumb_core
+pub use Rattle.throws_keep.specs.eh_bus
+pub use Rattle.throws_keep.specs.thumb_isa
+pub use Rattle.throws_keep.specs.event_runs
+pub use Rattle.throws_keep.specs.stands_for
+pub mod Outside
+pub mod ResumeLaws
+pub mod EndEvents
+pub mod Flying

@@ -1,0 +1,213 @@
+-- A new exception, and then a throw of that object, keep what stands for each other, with the lists changed as these calls say.
+use Rattle.std.proofs.Common.{◌≡◌, ℕ, inl, inr, List, [], ◌∷◌, refl, sym, ap, subst, arith, ◌+◌, ◌^◌, ◌<◌, ◌==◌, nat_lt, Bool, true, false, cond, Option, Some, None, Result, Err}
+use Rattle.steps_keep.specs.eh_bus.Lists.{Has}
+use Rattle.steps_keep.specs.eh_bus.Segment.{Segment}
+use Rattle.steps_keep.proofs.eh_bus.MapLaws.{map_trans}
+use Rattle.steps_keep.specs.eh_cxa.Lists.{Cleanup, Lists, slots, Record, Entry, Free, OutOfUse, Live, entry}
+use Rattle.steps_keep.specs.eh_cxa.Words.{Write, put_all, Pool, Wrote, word, object_slot}
+use Rattle.steps_keep.specs.eh_gates.Resuming.{goal_in}
+use Rattle.steps_keep.specs.eh_phase.declared.phase2.Goal.{Goal}
+use Rattle.steps_keep.specs.image_memory.Start.{image_start}
+use Rattle.steps_keep.specs.thumb_core.declared.regs.TheConstants.{SP}
+use Rattle.steps_keep.specs.frame_check.Accepts.{Accepted}
+use Rattle.steps_keep.specs.two_machines.Activations.{Recorded, reg_in, memory_of, with_lists, words_in, heads}
+use Rattle.steps_keep.specs.two_machines.Corresponds.{Corresponds}
+use Rattle.steps_keep.proofs.two_machines.FirstEvent.{segments_alone}
+use Rattle.steps_keep.specs.eh_cxa.declared.globals.Globals.{Globals}
+use Rattle.steps_keep.specs.eh_cxa.declared.globals.CxaFault.{CxaFault}
+use Rattle.steps_keep.specs.eh_cxa.declared.globals.CxaFault.TheVariants.{TooBig}
+use Rattle.steps_keep.specs.eh_cxa.declared.layout.TheConstants.{SLOTS, STATE, TYPE, DESTRUCTOR, CLASS, OBJECT_BYTES}
+use Rattle.steps_keep.specs.eh_cxa.declared.state.TheConstants.{FREE}
+use Rattle.steps_keep.specs.eh_cxa.Allocate.{allocate_at, allocate_of}
+use Rattle.steps_keep.specs.eh_cxa.ListCalls.{allocate_list, throw_by_list, throw_entry, throw_list}
+use Rattle.steps_keep.specs.eh_cxa.States.{named, is_fresh}
+use Rattle.steps_keep.specs.eh_cxa.Throw.{Throw, throw_by, start_throw_of}
+use Rattle.steps_keep.proofs.eh_cxa.Meets.{allocate_meets, throw_meets}
+use Rattle.steps_keep.proofs.eh_cxa.Pools.{object_small}
+use Rattle.steps_keep.proofs.eh_cxa.ThrowLaws.{FitThrow}
+use Rattle.steps_keep.proofs.eh_cxa.Zeros.{first_same}
+use Rattle.steps_keep.specs.eh_gates.Laws.{AreHeads}
+use Rattle.steps_keep.proofs.two_machines.CallGates.{left}
+use Rattle.steps_keep.proofs.two_machines.InStep.{same_slot, are_heads}
+use Rattle.steps_keep.specs.stands_for.Chain.{StandsAt, code}
+use Rattle.steps_keep.specs.stands_for.Cleanups.{goal_at, IsHeld, IsWithin, AreInProgress}
+use Rattle.steps_keep.specs.stands_for.Stands.{Keeps, IsCounted}
+use Rattle.steps_keep.specs.stands_for.Holds.{SameAt, AllSameAt}
+use Rattle.steps_keep.proofs.stands_for.Goes.{chain_top}
+use Rattle.steps_keep.proofs.stands_for.Moved.{SameWords, same_at, all_same_at, holds_moves, chain_lies, chain_moves, held_moves}
+use Rattle.steps_keep.proofs.stands_for.Tame.{AreTame, IsKeptByWrites, tame_keeps}
+use Rattle.steps_keep.proofs.Gated.{low_write, allocate_keeps, allocate_tame}
+use Rattle.steps_keep.proofs.stands_for.CountedLists.{allocate_counts, throw_counts}
+use Rattle.state_laws.specs.Free.{KeepThrows}
+
+-- ---- other lists with the same cleanups, and tame writes
+
+module _ (x : Accepted) (s : Recorded) (k : Keeps x s) (new : Lists) (ws : List Write) (tame : AreTame (slots s.lists.cleanups) ws) (same : new.cleanups ≡ s.lists.cleanups) (counted : IsCounted new) (c : Corresponds (with_lists new ws s)) where
+  abbrev segments : List Segment
+  segments = (put_all ws (memory_of s)).segments
+
+  abbrev u : Recorded
+  u = with_lists new ws s
+
+  kept : IsKeptByWrites (slots s.lists.cleanups) (memory_of s) (record (memory_of s) { segments = segments })
+  kept = subst (IsKeptByWrites (slots s.lists.cleanups) (memory_of s)) (segments_alone ws (memory_of s)) (tame_keeps (slots s.lists.cleanups) ws (memory_of s) k.corresponds.map tame)
+
+  same_words : SameWords s.home s.segments segments
+  same_words g low high = let home = k.corresponds.map.home in kept.loads g (omega (arith, home.low, low))
+
+  inner_same : SameAt s.segments segments s.first
+  inner_same =
+      let top = chain_top x s.segments s.home s.first.caller s.outer k.chain in
+      same_at s.home s.segments segments s.first same_words (λ g h. let w = k.slots g h in (omega (arith, w.0, k.low), omega (arith, w.1, top)))
+
+  outer_same : AllSameAt s.segments segments s.outer
+  outer_same = all_same_at s.home s.segments segments s.outer same_words (chain_lies x s.segments s.home s.first.caller s.outer (omega (arith, k.low, k.high)) k.chain)
+
+  in_progress : (low : ℕ) (places : List ℕ) (cleanups : List Cleanup) → ((slot : ℕ) → Has (slots cleanups) slot → goal_at u slot ≡ goal_at s slot) → AreInProgress x s low places cleanups → AreInProgress x u low places cleanups
+  in_progress low [] [] goals q = tt
+  in_progress low [] (d ∷ later) goals q = q
+  in_progress low (n ∷ places) [] goals q = q
+  in_progress low (n ∷ places) (d ∷ later) goals q =
+      let goal = goals d.slot (inl refl) in (
+        q.0,
+        subst (λ (g : Goal). IsHeld x segments g n d (s.first ∷ s.outer)) (sym goal) (held_moves s.home s.segments segments x (goal_at s d.slot) n d (s.first ∷ s.outer) (inner_same, outer_same) q.1),
+        subst (λ (g : Goal). IsWithin g.sp later) (sym goal) q.2,
+        in_progress d.sp places later (λ slot h. goals slot (inr h)) q.3,
+      )
+
+  first_moves : StandsAt x s.first s.segments s.regs s.regs.pc → StandsAt x s.first segments s.regs s.regs.pc
+  first_moves at = record {
+    function = at.function;
+    marks = at.marks;
+    of = at.of;
+    place = at.place;
+    address = at.address;
+    fact = at.fact;
+    state = at.state;
+    holds = holds_moves s.home s.segments segments (code x at.function at.marks).prologue at.fact s.first s.regs inner_same at.holds;
+  }
+
+  pub writes_keep : Keeps x u
+  writes_keep = record {
+    corresponds = c;
+    counted = counted;
+    image = map_trans (image_start x.image).memory.segments s.segments segments k.image kept.map;
+    sound = k.sound;
+    low = k.low;
+    high = k.high;
+    whole = k.whole;
+    slots = k.slots;
+    first = λ reached. first_moves (k.first reached);
+    beyond = k.beyond;
+    chain = chain_moves s.home s.segments segments x s.first.caller s.outer outer_same k.chain;
+    cleanups = subst (λ (cs : List Cleanup). AreInProgress x u (reg_in s SP) s.places cs) (sym same)
+        (in_progress (reg_in s SP) s.places s.lists.cleanups (λ slot has. ap goal_in (kept.barriers slot has)) k.cleanups);
+  }
+
+-- ---- a new exception
+
+module _ (s : Recorded) (c : Corresponds s) where
+  abbrev l : Lists
+  l = s.lists
+
+  abbrev w : Pool
+  w = word (memory_of s)
+
+  same_allocate : (size : ℕ) → allocate_of (words_in l) size ≡ allocate_of w size
+  same_allocate size =
+      let e = first_same (λ t. words_in l t STATE == FREE) (λ t. w t STATE == FREE) (λ t h. (same_slot w (heads l) l c.stands t h).free) in
+      ap (λ (o : Option ℕ). cond (nat_lt OBJECT_BYTES size) (record { answer = Err TooBig; writes = [] }) (allocate_at size o)) e
+
+  abbrev allocated : ℕ → Recorded
+  allocated size = with_lists (allocate_list l size).lists (allocate_of (words_in l) size).writes s
+
+  allocate_corresponds : (size : ℕ) → size < 2 ^ 32 → Corresponds (allocated size)
+  allocate_corresponds size small =
+      let d = allocate_of w size in
+      left s c (record { answer = d.answer; globals = heads l; writes = d.writes }) (allocate_of (words_in l) size).writes (allocate_list l size) (record {
+        writes = ap (λ (v : Wrote (Result ℕ CxaFault)). v.writes) (same_allocate size);
+        follows = allocate_meets (memory_of s) (put_all d.writes (memory_of s)) d.answer size c.map small refl (heads l) l c.stands;
+        tops = are_heads w (heads l) l c.stands;
+        cleanups = allocate_keeps s c size;
+      })
+
+  -- ---- and a throw
+
+  throw_keeps : (o : Option ℕ) (t : Throw) → (throw_list l o t).lists.cleanups ≡ l.cleanups
+  throw_keeps None t = refl
+  throw_keeps (Some slot) t = by_entry (entry l slot)
+    where
+      by : (r : Record) (b : Bool) → (throw_by_list b l slot r t).lists.cleanups ≡ l.cleanups
+      by r true = refl
+      by r false = refl
+
+      by_entry : (e : Entry) → (throw_entry l slot e t).lists.cleanups ≡ l.cleanups
+      by_entry Free = refl
+      by_entry OutOfUse = refl
+      by_entry (Live r) = by r (is_fresh (Some r.state))
+
+  throw_tame : (v : Pool) (g : Globals) (o : Option ℕ) (t : Throw) → ((slot : ℕ) → o ≡ Some slot → slot < SLOTS) → AreTame (slots l.cleanups) (start_throw_of v g o t).writes
+  throw_tame v g None t small = tt
+  throw_tame v g (Some slot) t small = by (is_fresh (named (v slot STATE)))
+    where
+      h : slot < SLOTS
+      h = small slot refl
+
+      by : (b : Bool) → AreTame (slots l.cleanups) (throw_by b g slot t).writes
+      by true = (
+        low_write (slots l.cleanups) slot TYPE _ h (omega arith),
+        (
+          low_write (slots l.cleanups) slot DESTRUCTOR _ h (omega arith),
+          (
+            low_write (slots l.cleanups) slot CLASS _ h (omega arith),
+            (low_write (slots l.cleanups) slot (CLASS + 1) _ h (omega arith), (low_write (slots l.cleanups) slot STATE _ h (omega arith), tt)),
+          ),
+        ),
+      )
+      by false = tt
+
+  throw_writes : (o : Option ℕ) (t : Throw) → ((slot : ℕ) → o ≡ Some slot → slot < SLOTS) → (start_throw_of (words_in l) (heads l) o t).writes ≡ (start_throw_of w (heads l) o t).writes
+  throw_writes None t small = refl
+  throw_writes (Some slot) t small = ap (λ n. (throw_by (is_fresh n) (heads l) slot t).writes) (same_slot w (heads l) l c.stands slot (small slot refl)).state
+
+  throw_tops : (o : Option ℕ) (t : Throw) → AreHeads (start_throw_of w (heads l) o t).globals
+  throw_tops None t = are_heads w (heads l) l c.stands
+  throw_tops (Some slot) t = by (is_fresh (named (w slot STATE)))
+    where
+      tops : AreHeads (heads l)
+      tops = are_heads w (heads l) l c.stands
+
+      by : (b : Bool) → AreHeads (throw_by b (heads l) slot t).globals
+      by true = record { caught = tops.caught; cleanup = tops.cleanup }
+      by false = tops
+
+  abbrev thrown : ℕ → Throw → Recorded
+  thrown object t = with_lists (throw_list l (object_slot object) t).lists (start_throw_of (words_in l) (heads l) (object_slot object) t).writes s
+
+  throw_corresponds : (object : ℕ) (t : Throw) → FitThrow t → Corresponds (thrown object t)
+  throw_corresponds object t fit =
+      let d = start_throw_of w (heads l) (object_slot object) t in
+      left s c d (start_throw_of (words_in l) (heads l) (object_slot object) t).writes (throw_list l (object_slot object) t) (record {
+        writes = throw_writes (object_slot object) t (λ slot e. object_small object slot e);
+        follows = throw_meets (memory_of s) (put_all d.writes (memory_of s)) (heads l) d.globals d.answer object t c.map fit refl l c.stands;
+        tops = throw_tops (object_slot object) t;
+        cleanups = throw_keeps (object_slot object) t;
+      })
+
+-- ---- both
+
+pub allocate_keeps_all : (x : Accepted) (s : Recorded) (size : ℕ) → Keeps x s → size < 2 ^ 32 → Keeps x (with_lists (allocate_list s.lists size).lists (allocate_of (words_in s.lists) size).writes s)
+allocate_keeps_all x s size k small =
+    writes_keep x s k (allocate_list s.lists size).lists (allocate_of (words_in s.lists) size).writes (allocate_tame s k.corresponds size) (allocate_keeps s k.corresponds size) (allocate_counts s.lists k.counted size) (allocate_corresponds s k.corresponds size small)
+
+pub throw_keeps_all : (x : Accepted) (s : Recorded) (object : ℕ) (t : Throw) → Keeps x s → FitThrow t
+    → Keeps x (with_lists (throw_list s.lists (object_slot object) t).lists (start_throw_of (words_in s.lists) (heads s.lists) (object_slot object) t).writes s)
+throw_keeps_all x s object t k fit =
+    writes_keep x s k (throw_list s.lists (object_slot object) t).lists (start_throw_of (words_in s.lists) (heads s.lists) (object_slot object) t).writes
+    (throw_tame s k.corresponds (words_in s.lists) (heads s.lists) (object_slot object) t (λ slot e. object_small object slot e)) (throw_keeps s k.corresponds (object_slot object) t) (throw_counts s.lists k.counted (object_slot object) t) (throw_corresponds s k.corresponds object t fit)
+
+pub throws_kept : KeepThrows
+throws_kept x s k = record {
+  allocate = λ size small. allocate_keeps_all x s size k small;
+  start_throw = λ object t ty destructor. throw_keeps_all x s object t k (record { ty = ty; destructor = destructor });
+}

@@ -1,0 +1,4 @@
+mod Memories
+mod Frees
+mod Starting
+mod Forced

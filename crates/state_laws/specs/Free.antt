@@ -1,0 +1,144 @@
+-- What a state that stands for a recorded one rests on, and what may change, for one thread's running stack.
+use Rattle.std.specs.Prelude.{◌≡◌, None, ◌⊎◌, ℕ, length, List, [], ◌∷◌, ◌^◌, ◌<◌, Option, slice_index, Some, false, ◌+◌, ◌==◌, true}
+use Rattle.std.specs.List.{list_any}
+use Rattle.steps_keep.specs.eh_cxa.Lists.{Entry, state_in, Lists, entry}
+use Rattle.steps_keep.specs.eh_cxa.declared.layout.TheConstants.{SLOTS, CLOSED_WORDS}
+use Rattle.steps_keep.specs.eh_bus.Guards.{insert_all}
+use Rattle.steps_keep.specs.eh_bus.Memory.{Memory}
+use Rattle.steps_keep.specs.eh_bus.Segment.{Segment}
+use Rattle.steps_keep.specs.two_machines.Activations.{Recorded, guarded_of, memory_of, reg_in, callee, words_in, heads, with_lists}
+use Rattle.steps_keep.specs.eh_bus.Map.{IsMap, SameMap}
+use Rattle.steps_keep.specs.eh_cxa.Stands.{entry_of}
+use Rattle.steps_keep.specs.eh_cxa.Words.{word, object_slot}
+use Rattle.steps_keep.specs.two_machines.RecordedSlots.{AreOutside}
+use Rattle.steps_keep.specs.frame_check.Accepts.{Accepted}
+use Rattle.steps_keep.specs.elf_image.Functions.{Function}
+use Rattle.steps_keep.specs.flow.Flow.{AreValid, AreStates, fact_at}
+use Rattle.steps_keep.specs.frame_facts.declared.cause.FrameCause.{FrameCause}
+use Rattle.steps_keep.specs.frame_facts.declared.facts.Fact.{Fact}
+use Rattle.steps_keep.specs.frame_facts.Facts.{IsAtMost, source}
+use Rattle.steps_keep.specs.frame_reach.Marks.{Marks}
+use Rattle.steps_keep.specs.frame_flow.Flows.{flow_of}
+use Rattle.steps_keep.specs.thumb_core.Laws.{AreWords, AreSound}
+use Rattle.steps_keep.specs.thumb_core.declared.regs.TheConstants.{SP, LR}
+use Rattle.steps_keep.specs.thumb_core.declared.regs.Regs.{Regs}
+use Rattle.steps_keep.specs.thumb_core.Registers.{reg}
+use Rattle.steps_keep.specs.frame_facts.declared.facts.Source.TheVariants.{Other}
+use Rattle.steps_keep.specs.frame_check.Spots.{look}
+use Rattle.steps_keep.specs.image_memory.Start.{begins_function, image_start}
+use Rattle.steps_keep.specs.thumb_isa.declared.instr.Instr.TheVariants.{Svc}
+use Rattle.steps_keep.specs.frame_facts.Branches.{gate_changes}
+use Rattle.steps_keep.specs.eh_trace.Trace.{Trace}
+use Rattle.steps_keep.specs.guest_gates.declared.gates.TheConstants.{NO_CALLER}
+use Rattle.steps_keep.specs.eh_cxa.Allocate.{allocate_of}
+use Rattle.steps_keep.specs.eh_cxa.ListCalls.{allocate_list, throw_list}
+use Rattle.steps_keep.specs.eh_cxa.Throw.{Throw, start_throw_of}
+use Rattle.steps_keep.specs.stands_for.Holds.{AllSameAt}
+use Rattle.steps_keep.specs.stands_for.Stands.{Keeps, IsProgram, DoesAt}
+use Rattle.steps_keep.specs.stands_for.Chain.{code, StandsAt}
+
+-- a slot of the pool without an exception
+abbrev pub IsIdle : Entry → Type 0
+IsIdle e = state_in e ≡ None
+
+-- lists that differ at most in which slots without an exception are free and which are out of use
+pub record SameRecords (l new : Lists) : Type 0 where
+  pub caught : new.caught ≡ l.caught
+  pub cleanups : new.cleanups ≡ l.cleanups
+  pub uncaught : new.uncaught ≡ l.uncaught
+  pub sized : length new.entries ≡ SLOTS
+  pub entries : (t : ℕ) → (entry new t ≡ entry l t) ⊎ (IsIdle (entry l t) × IsIdle (entry new t))
+
+abbrev pub over : Recorded → List Segment → List ℕ → Memory
+over s segments beyond = record { segments = segments; guards = insert_all (guarded_of beyond (s.first ∷ s.outer)) []; home = s.home }
+
+-- segments that give the same to all that it rests on, and any guarded words beyond the running stack
+pub record SameParts (s : Recorded) (new : Lists) (segments : List Segment) (beyond : List ℕ) : Type 0 where
+  pub map : IsMap (over s segments beyond)
+  pub outside : AreOutside s.home beyond
+  pub image : SameMap s.segments segments
+  pub words : AllSameAt s.segments segments (s.first ∷ s.outer)
+  pub small : (t k : ℕ) → t < SLOTS → k < CLOSED_WORDS → word (over s segments beyond) t k < 2 ^ 32
+  pub records : (t k : ℕ) → t < SLOTS → k < CLOSED_WORDS → (IsIdle (entry s.lists t) → ⊥) → word (over s segments beyond) t k ≡ word (memory_of s) t k
+  pub others : (t : ℕ) → t < SLOTS → IsIdle (entry s.lists t) → entry new t ≡ entry_of (word (over s segments beyond)) t
+
+abbrev pub FreeMemory : Type 0
+FreeMemory = (x : Accepted) (s : Recorded) (new : Lists) (segments : List Segment) (beyond : List ℕ) → Keeps x s → SameRecords s.lists new → SameParts s new segments beyond
+    → Keeps x (record s { lists = new; segments = segments; beyond = beyond })
+
+-- ---- registers but sp
+
+-- facts of a function that are valid, and each of which is a state
+pub record AreFacts (x : Accepted) (f : Function) (m : Marks) (facts : List (Option Fact)) : Type 0 where
+  pub valid : AreValid Fact FrameCause (flow_of (code x f m)) IsAtMost facts
+  pub states : AreStates Fact FrameCause (flow_of (code x f m)) facts
+
+-- other registers at the same place, with sp as it is
+pub record OtherRegisters (s : Recorded) (new : Regs) : Type 0 where
+  pub pc : new.pc ≡ s.regs.pc
+  pub words : AreWords 15 new.r
+  pub sp : slice_index new.r SP ≡ reg_in s SP
+
+-- Registers of which nothing is known may change: by the facts of a table that are valid, and each of which is a state of the flow.
+abbrev pub FreeRegisters : Type 0
+FreeRegisters = (x : Accepted) (s : Recorded) (new : Regs) → Keeps x s → OtherRegisters s new → (at : StandsAt x s.first s.segments s.regs s.regs.pc)
+    → (facts : List (Option Fact)) → AreFacts x at.function at.marks facts → (h : Fact) → fact_at facts at.place ≡ Some h
+    → ((j : ℕ) → (source h j ≡ Other) ⊎ (reg new j ≡ reg s.regs j)) → Keeps x (record s { regs = new })
+
+-- where no checked instruction stands at pc all of them may change
+abbrev pub FreeAnywhere : Type 0
+FreeAnywhere = (x : Accepted) (s : Recorded) (new : Regs) → Keeps x s → OtherRegisters s new → (look x.spots s.regs.pc).is_instr ≡ false → Keeps x (record s { regs = new })
+
+-- ---- behind a gate
+
+abbrev pub FreeBehindGates : Type 0
+FreeBehindGates = (x : Accepted) (s : Recorded) (number : ℕ) (new : Regs) → IsProgram x → Keeps x s → (does : DoesAt x s (Svc number)) → begins_function x.image.functions (s.regs.pc + does.size) ≡ false
+    → new.pc ≡ s.regs.pc + does.size → AreSound new.r new.pc → ((j : ℕ) → list_any (λ (i : ℕ). i == j) gate_changes ≡ false → reg new j ≡ reg s.regs j) → Keeps x (record s { regs = new })
+
+-- ---- a start
+
+-- these lists, with nothing caught, in progress or uncaught
+abbrev pub quiet : List Entry → Lists
+quiet entries = record { entries = entries; caught = []; cleanups = []; uncaught = 0 }
+
+-- one activation, of the function at pc, which records the registers as they are
+abbrev pub started : Regs → List Entry → List Segment → ℕ × ℕ → Trace → List ℕ → Recorded
+started regs entries segments home events beyond = record {
+  regs = regs;
+  lists = quiet entries;
+  places = [];
+  segments = segments;
+  home = home;
+  events = events;
+  first = record { function = regs.pc; caller = record { back = slice_index regs.r LR; sp = slice_index regs.r SP; saved = callee regs.r }; slots = [] };
+  outer = [];
+  beyond = beyond;
+}
+
+pub record IsFresh (x : Accepted) (regs : Regs) (entries : List Entry) (segments : List Segment) (home : ℕ × ℕ) (beyond : List ℕ) : Type 0 where
+  pub begins : begins_function x.image.functions regs.pc ≡ true
+  pub sound : AreSound regs.r regs.pc
+  pub link : slice_index regs.r LR ≡ NO_CALLER
+  pub sp : slice_index regs.r SP ≡ home.1
+  pub map : IsMap (record { segments = segments; guards = insert_all beyond []; home = home })
+  pub outside : AreOutside home beyond
+  pub image : SameMap (image_start x.image).memory.segments segments
+  pub sized : length entries ≡ SLOTS
+  pub idle : (t : ℕ) → IsIdle (entry (quiet entries) t)
+  pub shown : (t : ℕ) → t < SLOTS → entry (quiet entries) t ≡ entry_of (word (record { segments = segments; guards = insert_all beyond []; home = home })) t
+  pub small : (t k : ℕ) → t < SLOTS → k < CLOSED_WORDS → word (record { segments = segments; guards = insert_all beyond []; home = home }) t k < 2 ^ 32
+
+abbrev pub FreeStarts : Type 0
+FreeStarts = (x : Accepted) (regs : Regs) (entries : List Entry) (segments : List Segment) (home : ℕ × ℕ) (events : Trace) (beyond : List ℕ) → IsProgram x
+    → IsFresh x regs entries segments home beyond → Keeps x (started regs entries segments home events beyond)
+
+-- ---- a new exception, and then a throw of it
+
+pub record ThrowsKept (x : Accepted) (s : Recorded) : Type 0 where
+  pub allocate : (size : ℕ) → size < 2 ^ 32 → Keeps x (with_lists (allocate_list s.lists size).lists (allocate_of (words_in s.lists) size).writes s)
+  pub start_throw :
+      (object : ℕ) (t : Throw) → t.ty < 2 ^ 32 → t.destructor < 2 ^ 32
+      → Keeps x (with_lists (throw_list s.lists (object_slot object) t).lists (start_throw_of (words_in s.lists) (heads s.lists) (object_slot object) t).writes s)
+
+abbrev pub KeepThrows : Type 0
+KeepThrows = (x : Accepted) (s : Recorded) → Keeps x s → ThrowsKept x s

@@ -1,0 +1,279 @@
+-- A call: a new activation in front, of a function that begins at the target; the one that was first stands at its call.
+use Rattle.std.proofs.Common.{◌≡◌, ℕ, List, ◌==◌, ◌||◌, Bool, true, false, [], ◌∷◌, refl, ◌+◌, ◌-◌, ◌%◌, ◌^◌, ◌<◌, ◌≤◌, ◌⊎◌, inl, inr, cond, length, take, Option, Some, None, slice_index, sym, ap, subst, ◌∙◌, arith, ℤ}
+use Rattle.std.specs.Prelude.{Contains}
+use Rattle.std.specs.List.{list_any}
+use Rattle.std.proofs.lemmas.Bool.{eqb-true, cases_lt}
+use Rattle.std.proofs.lemmas.Bool.Decides.{nat_tests}
+use Rattle.std.proofs.lemmas.List.{get_or-set_same, get_or-set_other, get_or_past}
+use Rattle.std.proofs.lemmas.List.Elements.{All-contains}
+use Rattle.stands_for.specs.elf_image.Functions.{Function}
+use Rattle.stands_for.proofs.flow.Work.{contains_head, contains_tail}
+use Rattle.stands_for.specs.eh_bus.Lists.{Has}
+use Rattle.stands_for.specs.eh_cxa.Lists.{Cleanup}
+use Rattle.stands_for.specs.eh_cxa.ListCalls.{innermost_in}
+use Rattle.stands_for.specs.flow.Flow.{at_entry}
+use Rattle.stands_for.specs.image_memory.Start.{begins_function}
+use Rattle.stands_for.specs.thumb_isa.declared.instr.Instr.{Instr}
+use Rattle.stands_for.specs.thumb_core.Branch.{link_of, target_of, call_to}
+use Rattle.stands_for.specs.thumb_core.Laws.{AreSound}
+use Rattle.stands_for.specs.thumb_core.Outcome.{Outcome as Stepping, with_memory}
+use Rattle.stands_for.specs.thumb_core.Registers.{reg, with_pc, with_reg, even, operand}
+use Rattle.stands_for.specs.thumb_core.Step.{step_of, instr_at}
+use Rattle.stands_for.proofs.thumb_core.Follows.{step_follows}
+use Rattle.stands_for.specs.thumb_core.declared.regs.TheConstants.{SP, LR}
+use Rattle.stands_for.specs.thumb_core.declared.regs.Regs.{Regs}
+use Rattle.stands_for.specs.thumb_core.declared.regs.Stepped.TheVariants.{Call, Trap}
+use Rattle.stands_for.specs.thumb_core.declared.ends.End.{End}
+use Rattle.stands_for.specs.step_ahead.Ahead.{pushes_some, pushed}
+use Rattle.stands_for.specs.frame_facts.Branches.{call_changes}
+use Rattle.stands_for.specs.frame_facts.Facts.{entered}
+use Rattle.stands_for.specs.frame_facts.Saves.{saves_of}
+use Rattle.stands_for.proofs.frame_facts.Described.{forgetting_described}
+use Rattle.stands_for.specs.frame_scene.declared.places.Standing.TheVariants.{Instruction}
+use Rattle.stands_for.specs.frame_scene.Places.{standing_at}
+use Rattle.stands_for.proofs.frame_reach.Stands.{stands_inside, stands_size}
+use Rattle.stands_for.specs.frame_flow.Causes.{is_call}
+use Rattle.stands_for.specs.frame_flow.Flows.{NoneStands}
+use Rattle.stands_for.specs.frame_check.Accepts.{Accepted, IsWell}
+use Rattle.stands_for.specs.frame_check.Judged.{IsPlaced}
+use Rattle.stands_for.specs.frame_check.Roots.{scene_of}
+use Rattle.stands_for.specs.frame_check.Spots.{look}
+use Rattle.stands_for.proofs.frame_check.Wells.{placed_at}
+use Rattle.stands_for.specs.two_machines.Machine.{sp_end}
+use Rattle.stands_for.specs.two_machines.Activations.{Caller, Recorded, reg_in, memory_of}
+use Rattle.stands_for.specs.two_machines.ActivationLaws.{IsPlain}
+use Rattle.stands_for.specs.two_machines.Checked.{program_of}
+use Rattle.stands_for.proofs.two_machines.CallEvents.{knows}
+use Rattle.stands_for.proofs.two_machines.Matching.{plain_match}
+use Rattle.stands_for.specs.thumb_isa.declared.instr.Instr.TheVariants.{Bl, Blx}
+use Rattle.stands_for.specs.thumb_core.declared.regs.CoreTrap.TheVariants.{EvenTarget}
+use Rattle.stands_for.specs.thumb_core.declared.ends.End.TheVariants as the_end
+use Rattle.stands_for.specs.thumb_core.declared.ends.TrapKind.TheVariants as kind
+use Rattle.stands_for.specs.two_machines.ActivationMachine as acts
+use Rattle.stands_for.specs.Holds.{recorded, IsWhole}
+use Rattle.stands_for.specs.Chain.{code, StandsAt, StandsAtCall, regs_at}
+use Rattle.stands_for.specs.Cleanups.{AreInProgress}
+use Rattle.stands_for.specs.Stands.{Keeps, IsProgram, OnEvent, Turns, DoesAt}
+use Rattle.stands_for.proofs.First.{entered_holds}
+use Rattle.stands_for.proofs.Flows.{none_stands, stands_instruction}
+use Rattle.stands_for.proofs.Goes.{settled_level}
+use Rattle.stands_for.proofs.Level.{fetch, none_or}
+use Rattle.steps_keep.proofs.Jumps.{next_pc}
+use Rattle.stands_for.proofs.Moves.{forgotten_frame}
+use Rattle.steps_keep.proofs.Rooms.{has_room}
+use Rattle.stands_for.proofs.Callee.{callee_at, callee_count}
+use Rattle.steps_keep.proofs.CallRegisters.{at_sp, sp_stays, recorded_regs}
+use Rattle.stands_for.proofs.Traps.{trap_turns}
+
+-- ---- the function that is called
+
+abbrev Begins : List Function → ℕ → Type 0
+Begins functions a = (f : Function) × Contains functions f × (f.start ≡ a)
+
+begins : (functions : List Function) (a : ℕ) → list_any (λ (f : Function). f.start == a) functions ≡ true → Begins functions a
+begins [] a e = absurd cc
+begins (f ∷ more) a e = go (f.start == a) refl (begins more a) e
+  where
+    go : (b : Bool) → (f.start == a) ≡ b → (list_any (λ (g : Function). g.start == a) more ≡ true → Begins more a)
+        → (b || list_any (λ (g : Function). g.start == a) more) ≡ true → Begins (f ∷ more) a
+    go true is later h = (f, contains_head f more, eqb-true f.start a is)
+    go false is later h = let w = later h in (w.0, contains_tail w.0 f more w.1, w.2)
+
+-- ---- the event
+
+module _ (x : Accepted) (is : IsProgram x) (s : Recorded) (k : Keeps x s) (at : StandsAt x s.first s.segments s.regs s.regs.pc) (i : Instr) (size : ℕ)
+    (stands : standing_at (scene_of x.image at.function) at.place ≡ Instruction i size) (call : is_call i ≡ true) (pushes : pushed i ≡ []) (v : ℕ) where
+  abbrev target : ℕ
+  target = even (v % 2 ^ 32)
+
+  abbrev regs : Regs
+  regs = with_pc (with_reg s.regs LR (link_of size s.regs)) v
+
+  module _ (stepped : step_of s.regs (memory_of s) ≡ (Call target (link_of size s.regs), regs, memory_of s)) where
+    abbrev base : Recorded
+    base = record s { regs = regs }
+
+    abbrev t : Recorded
+    t = acts.called target (link_of size s.regs) base
+
+    abbrev c : Caller
+    c = t.first.caller
+
+    sound : AreSound regs.r regs.pc
+    sound = subst (λ (o : Stepping). AreSound o.1.r o.1.pc) stepped ((step_follows s.regs (memory_of s)).sound k.sound)
+
+    placed : IsPlaced at.function
+    placed = subst IsPlaced at.of.among.2 (placed_at x.image at.of.among.0 at.function is.image at.of.among.1)
+
+    sp : c.sp ≡ reg_in s SP
+    sp = get_or-set_other s.regs.r LR SP (link_of size s.regs % 2 ^ 32) 0 (λ e. absurd cc)
+
+    link : link_of size s.regs ≡ s.regs.pc + size + 1
+    link = ap (λ n. n + 1) (next_pc x is s k at i size stands)
+
+    link_small : link_of size s.regs < 2 ^ 32
+    link_small =
+        let inside = stands_inside (scene_of x.image at.function) at.place i size stands in
+        omega (arith, link, at.address, inside, placed.low)
+
+    saved : (j : ℕ) → j < 8 → slice_index c.saved j ≡ slice_index regs.r (j + 4)
+    saved j h = callee_at regs.r j h
+
+    others : (j : ℕ) → j < 8 → slice_index regs.r (j + 4) ≡ slice_index s.regs.r (j + 4)
+    others j h = get_or-set_other s.regs.r LR (j + 4) (link_of size s.regs % 2 ^ 32) 0 (λ e. absurd (omega (arith, h, e)))
+
+    whole : IsWhole c
+    whole = record {
+      count = callee_count regs.r sound.words.count;
+      words = λ j. elim (cases_lt j 8) [
+        | inl low ↦ subst (λ n. n < 2 ^ 32) (sym (saved j low)) (sound.words.small (j + 4))
+        | inr high ↦ subst (λ n. n < 2 ^ 32) (sym (get_or_past c.saved j 0 (let l : length c.saved ≤ j = omega (arith, callee_count regs.r sound.words.count, high) in l))) (omega arith)
+      ];
+      back = link_small;
+      odd = let four = stands_size (scene_of x.image at.function) at.place i size stands in odd_link four;
+      aligned = sound.words.aligned;
+    }
+      where
+        odd_link : (size ≡ 2) ⊎ (size ≡ 4) → link_of size s.regs % 2 ≡ 1
+        odd_link (inl two) = omega (arith, link, k.sound.is_even, two)
+        odd_link (inr four) = omega (arith, link, k.sound.is_even, four)
+
+    none : NoneStands (code x at.function at.marks)
+    none = none_stands x at.function at.marks is.sound at.of.among at.of.are
+
+    room : 4 ≤ at.fact.depth
+    room = has_room (code x at.function at.marks) at.place at.fact none at.state i (stands_instruction (scene_of x.image at.function) at.place i size stands) call
+
+    -- the one that was first stands at its call
+    pub at_call : StandsAtCall x s.segments c s.first
+    at_call =
+        let h = at.holds in
+        let frame = forgotten_frame call_changes at.fact in
+        let count = callee_count regs.r sound.words.count in
+        let same : (n : ℕ) → list_any (λ (j : ℕ). j == n) call_changes ≡ false → reg (regs_at c) n ≡ reg s.regs n =
+        recorded_regs c s.regs count k.sound.words.count (λ j l. saved j l ∙ others j l) sp in
+        let there = at_sp c count in
+        record {
+          function = at.function;
+          marks = at.marks;
+          of = at.of;
+          place = at.place;
+          instr = i;
+          size = size;
+          stands = stands;
+          call = call;
+          back = link ∙ ap (λ n. n + size + 1) at.address;
+          fact = at.fact;
+          state = at.state;
+          holds = record {
+            entry = h.entry;
+            saved = h.saved;
+            link = h.link;
+            describes = forgetting_described h.entry s.first.caller.sp call_changes at.fact s.regs (regs_at c) h.describes same sp_stays;
+            lower = omega (arith, h.lower, frame.0, there, sp);
+            saves = λ w e. let kept = h.saves w (subst (λ n. Contains (take n (saves_of (code x at.function at.marks).prologue)) w) frame.1 e) in
+                record { low = kept.low; deep = omega (arith, kept.deep, frame.0); holds = kept.holds; slot = kept.slot };
+          };
+          room = omega (arith, room, h.lower, sp);
+          whole = k.whole;
+          slots = subst (λ n. (g : ℕ) → Has s.first.slots g → (n ≤ g) × (g + 4 ≤ s.first.caller.sp)) (sym sp) k.slots;
+        }
+
+    -- the one that is called stands at its function's start
+    pub enters : begins_function x.image.functions target ≡ true → StandsAt x t.first s.segments regs regs.pc
+    enters e =
+        let f = begins x.image.functions target e in
+        let well = All-contains (λ g. IsWell (scene_of x.image g)) x.image.functions f.0 is.sound.functions f.1 in
+        record {
+          function = f.0;
+          marks = well.marks;
+          of = record { among = f.1; begins = f.2; are = well.are };
+          place = 0;
+          address = omega (arith, f.2);
+          fact = entered;
+          state = at_entry;
+          holds = entered_holds _ t.first s.segments regs own lr refl;
+        }
+      where
+        own : (n : ℕ) → 4 ≤ n → n < 12 → slice_index regs.r n ≡ recorded c n
+        own n low high =
+            let no_link : (n == LR) ≡ false = grind (arith, nat_tests) in
+            sym (ap (λ (b : Bool). cond b c.back (slice_index c.saved (n - 4))) no_link ∙ saved (n - 4) (omega (arith, low, high)) ∙ ap (λ m. slice_index regs.r m) (let m : n - 4 + 4 ≡ n = omega (arith, low) in m))
+
+        lr : slice_index regs.r 14 ≡ link_of size s.regs
+        lr =
+            let small : link_of size s.regs % 2 ^ 32 ≡ link_of size s.regs = omega (arith, link_small) in
+            get_or-set_same s.regs.r LR (link_of size s.regs % 2 ^ 32) 0 (let l : LR < length s.regs.r = omega (arith, k.sound.words.count) in l) ∙ small
+
+    in_progress : (low : ℕ) (places : List ℕ) (cleanups : List Cleanup) → c.sp ≤ low → AreInProgress x s low places cleanups → AreInProgress x t low places cleanups
+    in_progress low [] [] h q = tt
+    in_progress low [] (d ∷ later) h q = q
+    in_progress low (n ∷ places) [] h q = q
+    in_progress low (n ∷ places) (d ∷ later) h q =
+        let above : c.sp ≤ d.sp = omega (arith, h, q.0) in
+        (q.0, inr (above, q.1), q.2, in_progress d.sp places later above q.3)
+
+    pub called_keeps : begins_function x.image.functions target ≡ true → Keeps x t
+    called_keeps e = record {
+      corresponds = record { map = k.corresponds.map; stands = k.corresponds.stands; placed = k.corresponds.placed };
+      counted = k.counted;
+      image = k.image;
+      sound = sound;
+      low = subst (λ n. s.home.0 ≤ n) (sym sp) k.low;
+      high = omega arith;
+      whole = whole;
+      slots = λ g h. absurd h;
+      first = λ reached. enters e;
+      beyond = k.beyond;
+      chain = (at_call, k.chain);
+      cleanups = in_progress c.sp s.places s.lists.cleanups (omega arith) (subst (λ n. AreInProgress x s n s.places s.lists.cleanups) (sym sp) k.cleanups);
+    }
+
+    module _ (input : List ℕ) where
+      tested : (o : Option End) → acts.tests (program_of x) s (Call target (link_of size s.regs)) regs ≡ o
+          → OnEvent x (acts.onward (program_of x) s (acts.tested (program_of x) s (Call target (link_of size s.regs)) regs (memory_of s) o) input)
+      tested (Some end) e = k
+      tested None e =
+          let none_pushed : pushes_some (instr_at (memory_of s) s.regs.pc) ≡ 0 = ap pushes_some (fetch x is s k at i size stands).stands ∙ ap length pushes in
+          let level : acts.settled_at (program_of x) s regs base ≡ base =
+          settled_level (look x.spots s.regs.pc).saves (pushes_some (instr_at (memory_of s) s.regs.pc)) (reg_in s SP) (slice_index regs.r SP) base none_pushed sp in
+          let way = none_or (sp_end (innermost_in s.lists.cleanups) s.home.0 s.regs.pc (reg_in s SP) (slice_index regs.r SP)) _ e in
+          subst (Keeps x) (sym (ap (acts.called target (link_of size s.regs)) level)) (called_keeps (go (begins_function x.image.functions target) way))
+        where
+          go : (b : Bool) → cond b None (Some (the_end.Trap kind.BadCallTarget target s.regs.pc)) ≡ None → b ≡ true
+          go true h = refl
+          go false h = absurd cc
+
+      checked : OnEvent x (acts.onward (program_of x) s (acts.stepped (program_of x) s (step_of s.regs (memory_of s))) input)
+      checked = subst (λ (o : Stepping). OnEvent x (acts.onward (program_of x) s (acts.stepped (program_of x) s o) input)) (sym stepped)
+          (tested (acts.tests (program_of x) s (Call target (link_of size s.regs)) regs) refl)
+
+      event : (look x.spots s.regs.pc).is_instr ≡ true → OnEvent x (acts.recorded_event (program_of x) s input)
+      unfolding acts.recorded_event acts.passed
+      event reached = subst (λ (b : Bool). OnEvent x (acts.onward (program_of x) s (acts.checked (program_of x) s b) input)) (sym reached) checked
+
+      pub call_turns : (look x.spots s.regs.pc).is_instr ≡ true → Turns x s input
+      call_turns reached = record {
+        same = plain_match (program_of x) s input (knows s k.corresponds) (subst (λ (o : Stepping). IsPlain s o.0) (sym stepped) tt);
+        keeps = event reached;
+      }
+
+-- ---- BL and BLX
+
+pub bl_turns : (x : Accepted) (s : Recorded) (off : ℤ) (input : List ℕ) → IsProgram x → Keeps x s → DoesAt x s (Bl off) → Turns x s input
+bl_turns x s off input is k does =
+    call_turns x is s k does.at (Bl off) does.size does.stands refl refl (target_of off s.regs) (fetch x is s k does.at (Bl off) does.size does.stands).step input does.reached
+
+pub blx_turns : (x : Accepted) (s : Recorded) (m : ℕ) (input : List ℕ) → IsProgram x → Keeps x s → DoesAt x s (Blx m) → Turns x s input
+blx_turns x s m input is k does = go (operand s.regs m % 2 == 0) refl
+  where
+    step : step_of s.regs (memory_of s) ≡ with_memory (cond (operand s.regs m % 2 == 0) (Trap (EvenTarget (operand s.regs m)), s.regs) (call_to (operand s.regs m) does.size s.regs)) (memory_of s)
+    step = (fetch x is s k does.at (Blx m) does.size does.stands).step
+
+    by_test : (b : Bool) → (operand s.regs m % 2 == 0) ≡ b → step_of s.regs (memory_of s) ≡ with_memory (cond b (Trap (EvenTarget (operand s.regs m)), s.regs) (call_to (operand s.regs m) does.size s.regs)) (memory_of s)
+    by_test b e = step ∙ ap (λ (u : Bool). with_memory (cond u (Trap (EvenTarget (operand s.regs m)), s.regs) (call_to (operand s.regs m) does.size s.regs)) (memory_of s)) e
+
+    go : (b : Bool) → (operand s.regs m % 2 == 0) ≡ b → Turns x s input
+    go true e = trap_turns x s input (EvenTarget (operand s.regs m)) s.regs (memory_of s) k (by_test true e)
+        (ap (λ (q : Option (Instr × ℕ)). acts.popped_back s (acts.pops_some q)) (fetch x is s k does.at (Blx m) does.size does.stands).stands)
+    go false e = call_turns x is s k does.at (Blx m) does.size does.stands refl refl (operand s.regs m) (by_test false e) input does.reached

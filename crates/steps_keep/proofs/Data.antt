@@ -1,0 +1,157 @@
+-- An instruction of the data group, which works on a low register: both sp and memory stay, and what is known behind it holds.
+use Rattle.std.proofs.Common.{◌≡◌, Option, Some, None, Ok, ap, ℕ, ◌<◌, Bool, true, false, cond, List, slice_index, ◌∙◌, arith, ◌+◌, length, take, refl, sym, subst, inl, inr}
+use Rattle.std.specs.Prelude.{slice_set, Contains}
+use Rattle.std.proofs.lemmas.List.{get_or-set_other}
+use Rattle.std.specs.Option.{option_or}
+use Rattle.stands_for.specs.frame_facts.declared.facts.Fact.{Fact}
+use Rattle.stands_for.specs.frame_facts.After.{gone_on, after_of, effect}
+use Rattle.stands_for.specs.thumb_core.declared.regs.TheConstants.{SP}
+use Rattle.stands_for.specs.image_memory.Start.{begins_function}
+use Rattle.stands_for.specs.thumb_isa.declared.instr.Instr.{Instr}
+use Rattle.stands_for.specs.thumb_core.Laws.{AreSound}
+use Rattle.stands_for.specs.thumb_core.Outcome.{Outcome as Stepping}
+use Rattle.stands_for.specs.thumb_core.Registers.{with_next}
+use Rattle.stands_for.specs.thumb_core.Data.{data_effect}
+use Rattle.stands_for.specs.thumb_core.Step.{step_of, instr_at}
+use Rattle.stands_for.proofs.thumb_core.Follows.{step_follows}
+use Rattle.stands_for.specs.thumb_core.declared.regs.Regs.{Regs}
+use Rattle.stands_for.specs.thumb_core.declared.regs.Stepped.TheVariants.{Done}
+use Rattle.stands_for.specs.thumb_core.declared.ends.End.{End}
+use Rattle.stands_for.specs.step_ahead.Ahead.{branches_some, pushes_some}
+use Rattle.stands_for.specs.frame_facts.declared.saves.Prologue.{Prologue}
+use Rattle.stands_for.specs.frame_facts.Machine.{Describes, IsRoomy, works_on}
+use Rattle.stands_for.specs.frame_facts.Saves.{saves_of}
+use Rattle.stands_for.proofs.frame_facts.Described.{data_described}
+use Rattle.stands_for.specs.frame_scene.declared.places.Standing.TheVariants.{Instruction}
+use Rattle.stands_for.specs.frame_scene.Places.{address_of, standing_at}
+use Rattle.stands_for.specs.frame_check.Accepts.{Accepted}
+use Rattle.stands_for.specs.frame_check.Judged.{IsPlaced}
+use Rattle.stands_for.specs.frame_check.Spots.{look}
+use Rattle.stands_for.proofs.frame_check.Wells.{placed_at}
+use Rattle.stands_for.proofs.frame_reach.Stands.{stands_inside, stands_size}
+use Rattle.stands_for.specs.eh_cxa.ListCalls.{innermost_in}
+use Rattle.stands_for.specs.frame_check.Roots.{scene_of}
+use Rattle.stands_for.specs.two_machines.Machine.{fell_off, sp_end}
+use Rattle.stands_for.specs.two_machines.Activations.{Recorded, reg_in, memory_of}
+use Rattle.stands_for.specs.two_machines.Checked.{program_of}
+use Rattle.stands_for.specs.thumb_core.declared.ends.TrapKind.TheVariants as kind
+use Rattle.stands_for.specs.thumb_core.declared.ends.End.TheVariants as the_end
+use Rattle.stands_for.specs.two_machines.ActivationMachine as acts
+use Rattle.steps_keep.proofs.DataEffects.{Writes, IsData, data_is}
+use Rattle.stands_for.specs.Holds.{Holds}
+use Rattle.stands_for.specs.Chain.{code, StandsAt}
+use Rattle.stands_for.specs.Stands.{Keeps, IsProgram, OnEvent}
+use Rattle.stands_for.proofs.accepted_code.Fetch.{fetched, IsFetched}
+use Rattle.stands_for.proofs.Flows.{leaves, none_stands, stands_instruction}
+use Rattle.stands_for.proofs.Goes.{settled_level, chain_top, level_keeps}
+
+gone : (o : Option Fact) (g : Fact) → gone_on None o ≡ Ok g → o ≡ Some g
+gone None g e = absurd cc
+gone (Some f) g e = let same : f ≡ g = cc in ap (λ (h : Fact). Some h) same
+
+same_sp : (d : ℕ) (old new : List ℕ) → d < 8 → Writes d old new → slice_index new SP ≡ slice_index old SP
+same_sp d old new low w = go w.does w.is
+  where
+    go : (b : Bool) → new ≡ cond b (slice_set old d w.value) old → slice_index new SP ≡ slice_index old SP
+    go true e = ap (λ (r : List ℕ). slice_index r SP) e ∙ get_or-set_other old d SP w.value 0 (λ q. absurd (omega (arith, low, q)))
+    go false e = ap (λ (r : List ℕ). slice_index r SP) e
+
+none_or : {A : Type 0} (a b : Option A) → option_or a b ≡ None → b ≡ None
+none_or (Some a) b e = absurd cc
+none_or None b e = e
+
+-- ---- the event
+
+module _ (x : Accepted) (is : IsProgram x) (s : Recorded) (k : Keeps x s) (at : StandsAt x s.first s.segments s.regs s.regs.pc) (i : Instr) (size d : ℕ)
+    (stands : standing_at (scene_of x.image at.function) at.place ≡ Instruction i size) (low : d < 8) (it : IsData i d) (works : works_on i ≡ Some d) where
+  abbrev regs : Regs
+  regs = with_next size (data_effect i s.regs)
+
+  fetch : IsFetched x.image at.function s.segments is.image at.of.among k.image i size s.regs (memory_of s)
+  fetch = fetched x.image at.function s.segments is.image at.of.among k.image at.place i size s.regs (memory_of s) refl at.address stands
+
+  pub stepped : step_of s.regs (memory_of s) ≡ (Done, regs, memory_of s)
+  stepped = fetch.step ∙ it.does size s.regs (memory_of s)
+
+  sound : AreSound regs.r regs.pc
+  sound = subst (λ (o : Stepping). AreSound o.1.r o.1.pc) stepped ((step_follows s.regs (memory_of s)).sound k.sound)
+
+  left : (g : Fact) × (after_of (code x at.function at.marks).prologue false (address_of (scene_of x.image at.function) at.place) i at.fact ≡ Ok g)
+  left = leaves (code x at.function at.marks) at.place at.fact (none_stands x at.function at.marks is.sound at.of.among at.of.are) at.state i
+      (stands_instruction (scene_of x.image at.function) at.place i size stands)
+
+  abbrev p : Prologue
+  p = (code x at.function at.marks).prologue
+
+  effects : effect p false (address_of (scene_of x.image at.function) at.place) i at.fact ≡ Some left.0
+  effects = gone _ left.0 (sym (it.plain p false (address_of (scene_of x.image at.function) at.place) at.fact) ∙ left.1)
+
+  roomy : IsRoomy s.first.caller.sp s.regs
+  roomy =
+      let home = k.corresponds.map.home in
+      let top = chain_top x s.segments s.home s.first.caller s.outer k.chain in
+      record { count = k.sound.words.count; words = k.sound.words.small; room = omega (arith, home.low, k.low, k.high); top = omega (arith, top, home.high) }
+
+  holds : Holds p left.0 s.first s.segments regs
+  holds =
+      let h = at.holds in
+      let frame = it.frame p false (address_of (scene_of x.image at.function) at.place) at.fact left.0 effects in
+      let told : Describes h.entry s.first.caller.sp left.0 (data_effect i s.regs) =
+      data_described h.entry s.first.caller.sp p false (address_of (scene_of x.image at.function) at.place) i d at.fact left.0 s.regs works low roomy h.describes effects in
+      let sp : slice_index (data_effect i s.regs).r SP ≡ reg_in s SP = same_sp d s.regs.r (data_effect i s.regs).r low (it.writes s.regs) in
+      record {
+        entry = h.entry;
+        saved = h.saved;
+        link = h.link;
+        describes = record { long = told.long; sources = told.sources; sp = told.sp };
+        lower = omega (arith, h.lower, frame.0, sp);
+        saves = λ v c. let kept = h.saves v (subst (λ n. Contains (take n (saves_of p)) v) frame.1 c) in
+            record { low = kept.low; deep = omega (arith, kept.deep, frame.0); holds = kept.holds; slot = kept.slot };
+      }
+
+  sp : slice_index regs.r SP ≡ reg_in s SP
+  sp = same_sp d s.regs.r (data_effect i s.regs).r low (it.writes s.regs)
+
+  pc : regs.pc ≡ s.regs.pc + size
+  pc =
+      let inside = stands_inside (scene_of x.image at.function) at.place i size stands in
+      let placed : IsPlaced at.function = subst IsPlaced at.of.among.2 (placed_at x.image at.of.among.0 at.function is.image at.of.among.1) in
+      elim (stands_size (scene_of x.image at.function) at.place i size stands) [
+        | inl two ↦ omega (arith, it.stays s.regs, at.address, inside, placed.low, k.sound.is_even, two)
+        | inr four ↦ omega (arith, it.stays s.regs, at.address, inside, placed.low, k.sound.is_even, four)
+      ]
+
+  -- the tests let it pass only where no function begins behind it
+  fresh : acts.tests (program_of x) s Done regs ≡ None → begins_function x.image.functions regs.pc ≡ false
+  fresh e =
+      let landing = sp_end (innermost_in s.lists.cleanups) s.home.0 s.regs.pc (reg_in s SP) (slice_index regs.r SP) in
+      let way = none_or landing (acts.way_end_of (program_of x) s (branches_some (instr_at (memory_of s) s.regs.pc) s.regs) Done regs) e in
+      let straight : branches_some (instr_at (memory_of s) s.regs.pc) s.regs ≡ false = ap (λ (o : Option (Instr × ℕ)). branches_some o s.regs) fetch.stands ∙ it.taken s.regs in
+      let fell : fell_off (program_of x) s.regs.pc regs.pc ≡ None = subst (λ (b : Bool). cond b None (fell_off (program_of x) s.regs.pc regs.pc) ≡ None) straight way in
+      go (begins_function x.image.functions regs.pc) fell
+    where
+      go : (b : Bool) → cond b (Some (the_end.Trap kind.FellOff regs.pc s.regs.pc)) None ≡ None → b ≡ false
+      go true h = absurd cc
+      go false h = refl
+
+  module _ (input : List ℕ) where
+    tested : (o : Option End) → acts.tests (program_of x) s Done regs ≡ o → OnEvent x (acts.onward (program_of x) s (acts.tested (program_of x) s Done regs (memory_of s) o) input)
+    tested (Some end) e = k
+    tested None e =
+        let none : pushes_some (instr_at (memory_of s) s.regs.pc) ≡ 0 = ap pushes_some fetch.stands ∙ ap length it.pushes in
+        let t : Recorded = record s { regs = regs } in
+        subst (Keeps x) (sym (settled_level (look x.spots s.regs.pc).saves (pushes_some (instr_at (memory_of s) s.regs.pc)) (reg_in s SP) (slice_index regs.r SP) t none sp))
+        (level_keeps x is s k at i size stands left.0 regs it.on left.1 pc sp sound holds (fresh e))
+
+    checked : OnEvent x (acts.onward (program_of x) s (acts.stepped (program_of x) s (step_of s.regs (memory_of s))) input)
+    checked = subst (λ (o : Stepping). OnEvent x (acts.onward (program_of x) s (acts.stepped (program_of x) s o) input)) (sym stepped) (tested (acts.tests (program_of x) s Done regs) refl)
+
+    event : (look x.spots s.regs.pc).is_instr ≡ true → OnEvent x (acts.recorded_event (program_of x) s input)
+    unfolding acts.recorded_event acts.passed
+    event reached = subst (λ (b : Bool). OnEvent x (acts.onward (program_of x) s (acts.checked (program_of x) s b) input)) (sym reached) checked
+
+-- An event that does an instruction of the data group keeps what every event keeps.
+pub data_keeps : (x : Accepted) → IsProgram x → (s : Recorded) → Keeps x s → (at : StandsAt x s.first s.segments s.regs s.regs.pc) (i : Instr) (size d : ℕ)
+    → standing_at (scene_of x.image at.function) at.place ≡ Instruction i size → d < 8 → works_on i ≡ Some d → (look x.spots s.regs.pc).is_instr ≡ true → (input : List ℕ)
+    → OnEvent x (acts.recorded_event (program_of x) s input)
+data_keeps x is s k at i size d stands low works reached input = event x is s k at i size d stands low (data_is i d works) works input reached

@@ -1,0 +1,167 @@
+-- What an instruction of the data group does, and what its fact says: one register is written, and both sp and memory stay.
+use Rattle.std.proofs.Common.{◌≡◌, ℕ, Bool, cond, List, true, false, [], Some, None, refl, subst, Option, pos, negsuc}
+use Rattle.std.specs.Prelude.{slice_set, ◌==◌, ◌&&◌, ◌||◌}
+use Rattle.std.proofs.lemmas.Option.{same_Some, none-some}
+use Rattle.stands_for.specs.frame_facts.declared.facts.Fact.{Fact}
+use Rattle.stands_for.specs.eh_bus.Memory.{Memory}
+use Rattle.stands_for.specs.thumb_isa.declared.instr.Instr.{Instr}
+use Rattle.stands_for.specs.thumb_core.Registers.{with_next, reg}
+use Rattle.stands_for.specs.thumb_core.Data.{data_effect, with_value}
+use Rattle.stands_for.specs.thumb_core.Step.{effect as done_by}
+use Rattle.stands_for.specs.thumb_core.declared.regs.Regs.{Regs}
+use Rattle.stands_for.specs.thumb_core.declared.regs.Stepped.TheVariants.{Done}
+use Rattle.stands_for.specs.step_ahead.Ahead.{branches, pushed}
+use Rattle.stands_for.specs.frame_facts.After.{after_of, effect, gone_on}
+use Rattle.stands_for.specs.frame_facts.declared.saves.Prologue.{Prologue}
+use Rattle.stands_for.specs.frame_scene.Ways.{goes_on}
+use Rattle.stands_for.specs.thumb_isa.declared.instr.Instr.TheVariants.{ShiftImm, AddSubReg, AddSubImm3, Imm8, Alu, Adr, AddRdSp, Extend, Rev}
+use Rattle.stands_for.specs.frame_facts.Facts.{source, with_source, lost, sp_plus}
+use Rattle.stands_for.specs.frame_facts.Shifts.{shift_imm}
+use Rattle.stands_for.specs.frame_facts.Data.{add_sub_imm3, imm8, alu}
+use Rattle.stands_for.specs.thumb_core.Alu.{alu_of}
+use Rattle.stands_for.specs.frame_facts.Machine.{works_on}
+
+-- ---- what such an instruction is
+
+-- the registers, or one of the low ones written
+pub record Writes (d : ℕ) (old new : List ℕ) : Type 0 where
+  pub does : Bool
+  pub value : ℕ
+  pub is : new ≡ cond does (slice_set old d value) old
+
+-- a fact with the same depth and kept saves
+abbrev pub SameFrame : Fact → Fact → Type 0
+SameFrame f g = (g.depth ≡ f.depth) × (g.kept ≡ f.kept)
+
+same_either : (f : Fact) (b : Bool) (g h : Fact) → SameFrame f g → SameFrame f h → SameFrame f (cond b g h)
+same_either f true g h x y = x
+same_either f false g h x y = y
+
+-- it goes on, takes no branch, pushes nothing, shows no cause but by its effect, which leaves depth and kept saves, and is done on registers
+pub record IsData (i : Instr) (d : ℕ) : Type 0 where
+  pub on : goes_on i ≡ true
+  pub taken : (regs : Regs) → branches i regs ≡ false
+  pub pushes : pushed i ≡ []
+  pub plain : (p : Prologue) (lowers : Bool) (at : ℕ) (f : Fact) → after_of p lowers at i f ≡ gone_on None (effect p lowers at i f)
+  pub frame : (p : Prologue) (lowers : Bool) (at : ℕ) (f g : Fact) → effect p lowers at i f ≡ Some g → SameFrame f g
+  pub does : (size : ℕ) (regs : Regs) (m : Memory) → done_by i size regs m ≡ (Done, with_next size (data_effect i regs), m)
+  pub stays : (regs : Regs) → (data_effect i regs).pc ≡ regs.pc
+  pub writes : (regs : Regs) → Writes d regs.r (data_effect i regs).r
+
+written : (d value : ℕ) (old : List ℕ) → Writes d old (slice_set old d value)
+written d value old = record { does = true; value = value; is = refl }
+
+as_was : (d : ℕ) (old : List ℕ) → Writes d old old
+as_was d old = record { does = false; value = 0; is = refl }
+
+either : (d : ℕ) (old : List ℕ) (b : Bool) (x y : Regs) → Writes d old x.r → Writes d old y.r → Writes d old (cond b x y).r
+either d old true x y p q = p
+either d old false x y p q = q
+
+either_pc : (pc : ℕ) (b : Bool) (x y : Regs) → x.pc ≡ pc → y.pc ≡ pc → (cond b x y).pc ≡ pc
+either_pc pc true x y p q = p
+either_pc pc false x y p q = q
+
+either_list : (d : ℕ) (old : List ℕ) (b : Bool) (x y : List ℕ) → Writes d old x → Writes d old y → Writes d old (cond b x y)
+either_list d old true x y p q = p
+either_list d old false x y p q = q
+
+same_of : (f g h : Fact) → SameFrame f h → Some h ≡ Some g → SameFrame f g
+same_of f g h x e = subst (SameFrame f) (same_Some h g e) x
+
+to_d : (i : Instr) (e d : ℕ) → (let o : Option ℕ = Some e in o) ≡ Some d → IsData i e → IsData i d
+to_d i e d h x = subst (IsData i) (same_Some e d h) x
+
+pub data_is : (i : Instr) (d : ℕ) → works_on i ≡ Some d → IsData i d
+data_is (ShiftImm op e m n) d h = to_d (ShiftImm op e m n) e d h (record {
+  on = refl;
+  taken = λ regs. refl;
+  pushes = refl;
+  plain = λ p l a f. refl;
+  frame = λ p l a f g k. same_of f g (shift_imm op e m n f) (same_either f ((op == 0) && (n == 0)) (with_source f e (source f m)) (lost e f) (refl, refl) (refl, refl)) k;
+  does = λ size regs m. refl;
+  stays = λ regs. refl;
+  writes = λ regs. written e _ regs.r;
+})
+data_is (AddSubReg sub e n m) d h = to_d (AddSubReg sub e n m) e d h (record {
+  on = refl;
+  taken = λ regs. refl;
+  pushes = refl;
+  plain = λ p l a f. refl;
+  frame = λ p l a f g k. same_of f g (lost e f) (refl, refl) k;
+  does = λ size regs m. refl;
+  stays = λ regs. refl;
+  writes = λ regs. written e _ regs.r;
+})
+data_is (AddSubImm3 sub e n imm) d h = to_d (AddSubImm3 sub e n imm) e d h (record {
+  on = refl;
+  taken = λ regs. refl;
+  pushes = refl;
+  plain = λ p l a f. refl;
+  frame = λ p l a f g k. same_of f g (add_sub_imm3 sub e n imm f) (refl, refl) k;
+  does = λ size regs m. refl;
+  stays = λ regs. refl;
+  writes = λ regs. written e _ regs.r;
+})
+data_is (Imm8 op e imm) d h = to_d (Imm8 op e imm) e d h (record {
+  on = refl;
+  taken = λ regs. refl;
+  pushes = refl;
+  plain = λ p l a f. refl;
+  frame = λ p l a f g k. same_of f g (imm8 op e imm f) (same_either f (op == 0) (lost e f) _ (refl, refl) (same_either f (op == 1) f _ (refl, refl) (refl, refl))) k;
+  does = λ size regs m. refl;
+  stays = λ regs. either_pc regs.pc (op == 0) (with_value e imm regs) _ refl (either_pc regs.pc (op == 1) _ _ refl (either_pc regs.pc (op == 2) _ _ refl refl));
+  writes = λ regs. either e regs.r (op == 0) (with_value e imm regs) _ (written e _ regs.r) (either e regs.r (op == 1) _ _ (as_was e regs.r) (either e regs.r (op == 2) _ _ (written e _ regs.r) (written e _ regs.r)));
+})
+data_is (Alu op e m) d h = to_d (Alu op e m) e d h (record {
+  on = refl;
+  taken = λ regs. refl;
+  pushes = refl;
+  plain = λ p l a f. refl;
+  frame = λ p l a f g k. same_of f g (alu op e f) (same_either f ((op == 8) || (op == 10) || (op == 11)) f (lost e f) (refl, refl) (refl, refl)) k;
+  does = λ size regs m. refl;
+  stays = λ regs. refl;
+  writes = λ regs. either_list e regs.r (alu_of op (reg regs e) (reg regs m) regs).written _ _ (written e _ regs.r) (as_was e regs.r);
+})
+data_is (Adr e off) d h = to_d (Adr e off) e d h (record {
+  on = refl;
+  taken = λ regs. refl;
+  pushes = refl;
+  plain = λ p l a f. refl;
+  frame = λ p l a f g k. same_of f g (lost e f) (refl, refl) k;
+  does = λ size regs m. refl;
+  stays = λ regs. refl;
+  writes = λ regs. written e _ regs.r;
+})
+data_is (AddRdSp e (pos off)) d h = to_d (AddRdSp e (pos off)) e d h (record {
+  on = refl;
+  taken = λ regs. refl;
+  pushes = refl;
+  plain = λ p l a f. refl;
+  frame = λ p l a f g k. same_of f g (with_source f e (sp_plus f (pos off))) (refl, refl) k;
+  does = λ size regs m. refl;
+  stays = λ regs. refl;
+  writes = λ regs. written e _ regs.r;
+})
+data_is (AddRdSp e (negsuc off)) d h = absurd (none-some d h)
+data_is (Extend op e m) d h = to_d (Extend op e m) e d h (record {
+  on = refl;
+  taken = λ regs. refl;
+  pushes = refl;
+  plain = λ p l a f. refl;
+  frame = λ p l a f g k. same_of f g (lost e f) (refl, refl) k;
+  does = λ size regs m. refl;
+  stays = λ regs. refl;
+  writes = λ regs. written e _ regs.r;
+})
+data_is (Rev op e m) d h = to_d (Rev op e m) e d h (record {
+  on = refl;
+  taken = λ regs. refl;
+  pushes = refl;
+  plain = λ p l a f. refl;
+  frame = λ p l a f g k. same_of f g (lost e f) (refl, refl) k;
+  does = λ size regs m. refl;
+  stays = λ regs. refl;
+  writes = λ regs. written e _ regs.r;
+})
+data_is i d h = absurd (none-some d h)

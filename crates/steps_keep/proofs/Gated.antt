@@ -1,0 +1,255 @@
+-- What a gate that walks no frames leaves: other values in r0 and r1, other lists with the same cleanups, and words in the pool that are no
+-- barriers of these.
+use Rattle.std.proofs.Common.{◌≡◌, ℕ, ◌≤◌, List, slice_index, true, ◌%◌, ◌^◌, ◌<◌, inl, inr, length, set, sym, subst, ◌∙◌, arith, ◌==◌, nat_lt, Bool, false, cond, [], ◌∷◌, Option, Some, None, Ok, Err, Result, ℤ, refl, ap}
+use Rattle.std.proofs.lemmas.Bool.{cases_eq}
+use Rattle.std.proofs.lemmas.List.{get_or-set_same, get_or-set_other, length-set}
+use Rattle.std.proofs.lemmas.Option.{same_Some, none-some}
+use Rattle.stands_for.specs.eh_cxa.Lists.{Lists, slots, Record, Entry, Free, OutOfUse, Live, entry, state_in}
+use Rattle.stands_for.specs.eh_cxa.Words.{Write, put_all, write, Pool, word}
+use Rattle.stands_for.specs.thumb_core.Laws.{AreWords}
+use Rattle.stands_for.specs.thumb_core.declared.regs.Regs.{Regs}
+use Rattle.stands_for.specs.two_machines.Activations.{Recorded, memory_of, words_in, state_word, heads}
+use Rattle.stands_for.specs.eh_gates.declared.state.Turned.TheVariants.{Went, Ended}
+use Rattle.stands_for.specs.two_machines.Machine.{goes_behind}
+use Rattle.stands_for.specs.thumb_core.declared.regs.TheConstants.{SP}
+use Rattle.stands_for.specs.eh_cxa.declared.layout.TheConstants.{SLOTS, SLOT_WORDS, STATE, SIZE, COUNT, NEXT_CAUGHT, DESTRUCTOR, BARRIER_OBJECT, OBJECT_BYTES}
+use Rattle.stands_for.specs.eh_bus.Lists.{Has}
+use Rattle.stands_for.specs.eh_cxa.declared.globals.CxaFault.{CxaFault}
+use Rattle.stands_for.specs.eh_cxa.declared.globals.CxaFault.TheVariants.{TooBig}
+use Rattle.stands_for.specs.eh_cxa.declared.state.TheConstants.{FREE, FRESH, ENDED}
+use Rattle.stands_for.specs.eh_cxa.declared.state.State.TheVariants.{Flying}
+use Rattle.stands_for.specs.eh_cxa.Allocate.{first_slot, zeros, allocate_at, allocate_of, free_by, free_of}
+use Rattle.stands_for.specs.eh_cxa.Catch.{catch_fault, catch_by, catch_at, catch_in, Fall, stays, falls, ends, leaves, fall, end_catch_by, end_catch_at}
+use Rattle.stands_for.specs.eh_cxa.declared.globals.Globals.{Globals}
+use Rattle.stands_for.specs.eh_cxa.ListCalls.{is_free, allocate_in, allocate_list, free_by_list, free_list, catch_by_list, catch_entry, catch_list, end_by_list, end_entry, end_from, end_list, fall_of}
+use Rattle.stands_for.specs.eh_cxa.Stands.{Chain}
+use Rattle.stands_for.specs.eh_cxa.States.{named, may_be_freed}
+use Rattle.stands_for.proofs.eh_cxa.Looking.{Look, live, free, lost, look}
+use Rattle.stands_for.proofs.eh_cxa.Pools.{slot_small}
+use Rattle.stands_for.proofs.eh_cxa.Zeros.{first_passes}
+use Rattle.stands_for.specs.two_machines.Corresponds.{Corresponds}
+use Rattle.stands_for.specs.two_machines.ActivationMachine as acts
+use Rattle.stands_for.proofs.Tame.{AreTame, IsTame, tame_append, tame_zeros}
+
+pub record Behind (s : Recorded) (next : ℕ) (t : Recorded) : Type 0 where
+  pub regs : Regs
+  pub lists : Lists
+  pub writes : List Write
+  pub is : t ≡ record s { regs = regs; lists = lists; segments = (put_all writes (memory_of s)).segments }
+  pub tame : AreTame (slots s.lists.cleanups) writes
+  pub cleanups : lists.cleanups ≡ s.lists.cleanups
+  pub pc : regs.pc ≡ next
+  pub words : AreWords 15 regs.r
+  pub others : (j : ℕ) → 2 ≤ j → slice_index regs.r j ≡ slice_index s.regs.r j
+
+-- an end leaves the state
+abbrev pub Behaves : Recorded → ℕ → ℕ → acts.Outcome → Type 0
+Behaves s number next (Went, t) = (goes_behind number ≡ true) × Behind s next t
+Behaves s number next (Ended end, t) = t ≡ s
+
+pub set_words : (r : List ℕ) (d v : ℕ) → d < 2 → v < 2 ^ 32 → AreWords 15 r → AreWords 15 (set r d v)
+set_words r d v few small w = record {
+  count = length-set r d v ∙ w.count;
+  small = λ j. elim (cases_eq j d) [
+    | inl e ↦ subst (λ n. slice_index (set r d v) n < 2 ^ 32) (sym e) (subst (λ n. n < 2 ^ 32) (sym (get_or-set_same r d v 0 (let l : d < length r = omega (arith, few, w.count) in l))) small)
+    | inr other ↦ subst (λ n. n < 2 ^ 32) (sym (get_or-set_other r d j v 0 other)) (w.small j)
+  ];
+  aligned = subst (λ n. n % 4 ≡ 0) (sym (get_or-set_other r d SP v 0 (λ e. absurd (omega (arith, few, e))))) w.aligned;
+}
+
+pub set_others : (r : List ℕ) (d v j : ℕ) → d < 2 → 2 ≤ j → slice_index (set r d v) j ≡ slice_index r j
+set_others r d v j few far = get_or-set_other r d j v 0 (λ e. absurd (omega (arith, few, far, e)))
+
+-- ---- the writes of each call are beside the barriers of cleanups
+
+pub low_write : (ss : List ℕ) (s k v : ℕ) → s < SLOTS → k < 18 → IsTame ss (write s k v)
+low_write ss s k v h low = record { slot = h; place = omega (arith, low); beside = inl low }
+
+module _ (s : Recorded) (c : Corresponds s) where
+  abbrev l : Lists
+  l = s.lists
+
+  abbrev ss : List ℕ
+  ss = slots s.lists.cleanups
+
+  -- a cleanup's exception isn't free
+  not_freed : (t : ℕ) → (words_in l t STATE == FREE) ≡ true → Has ss t → ⊥
+  not_freed t e has = by_entry (entry l t) refl (c.stands.valid.flying t has)
+    where
+      by_entry : (d : Entry) → entry l t ≡ d → state_in d ≡ Some Flying → ⊥
+      by_entry Free is f = absurd (none-some Flying f)
+      by_entry OutOfUse is f = absurd (none-some Flying f)
+      by_entry (Live r) is f =
+          let word_is : words_in l t STATE ≡ state_word (Live (record r { state = Flying })) = ap state_word is ∙ flies r (same_Some r.state Flying f) in
+          let clash : true ≡ false = sym e ∙ ap (λ n. n == FREE) word_is in cc
+        where
+          flies : (r : Record) → r.state ≡ Flying → state_word (Live r) ≡ state_word (Live (record r { state = Flying }))
+          flies r q = ap (λ st. let d : Record = record r { state = st } in state_word (Live d)) q
+
+  pub allocate_tame : (size : ℕ) → AreTame ss (allocate_of (words_in l) size).writes
+  allocate_tame size = by_size (nat_lt OBJECT_BYTES size)
+    where
+      by_slot : (o : Option ℕ) → first_slot (λ t. words_in l t STATE == FREE) ≡ o → AreTame ss (allocate_at size o).writes
+      by_slot None e = tt
+      by_slot (Some t) e =
+          let w = first_passes (λ u. words_in l u STATE == FREE) t e in
+          tame_append ss (zeros t SLOT_WORDS) (write t SIZE size ∷ (write t STATE FRESH ∷ [])) (tame_zeros ss t SLOT_WORDS w.0 (omega arith) (not_freed t w.1))
+          (low_write ss t SIZE size w.0 (omega arith), (low_write ss t STATE FRESH w.0 (omega arith), tt))
+
+      by_size : (b : Bool) → AreTame ss (cond b (record { answer = Err TooBig; writes = [] }) (allocate_at size (first_slot (λ t. words_in l t STATE == FREE)))).writes
+      by_size true = tt
+      by_size false = by_slot (first_slot (λ t. words_in l t STATE == FREE)) refl
+
+  pub free_tame : (w : Pool) (o : Option ℕ) → ((t : ℕ) → o ≡ Some t → t < SLOTS) → AreTame ss (free_of w o).writes
+  free_tame w None small = tt
+  free_tame w (Some t) small = by (may_be_freed (named (w t STATE)))
+    where
+      by : (b : Bool) → AreTame ss (free_by b t).writes
+      by true = (low_write ss t STATE FREE (small t refl) (omega arith), tt)
+      by false = tt
+
+  pub catch_tame : (w : Pool) (g : Globals) (ucb : ℕ) (o : Option ℕ) → ((t : ℕ) → o ≡ Some t → t < SLOTS) → AreTame ss (catch_in w g ucb o).writes
+  catch_tame w g ucb None small = tt
+  catch_tame w g ucb (Some t) small = by_fault (catch_fault (named (w t STATE)) (w t COUNT == 0) (g.caught == ucb))
+    where
+      h : t < SLOTS
+      h = small t refl
+
+      by : (b : Bool) → AreTame ss (catch_by b w g ucb t).writes
+      by true = (low_write ss t NEXT_CAUGHT _ h (omega arith), (low_write ss t COUNT _ h (omega arith), (low_write ss t STATE _ h (omega arith), tt)))
+      by false = (low_write ss t COUNT _ h (omega arith), (low_write ss t STATE _ h (omega arith), tt))
+
+      by_fault : (f : Option CxaFault) → AreTame ss (catch_at w g ucb t f).writes
+      by_fault (Some why) = tt
+      by_fault None = by (w t COUNT == 0)
+
+  pub end_tame : (w : Pool) (g : Globals) (o : Option ℕ) → ((t : ℕ) → o ≡ Some t → t < SLOTS) → AreTame ss (end_catch_at w g o).writes
+  end_tame w g None small = tt
+  end_tame w g (Some t) small = by (fall (w t COUNT))
+    where
+      h : t < SLOTS
+      h = small t refl
+
+      by : (f : Fall ℕ) → AreTame ss (end_catch_by f w g t).writes
+      by stays = tt
+      by (falls n) = (low_write ss t COUNT n h (omega arith), tt)
+      by ends = (low_write ss t COUNT 0 h (omega arith), (low_write ss t STATE ENDED h (omega arith), tt))
+      by leaves = (low_write ss t COUNT 0 h (omega arith), tt)
+
+  -- ---- what they answer is words
+
+  abbrev pub small_answer : Result ℕ CxaFault → Type 0
+  small_answer (Ok v) = v < 2 ^ 32
+  small_answer (Err why) = Unit {0}
+
+  abbrev pub small_pair : Result (ℕ × ℕ) CxaFault → Type 0
+  small_pair (Ok v) = (v.0 < 2 ^ 32) × (v.1 < 2 ^ 32)
+  small_pair (Err why) = Unit {0}
+
+  pub allocate_small : (size : ℕ) → small_answer (allocate_list l size).answer
+  allocate_small size = by_size (nat_lt OBJECT_BYTES size)
+    where
+      by_slot : (o : Option ℕ) → first_slot (λ t. is_free (entry l t)) ≡ o → small_answer (allocate_in l size o).answer
+      by_slot None e = tt
+      by_slot (Some t) e = let w = (first_passes (λ u. is_free (entry l u)) t e).0 in omega (arith, w)
+
+      by_size : (b : Bool) → small_answer (cond b (record { answer = Err TooBig; lists = l }) (allocate_in l size (first_slot (λ t. is_free (entry l t))))).answer
+      by_size true = tt
+      by_size false = by_slot (first_slot (λ t. is_free (entry l t))) refl
+
+  pub catch_small : (o : Option ℕ) → ((t : ℕ) → o ≡ Some t → t < SLOTS) → small_answer (catch_list (acts.given s) l o).answer
+  catch_small None small = tt
+  catch_small (Some t) small = by_entry (entry l t)
+    where
+      by_fault : (r : Record) (f : Option CxaFault) → small_answer (catch_by_list (acts.given s t) l t r f).answer
+      by_fault r (Some why) = tt
+      by_fault r None = c.stands.shows.small t BARRIER_OBJECT (small t refl) (omega arith)
+
+      by_entry : (e : Entry) → small_answer (catch_entry (acts.given s t) l t e).answer
+      by_entry Free = tt
+      by_entry OutOfUse = tt
+      by_entry (Live r) = by_fault r _
+
+  pub end_small : small_pair (end_list l).answer
+  end_small = by_list l.caught c.stands.shows.caught
+    where
+      by_fall : (t : ℕ) (more : List ℕ) (r : Record) → t < SLOTS → r.destructor < 2 ^ 32 → (f : Fall ℤ) → small_pair (end_by_list l t more r f).answer
+      by_fall t more r h d stays = (omega arith, omega arith)
+      by_fall t more r h d (falls n) = (omega arith, omega arith)
+      by_fall t more r h d ends = (omega (arith, h), d)
+      by_fall t more r h d leaves = (omega arith, omega arith)
+
+      by_look : (t : ℕ) (more : List ℕ) → t < SLOTS → Look (word (memory_of s)) l t → (e : Entry) → entry l t ≡ e → small_pair (end_entry l t more e).answer
+      by_look t more h seen Free is = (omega arith, omega arith)
+      by_look t more h seen OutOfUse is = (omega arith, omega arith)
+      by_look t more h (free zero q) (Live r) is = let clash : Free ≡ Live r = sym q ∙ is in absurd cc
+      by_look t more h (lost used none q) (Live r) is = let clash : OutOfUse ≡ Live r = sym q ∙ is in absurd cc
+      by_look t more h (live st name q) (Live r) is =
+          let same : r.destructor ≡ word (memory_of s) t DESTRUCTOR = destructor_is (sym is ∙ q) in
+          by_fall t more r h (subst (λ n. n < 2 ^ 32) (sym same) (c.stands.shows.small t DESTRUCTOR h (omega arith))) (fall_of r.count)
+        where
+          of : Entry → ℕ
+          of Free = 0
+          of OutOfUse = 0
+          of (Live d) = d.destructor
+
+          destructor_is : {u : Entry} → Live r ≡ u → r.destructor ≡ of u
+          destructor_is e = ap of e
+
+      by_list : (xs : List ℕ) → Chain (λ t. word (memory_of s) t NEXT_CAUGHT) (heads l).caught xs → small_pair (end_from l xs).answer
+      by_list [] k = tt
+      by_list (t ∷ more) k =
+          let h = slot_small (heads l).caught t k.0 in
+          by_look t more h (look (word (memory_of s)) (heads l) l t c.stands.shows h) (entry l t) refl
+
+  -- ---- the lists' cleanups stay
+
+  pub allocate_keeps : (size : ℕ) → (allocate_list l size).lists.cleanups ≡ l.cleanups
+  allocate_keeps size = by_size (nat_lt OBJECT_BYTES size)
+    where
+      by_slot : (o : Option ℕ) → (allocate_in l size o).lists.cleanups ≡ l.cleanups
+      by_slot None = refl
+      by_slot (Some t) = refl
+
+      by_size : (b : Bool) → (cond b (record { answer = Err TooBig; lists = l }) (allocate_in l size (first_slot (λ t. is_free (entry l t))))).lists.cleanups ≡ l.cleanups
+      by_size true = refl
+      by_size false = by_slot (first_slot (λ t. is_free (entry l t)))
+
+  pub free_keeps : (o : Option ℕ) → (free_list l o).lists.cleanups ≡ l.cleanups
+  free_keeps None = refl
+  free_keeps (Some t) = by (may_be_freed (state_in (entry l t)))
+    where
+      by : (b : Bool) → (free_by_list b l t).lists.cleanups ≡ l.cleanups
+      by true = refl
+      by false = refl
+
+  pub catch_keeps : (o : Option ℕ) → (catch_list (acts.given s) l o).lists.cleanups ≡ l.cleanups
+  catch_keeps None = refl
+  catch_keeps (Some t) = by_entry (entry l t)
+    where
+      by_fault : (r : Record) (f : Option CxaFault) → (catch_by_list (acts.given s t) l t r f).lists.cleanups ≡ l.cleanups
+      by_fault r (Some why) = refl
+      by_fault r None = refl
+
+      by_entry : (e : Entry) → (catch_entry (acts.given s t) l t e).lists.cleanups ≡ l.cleanups
+      by_entry Free = refl
+      by_entry OutOfUse = refl
+      by_entry (Live r) = by_fault r _
+
+  pub end_keeps : (end_list l).lists.cleanups ≡ l.cleanups
+  end_keeps = by_list l.caught
+    where
+      by_fall : (t : ℕ) (more : List ℕ) (r : Record) (f : Fall ℤ) → (end_by_list l t more r f).lists.cleanups ≡ l.cleanups
+      by_fall t more r stays = refl
+      by_fall t more r (falls n) = refl
+      by_fall t more r ends = refl
+      by_fall t more r leaves = refl
+
+      by_entry : (t : ℕ) (more : List ℕ) (e : Entry) → (end_entry l t more e).lists.cleanups ≡ l.cleanups
+      by_entry t more Free = refl
+      by_entry t more OutOfUse = refl
+      by_entry t more (Live r) = by_fall t more r (fall_of r.count)
+
+      by_list : (xs : List ℕ) → (end_from l xs).lists.cleanups ≡ l.cleanups
+      by_list [] = refl
+      by_list (t ∷ more) = by_entry t more (entry l t)

@@ -1,0 +1,232 @@
+-- Where the first activation stands behind an instruction that leaves memory and sp: behind it, or where a branch leads. So for all that
+-- write no register: compares of any registers, hints, barriers and branches.
+use Rattle.std.proofs.Common.{ℕ, ◌≡◌, ◌%◌, ◌==◌, ◌&&◌, ◌||◌, Bool, true, false, refl, sym, subst, Some, None, ◌+◌, ◌-◌, ◌/◌, ◌^◌, ◌<◌, not, nat_le, nat_lt, inl, inr, List, [], Option, Ok, ℤ, slice_index, ap, ◌∙◌, arith, cond}
+use Rattle.std.specs.Prelude.{Contains, if◌then◌else◌, option_and_then}
+use Rattle.std.specs.List.{list_any}
+use Rattle.std.proofs.lemmas.Bool.{eqb-true, and_parts, leb-true}
+use Rattle.std.specs.Option.{option_map_or}
+use Rattle.std.proofs.lemmas.List.Elements.{Contains-append_left, Contains-append_right}
+use Rattle.stands_for.specs.frame_facts.declared.cause.FrameCause.{FrameCause}
+use Rattle.stands_for.specs.frame_facts.declared.facts.Fact.{Fact}
+use Rattle.stands_for.specs.flow.Flow.{met}
+use Rattle.stands_for.specs.frame_flow.Framed.{Framed}
+use Rattle.stands_for.proofs.frame_flow.Causing.{found_are_met}
+use Rattle.stands_for.specs.frame_flow.Causes.{found, shown}
+use Rattle.stands_for.specs.frame_flow.Flows.{IsStateOf, NoneStands}
+use Rattle.stands_for.specs.elf_image.Image.{Image, is_code_in}
+use Rattle.stands_for.specs.elf_image.Marks.{marked}
+use Rattle.stands_for.specs.elf_image.Segments.{holds}
+use Rattle.stands_for.specs.thumb_core.declared.ends.End.{End}
+use Rattle.stands_for.proofs.flow.Work.{contains_head}
+use Rattle.stands_for.specs.image_memory.Start.{begins_function}
+use Rattle.stands_for.specs.thumb_isa.declared.instr.Instr.{Instr}
+use Rattle.stands_for.specs.thumb_core.Branch.{target_of, passes}
+use Rattle.stands_for.specs.thumb_core.Data.{forward}
+use Rattle.stands_for.specs.thumb_core.Registers.{with_pc, even, with_next}
+use Rattle.stands_for.specs.thumb_core.declared.regs.TheConstants.{SP}
+use Rattle.stands_for.specs.thumb_core.declared.regs.Regs.{Regs}
+use Rattle.stands_for.specs.thumb_core.declared.regs.Stepped.TheVariants.{Done}
+use Rattle.stands_for.specs.frame_facts.declared.cause.FrameCause.TheVariants.{Undecodable, BranchOut}
+use Rattle.stands_for.specs.frame_facts.declared.saves.Prologue.{Prologue}
+use Rattle.stands_for.specs.frame_facts.After.{after_of}
+use Rattle.stands_for.specs.frame_scene.declared.places.Standing.{Standing}
+use Rattle.stands_for.specs.frame_scene.declared.places.Standing.TheVariants.{Instruction}
+use Rattle.stands_for.specs.frame_scene.declared.ways.Way.{Way}
+use Rattle.stands_for.specs.frame_scene.Scene.{Scene}
+use Rattle.stands_for.specs.frame_scene.Places.{address_of, place_of, is_code_of, standing_at}
+use Rattle.stands_for.specs.frame_scene.Sites.{site_at, ways_of, ways_from}
+use Rattle.stands_for.specs.frame_scene.Ways.{goes_on, branch_target, ways_to, onward, straight_by, straight_ways, is_undecodable, branches_out, instruction_at}
+use Rattle.stands_for.proofs.frame_reach.Stands.{stands_inside, stands_size}
+use Rattle.stands_for.specs.frame_check.Accepts.{Accepted}
+use Rattle.stands_for.specs.frame_check.Judged.{IsPlaced}
+use Rattle.stands_for.specs.frame_check.Roots.{scene_of}
+use Rattle.stands_for.proofs.frame_check.Wells.{placed_at}
+use Rattle.stands_for.specs.two_machines.Machine.{way_end}
+use Rattle.stands_for.specs.two_machines.Activations.{Recorded, memory_of}
+use Rattle.stands_for.specs.two_machines.Checked.{program_of}
+use Rattle.stands_for.specs.thumb_isa.declared.instr.Instr.TheVariants.{B, CmpHigh, Hint, Barrier, BCond}
+use Rattle.stands_for.specs.thumb_core.Step.{step_of}
+use Rattle.stands_for.specs.step_ahead.Ahead.{branches, pushed}
+use Rattle.stands_for.specs.thumb_core.Outcome.{Outcome as Stepping}
+use Rattle.stands_for.specs.thumb_core.declared.ends.End.TheVariants as the_end
+use Rattle.stands_for.specs.thumb_core.declared.ends.TrapKind.TheVariants as kind
+use Rattle.stands_for.specs.Holds.{Holds}
+use Rattle.stands_for.specs.Chain.{code, StandsAt, StandsFirst}
+use Rattle.stands_for.specs.Stands.{Keeps, IsProgram, Turns, DoesAt}
+use Rattle.stands_for.proofs.Flows.{none_stands, goes_straight, stands_instruction}
+use Rattle.stands_for.proofs.Goes.{next_stands}
+use Rattle.stands_for.proofs.Moves.{moved_holds}
+use Rattle.stands_for.proofs.Level.{fetch, level_turns}
+
+-- what is found at a place with a state stands there
+pub not_found : (c : Framed) (p : ℕ) (f : Fact) → NoneStands c → IsStateOf c p f → (cause : FrameCause) → Contains (found c p f) cause → ⊥
+not_found c p f none state cause h = none p cause (met state ((found_are_met c cause p f).1 h))
+
+-- ---- code is even
+
+even_code : (image : Image) (start a : ℕ) → start % 2 ≡ 0 → ((a == start) || is_code_in image a) ≡ true → a % 2 ≡ 0
+even_code image start a h e = go (a == start) refl (a % 2 == 0) refl e
+  where
+    go : (b : Bool) → (a == start) ≡ b → (c : Bool) → (a % 2 == 0) ≡ c → (b || (c && list_any (λ s. holds a s && s.exec) image.segments && marked image.marks a)) ≡ true → a % 2 ≡ 0
+    go true is c d f = let same : a ≡ start = eqb-true a start is in subst (λ x. x % 2 ≡ 0) (sym same) h
+    go false is true d f = eqb-true (a % 2) 0 d
+    go false is false d f = absurd cc
+
+no_fall : (b : Bool) (end : End) → (if b then Some end else None) ≡ None → b ≡ false
+no_fall true end h = absurd cc
+no_fall false end h = refl
+
+module _ (x : Accepted) (is : IsProgram x) (s : Recorded) (k : Keeps x s) (at : StandsAt x s.first s.segments s.regs s.regs.pc) (i : Instr) (size : ℕ)
+    (stands : standing_at (scene_of x.image at.function) at.place ≡ Instruction i size) where
+  abbrev scene : Scene
+  scene = scene_of x.image at.function
+
+  placed : IsPlaced at.function
+  placed = subst IsPlaced at.of.among.2 (placed_at x.image at.of.among.0 at.function is.image at.of.among.1)
+
+  abbrev here : ℕ
+  here = address_of scene at.place
+
+  abbrev p : Prologue
+  p = (code x at.function at.marks).prologue
+
+  none : NoneStands (code x at.function at.marks)
+  none = none_stands x at.function at.marks is.sound at.of.among at.of.are
+
+  -- the next address
+  pub next_pc : even ((s.regs.pc + size) % 2 ^ 32) ≡ s.regs.pc + size
+  next_pc =
+      let inside = stands_inside scene at.place i size stands in
+      elim (stands_size scene at.place i size stands) [
+        | inl two ↦ omega (arith, at.address, inside, placed.low, k.sound.is_even, two)
+        | inr four ↦ omega (arith, at.address, inside, placed.low, k.sound.is_even, four)
+      ]
+
+  -- on behind it, where the tests let it pass
+  pub straight_first : (g : Fact) (regs : Regs) → goes_on i ≡ true → after_of p false here i at.fact ≡ Ok g → regs.pc ≡ s.regs.pc + size → Holds p g s.first s.segments regs
+      → way_end (program_of x) false s.regs.pc Done regs ≡ None → StandsFirst x (record s { regs = regs })
+  straight_first g regs on e pc holds way reached =
+      next_stands x is s k at i size stands g regs s.segments s.first refl on e pc holds reached (no_fall (begins_function x.image.functions regs.pc) (the_end.Trap kind.FellOff regs.pc s.regs.pc) way)
+
+  -- ---- a branch that is taken
+
+  module _ (t : ℕ) (to : branch_target here i ≡ Some t) where
+    at_instr : instruction_at scene at.place ≡ Some i
+    at_instr = stands_instruction scene at.place i size stands
+
+    not_out : (b : Bool) → branches_out scene at.place ≡ b → b ≡ false
+    unfolding found
+    not_out true e = absurd (not_found (code x at.function at.marks) at.place at.fact none at.state BranchOut
+        (let first : Contains (shown (branches_out scene at.place) BranchOut) BranchOut = rw e (contains_head BranchOut []) in
+        Contains-append_right (shown (is_undecodable scene at.place) Undecodable) _ BranchOut (Contains-append_left (shown (branches_out scene at.place) BranchOut) _ BranchOut first)))
+    not_out false e = refl
+
+    is_code : is_code_of scene t ≡ true
+    is_code = go (is_code_of scene t) (sym (ap (λ (o : Option Instr). option_map_or (λ a. not (is_code_of scene a)) (option_and_then (branch_target here) o) false) at_instr
+        ∙ ap (λ (o : Option ℕ). option_map_or (λ a. not (is_code_of scene a)) o false) to) ∙ not_out (branches_out scene at.place) refl)
+      where
+        go : (b : Bool) → not b ≡ false → b ≡ true
+        go true h = refl
+        go false h = absurd cc
+
+    parts : (nat_le scene.start t && nat_lt t scene.end ≡ true) × (((t == scene.start) || is_code_in x.image t) ≡ true)
+    parts = and_parts (nat_le scene.start t && nat_lt t scene.end) ((t == scene.start) || is_code_in x.image t) is_code
+
+    pub target_even : t % 2 ≡ 0
+    target_even = even_code x.image scene.start t placed.even parts.1
+
+    place_is : t ≡ address_of scene ((t - scene.start) / 2)
+    place_is = let low = leb-true scene.start t (and_parts (nat_le scene.start t) (nat_lt t scene.end) parts.0).0 in omega (arith, low, target_even, placed.even)
+
+    way : Contains (ways_of scene at.place) (record { to = (t - scene.start) / 2; forgets = 0 })
+    unfolding ways_of
+    way =
+        let w : Way = record { to = (t - scene.start) / 2; forgets = 0 } in
+        let there : place_of scene t ≡ Some ((t - scene.start) / 2) = ap (λ (b : Bool). if b then Some ((t - scene.start) / 2) else None) is_code in
+        let one : Contains (ways_to 0 (option_and_then (place_of scene) (branch_target here i))) w =
+        subst (λ (o : Option ℕ). Contains (ways_to 0 (option_and_then (place_of scene) o)) w) (sym to) (subst (λ (o : Option ℕ). Contains (ways_to 0 o) w) (sym there) (contains_head w [])) in
+        let straight : Contains (straight_ways scene at.place) w = subst (λ (u : Standing). Contains (straight_by scene here u) w) (sym stands)
+        (Contains-append_right (onward scene here i size) (ways_to 0 (option_and_then (place_of scene) (branch_target here i))) w one) in
+        Contains-append_left (straight_ways scene at.place) (ways_from scene (site_at scene at.place)) w straight
+
+    pub jump_first : (g : Fact) (regs : Regs) → after_of p false here i at.fact ≡ Ok g → regs.pc ≡ t → Holds p g s.first s.segments regs → StandsAt x s.first s.segments regs regs.pc
+    jump_first g regs e pc holds = record {
+      function = at.function;
+      marks = at.marks;
+      of = at.of;
+      place = (t - scene.start) / 2;
+      address = pc ∙ place_is;
+      fact = g;
+      state = goes_straight (code x at.function at.marks) at.place at.fact none at.state i g ((t - scene.start) / 2) at_instr e way;
+      holds = holds;
+    }
+
+  -- the same registers are as known
+  pub same_holds : (regs : Regs) → regs.r ≡ s.regs.r → Holds p at.fact s.first s.segments regs
+  same_holds regs same = moved_holds p at.fact s.first s.segments s.regs regs at.holds (λ j. inr (ap (λ (r : List ℕ). slice_index r j) same)) (ap (λ (r : List ℕ). slice_index r SP) same)
+
+  -- a branch to t
+  module _ (off : ℤ) (to : branch_target here i ≡ Some (forward (here + 4) off)) where
+    pub lands_there : (with_pc s.regs (target_of off s.regs)).pc ≡ forward (here + 4) off
+    lands_there =
+        let inside = stands_inside scene at.place i size stands in
+        let four : (s.regs.pc + 4) % 2 ^ 32 ≡ here + 4 = elim (stands_size scene at.place i size stands) [
+          | inl two ↦ omega (arith, at.address, inside, placed.low, two)
+          | inr wide ↦ omega (arith, at.address, inside, placed.low, wide)
+        ] in
+        let t = target_even (forward (here + 4) off) to in
+        ap (λ n. even (forward n off % 2 ^ 32)) four ∙ whole (forward (here + 4) off) (small (here + 4)) t
+      where
+        small : (n : ℕ) → forward n off < 2 ^ 32
+        small n = omega arith
+
+        whole : (n : ℕ) → n < 2 ^ 32 → n % 2 ≡ 0 → even (n % 2 ^ 32) ≡ n
+        whole n low e = omega (arith, low, e)
+
+    pub branch_first : after_of p false here i at.fact ≡ Ok at.fact → StandsFirst x (record s { regs = with_pc s.regs (target_of off s.regs) })
+    branch_first e reached = jump_first (forward (here + 4) off) to at.fact (with_pc s.regs (target_of off s.regs)) e lands_there (same_holds (with_pc s.regs (target_of off s.regs)) refl)
+
+-- ---- the instructions
+
+pub b_turns : (x : Accepted) (s : Recorded) (off : ℤ) (input : List ℕ) → IsProgram x → Keeps x s → DoesAt x s (B off) → Turns x s input
+b_turns x s off input is k does =
+    level_turns x is s k does.at (B off) does.size does.stands (with_pc s.regs (target_of off s.regs)) (fetch x is s k does.at (B off) does.size does.stands).step refl refl
+    (λ w. branch_first x is s k does.at (B off) does.size does.stands off refl refl) input does.reached
+
+-- what goes on behind it with the registers as they were
+quiet_turns : (x : Accepted) (s : Recorded) (i : Instr) (between : Regs) (input : List ℕ) → IsProgram x → Keeps x s → (does : DoesAt x s i) → goes_on i ≡ true → branches i s.regs ≡ false
+    → pushed i ≡ [] → ((q : Prologue) (at : ℕ) (f : Fact) → after_of q false at i f ≡ Ok f) → step_of s.regs (memory_of s) ≡ (Done, with_next does.size between, memory_of s)
+    → between.r ≡ s.regs.r → between.pc ≡ s.regs.pc → Turns x s input
+quiet_turns x s i between input is k does on taken pushes plain stepped same pc =
+    let to : (with_next does.size between).pc ≡ s.regs.pc + does.size = ap (λ n. even ((n + does.size) % 2 ^ 32)) pc ∙ next_pc x is s k does.at i does.size does.stands in
+    level_turns x is s k does.at i does.size does.stands (with_next does.size between) stepped (ap (λ (r : List ℕ). slice_index r SP) same) pushes
+    (λ w. straight_first x is s k does.at i does.size does.stands does.at.fact (with_next does.size between) on (plain (code x does.at.function does.at.marks).prologue (address_of (scene_of x.image does.at.function) does.at.place) does.at.fact) to
+    (same_holds x is s k does.at i does.size does.stands (with_next does.size between) same)
+    (subst (λ (b : Bool). way_end (program_of x) b s.regs.pc Done (with_next does.size between) ≡ None) taken w))
+    input does.reached
+
+pub cmp_high_turns : (x : Accepted) (s : Recorded) (n m : ℕ) (input : List ℕ) → IsProgram x → Keeps x s → DoesAt x s (CmpHigh n m) → Turns x s input
+cmp_high_turns x s n m input is k does =
+    quiet_turns x s (CmpHigh n m) _ input is k does refl refl refl (λ q a f. refl) (fetch x is s k does.at (CmpHigh n m) does.size does.stands).step refl refl
+
+pub hint_turns : (x : Accepted) (s : Recorded) (n : ℕ) (input : List ℕ) → IsProgram x → Keeps x s → DoesAt x s (Hint n) → Turns x s input
+hint_turns x s n input is k does = quiet_turns x s (Hint n) s.regs input is k does refl refl refl (λ q a f. refl) (fetch x is s k does.at (Hint n) does.size does.stands).step refl refl
+
+pub barrier_turns : (x : Accepted) (s : Recorded) (op option : ℕ) (input : List ℕ) → IsProgram x → Keeps x s → DoesAt x s (Barrier op option) → Turns x s input
+barrier_turns x s op option input is k does =
+    quiet_turns x s (Barrier op option) s.regs input is k does refl refl refl (λ q a f. refl) (fetch x is s k does.at (Barrier op option) does.size does.stands).step refl refl
+
+pub bcond_turns : (x : Accepted) (s : Recorded) (cc : ℕ) (off : ℤ) (input : List ℕ) → IsProgram x → Keeps x s → DoesAt x s (BCond cc off) → Turns x s input
+bcond_turns x s cc off input is k does = go (passes cc s.regs) refl
+  where
+    step : step_of s.regs (memory_of s) ≡ (Done, cond (passes cc s.regs) (with_pc s.regs (target_of off s.regs)) (with_next does.size s.regs), memory_of s)
+    step = (fetch x is s k does.at (BCond cc off) does.size does.stands).step
+
+    go : (b : Bool) → passes cc s.regs ≡ b → Turns x s input
+    go true e =
+        level_turns x is s k does.at (BCond cc off) does.size does.stands (with_pc s.regs (target_of off s.regs))
+        (step ∙ ap (λ (b : Bool). let o : Stepping = (Done, cond b (with_pc s.regs (target_of off s.regs)) (with_next does.size s.regs), memory_of s) in o) e) refl refl
+        (λ w. branch_first x is s k does.at (BCond cc off) does.size does.stands off refl refl) input does.reached
+    go false e =
+        quiet_turns x s (BCond cc off) s.regs input is k does refl e refl (λ q a f. refl)
+        (step ∙ ap (λ (b : Bool). let o : Stepping = (Done, cond b (with_pc s.regs (target_of off s.regs)) (with_next does.size s.regs), memory_of s) in o) e) refl refl

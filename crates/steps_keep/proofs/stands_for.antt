@@ -1,0 +1,13 @@
+-- What the crates above cite of stands_for.
+pub use Rattle.stands_for.proofs.Callee
+pub use Rattle.stands_for.proofs.CountedLists
+pub use Rattle.stands_for.proofs.First
+pub use Rattle.stands_for.proofs.Flows
+pub use Rattle.stands_for.proofs.Goes
+pub use Rattle.stands_for.proofs.Level
+pub use Rattle.stands_for.proofs.Moved
+pub use Rattle.stands_for.proofs.Moves
+pub use Rattle.stands_for.proofs.Onward
+pub use Rattle.stands_for.proofs.Slots
+pub use Rattle.stands_for.proofs.Tame
+pub use Rattle.stands_for.proofs.Written

@@ -1,0 +1,98 @@
+-- A throw whose search finds a barrier enters something, in an activation of the state: its phase 2 never ends without.
+use Rattle.std.proofs.Common.{◌≡◌, ℕ, sym, ap, ◌∙◌, Option, Some, None, refl, [], ◌∷◌, subst, arith}
+use Rattle.std.specs.Prelude.{unwrap_or, slice_index}
+use Rattle.std.proofs.lemmas.List.{get_or_append_left}
+use Rattle.frames_same.specs.eh_phase.Laws.{seen_entered, goal_of, Reaches}
+use Rattle.frames_same.specs.eh_phase.Phases.{Frames, phase2, entered_at, places, phase1}
+use Rattle.frames_same.specs.eh_phase.declared.phase2.Goal.{Goal}
+use Rattle.frames_same.proofs.eh_phase.Speaks.{registers_are_handed_on}
+use Rattle.frames_same.specs.two_machines.Agreeing.{handed_on, Agree}
+use Rattle.frames_same.specs.eh_phase.declared.phase2.Entered.{Entered}
+use Rattle.frames_same.specs.eh_phase.Firsts.{first_some}
+use Rattle.frames_same.specs.eh_phase.Calls.{stack_of}
+use Rattle.frames_same.specs.eh_phase.Frames.{frames_of}
+use Rattle.frames_same.specs.eh_phase.Verdict.{Meeting}
+use Rattle.frames_same.specs.eh_phase.declared.phase1.Barrier.{Barrier}
+use Rattle.frames_same.proofs.eh_phase.Reached.{barriers_are_reached}
+use Rattle.frames_same.specs.thumb_core.Registers.{all_of}
+use Rattle.frames_same.specs.thumb_core.declared.regs.TheConstants.{SP}
+use Rattle.frames_same.specs.frame_check.Accepts.{Accepted}
+use Rattle.frames_same.specs.eh_cxa.ListCalls.{innermost_in}
+use Rattle.frames_same.specs.two_machines.Activations.{Recorded, reg_in, memory_of, first_place, frames_at}
+use Rattle.frames_same.specs.two_machines.Landings.{AreBelow}
+use Rattle.frames_same.proofs.two_machines.Agreeing.{are_one}
+use Rattle.frames_same.specs.eh_phase.Laws as phase_law
+use Rattle.frames_same.specs.eh_phase.declared.phase2.Entered.TheVariants as enters
+use Rattle.frames_same.specs.eh_phase.declared.phase1.Found.TheVariants as found
+use Rattle.frames_same.specs.Frames.{ThrowsAt, FramesAre}
+use Rattle.frames_same.specs.stands_for.Stands.{Keeps, IsProgram}
+use Rattle.frames_same.proofs.FramesSame.{frames_are_same}
+use Rattle.frames_same.proofs.stands_for.Goes.{chain_top}
+use Rattle.frames_same.specs.Landings.{Fit, LandsIn}
+use Rattle.frames_same.proofs.Landing.{lands_in, fit_frames, rise_outside}
+
+-- ---- frames that agree are entered alike
+
+entered_alike : (fs gs : Frames) → Agree fs gs → (g : Goal) (from : ℕ) → seen_entered handed_on (phase2 g from fs) ≡ seen_entered handed_on (phase2 g from gs)
+entered_alike fs gs e g from =
+    sym ((registers_are_handed_on handed_on fs).advance g from) ∙ ap (phase2 g from) e ∙ (registers_are_handed_on handed_on gs).advance g from
+
+lands_alike : (e d : Entered) → seen_entered handed_on e ≡ seen_entered handed_on d → phase_law.Lands e → phase_law.Lands d
+lands_alike e (enters.Cleanup vrs pad next site) h l = tt
+lands_alike e (enters.Catch vrs pad) h l = tt
+lands_alike e (enters.Spec vrs pad) h l = tt
+lands_alike e enters.Unexpected h l = tt
+lands_alike (enters.Cleanup vrs pad next site) (enters.Terminate why) h l = absurd cc
+lands_alike (enters.Catch vrs pad) (enters.Terminate why) h l = absurd cc
+lands_alike (enters.Spec vrs pad) (enters.Terminate why) h l = absurd cc
+lands_alike enters.Unexpected (enters.Terminate why) h l = absurd cc
+lands_alike (enters.Terminate why) (enters.Terminate other) h l = absurd l
+
+-- what lands was entered at a place
+entered_some : (g : Goal) (from : ℕ) (fs : Frames) → phase_law.Lands (phase2 g from fs) → first_some (entered_at g) (places from fs.frames) ≡ Some (phase2 g from fs)
+unfolding phase2
+entered_some g from fs l = go (first_some (entered_at g) (places from fs.frames)) l
+  where
+    go : (o : Option Entered) → phase_law.Lands (unwrap_or o (enters.Terminate fs.last)) → o ≡ Some (unwrap_or o (enters.Terminate fs.last))
+    go None l = absurd l
+    go (Some e) l = refl
+
+-- ---- from a site of a state
+
+module _ (x : Accepted) (is : IsProgram x) (s : Recorded) (k : Keeps x s) (site : ℕ) (throws : ThrowsAt x s site) where
+  abbrev pub recorded_frames : Option ℕ → Frames
+  recorded_frames place = frames_at x.image place site (all_of s.regs) s.first s.outer
+
+  same : FramesAre x s site
+  same = frames_are_same x s site is k throws
+
+  -- where phase 1 gives a barrier, phase 2 enters a cleanup or the barrier
+  pub enters_one : (m : Meeting) (b : Barrier) → phase1 m (recorded_frames (first_place s.places)) ≡ found.Barrier b → phase_law.Lands (phase2 (goal_of b) 0 (recorded_frames None))
+  enters_one m b e =
+      let bytes = (are_one _ _ same.limited).search m ∙ e in
+      let reaches : Reaches m b (frames_of x.image (stack_of (memory_of s)) None site (all_of s.regs)) =
+      barriers_are_reached m x.image (stack_of (memory_of s)) (innermost_in s.lists.cleanups) site (all_of s.regs) b bytes in
+      lands_alike reaches.entered (phase2 (goal_of b) 0 (recorded_frames None))
+      (ap (seen_entered handed_on) (sym reaches.enters) ∙ entered_alike (frames_of x.image (stack_of (memory_of s)) None site (all_of s.regs)) (recorded_frames None) same.all (goal_of b) 0) reaches.lands
+
+  pub sp_is : slice_index (all_of s.regs) SP ≡ reg_in s SP
+  sp_is = get_or_append_left s.regs.r (s.regs.pc ∷ []) 0 13 (let count = k.sound.words.count in omega (arith, count))
+
+  -- in an activation: those inside it are cut, and their slots lie in home and below what is entered
+  pub throw_lands : (m : Meeting) (b : Barrier) → phase1 m (recorded_frames (first_place s.places)) ≡ found.Barrier b
+      → LandsIn (goal_of b) 0 s.home.1 (reg_in s SP) (recorded_frames None).frames (s.first ∷ s.outer) (phase2 (goal_of b) 0 (recorded_frames None))
+  throw_lands m b e =
+      let top = chain_top x s.segments s.home s.first.caller s.outer k.chain in
+      let high = k.high in
+      lands_in (goal_of b) 0 s.home.1 (reg_in s SP) (recorded_frames None).frames (s.first ∷ s.outer) (phase2 (goal_of b) 0 (recorded_frames None)) (omega (arith, high, top))
+      (subst (λ (n : ℕ). Fit n (recorded_frames None).frames (s.first ∷ s.outer)) sp_is (fit_frames x s.segments s.home None site (all_of s.regs) s.first s.outer k.whole k.chain))
+      (k.slots, high, top, rise_outside x s.segments s.home s.first.caller s.outer k.chain)
+      (entered_some (goal_of b) 0 (recorded_frames None) (enters_one m b e))
+
+  -- the slots of what is cut
+  pub throw_cuts : (m : Meeting) (b : Barrier) (e : phase1 m (recorded_frames (first_place s.places)) ≡ found.Barrier b) → AreBelow s (throw_lands m b e).cut (throw_lands m b e).frame.sp
+  throw_cuts m b e q h =
+      let w = (throw_lands m b e).below q h in
+      let low = k.low in
+      let x0 = w.0 in
+      (omega (arith, low, x0), w.1)
