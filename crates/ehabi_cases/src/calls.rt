@@ -1,0 +1,226 @@
+//! Calls of the program over texts as its files, with an input and an output in memory.
+use crate::listing::{entry, segments};
+use crate::outcome::{Outcome, push_status, told};
+use crate::texts::Texts;
+use eh_port::{
+    Bytes, CallNumbers, FileList, HostSink, HostSource, MemFiles, MemSink, MemSource, SureFiles,
+    SureSink, SureSource,
+};
+use ehabi_top::ehabi_main;
+use std::alloc::{AllocError, Global};
+use std::io::Cursor;
+use std::mem;
+
+/// A call as it is written: `COMMAND`, behind ` < ` its input, and behind ` ! ` what fails.
+#[derive(Clone, Copy)]
+pub struct Call<'a> {
+    pub command: &'a str,
+    pub input: &'a str,
+    /// `file N`, `read N` or `write N`: the Nth of these calls fails.
+    pub failing: &'a str,
+}
+
+/// The parts of a call. One that names no input has `in`.
+pub fn call_of(text: &str) -> Call<'_> {
+    let (front, failing) = text.split_once(" !").unwrap_or((text, ""));
+    let (command, input) = front.split_once(" <").unwrap_or((front, "in"));
+    Call {
+        command,
+        input: input.trim(),
+        failing: failing.trim(),
+    }
+}
+
+impl Call<'_> {
+    /// The numbers of a port's calls that fail; 0 is of none.
+    fn failing_at(&self, alloc: Global, port: &str) -> Result<CallNumbers, AllocError> {
+        let mut numbers = CallNumbers::new(alloc);
+        if let Some(number) = self.failing.strip_prefix(port) {
+            numbers.push(number.trim().parse().unwrap_or(0))?;
+        }
+        Ok(numbers)
+    }
+
+    fn input_bytes(&self, alloc: Global) -> Result<Bytes, AllocError> {
+        Ok(Bytes::of_vec(self.input.as_bytes().to_vec(alloc)?))
+    }
+
+    fn source(&self, alloc: Global) -> Result<MemSource, AllocError> {
+        Ok(MemSource {
+            left: self.input_bytes(alloc)?,
+            next: 1,
+            failing: self.failing_at(alloc, "read")?,
+            faults: 0,
+        })
+    }
+
+    fn sink(&self, alloc: Global) -> Result<MemSink, AllocError> {
+        Ok(MemSink {
+            written: Bytes::of_vec(Vec::new(alloc)),
+            next: 1,
+            failing: self.failing_at(alloc, "write")?,
+            faults: 0,
+        })
+    }
+}
+
+/// A word of a command. `''` is the word without letters, and `~` a blank in a word.
+fn word_of(alloc: Global, word: &str) -> Result<String, AllocError> {
+    word.replace(alloc, "''", "")?.replace(alloc, "~", " ")
+}
+
+/// The words of a command.
+fn words_of(alloc: Global, command: &str) -> Result<Vec<String>, AllocError> {
+    let mut words = Vec::new(alloc);
+    if !command.is_empty() {
+        for word in command.split(' ') {
+            words.push(word_of(alloc, word)?)?;
+        }
+    }
+    Ok(words)
+}
+
+/// The files of texts, which are given back by `give_back`.
+fn take_files(alloc: Global, texts: &mut Texts) -> FileList {
+    FileList::of_vec(mem::replace(&mut texts.files, Vec::new(alloc)))
+}
+
+fn give_back(texts: &mut Texts, files: FileList) {
+    texts.files = files.into_vec();
+}
+
+/// Calls the program over files, an input and an output of which calls may fail.
+fn perform(
+    alloc: Global,
+    texts: &mut Texts,
+    call: &Call,
+    words: &[&str],
+) -> Result<Outcome, AllocError> {
+    let failing = call.failing_at(alloc, "file")?;
+    let mut input = call.source(alloc)?;
+    let mut out = call.sink(alloc)?;
+    let mut held = MemFiles {
+        files: take_files(alloc, texts),
+        next: 1,
+        failing,
+        faults: 0,
+    };
+    let status = ehabi_main(alloc, words, &mut held, &mut input, &mut out);
+    let file_faults = held.faults;
+    give_back(texts, held.files);
+    Ok(Outcome {
+        status,
+        input,
+        out,
+        file_faults,
+    })
+}
+
+/// What comes of a call over files, an input and an output that never fail: its status, and how many bytes it writes.
+fn perform_surely(
+    alloc: Global,
+    texts: &mut Texts,
+    call: &Call,
+    words: &[&str],
+) -> Result<Vec<u8>, AllocError> {
+    let mut input = SureSource {
+        left: call.input_bytes(alloc)?,
+    };
+    let mut held = SureFiles {
+        files: take_files(alloc, texts),
+    };
+    let mut out = SureSink { taken: 0 };
+    let status = ehabi_main(alloc, words, &mut held, &mut input, &mut out);
+    give_back(texts, held.files);
+    let taken = out.taken;
+    Ok(format!(in alloc; "status {status}\n{taken} bytes\n")?.into_bytes())
+}
+
+/// What comes of a call over a reader and a writer of std: what it writes, and its status.
+fn perform_by_std(
+    alloc: Global,
+    texts: &mut Texts,
+    call: &Call,
+    words: &[&str],
+) -> Result<Vec<u8>, AllocError> {
+    let mut held = SureFiles {
+        files: take_files(alloc, texts),
+    };
+    let mut input = HostSource {
+        reader: Cursor::new(call.input.as_bytes()),
+        faults: 0,
+    };
+    let mut out = HostSink {
+        writer: Vec::new(alloc),
+        faults: 0,
+    };
+    let status = ehabi_main(alloc, words, &mut held, &mut input, &mut out);
+    give_back(texts, held.files);
+    let mut told = out.writer;
+    push_status(alloc, &mut told, status)?;
+    Ok(told)
+}
+
+/// What is asked of a call.
+#[derive(Clone, Copy)]
+enum Asked {
+    /// What is written, the status, and what is left and failed.
+    Outcome,
+    /// What is written, and nothing else.
+    Written,
+    /// The same over files, an input and an output that never fail.
+    Surely,
+    /// The same over a reader and a writer of std.
+    ByStd,
+}
+
+/// What comes of a call with these words.
+fn come_of(
+    alloc: Global,
+    texts: &mut Texts,
+    asked: Asked,
+    call: &Call,
+    words: &[&str],
+) -> Result<Vec<u8>, AllocError> {
+    match asked {
+        Asked::Outcome => told(alloc, &perform(alloc, texts, call, words)?, call.input),
+        Asked::Written => perform(alloc, texts, call, words)?
+            .out
+            .written
+            .as_slice()
+            .to_vec(alloc),
+        Asked::Surely => perform_surely(alloc, texts, call, words),
+        Asked::ByStd => perform_by_std(alloc, texts, call, words),
+    }
+}
+
+/// What comes of a call.
+fn called(
+    alloc: Global,
+    texts: &mut Texts,
+    asked: Asked,
+    text: &str,
+) -> Result<Vec<u8>, AllocError> {
+    let call = call_of(text);
+    let owned = words_of(alloc, call.command)?;
+    let words: Vec<&str> = owned.iter().map(|word| word.as_str()).collect(alloc)?;
+    come_of(alloc, texts, asked, &call, words.as_slice())
+}
+
+/// What a command writes.
+pub fn written(alloc: Global, texts: &mut Texts, command: &str) -> Result<Vec<u8>, AllocError> {
+    called(alloc, texts, Asked::Written, command)
+}
+
+/// The answer to a question: `COMMAND`, `sure COMMAND` or `std COMMAND`, or what is asked of an image, `entry FILE` and
+/// `segments FILE`.
+pub fn answer(alloc: Global, texts: &mut Texts, question: &str) -> Result<Vec<u8>, AllocError> {
+    let (what, rest) = question.split_once(' ').unwrap_or((question, ""));
+    match what {
+        "entry" => entry(alloc, texts.get(rest).unwrap_or(b"")),
+        "segments" => segments(alloc, texts.get(rest).unwrap_or(b"")),
+        "sure" => called(alloc, texts, Asked::Surely, rest),
+        "std" => called(alloc, texts, Asked::ByStd, rest),
+        _ => called(alloc, texts, Asked::Outcome, question),
+    }
+}
