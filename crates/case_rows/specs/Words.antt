@@ -1,0 +1,15 @@
+-- The words of a question, which have spaces between them.
+use Rattle.std.specs.Prelude.{ℕ, Bool, List, ◌==◌}
+use Rattle.std.specs.List.{before_first, after_first}
+
+-- a space, of ASCII
+abbrev pub is_space : ℕ → Bool
+is_space byte = byte == 32
+
+-- what stands in front of the first space, or all where there is none
+abbrev pub word_in_front : List ℕ → List ℕ
+word_in_front question = before_first is_space question
+
+-- what stands behind the first space, or nothing where there is none
+abbrev pub words_behind : List ℕ → List ℕ
+words_behind question = after_first is_space question

@@ -1,0 +1,11 @@
+//! Files of rows, by which programs of the gate test: a line `question : answer` is a case, and a line without ` : ` says
+//! what the lines below it are about. A program says how a question is answered; its cases stand in its data/.
+#![tactic(auto)]
+
+pub mod rows;
+pub mod unanswered;
+pub mod words;
+
+pub use rows::{Asked, run_file};
+pub use unanswered::Unanswered;
+pub use words::{decimal, first_word, number, number_at, numbers};
