@@ -13,6 +13,8 @@ pub enum Unanswered {
     NoWord,
     /// Nothing of that name can be asked for.
     NotKnown,
+    /// What stands in the place of an answer: the question can't be asked for this reason.
+    Because(&'static str),
     /// Memory or a file failed: no row is judged by this.
     Failed(Error),
 }
@@ -58,6 +60,7 @@ pub(crate) fn text_of(alloc: Global, answer: Result<String, Unanswered>) -> Resu
         Err(Unanswered::NotNumber) => "a word is no number",
         Err(Unanswered::NoWord) => "a word is missing",
         Err(Unanswered::NotKnown) => "nothing is asked",
+        Err(Unanswered::Because(why)) => why,
     };
     Ok(format!(in alloc; "{text}")?)
 }
