@@ -2,7 +2,7 @@
 use eh_cxa::{CleanupWords, CxaFault};
 use std::alloc::{AllocError, Global};
 
-#[derive(Clone, Copy, PartialEq, Eq, Debug)]
+#[derive(Clone, Copy, PartialEq, Eq)]
 pub enum Phase {
     Free,
     Fresh,
@@ -13,7 +13,7 @@ pub enum Phase {
 }
 
 /// What a slot holds.
-#[derive(Clone, Copy, PartialEq, Eq, Debug)]
+#[derive(Clone, Copy)]
 pub struct Held {
     pub phase: Phase,
     pub size: u32,
@@ -26,7 +26,7 @@ pub struct Held {
 }
 
 /// A cleanup in progress.
-#[derive(Clone, Copy, PartialEq, Eq, Debug)]
+#[derive(Clone, Copy)]
 pub struct Running {
     pub slot: u32,
     pub words: CleanupWords,

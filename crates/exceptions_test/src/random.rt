@@ -1,20 +1,23 @@
-//! Sequences of calls by chance, beside the model: answers, words and lists are the same after each call.
+//! Sequences of calls by chance, beside the model: answers, words and lists are the same after each call. A function that compares says
+//! whether they are.
 ghost use Rattle.std.specs.Prelude.{◌<◌};
 
-use crate::model::{Held, Model, Phase, block, object};
+use crate::model::{Held, Model, Phase, Running, block, object};
 use crate::words::{chain, empty_pool, put, word};
-use eh_bus::fault::BusMemory;
 use eh_bus::flat::FlatBus;
+use eh_cxa::layout::{
+    BARRIER_OBJECT, CLEANUP_NEXT, CLEANUP_SITE, CLEANUP_SP, COUNT, DESTRUCTOR, NEXT_CAUGHT,
+    NEXT_CLEANUP, STATE, TYPE,
+};
 use eh_cxa::pool::{slot_of_block, slot_of_object};
 use eh_cxa::{
-    BarrierWords, CleanupWords, CxaFault, Globals, allocate, begin_catch, begin_cleanup, end_catch,
+    BarrierWords, CleanupWords, Globals, allocate, begin_catch, begin_cleanup, end_catch,
     end_cleanup, free, innermost_sp, land, may_rethrow, may_throw, object_size, rethrow,
     set_barrier, start_throw, thrown,
 };
 use rand_core::Rng;
 use rand_pcg::Pcg32;
 use std::alloc::{AllocError, Global};
-use std::process::Abort;
 use std::test::Fail;
 
 /// How many sequences are tried, how many calls one has, and how many slots it can reach.
@@ -49,32 +52,29 @@ fn start(alloc: Global) -> Result<Run, Fail> {
 /// All slots are free again, whatever else stands in them.
 fn begin_again(run: &mut Run) {
     for slot in 0..REACHED {
-        put(&mut run.bus, slot, 0, 0);
+        put(&mut run.bus, slot, STATE, 0);
     }
     run.globals = Globals::start();
     run.model.clear();
 }
 
 /// Calls that take and give back slots.
-fn slots(rt: &impl Abort, run: &mut Run, dice: &mut Pcg32, slot: u32) {
+fn slots(run: &mut Run, dice: &mut Pcg32, slot: u32) -> bool {
     if roll(dice) < 12 {
         let size = roll(dice) * 26;
-        assert_eq!(rt; allocate(&mut run.bus, size), run.model.allocate(size));
+        allocate(&mut run.bus, size) == run.model.allocate(size)
     } else {
-        assert_eq!(rt; free(&mut run.bus, object(slot)), run.model.free(slot));
+        free(&mut run.bus, object(slot)) == run.model.free(slot)
     }
 }
 
-/// A throw begins, and gets its barrier.
-fn throws(rt: &impl Abort, run: &mut Run, dice: &mut Pcg32, slot: u32) {
+/// A throw begins.
+fn throws(run: &mut Run, dice: &mut Pcg32, slot: u32) -> bool {
     let (ty, destructor) = (dice.next_u32(), dice.next_u32());
     let may = may_throw(&run.bus, object(slot));
-    let thrown = run.model.throw(slot, ty, destructor);
-    assert_eq!(rt; may.is_ok(), thrown.is_ok());
-    assert_eq!(rt;
-        start_throw(&mut run.bus, &mut run.globals, object(slot), ty, destructor),
-        thrown
-    );
+    let wanted = run.model.throw(slot, ty, destructor);
+    let thrown = start_throw(&mut run.bus, &mut run.globals, object(slot), ty, destructor);
+    may.is_ok() == wanted.is_ok() && thrown == wanted
 }
 
 /// The barrier of a slot is written.
@@ -105,27 +105,24 @@ fn lands(run: &mut Run, slot: u32) {
 }
 
 /// Handlers begin.
-fn catches(rt: &impl Abort, run: &mut Run, slot: u32) -> Result<(), AllocError> {
-    let caught = run.model.catch(slot)?;
-    assert_eq!(rt;
-        begin_catch(&mut run.bus, &mut run.globals, block(slot)),
-        caught
-    );
-    Ok(())
+fn catches(run: &mut Run, slot: u32) -> Result<bool, AllocError> {
+    let wanted = run.model.catch(slot)?;
+    Ok(begin_catch(&mut run.bus, &mut run.globals, block(slot)) == wanted)
+}
+
+/// A handler throws again.
+fn throws_again(run: &mut Run) -> bool {
+    let may = may_rethrow(&run.bus, &run.globals);
+    let wanted = run.model.rethrow();
+    may == wanted && rethrow(&mut run.bus, &mut run.globals) == wanted
 }
 
 /// Handlers end or throw again.
-fn leaves(rt: &impl Abort, run: &mut Run, dice: &mut Pcg32) {
+fn leaves(run: &mut Run, dice: &mut Pcg32) -> bool {
     if roll(dice) < 8 {
-        assert_eq!(rt;
-            end_catch(&mut run.bus, &mut run.globals),
-            run.model.end_catch()
-        );
+        end_catch(&mut run.bus, &mut run.globals) == run.model.end_catch()
     } else {
-        let may = may_rethrow(&run.bus, &run.globals);
-        let thrown = run.model.rethrow();
-        assert_eq!(rt; may, thrown);
-        assert_eq!(rt; rethrow(&mut run.bus, &mut run.globals), thrown);
+        throws_again(run)
     }
 }
 
@@ -148,30 +145,27 @@ fn enters(run: &mut Run, dice: &mut Pcg32, slot: u32) -> Result<(), AllocError> 
 }
 
 /// A cleanup ends, at its landing sp or at another.
-fn ends(rt: &impl Abort, run: &mut Run, dice: &mut Pcg32) {
+fn ends(run: &mut Run, dice: &mut Pcg32) -> bool {
     let sp = match innermost_sp(&run.bus, &run.globals) {
         Some(sp) if roll(dice) < 12 => sp,
         Some(_) | None => roll(dice),
     };
-    assert_eq!(rt;
-        end_cleanup(&mut run.bus, &mut run.globals, sp),
-        run.model.end_cleanup(sp)
-    );
+    end_cleanup(&mut run.bus, &mut run.globals, sp) == run.model.end_cleanup(sp)
 }
 
-/// One call of those that chance names, for this slot.
-fn call(rt: &impl Abort, run: &mut Run, dice: &mut Pcg32, slot: u32) -> Result<(), AllocError> {
+/// One call of those that chance names, for this slot: whether it answers what the model does.
+fn answers(run: &mut Run, dice: &mut Pcg32, slot: u32) -> Result<bool, AllocError> {
     match roll(dice) / 2 {
-        0 => slots(rt, run, dice, slot),
-        1 => throws(rt, run, dice, slot),
+        0 => return Ok(slots(run, dice, slot)),
+        1 => return Ok(throws(run, dice, slot)),
         2 => barriers(run, dice, slot),
         3 => lands(run, slot),
-        4 => catches(rt, run, slot)?,
-        5 => leaves(rt, run, dice),
+        4 => return catches(run, slot),
+        5 => return Ok(leaves(run, dice)),
         6 => enters(run, dice, slot)?,
-        _ => ends(rt, run, dice),
+        _ => return Ok(ends(run, dice)),
     }
-    Ok(())
+    Ok(true)
 }
 
 /// The state word of a phase.
@@ -195,85 +189,100 @@ fn signed(word: u32) -> i64 {
     }
 }
 
-/// The words of a slot say what the model holds.
-fn same_slot(rt: &impl Abort, bus: &FlatBus, slot: u32, held: Held) {
-    assert_eq!(rt; word(bus, slot, 0), state_word(held.phase));
-    if held.phase == Phase::Free {
-        return;
-    }
-    assert_eq!(rt; word(bus, slot, 2), held.ty);
-    assert_eq!(rt; word(bus, slot, 3), held.destructor);
-    assert_eq!(rt; signed(word(bus, slot, 4)), held.handlers);
-    assert_eq!(rt; word(bus, slot, 19), held.given);
+/// The header of a slot, its count with its sign, and what its handler is given.
+fn is_header(bus: &FlatBus, slot: u32, held: &Held) -> bool {
+    word(bus, slot, TYPE) == held.ty
+        && word(bus, slot, DESTRUCTOR) == held.destructor
+        && signed(word(bus, slot, COUNT)) == held.handlers
+        && word(bus, slot, BARRIER_OBJECT) == held.given
+}
+
+/// The size of a slot's object, and what a throw of it says.
+fn is_thrown(bus: &FlatBus, slot: u32, held: &Held) -> bool {
     let at = object(slot);
-    if let Some(_) = slot_of_object(at) {
-        assert_eq!(rt; object_size(bus, at), held.size);
-    }
     let ucb = block(slot);
-    if let Some(_) = slot_of_block(ucb) {
-        assert_eq!(rt; thrown(bus, ucb), (at, held.ty));
+    if let (Some(_), Some(_)) = (slot_of_object(at), slot_of_block(ucb)) {
+        object_size(bus, at) == held.size && thrown(bus, ucb) == (at, held.ty)
+    } else {
+        false
     }
+}
+
+/// The words of a slot say what the model holds.
+fn is_slot(bus: &FlatBus, slot: u32, held: &Held) -> bool {
+    word(bus, slot, STATE) == state_word(held.phase)
+        && (held.phase == Phase::Free || (is_header(bus, slot, held) && is_thrown(bus, slot, held)))
+}
+
+/// The words of a cleanup in progress.
+fn is_cleanup(bus: &FlatBus, slot: u32, running: &Running) -> bool {
+    slot == running.slot
+        && word(bus, slot, CLEANUP_NEXT) == running.words.next
+        && word(bus, slot, CLEANUP_SP) == running.words.sp
+        && word(bus, slot, CLEANUP_SITE) == running.words.site
+}
+
+/// The slots of a chain are those of the cleanups in progress, with their words.
+fn are_cleanups(bus: &FlatBus, slots: &[u32], wanted: &[Running]) -> bool {
+    if slots.len() != wanted.len() {
+        return false;
+    }
+    for (slot, running) in slots.iter().zip(wanted) {
+        if !is_cleanup(bus, *slot, running) {
+            return false;
+        }
+    }
+    true
 }
 
 /// Both chains run as the model's lists, and as many are uncaught.
-fn same_lists(rt: &impl Abort, alloc: Global, run: &Run) -> Result<(), AllocError> {
-    let caught = chain(alloc, &run.bus, run.globals.caught, 5)?;
-    assert_eq!(rt; caught.as_slice(), run.model.caught.as_slice());
-    let cleanups = chain(alloc, &run.bus, run.globals.cleanup, 27)?;
-    assert_eq!(rt; cleanups.len(), run.model.cleanups.len());
-    for (slot, running) in cleanups
-        .as_slice()
-        .iter()
-        .zip(run.model.cleanups.as_slice())
-    {
-        assert_eq!(rt; *slot, running.slot);
-        assert_eq!(rt; word(&run.bus, *slot, 24), running.words.next);
-        assert_eq!(rt; word(&run.bus, *slot, 25), running.words.sp);
-        assert_eq!(rt; word(&run.bus, *slot, 26), running.words.site);
-    }
-    assert_eq!(rt; run.globals.uncaught, run.model.uncaught);
-    Ok(())
+fn are_lists(alloc: Global, run: &Run) -> Result<bool, AllocError> {
+    let caught = chain(alloc, &run.bus, run.globals.caught, NEXT_CAUGHT)?;
+    let cleanups = chain(alloc, &run.bus, run.globals.cleanup, NEXT_CLEANUP)?;
+    Ok(
+        caught.as_slice() == run.model.caught.as_slice()
+            && are_cleanups(&run.bus, cleanups.as_slice(), run.model.cleanups.as_slice())
+            && run.globals.uncaught == run.model.uncaught,
+    )
 }
 
-/// The number uncaught is that of the exceptions that fly or have landed.
-fn uncaught_fly(rt: &impl Abort, run: &Run) {
+/// The words of each slot say what the model holds, and the number uncaught is that of the exceptions that fly or have landed.
+fn are_slots(run: &Run) -> bool {
     let mut flying = 0u32;
     for slot in 0..REACHED {
         let held = run.model.at(slot);
+        if !is_slot(&run.bus, slot, &held) {
+            return false;
+        }
         if held.phase == Phase::Flying || held.phase == Phase::Landed {
             flying = flying.wrapping_add(1);
         }
     }
-    assert_eq!(rt; run.globals.uncaught, flying);
+    run.globals.uncaught == flying
 }
 
-/// One sequence: after each call the slot that was named and the lists are compared, and all slots at its end.
-fn sequence(
-    rt: &impl Abort,
-    alloc: Global,
-    run: &mut Run,
-    dice: &mut Pcg32,
-) -> Result<(), AllocError> {
+/// One sequence: whether each call answers what the model does, with the slot that it names and the lists as the model has them behind it,
+/// and all slots at the end.
+fn is_sequence(alloc: Global, run: &mut Run, dice: &mut Pcg32) -> Result<bool, AllocError> {
     begin_again(run);
     for _ in 0..CALLS {
         let slot = roll(dice) / 4;
-        call(rt, run, dice, slot)?;
-        same_slot(rt, &run.bus, slot, run.model.at(slot));
-        same_lists(rt, alloc, run)?;
+        let answers = answers(run, dice, slot)?;
+        let held = run.model.at(slot);
+        if !answers || !is_slot(&run.bus, slot, &held) || !are_lists(alloc, run)? {
+            return Ok(false);
+        }
     }
-    for slot in 0..REACHED {
-        same_slot(rt, &run.bus, slot, run.model.at(slot));
-    }
-    uncaught_fly(rt, run);
-    Ok(())
+    Ok(are_slots(run))
 }
 
 #[test]
 fn sequences_do_what_the_model_does(rt: HostRuntime) -> Result<(), Fail> {
     let mut dice = Pcg32::new(0x2545_f491, 0);
     let mut run = start(rt.alloc())?;
-    for _ in 0..SEQUENCES {
-        sequence(&rt, rt.alloc(), &mut run, &mut dice)?;
+    for number in 0..SEQUENCES {
+        let is_same = is_sequence(rt.alloc(), &mut run, &mut dice)?;
+        assert!(rt; is_same, "sequence {number}");
     }
     Ok(())
 }

@@ -1,19 +1,17 @@
 //! The text of traces, as docs/exceptions.md has it.
-ghost use Rattle.std.specs.Prelude.{◌≡◌, ◌≤◌, ◌==◌, if◌then◌else◌, []};
+ghost use Rattle.std.specs.Prelude.{◌==◌, if◌then◌else◌, []};
 
-use eh_trace::{Event, EventKind, Events, TraceMemory, TypeNames, trace_lines};
+use eh_trace::{Event, EventKind, Events, TypeNames, trace_lines};
 use eh_word::Name;
-use elf_image::{Image, ImageFault, read_image};
+use elf_image::read_image;
 use elf_write::parts::{
     ImageParts, OwnBytes, OwnSegment, OwnSegments, OwnSymbol, OwnSymbols, SymbolKind,
 };
 use elf_write::write_image;
 use std::alloc::{AllocError, Global};
-use std::process::Abort;
 use std::test::Fail;
 
 /// Two types with a name.
-#[derive(Drop)]
 struct TwoNames<'a> {
     short: &'a [u8],
     long: &'a [u8],
@@ -38,187 +36,251 @@ const NAMES: TwoNames<'static> = TwoNames {
     long: b"St9exception\x7f of a name that is longer than sixty-four bytes, which is the limit",
 };
 
-/// A function's symbol.
-fn function(alloc: Global, name: &[u8], value: u32, size: u32) -> Result<OwnSymbol, AllocError> {
-    Ok(OwnSymbol {
-        name: Name::of_vec(Vec::from_slice(alloc, name)?),
-        value,
-        size,
-        kind: SymbolKind::Function,
-    })
+/// The functions main, f, g, and one with a blank in its name: where they stand, and how many bytes they have.
+static FUNCTIONS: [(&[u8], u32, u32); 4] = [
+    (b"main", 0x8000, 0x1c),
+    (b"f", 0x801c, 0x18),
+    (b"g", 0x8034, 0x14),
+    (b"a b", 0x8048, 0x10),
+];
+
+/// Their symbols.
+fn symbols(alloc: Global) -> Result<Vec<OwnSymbol>, AllocError> {
+    let mut symbols = Vec::new(alloc);
+    for (name, value, size) in &FUNCTIONS {
+        symbols.push(OwnSymbol {
+            name: Name::of_vec(Vec::from_slice(alloc, name)?),
+            value: *value,
+            size: *size,
+            kind: SymbolKind::Function,
+        })?;
+    }
+    Ok(symbols)
 }
 
-/// The parts of an image with the functions main, f, g, and one with a blank in its name.
-fn parts(alloc: Global) -> Result<ImageParts, AllocError> {
-    let mut segments = Vec::new(alloc);
-    segments.push(OwnSegment {
+/// The segment in which they stand.
+fn segment(alloc: Global) -> Result<OwnSegment, AllocError> {
+    Ok(OwnSegment {
         start: 0x8000,
         bytes: OwnBytes::of_vec(Vec::from_slice(alloc, &[0u8; 4])?),
         size: 0x100,
         write: false,
         exec: true,
-    })?;
-    let mut symbols = Vec::new(alloc);
-    symbols.push(function(alloc, b"main", 0x8000, 0x1c)?)?;
-    symbols.push(function(alloc, b"f", 0x801c, 0x18)?)?;
-    symbols.push(function(alloc, b"g", 0x8034, 0x14)?)?;
-    symbols.push(function(alloc, b"a b", 0x8048, 0x10)?)?;
-    Ok(ImageParts {
-        entry: 0x8000,
-        segments: OwnSegments::of_vec(segments),
-        symbols: OwnSymbols::of_vec(symbols),
-        index: (0, 0),
     })
 }
 
-/// The file of that image.
-fn file(alloc: Global) -> Result<Vec<u8>, ImageFault> {
-    write_image(alloc, &parts(alloc)?)
+/// The file of an image with these functions, where it can be written.
+fn file(alloc: Global) -> Result<Option<Vec<u8>>, AllocError> {
+    let segment = segment(alloc)?;
+    let parts = ImageParts {
+        entry: 0x8000,
+        segments: OwnSegments::of_vec(vec![in alloc; segment]?),
+        symbols: OwnSymbols::of_vec(symbols(alloc)?),
+        index: (0, 0),
+    };
+    Ok(write_image(alloc, &parts).ok())
 }
 
-fn thrown(kind: EventKind, object: u32, ty: u32, bytes: [u8; 16], count: u32) -> Event {
-    Event {
-        kind,
-        a: object,
-        b: ty,
-        c: 0,
-        bytes,
-        count,
-    }
-}
-
-fn entered(kind: EventKind, pad: u32, sp: u32, object: u32) -> Event
-    ensures { result.count ≡ 0 }
-{
-    Event {
-        kind,
-        a: pad,
-        b: sp,
-        c: object,
-        bytes: [0; 16],
-        count: 0,
-    }
-}
-
-/// Four bytes of a number, the lowest first.
+/// Four bytes of a number, the lowest first, and what stands behind them.
 const SEVEN: [u8; 16] = [7, 0, 0, 0, 9, 9, 9, 9, 9, 9, 9, 9, 9, 9, 9, 9];
 
-fn throw(object: u32) -> Event {
-    thrown(EventKind::Throw, object, 0x9000, SEVEN, 4)
-}
+const THROW: Event = Event {
+    kind: EventKind::Throw,
+    a: 0x3800_0080,
+    b: 0x9000,
+    c: 0,
+    bytes: SEVEN,
+    count: 4,
+};
 
-/// These events, pushed one after the other.
-fn events(rt: &impl Abort, alloc: Global, list: &[Event]) -> Result<Events, TraceMemory> {
+const SECOND_THROW: Event = Event {
+    kind: EventKind::Throw,
+    a: 0x3800_0280,
+    b: 0x9000,
+    c: 0,
+    bytes: SEVEN,
+    count: 4,
+};
+
+const CATCH: Event = Event {
+    kind: EventKind::Catch,
+    a: 0x800a,
+    b: 0x3fff_fff0,
+    c: 0x3800_0080,
+    bytes: SEVEN,
+    count: 0,
+};
+
+const CLEANUP: Event = Event {
+    kind: EventKind::Cleanup,
+    a: 0x803c,
+    b: 0x3fff_ffe8,
+    c: 0,
+    bytes: SEVEN,
+    count: 0,
+};
+
+const VIOLATED: Event = Event {
+    kind: EventKind::Unexpected,
+    a: 0x800a,
+    b: 0x3fff_fff0,
+    c: 0,
+    bytes: SEVEN,
+    count: 0,
+};
+
+/// Events and their lines: throws that are caught, run a cleanup, leave one, and violate a specification.
+static ROWS: [(&[Event], &[u8]); 10] = [
+    (
+        &[THROW, CATCH],
+        b"throw 38000080 i 07000000\ncatch main+A sp 3FFFFFF0 object 38000080\n",
+    ),
+    (
+        &[THROW, CLEANUP, CATCH],
+        b"throw 38000080 i 07000000\ncleanup g+8 sp 3FFFFFE8\ncatch main+A sp 3FFFFFF0 object 38000080\n",
+    ),
+    (
+        &[THROW, CLEANUP, SECOND_THROW],
+        b"throw 38000080 i 07000000\ncleanup g+8 sp 3FFFFFE8\nthrow 38000280 i 07000000\n",
+    ),
+    (
+        &[THROW, CLEANUP, VIOLATED],
+        b"throw 38000080 i 07000000\ncleanup g+8 sp 3FFFFFE8\nunexpected main+A sp 3FFFFFF0\n",
+    ),
+    // objects without bytes and with more than sixteen, names that are empty, long or not printed, and places in no function
+    (
+        &[Event {
+            kind: EventKind::Rethrow,
+            a: 0x3800_7e80,
+            b: 0,
+            c: 0,
+            bytes: SEVEN,
+            count: 0,
+        }],
+        b"rethrow 38007E80 ? -\n",
+    ),
+    (
+        &[Event {
+            kind: EventKind::Throw,
+            a: 0,
+            b: 0x9004,
+            c: 0,
+            bytes: SEVEN,
+            count: 16,
+        }],
+        b"throw 00000000 St9exception??of?a?name?that?is?longer?than?sixty-four?bytes,?wh 07000000090909090909090909090909\n",
+    ),
+    (
+        &[Event {
+            kind: EventKind::Cleanup,
+            a: 0x8048,
+            b: 0xffff_ffff,
+            c: 0,
+            bytes: SEVEN,
+            count: 0,
+        }],
+        b"cleanup a?b+0 sp FFFFFFFF\n",
+    ),
+    (
+        &[Event {
+            kind: EventKind::Cleanup,
+            a: 0x8058,
+            b: 0,
+            c: 0,
+            bytes: SEVEN,
+            count: 0,
+        }],
+        b"cleanup ?+8058 sp 00000000\n",
+    ),
+    (
+        &[Event {
+            kind: EventKind::Catch,
+            a: 0xabcd_ef00,
+            b: 0x10,
+            c: 0x9abc,
+            bytes: SEVEN,
+            count: 0,
+        }],
+        b"catch ?+ABCDEF00 sp 00000010 object 00009ABC\n",
+    ),
+    (
+        &[Event {
+            kind: EventKind::Unexpected,
+            a: 0,
+            b: 0,
+            c: 0,
+            bytes: SEVEN,
+            count: 0,
+        }],
+        b"unexpected ?+0 sp 00000000\n",
+    ),
+];
+
+/// These events, one behind the other.
+fn events(alloc: Global, list: &[Event]) -> Result<Events, Fail> {
     let mut events = Events::reserve(alloc)?;
-    for e in list {
-        assert!(rt; e.count <= 16);
-        events.push(*e);
+    for event in list {
+        if event.count <= 16 {
+            events.push(*event);
+        }
     }
     Ok(events)
 }
 
-/// The text of these events.
-fn text(rt: &impl Abort, alloc: Global, list: &[Event]) -> Result<Vec<u8>, Fail> {
-    let file = file(alloc)?;
+/// Adds an event so many times.
+fn push(events: &mut Events, event: Event, times: u32) {
+    if event.count <= 16 {
+        for _ in 0..times {
+            events.push(event);
+        }
+    }
+}
+
+/// The lines of these events.
+fn lines(alloc: Global, events: &Events) -> Result<Vec<u8>, Fail> {
+    let file = file(alloc)?.ok_or("no image")?;
     let image = read_image(alloc, &file)?;
-    Ok(trace_lines(alloc, &image, &NAMES, &events(rt, alloc, list)?)?)
+    Ok(trace_lines(alloc, &image, &NAMES, events)?)
 }
 
-/// Throws that are caught, run a cleanup, leave one, and violate a specification.
 #[test]
-fn lines_of_throws(rt: HostRuntime) -> Result<(), Fail> {
-    let catch = entered(EventKind::Catch, 0x800a, 0x3fff_fff0, 0x3800_0080);
-    let cleanup = entered(EventKind::Cleanup, 0x803c, 0x3fff_ffe8, 0);
-    let violated = entered(EventKind::Unexpected, 0x800a, 0x3fff_fff0, 0);
-    let rows: [(&[Event], &[u8]); 4] = [
-        (
-            &[throw(0x3800_0080), catch],
-            b"throw 38000080 i 07000000\ncatch main+A sp 3FFFFFF0 object 38000080\n",
-        ),
-        (
-            &[throw(0x3800_0080), cleanup, catch],
-            b"throw 38000080 i 07000000\ncleanup g+8 sp 3FFFFFE8\ncatch main+A sp 3FFFFFF0 object 38000080\n",
-        ),
-        (
-            &[throw(0x3800_0080), cleanup, throw(0x3800_0280)],
-            b"throw 38000080 i 07000000\ncleanup g+8 sp 3FFFFFE8\nthrow 38000280 i 07000000\n",
-        ),
-        (
-            &[throw(0x3800_0080), cleanup, violated],
-            b"throw 38000080 i 07000000\ncleanup g+8 sp 3FFFFFE8\nunexpected main+A sp 3FFFFFF0\n",
-        ),
-    ];
-    for (list, want) in rows {
-        assert_eq!(rt; text(&rt, rt.alloc(), list)?.as_slice(), want);
+fn lines_of_events(rt: HostRuntime) -> Result<(), Fail> {
+    for (list, want) in &ROWS {
+        let events = events(rt.alloc(), list)?;
+        let lines = lines(rt.alloc(), &events)?;
+        assert_eq!(rt; lines.as_slice(), *want);
     }
     Ok(())
 }
 
-/// Objects without bytes and with more than sixteen, names that are empty, long or not printed, and places in no function.
-#[test]
-fn lines_of_odd_events(rt: HostRuntime) -> Result<(), Fail> {
-    let rows = [
-        (
-            thrown(EventKind::Rethrow, 0x3800_7e80, 0, SEVEN, 0),
-            b"rethrow 38007E80 ? -\n".as_slice(),
-        ),
-        (
-            thrown(EventKind::Throw, 0, 0x9004, SEVEN, 16),
-            b"throw 00000000 St9exception??of?a?name?that?is?longer?than?sixty-four?bytes,?wh 07000000090909090909090909090909\n".as_slice(),
-        ),
-        (
-            entered(EventKind::Cleanup, 0x8048, 0xffff_ffff, 0),
-            b"cleanup a?b+0 sp FFFFFFFF\n".as_slice(),
-        ),
-        (
-            entered(EventKind::Cleanup, 0x8058, 0, 0),
-            b"cleanup ?+8058 sp 00000000\n".as_slice(),
-        ),
-        (
-            entered(EventKind::Catch, 0xabcd_ef00, 0x10, 0x9abc),
-            b"catch ?+ABCDEF00 sp 00000010 object 00009ABC\n".as_slice(),
-        ),
-        (
-            entered(EventKind::Unexpected, 0, 0, 0),
-            b"unexpected ?+0 sp 00000000\n".as_slice(),
-        ),
-    ];
-    for (event, want) in rows {
-        assert_eq!(rt; text(&rt, rt.alloc(), &[event])?.as_slice(), want);
-    }
-    Ok(())
+/// How many events of each kind there were: throws, rethrows, cleanups, catches, specifications that were violated.
+fn totals(events: &Events) -> [u64; 5] {
+    [
+        events.total(EventKind::Throw),
+        events.total(EventKind::Rethrow),
+        events.total(EventKind::Cleanup),
+        events.total(EventKind::Catch),
+        events.total(EventKind::Unexpected),
+    ]
 }
 
-/// 10,000 events are kept, and all are counted.
+/// Many events: how many are kept and of each kind, how many bytes their lines have, and whether the last one tells of three more.
+fn told(alloc: Global, events: &Events) -> Result<(usize, [u64; 5], usize, bool), Fail> {
+    let lines = lines(alloc, events)?;
+    let tells = lines.as_slice().ends_with(b"and 3 more events\n");
+    Ok((events.kept().len(), totals(events), lines.len(), tells))
+}
+
+/// 10,000 events are kept, and all are counted: the line of the throw has 26 bytes, those of cleanups 24, and the last one 18.
 #[test]
 fn later_events_are_counted(rt: HostRuntime) -> Result<(), Fail> {
-    let mut list = events(&rt, rt.alloc(), &[throw(0x3800_0080)])?;
-    let cleanup = entered(EventKind::Cleanup, 0x803c, 0x3fff_ffe8, 0);
-    for _ in 0..9_999 {
-        list.push(cleanup);
-    }
-    assert_eq!(rt; list.kept().len(), 10_000);
-    let file = file(rt.alloc())?;
-    let image = read_image(rt.alloc(), &file)?;
-    let short = trace_lines(rt.alloc(), &image, &NAMES, &list)?;
-    assert_eq!(rt; short.len(), 26 + 9_999 * 24);
-    for _ in 0..3 {
-        list.push(entered(EventKind::Catch, 0x800a, 0, 0));
-    }
-    let long = trace_lines(rt.alloc(), &image, &NAMES, &list)?;
-    assert_eq!(rt; long.len(), short.len() + 18);
-    assert!(rt; long.as_slice().ends_with(b"and 3 more events\n"));
-    assert_eq!(rt;
-        (list.total(EventKind::Throw), list.total(EventKind::Cleanup)),
-        (1, 9_999)
-    );
-    assert_eq!(rt;
-        (
-            list.total(EventKind::Catch),
-            list.total(EventKind::Rethrow),
-            list.total(EventKind::Unexpected)
-        ),
-        (3, 0, 0)
-    );
+    let mut list = events(rt.alloc(), &[THROW])?;
+    push(&mut list, CLEANUP, 9_999);
+    let bytes = 26 + 9_999 * 24;
+    let all = (10_000, [1, 0, 9_999, 0, 0], bytes, false);
+    assert_eq!(rt; told(rt.alloc(), &list)?, all);
+    push(&mut list, CATCH, 3);
+    let all = (10_000, [1, 0, 9_999, 3, 0], bytes + 18, true);
+    assert_eq!(rt; told(rt.alloc(), &list)?, all);
     Ok(())
 }

@@ -1,5 +1,4 @@
 //! A bus with an empty pool, and words of slots by number, for the tests of this crate.
-use eh_bus::bus::Bus;
 use eh_bus::fault::BusMemory;
 use eh_bus::flat::FlatBus;
 use eh_cxa::layout::{SLOT_WORDS, SLOTS};
@@ -9,15 +8,6 @@ use std::alloc::{AllocError, Global};
 /// A bus without segments of an image: stack and pool, all zeros.
 pub fn empty_pool(alloc: Global) -> Result<FlatBus, BusMemory> {
     FlatBus::build(alloc, &[])
-}
-
-/// The word at an address of the pool.
-pub fn load(bus: &FlatBus, at: u32) -> Option<u32> {
-    if at % 4 == 0 && at >= 0x3800_0000 && at < 0x3800_8000 {
-        Some(bus.host_load32(at))
-    } else {
-        None
-    }
 }
 
 /// Word `k` of a slot, and 0 of what isn't there.

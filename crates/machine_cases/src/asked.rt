@@ -1,0 +1,240 @@
+//! What can be asked of a machine, one command behind the other. A number is hexadecimal, the name of a symbol, or A/N: the address of word
+//! N of the table that covers A.
+use crate::code::Code;
+use crate::desk::Desk;
+use crate::{answers, hostile, landing, stacks, stops};
+use case_rows::{Unanswered, first_word, number};
+use eh_cxa::Globals;
+use eh_machine::Turned;
+use std::alloc::Global;
+
+/// The number that a word stands for.
+fn value(code: &Code, word: &str) -> Result<u32, Unanswered> {
+    if word.starts_with('_') {
+        return code.symbol(word);
+    }
+    match word.split_once('/') {
+        Some((site, place)) => {
+            let table = code.table_of(number(site)?)?;
+            Ok(table.wrapping_add(number(place)?.wrapping_mul(4)))
+        }
+        None => number(word),
+    }
+}
+
+/// The numbers that words stand for.
+fn values(alloc: Global, code: &Code, words: &str) -> Result<Vec<u32>, Unanswered> {
+    let mut values = Vec::new(alloc);
+    if words.is_empty() {
+        return Ok(values);
+    }
+    for word in words.split(' ') {
+        values.push(value(code, word)?)?;
+    }
+    Ok(values)
+}
+
+/// The answers to commands with `; ` between them, over a machine of this code at its start.
+pub fn answer_all<'c>(
+    alloc: Global,
+    code: &'c Code<'c>,
+    commands: &str,
+) -> Result<String, Unanswered> {
+    let mut desk = Desk::start(alloc, code)?;
+    let mut all = String::new(alloc);
+    for command in commands.split("; ") {
+        let (what, rest) = first_word(command);
+        let given = values(alloc, code, rest)?;
+        let answer = answer(alloc, &mut desk, what, given.as_slice())?;
+        answers::push(&mut all, answer.as_str())?;
+    }
+    Ok(all)
+}
+
+fn answer(alloc: Global, desk: &mut Desk, what: &str, given: &[u32]) -> Result<String, Unanswered> {
+    match what {
+        "parts" => from_parts(alloc, desk),
+        "reg" => set_reg(alloc, desk, given),
+        "put" => put(alloc, desk, given),
+        "every" => put_every(alloc, desk, given),
+        "heads" => set_heads(alloc, desk, given),
+        "run" => run(alloc, desk, given),
+        "turns" => turns(alloc, desk, given),
+        "fly" => landing::fly_object(alloc, desk, given),
+        "fly-base" => landing::fly_base(alloc, desk, given),
+        "at-gate" => hostile::at_gate(alloc, desk, given),
+        "any-word" => hostile::any_word(alloc, desk, given),
+        "any-head" => hostile::any_head(alloc, desk, given),
+        "stops" => stops::stops(alloc, desk, given),
+        "stacks" => stacks::stacks(alloc, desk, given),
+        _ => told(alloc, desk, what, given),
+    }
+}
+
+/// What stands in a machine.
+fn told(alloc: Global, desk: &Desk, what: &str, given: &[u32]) -> Result<String, Unanswered> {
+    match what {
+        "left" => left(alloc, desk),
+        "regs" => regs(alloc, desk, given),
+        "globals" => globals(alloc, desk),
+        "chains" => chains(alloc, desk),
+        "words" => words(alloc, desk, given),
+        "events" => events(alloc, desk),
+        "first-event" => first_event(alloc, desk),
+        "text" => text(alloc, desk),
+        "kept" => kept(alloc, desk),
+        "well" => hostile::well(alloc, desk, given),
+        "lands" => landing::lands(alloc, desk, given),
+        "place" => landing::place(alloc, desk, given),
+        _ => Err(Unanswered::NotKnown),
+    }
+}
+
+/// `parts`: the machine is one from the parts of its start.
+fn from_parts(alloc: Global, desk: &mut Desk) -> Result<String, Unanswered> {
+    *desk = Desk::from_parts(alloc, desk.machine.accepted)?;
+    Ok(answers::nothing(alloc))
+}
+
+/// `reg NUMBER VALUE`: a register; F is pc.
+fn set_reg(alloc: Global, desk: &mut Desk, given: &[u32]) -> Result<String, Unanswered> {
+    let [number, value] = given else {
+        return Err(Unanswered::NoWord);
+    };
+    desk.set_reg(*number, *value);
+    Ok(answers::nothing(alloc))
+}
+
+/// `put SLOT K VALUE`: word K of a slot.
+fn put(alloc: Global, desk: &mut Desk, given: &[u32]) -> Result<String, Unanswered> {
+    let [slot, k, value] = given else {
+        return Err(Unanswered::NoWord);
+    };
+    desk.put(*slot, *k, *value);
+    Ok(answers::nothing(alloc))
+}
+
+/// `every K VALUE`: word K of each slot.
+fn put_every(alloc: Global, desk: &mut Desk, given: &[u32]) -> Result<String, Unanswered> {
+    let [k, value] = given else {
+        return Err(Unanswered::NoWord);
+    };
+    for slot in 0..64 {
+        desk.put(slot, *k, *value);
+    }
+    Ok(answers::nothing(alloc))
+}
+
+/// `heads CAUGHT CLEANUP UNCAUGHT`: the heads of the caught stack and of the cleanups, and how many are uncaught.
+fn set_heads(alloc: Global, desk: &mut Desk, given: &[u32]) -> Result<String, Unanswered> {
+    let [caught, cleanup, uncaught] = given else {
+        return Err(Unanswered::NoWord);
+    };
+    desk.machine.core.globals = Globals {
+        caught: *caught,
+        cleanup: *cleanup,
+        uncaught: *uncaught,
+    };
+    Ok(answers::nothing(alloc))
+}
+
+/// `run MOST`: how a run of at most so many events ends, if it does.
+fn run(alloc: Global, desk: &mut Desk, given: &[u32]) -> Result<String, Unanswered> {
+    let [most] = given else {
+        return Err(Unanswered::NoWord);
+    };
+    desk.go(alloc, u64::from(*most));
+    Ok(answers::end(alloc, desk.end)?)
+}
+
+/// `turns MOST`: how many of so many events went, and what the last one did.
+fn turns(alloc: Global, desk: &mut Desk, given: &[u32]) -> Result<String, Unanswered> {
+    let [most] = given else {
+        return Err(Unanswered::NoWord);
+    };
+    let mut went = 0u32;
+    let mut last = Turned::Went;
+    for _ in 0..*most {
+        last = desk.turn(alloc);
+        if last != Turned::Went {
+            break;
+        }
+        went = went.saturating_add(1);
+    }
+    let last = answers::turned(alloc, last)?;
+    Ok(format!(in alloc; "{went:X} and {last}")?)
+}
+
+/// `left`: what is left of the budget.
+fn left(alloc: Global, desk: &Desk) -> Result<String, Unanswered> {
+    let left = desk.machine.left;
+    Ok(format!(in alloc; "{left:X} left")?)
+}
+
+/// `regs NUMBERS..`: these registers.
+fn regs(alloc: Global, desk: &Desk, given: &[u32]) -> Result<String, Unanswered> {
+    let mut values = Vec::new(alloc);
+    for number in given {
+        values.push(desk.reg(*number))?;
+    }
+    Ok(answers::words(alloc, values.as_slice())?)
+}
+
+/// `globals`: the heads of the caught stack and of the cleanups, and how many are uncaught.
+fn globals(alloc: Global, desk: &Desk) -> Result<String, Unanswered> {
+    let globals = desk.machine.core.globals;
+    let words = [globals.caught, globals.cleanup, globals.uncaught];
+    Ok(answers::words(alloc, &words)?)
+}
+
+/// `chains`: the heads of the caught stack and of the cleanups.
+fn chains(alloc: Global, desk: &Desk) -> Result<String, Unanswered> {
+    let globals = desk.machine.core.globals;
+    Ok(answers::words(alloc, &[globals.caught, globals.cleanup])?)
+}
+
+/// `words KS..`: these words of the first slot.
+fn words(alloc: Global, desk: &Desk, given: &[u32]) -> Result<String, Unanswered> {
+    let mut values = Vec::new(alloc);
+    for k in given {
+        values.push(desk.word(0, *k))?;
+    }
+    Ok(answers::words(alloc, values.as_slice())?)
+}
+
+/// `events`: those that are kept.
+fn events(alloc: Global, desk: &Desk) -> Result<String, Unanswered> {
+    let mut all = String::new(alloc);
+    for event in desk.machine.events().kept() {
+        let event = answers::event(alloc, event)?;
+        answers::push(&mut all, event.as_str())?;
+    }
+    if all.is_empty() {
+        all.push_str("no events")?;
+    }
+    Ok(all)
+}
+
+/// `first-event`: the first of them.
+fn first_event(alloc: Global, desk: &Desk) -> Result<String, Unanswered> {
+    match desk.machine.events().kept().first() {
+        Some(event) => Ok(answers::event(alloc, event)?),
+        None => Err(Unanswered::NotKnown),
+    }
+}
+
+/// `text`: what was written.
+fn text(alloc: Global, desk: &Desk) -> Result<String, Unanswered> {
+    let mut text = String::new(alloc);
+    text.push('"')?;
+    for byte in desk.out.written.as_slice() {
+        text.push(char::from(*byte))?;
+    }
+    text.push('"')?;
+    Ok(text)
+}
+
+/// `kept`: whether registers and heads are as before the last run.
+fn kept(alloc: Global, desk: &Desk) -> Result<String, Unanswered> {
+    Ok(answers::yes_or_no(alloc, desk.machine.core == desk.before)?)
+}

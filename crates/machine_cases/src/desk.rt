@@ -1,0 +1,145 @@
+//! A machine that something is put into and that goes on, with what it wrote. No function here says anything of a run in a clause.
+use crate::code::Code;
+use case_rows::Unanswered;
+use eh_bus::bus::Bus;
+use eh_bus::paged::PagedBus;
+use eh_cxa::layout::{SLOT_WORDS, SLOTS};
+use eh_cxa::pool;
+use eh_machine::{Core, Machine, Turned, start_parts, turn};
+use eh_port::{Bytes, CallNumbers, MemSink, SureSource};
+use std::alloc::{AllocError, Global};
+use thumb_core::ends::End;
+
+/// How its last run ended, if it did, and the registers and heads before that run.
+#[derive(Drop)]
+pub struct Desk<'c> {
+    pub machine: Machine<'c, Code<'c>, PagedBus>,
+    pub out: MemSink,
+    pub end: End,
+    pub before: Core,
+}
+
+/// An empty input.
+fn source(alloc: Global) -> SureSource {
+    SureSource {
+        left: Bytes::of_vec(Vec::new(alloc)),
+    }
+}
+
+/// An output that never fails.
+fn sink(alloc: Global) -> MemSink {
+    MemSink {
+        written: Bytes::of_vec(Vec::new(alloc)),
+        next: 1,
+        failing: CallNumbers::of_vec(Vec::new(alloc)),
+        faults: 0,
+    }
+}
+
+/// One event of a machine.
+fn turn_once(
+    machine: &mut Machine<Code, PagedBus>,
+    input: &mut SureSource,
+    out: &mut MemSink,
+) -> Turned {
+    turn(
+        machine.accepted,
+        &mut machine.core,
+        &mut machine.shared,
+        &mut machine.events,
+        input,
+        out,
+    )
+}
+
+impl<'c> Desk<'c> {
+    fn of(alloc: Global, machine: Machine<'c, Code<'c>, PagedBus>) -> Desk<'c> {
+        let before = machine.core;
+        Desk {
+            machine,
+            out: sink(alloc),
+            end: End::Budget,
+            before,
+        }
+    }
+
+    /// A machine at its start.
+    pub fn start(alloc: Global, code: &'c Code<'c>) -> Result<Desk<'c>, Unanswered> {
+        match Machine::start(alloc, code, 0) {
+            Ok(machine) => Ok(Desk::of(alloc, machine)),
+            Err(_fault) => Err(Unanswered::from(AllocError)),
+        }
+    }
+
+    /// A machine from the parts of its start.
+    pub fn from_parts(alloc: Global, code: &'c Code<'c>) -> Result<Desk<'c>, Unanswered> {
+        let Ok((core, shared, _events)) = start_parts(alloc, code) else {
+            return Err(Unanswered::from(AllocError));
+        };
+        match Machine::from_parts(alloc, code, core, shared, 0) {
+            Ok(machine) => Ok(Desk::of(alloc, machine)),
+            Err(_fault) => Err(Unanswered::from(AllocError)),
+        }
+    }
+
+    /// Goes on for at most so many events.
+    pub fn go(&mut self, alloc: Global, budget: u64) {
+        let mut input = source(alloc);
+        self.before = self.machine.core;
+        self.machine.left = budget;
+        self.end = self.machine.run(&mut input, &mut self.out);
+    }
+
+    /// One event.
+    pub fn turn(&mut self, alloc: Global) -> Turned {
+        let mut input = source(alloc);
+        turn_once(&mut self.machine, &mut input, &mut self.out)
+    }
+
+    /// A register by its number; from 15 on it is pc.
+    pub fn reg(&self, number: u32) -> u32 {
+        let regs = &self.machine.core.regs;
+        if number < 15 {
+            regs.r[number as usize]
+        } else {
+            regs.pc
+        }
+    }
+
+    pub fn set_reg(&mut self, number: u32, value: u32) {
+        let regs = &mut self.machine.core.regs;
+        if number < 15 {
+            regs.r[number as usize] = value;
+        } else {
+            regs.pc = value;
+        }
+    }
+
+    /// Word `k` of a slot, and 0 of what isn't there.
+    pub fn word(&self, slot: u32, k: u32) -> u32 {
+        if slot < SLOTS && k < SLOT_WORDS {
+            pool::get(&self.machine.shared.bus, slot, k)
+        } else {
+            0
+        }
+    }
+
+    /// Writes word `k` of a slot, where it is there.
+    pub fn put(&mut self, slot: u32, k: u32, value: u32) {
+        if slot < SLOTS && k < SLOT_WORDS {
+            pool::set(&mut self.machine.shared.bus, slot, k, value);
+        }
+    }
+
+    /// Writes words of the stack by their addresses.
+    pub fn put_stack(&mut self, words: &[(u32, u32)]) {
+        for (at, value) in words {
+            let _done = self.machine.shared.bus.store32(*at, *value);
+        }
+    }
+
+    /// No word of the stack is guarded.
+    pub fn release(&mut self) {
+        self.machine.shared.bus.release_below(0x4000_0000);
+    }
+}
