@@ -7,5 +7,5 @@ pub mod unanswered;
 pub mod words;
 
 pub use rows::{Asked, run_file};
-pub use unanswered::Unanswered;
+pub use unanswered::{Unanswered, want_of_memory};
 pub use words::{decimal, first_word, number, number_at, numbers};

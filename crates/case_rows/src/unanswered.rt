@@ -1,8 +1,9 @@
 //! Why a question has no answer.
 ghost use Rattle.std.specs.Prelude.{◌≡◌, IfOk, Ok};
+ghost use Rattle.case_rows.specs.Refusals.{IsWantOfMemory};
 
 use std::alloc::{AllocError, AllocFailed, Global};
-use std::io::Error;
+use std::io::{Error, ErrorKind};
 
 /// Why a question has no answer. All but the last are written where the answer would stand.
 #[derive(Debug, Drop)]
@@ -20,8 +21,6 @@ pub enum Unanswered {
 }
 
 impl From<AllocError> for Unanswered {
-    ghost use Rattle.case_rows.specs.Refusals.{IsWantOfMemory};
-
     ghost from_gives = { λ _ kept. IsWantOfMemory kept };
 
     fn from(fault: AllocError) -> Unanswered {
@@ -30,8 +29,6 @@ impl From<AllocError> for Unanswered {
 }
 
 impl<T: Drop> From<AllocFailed<T>> for Unanswered {
-    ghost use Rattle.case_rows.specs.Refusals.{IsWantOfMemory};
-
     ghost from_gives = { λ _ kept. IsWantOfMemory kept };
 
     fn from(fault: AllocFailed<T>) -> Unanswered {
@@ -48,6 +45,13 @@ impl From<Error> for Unanswered {
     fn from(fault: Error) -> Unanswered {
         Unanswered::Failed(fault)
     }
+}
+
+/// No memory is left, by another name than the allocator's.
+pub fn want_of_memory() -> Unanswered
+    ensures { IsWantOfMemory result }
+{
+    Unanswered::Failed(Error::from(ErrorKind::OutOfMemory))
 }
 
 /// What is written for an answer, or in its place.

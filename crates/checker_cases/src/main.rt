@@ -1,0 +1,35 @@
+//! Runs the cases of data/ on the checker: effects of instructions on facts, prologues, sites, what is reached, functions and
+//! images. Answers are by hand from docs/acceptance.md and docs/checking.md; instructions from DDI 0419, words of the index and of
+//! tables from IHI 0038.
+#![tactic(auto)]
+
+mod accepted;
+mod causes;
+mod effects;
+mod facts;
+mod frames;
+mod laws;
+mod reached;
+mod runs;
+mod sites;
+mod source;
+
+use accepted::Accepting;
+use case_rows::run_file;
+use effects::Effects;
+use frames::Frames;
+use laws::laws_at_numbers;
+use reached::Reaching;
+use runs::Runs;
+use sites::Sites;
+use std::io::Error;
+
+fn main(host: HostRuntime) -> Result<(), Error> {
+    laws_at_numbers();
+    run_file(&host, "effects.txt", &Effects)?;
+    run_file(&host, "prologues.txt", &Runs)?;
+    run_file(&host, "sites.txt", &Sites)?;
+    run_file(&host, "reached.txt", &Reaching)?;
+    run_file(&host, "frames.txt", &Frames)?;
+    run_file(&host, "images.txt", &Accepting)
+}

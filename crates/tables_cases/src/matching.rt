@@ -1,0 +1,119 @@
+//! What is caught of thrown objects and pointers (docs/matching.md).
+use crate::object::{OBJECT, address, lay_object, lay_word};
+use case_rows::{Asked, Unanswered, first_word, number, number_at, numbers, want_of_memory};
+use eh_bus::flat::FlatBus;
+use eh_match::{Match, type_match};
+use eh_types::TypeGraph;
+use std::alloc::{AllocError, Global};
+
+/// Where a thrown pointer stands, on the stack.
+const POINTER: u32 = 0x3FFF_D000;
+
+/// What is caught among types, with objects of them.
+#[derive(Drop)]
+pub struct Hierarchy<'a> {
+    pub types: &'a str,
+    pub objects: &'a str,
+    pub graph: &'a TypeGraph,
+}
+
+impl<'a> Asked for Hierarchy<'a> {
+    fn answer(&self, alloc: Global, question: &str) -> Result<String, Unanswered> {
+        let (what, rest) = first_word(question);
+        match what {
+            "class" => self.class(alloc, rest),
+            "pointer" => self.pointer(alloc, rest, OBJECT),
+            "null" => self.pointer(alloc, rest, 0),
+            "match" => self.plain(alloc, rest),
+            _ => Err(Unanswered::NotKnown),
+        }
+    }
+}
+
+fn memory(alloc: Global) -> Result<FlatBus, Unanswered> {
+    match FlatBus::build(alloc, &[]) {
+        Ok(bus) => Ok(bus),
+        Err(_fault) => Err(want_of_memory()),
+    }
+}
+
+/// A match by its distances, in bytes, from the object and from what the pointer points to.
+fn near_text(alloc: Global, found: Match, pointer: u32) -> Result<String, AllocError> {
+    match found {
+        Match::Failed => format!(in alloc; "not caught"),
+        Match::Object(POINTER) => format!(in alloc; "the pointer"),
+        Match::Object(a) => format!(in alloc; "object+{}", a.wrapping_sub(OBJECT)),
+        Match::PointerToBase(0) => format!(in alloc; "null"),
+        Match::PointerToBase(a) => format!(in alloc; "base+{}", a.wrapping_sub(pointer)),
+        Match::Unreadable(a) => format!(in alloc; "unreadable {a:X}"),
+    }
+}
+
+/// A match by its addresses.
+fn far_text(alloc: Global, found: Match) -> Result<String, AllocError> {
+    match found {
+        Match::Failed => format!(in alloc; "not caught"),
+        Match::Object(a) => format!(in alloc; "object {a:X}"),
+        Match::PointerToBase(a) => format!(in alloc; "base {a:X}"),
+        Match::Unreadable(a) => format!(in alloc; "unreadable {a:X}"),
+    }
+}
+
+/// The name of what a pointer type points to, among types; none of another kind.
+fn pointee<'a>(types: &'a str, name: &str) -> &'a str {
+    for line in types.lines() {
+        let (other, rest) = first_word(line);
+        if other == name {
+            if let Some(pointer) = rest.strip_prefix("pointer ") {
+                return first_word(pointer).1;
+            }
+        }
+    }
+    ""
+}
+
+impl<'a> Hierarchy<'a> {
+    fn found(
+        &self,
+        bus: &FlatBus,
+        thrown: &str,
+        object: u32,
+        wanted: &str,
+    ) -> Result<Match, Unanswered> {
+        let thrown = address(self.types, thrown)?;
+        let wanted = address(self.types, wanted)?;
+        Ok(type_match(self.graph, thrown, object, wanted, bus))
+    }
+
+    /// `class THROWN WANTED`: where in a thrown object the caught one stands.
+    fn class(&self, alloc: Global, rest: &str) -> Result<String, Unanswered> {
+        let (thrown, wanted) = first_word(rest);
+        let mut bus = memory(alloc)?;
+        lay_object(&mut bus, self.objects, thrown)?;
+        let found = self.found(&bus, thrown, OBJECT, wanted)?;
+        Ok(near_text(alloc, found, OBJECT)?)
+    }
+
+    /// `pointer THROWN WANTED`: what is caught of a pointer to an object; `null` of a null pointer.
+    fn pointer(&self, alloc: Global, rest: &str, pointer: u32) -> Result<String, Unanswered> {
+        let (thrown, wanted) = first_word(rest);
+        let mut bus = memory(alloc)?;
+        lay_word(&mut bus, POINTER, pointer)?;
+        lay_object(&mut bus, self.objects, pointee(self.types, thrown))?;
+        let found = self.found(&bus, thrown, POINTER, wanted)?;
+        Ok(near_text(alloc, found, pointer)?)
+    }
+
+    /// `match THROWN ADDRESS WANTED [ADDRESS WORD]..`: the same at an address, where these words are stored.
+    fn plain(&self, alloc: Global, rest: &str) -> Result<String, Unanswered> {
+        let (thrown, rest) = first_word(rest);
+        let (object, rest) = first_word(rest);
+        let (wanted, rest) = first_word(rest);
+        let mut bus = memory(alloc)?;
+        for pair in numbers(alloc, rest)?.as_slice().chunks(2) {
+            lay_word(&mut bus, number_at(pair, 0)?, number_at(pair, 1)?)?;
+        }
+        let found = self.found(&bus, thrown, number(object)?, wanted)?;
+        Ok(far_text(alloc, found)?)
+    }
+}

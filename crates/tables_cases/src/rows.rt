@@ -1,0 +1,157 @@
+//! Rows of the exception index and the bytes of codes: how they are read, and how they are written.
+ghost use Rattle.std.specs.Prelude.{IfOk};
+ghost use Rattle.unwind_codes.specs.Bytes.{HasBytes};
+
+use case_rows::{Asked, Unanswered, first_word, number, number_at, numbers};
+use std::alloc::{AllocError, Global};
+use unwind_codes::{
+    Code, Entry, EntryBody, body_of, code_words_behind, entry_of, personality_of_word, prel31_to,
+    push_code, push_row, push_rows, second_word,
+};
+
+/// What the words of the index and the codes are asked.
+#[derive(Clone, Copy)]
+pub struct Rows;
+
+impl Asked for Rows {
+    fn answer(&self, alloc: Global, question: &str) -> Result<String, Unanswered> {
+        let (what, rest) = first_word(question);
+        match what {
+            "second" => second(alloc, &numbers(alloc, rest)?),
+            "distance" => distance(alloc, &numbers(alloc, rest)?),
+            "entry" => entry(alloc, &numbers(alloc, rest)?),
+            "first" => first(alloc, number(rest)?),
+            "row" => row(alloc, rest),
+            "rows" => many_rows(alloc, rest),
+            "write" => written(alloc, rest),
+            _ => Err(Unanswered::NotKnown),
+        }
+    }
+}
+
+fn body_text(alloc: Global, body: EntryBody) -> Result<String, AllocError> {
+    match body {
+        EntryBody::CantUnwind => format!(in alloc; "can't unwind"),
+        EntryBody::Inline(word) => format!(in alloc; "inline {word:X}"),
+        EntryBody::Table(address) => format!(in alloc; "table {address:X}"),
+    }
+}
+
+/// `second PLACE WORD`: what a second word at a place says, and the word that is written for that.
+fn second(alloc: Global, given: &[u32]) -> Result<String, Unanswered> {
+    let place = number_at(given, 0)?;
+    let body = body_of(place, number_at(given, 1)?);
+    let text = body_text(alloc, body)?;
+    let word = second_word(place, body);
+    Ok(format!(in alloc; "{text}, written {word:X}")?)
+}
+
+/// `distance PLACE TARGET`: the word at a place that leads to a target.
+fn distance(alloc: Global, given: &[u32]) -> Result<String, Unanswered> {
+    let word = prel31_to(number_at(given, 0)?, number_at(given, 1)?);
+    Ok(format!(in alloc; "{word:X}")?)
+}
+
+/// `entry PLACE WORD WORD`: the row of two words at a place.
+fn entry(alloc: Global, given: &[u32]) -> Result<String, Unanswered> {
+    let entry = entry_of(
+        number_at(given, 0)?,
+        number_at(given, 1)?,
+        number_at(given, 2)?,
+    );
+    let start = entry.start;
+    let body = body_text(alloc, entry.body)?;
+    Ok(format!(in alloc; "{start:X} {body}")?)
+}
+
+/// `first WORD`: the personality of an entry's first word, and how many words of codes stand behind it.
+fn first(alloc: Global, word: u32) -> Result<String, Unanswered> {
+    let personality = personality_of_word(word);
+    let behind = code_words_behind(word);
+    Ok(format!(in alloc; "personality {personality}, {behind} words behind")?)
+}
+
+/// `can't unwind`, `inline WORD` or `table ADDRESS`.
+fn body_named(text: &str) -> Result<EntryBody, Unanswered> {
+    let (kind, word) = first_word(text);
+    match kind {
+        "can't" => Ok(EntryBody::CantUnwind),
+        "inline" => Ok(EntryBody::Inline(number(word)?)),
+        "table" => Ok(EntryBody::Table(number(word)?)),
+        _ => Err(Unanswered::NotKnown),
+    }
+}
+
+/// `START BODY`.
+fn row_named(text: &str) -> Result<Entry, Unanswered> {
+    let (start, body) = first_word(text);
+    Ok(Entry {
+        start: number(start)?,
+        body: body_named(body)?,
+    })
+}
+
+fn bytes_text(alloc: Global, bytes: &[u8]) -> Result<String, AllocError> {
+    let mut text = String::new(alloc);
+    for byte in bytes {
+        if !text.is_empty() {
+            text.push(' ')?;
+        }
+        text.push_str(format!(in alloc; "{byte:02X}")?.as_str())?;
+    }
+    Ok(text)
+}
+
+/// `row PLACE START BODY`: the bytes of a row.
+fn row(alloc: Global, rest: &str) -> Result<String, Unanswered> {
+    let (place, row) = first_word(rest);
+    let mut bytes = Vec::new(alloc);
+    push_row(&mut bytes, number(place)?, row_named(row)?)?;
+    Ok(bytes_text(alloc, &bytes)?)
+}
+
+/// `rows PLACE START BODY, START BODY, ..`: the byte EE and the bytes of rows behind it.
+fn many_rows(alloc: Global, rest: &str) -> Result<String, Unanswered> {
+    let (place, rest) = first_word(rest);
+    let mut rows = Vec::new(alloc);
+    for row in rest.split(", ") {
+        rows.push(row_named(row)?)?;
+    }
+    let mut bytes = Vec::new(alloc);
+    bytes.push(0xEE)?;
+    push_rows(&mut bytes, number(place)?, rows.as_slice())?;
+    Ok(bytes_text(alloc, &bytes)?)
+}
+
+/// A code by its name and a hexadecimal number, of which the bits count that it has.
+fn code_named(text: &str) -> Result<Code, Unanswered>
+    ensures { IfOk result HasBytes }
+{
+    let (name, field) = first_word(text);
+    match name {
+        "refuse" => return Ok(Code::Refuse),
+        "finish" => return Ok(Code::Finish),
+        _ => {}
+    }
+    let field = number(field)?;
+    match name {
+        "raise" => Ok(Code::Raise((field % 64) as u8)),
+        "lower" => Ok(Code::Lower((field % 64) as u8)),
+        "pop-mask" => Ok(Code::PopMask((field % 0x1000) as u16)),
+        "restore" => Ok(Code::Restore((field % 16) as u8)),
+        "pop-range" => Ok(Code::PopRange((field % 8) as u8)),
+        "pop-range-and-lr" => Ok(Code::PopRangeAndLr((field % 8) as u8)),
+        "pop-low" => Ok(Code::PopLow((field % 16) as u8)),
+        "raise-long" => Ok(Code::RaiseLong(field % 0x4000)),
+        _ => Err(Unanswered::NotKnown),
+    }
+}
+
+/// `write CODE FIELD, CODE, ..`: the bytes of codes.
+fn written(alloc: Global, rest: &str) -> Result<String, Unanswered> {
+    let mut bytes = Vec::new(alloc);
+    for code in rest.split(", ") {
+        push_code(&mut bytes, code_named(code)?)?;
+    }
+    Ok(bytes_text(alloc, &bytes)?)
+}
