@@ -1,6 +1,6 @@
 mod WalkingGates
 mod Fitting
-mod RunsOn
-mod OneEvent
-mod WholeRuns
+pub mod RunsOn
+pub mod OneEvent
+pub mod WholeRuns
 mod BeyondStays

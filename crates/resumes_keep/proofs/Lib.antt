@@ -21,4 +21,4 @@ pub mod ResumeKeeps
 mod Ending
 mod FlyLands
 mod FlyKeeps
-mod FlyFrom
+pub mod FlyFrom
