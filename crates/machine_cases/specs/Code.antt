@@ -1,6 +1,6 @@
 -- The program of an image that the checker accepts, or of one whose code is taken as checked.
-use Rattle.eh_machine.specs.Program.{Program}
-use Rattle.eh_machine.specs.Checked.{program_of}
+use Rattle.two_machines.specs.Program.{Program}
+use Rattle.two_machines.specs.Checked.{program_of}
 use Rattle.machine_cases.specs.Open.{open_program}
 use Rattle.machine_cases.specs.declared.code.Code.{Code}
 use Rattle.machine_cases.specs.declared.code.Code.TheVariants.{Accepted, Open}
