@@ -2,3 +2,4 @@ mod Memories
 mod Frees
 mod Starting
 mod Forced
+mod Barred

@@ -1,15 +1,18 @@
 -- What a state that stands for a recorded one rests on, and what may change, for one thread's running stack.
-use Rattle.std.specs.Prelude.{◌≡◌, None, ◌⊎◌, ℕ, length, List, [], ◌∷◌, ◌^◌, ◌<◌, Option, slice_index, Some, false, ◌+◌, ◌==◌, true}
+use Rattle.std.specs.Prelude.{◌≡◌, None, ◌⊎◌, ℕ, length, List, [], ◌∷◌, ◌^◌, ◌<◌, Option, slice_index, Some, false, ◌+◌, ◌==◌, true, replicate}
 use Rattle.std.specs.List.{list_any}
-use Rattle.steps_keep.specs.eh_cxa.Lists.{Entry, state_in, Lists, entry}
+use Rattle.steps_keep.specs.eh_cxa.Lists.{Entry, Free, state_in, Lists, entry}
 use Rattle.steps_keep.specs.eh_cxa.declared.layout.TheConstants.{SLOTS, CLOSED_WORDS}
 use Rattle.steps_keep.specs.eh_bus.Guards.{insert_all}
 use Rattle.steps_keep.specs.eh_bus.Memory.{Memory}
 use Rattle.steps_keep.specs.eh_bus.Segment.{Segment}
-use Rattle.steps_keep.specs.two_machines.Activations.{Recorded, guarded_of, memory_of, reg_in, callee, words_in, heads, with_lists}
+use Rattle.steps_keep.specs.two_machines.Activations.{Recorded, guarded_of, memory_of, reg_in, callee, recorded_start}
+use Rattle.steps_keep.specs.two_machines.ActivationMachine.{with_new, in_flight}
+use Rattle.steps_keep.specs.two_machines.Program.{Program}
+use Rattle.steps_keep.specs.two_machines.Start.{start_of}
 use Rattle.steps_keep.specs.eh_bus.Map.{IsMap, SameMap}
 use Rattle.steps_keep.specs.eh_cxa.Stands.{entry_of}
-use Rattle.steps_keep.specs.eh_cxa.Words.{word, object_slot}
+use Rattle.steps_keep.specs.eh_cxa.Words.{word}
 use Rattle.steps_keep.specs.two_machines.RecordedSlots.{AreOutside}
 use Rattle.steps_keep.specs.frame_check.Accepts.{Accepted}
 use Rattle.steps_keep.specs.elf_image.Functions.{Function}
@@ -28,11 +31,9 @@ use Rattle.steps_keep.specs.frame_check.Spots.{look}
 use Rattle.steps_keep.specs.image_memory.Start.{begins_function, image_start}
 use Rattle.steps_keep.specs.thumb_isa.declared.instr.Instr.TheVariants.{Svc}
 use Rattle.steps_keep.specs.frame_facts.Branches.{gate_changes}
-use Rattle.steps_keep.specs.eh_trace.Trace.{Trace}
+use Rattle.steps_keep.specs.eh_trace.Trace.{Trace, no_events}
 use Rattle.steps_keep.specs.guest_gates.declared.gates.TheConstants.{NO_CALLER}
-use Rattle.steps_keep.specs.eh_cxa.Allocate.{allocate_of}
-use Rattle.steps_keep.specs.eh_cxa.ListCalls.{allocate_list, throw_list}
-use Rattle.steps_keep.specs.eh_cxa.Throw.{Throw, start_throw_of}
+use Rattle.steps_keep.specs.eh_cxa.Throw.{Throw}
 use Rattle.steps_keep.specs.stands_for.Holds.{AllSameAt}
 use Rattle.steps_keep.specs.stands_for.Stands.{Keeps, IsProgram, DoesAt}
 use Rattle.steps_keep.specs.stands_for.Chain.{code, StandsAt}
@@ -132,13 +133,16 @@ abbrev pub FreeStarts : Type 0
 FreeStarts = (x : Accepted) (regs : Regs) (entries : List Entry) (segments : List Segment) (home : ℕ × ℕ) (events : Trace) (beyond : List ℕ) → IsProgram x
     → IsFresh x regs entries segments home beyond → Keeps x (started regs entries segments home events beyond)
 
+-- the start of a run with recorded activations is such a start, with all slots free and over the whole stack
+abbrev pub StartsAreFresh : Type 0
+StartsAreFresh =
+    (p : Program) → recorded_start p ≡ started (start_of p).regs (replicate SLOTS Free) (start_of p).memory.segments (start_of p).memory.home no_events []
+
 -- ---- a new exception, and then a throw of it
 
 pub record ThrowsKept (x : Accepted) (s : Recorded) : Type 0 where
-  pub allocate : (size : ℕ) → size < 2 ^ 32 → Keeps x (with_lists (allocate_list s.lists size).lists (allocate_of (words_in s.lists) size).writes s)
-  pub start_throw :
-      (object : ℕ) (t : Throw) → t.ty < 2 ^ 32 → t.destructor < 2 ^ 32
-      → Keeps x (with_lists (throw_list s.lists (object_slot object) t).lists (start_throw_of (words_in s.lists) (heads s.lists) (object_slot object) t).writes s)
+  pub allocate : (size : ℕ) → size < 2 ^ 32 → Keeps x (with_new size s)
+  pub start_throw : (object : ℕ) (t : Throw) → t.ty < 2 ^ 32 → t.destructor < 2 ^ 32 → Keeps x (in_flight object t s)
 
 abbrev pub KeepThrows : Type 0
 KeepThrows = (x : Accepted) (s : Recorded) → Keeps x s → ThrowsKept x s

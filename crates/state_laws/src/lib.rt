@@ -1,8 +1,9 @@
 //! What a state that stands for a recorded one rests on, what of it may change, and which states are a start (docs/standing-for.md).
 #![tactic(auto)]
 
-ghost use Rattle.state_laws.specs.Free.{FreeMemory, FreeRegisters, FreeAnywhere, FreeBehindGates, FreeStarts, KeepThrows};
+ghost use Rattle.state_laws.specs.Free.{FreeMemory, FreeRegisters, FreeAnywhere, FreeBehindGates, FreeStarts, StartsAreFresh, KeepThrows};
 ghost use Rattle.state_laws.specs.FactLaws.{FactsAreThere};
+ghost use Rattle.state_laws.specs.Barriers.{FreeBarriers};
 
 /// A state that is kept rests on these parts of memory alone: the read-only segments, the words of slots, the words of records, and which slots
 /// of the pool are out of use. All else may change.
@@ -36,7 +37,17 @@ pub fn free_starts()
     ensures { FreeStarts }
 {}
 
+/// The start of a run with recorded activations is such a state, of the image's entry and over the whole stack.
+pub fn starts_are_fresh()
+    ensures { StartsAreFresh }
+{}
+
 /// A new exception, and then a throw of that object, keep what is kept, with the lists changed as these calls say.
 pub fn keep_throws()
     ensures { KeepThrows }
+{}
+
+/// The words of a barrier may be written, whatever they are, where the exception has no cleanup in progress, as none has that has landed.
+pub fn free_barriers()
+    ensures { FreeBarriers }
 {}

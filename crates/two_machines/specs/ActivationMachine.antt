@@ -119,10 +119,12 @@ abbrev pub dropped : ℕ → Recorded → Recorded → Result (ℕ × ℕ) CxaFa
 dropped next s new (Ok (object, destructor)) = went next (with_second destructor (with_answer object new))
 dropped next s new (Err why) = refused why 0 s
 
+-- with a new exception of so many bytes, where there is room for it
+abbrev pub with_new : ℕ → Recorded → Recorded
+with_new size s = with_lists (allocate_list s.lists size).lists (allocate_of (words_in s.lists) size).writes s
+
 abbrev pub allocate_gate : ℕ → Recorded → Outcome
-allocate_gate next s =
-    allocated next s (with_lists (allocate_list s.lists (reg_in s 0)).lists (allocate_of (words_in s.lists) (reg_in s 0)).writes s)
-    (allocate_list s.lists (reg_in s 0)).answer
+allocate_gate next s = allocated next s (with_new (reg_in s 0) s) (allocate_list s.lists (reg_in s 0)).answer
 
 abbrev pub free_gate : ℕ → Recorded → Outcome
 free_gate next s =
@@ -249,12 +251,18 @@ thrown_first s = record { object = reg_in s 0; ty = reg_in s 1 }
 abbrev pub thrown_words : Recorded → Throw
 thrown_words s = record { ty = reg_in s 1; destructor = reg_in s 2 }
 
+-- an object's exception begins to fly, of the type and with the destructor of a throw
+abbrev pub flight_of : ℕ → Throw → Recorded → Call (Result ℕ CxaFault)
+flight_of object t s = throw_list s.lists (object_slot object) t
+
+abbrev pub in_flight : ℕ → Throw → Recorded → Recorded
+in_flight object t s = with_lists (flight_of object t s).lists (start_throw_of (words_in s.lists) (heads s.lists) (object_slot object) t).writes s
+
 abbrev pub first_flight : Recorded → Call (Result ℕ CxaFault)
-first_flight s = throw_list s.lists (object_slot (reg_in s 0)) (thrown_words s)
+first_flight s = flight_of (reg_in s 0) (thrown_words s) s
 
 abbrev pub flies_first : Recorded → Recorded
-flies_first s =
-    with_lists (first_flight s).lists (start_throw_of (words_in s.lists) (heads s.lists) (object_slot (reg_in s 0)) (thrown_words s)).writes s
+flies_first s = in_flight (reg_in s 0) (thrown_words s) s
 
 abbrev pub throws : Guide → Recorded → Result ℕ CxaFault → Outcome
 throws g s (Err why) = refused why (reg_in s 0) s
