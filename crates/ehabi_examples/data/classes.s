@@ -11,6 +11,7 @@
 @ > -- exit 0
 @ exit status 0
 
+        .syntax unified
         .global main
         .type main, %function
 main:   .fnstart
@@ -36,7 +37,7 @@ by_value: .fnstart
         pop {r4, pc}
         .personalityindex 0
         .handlerdata
-        .half .Lend_v-.Ltry_v+1, .Ltry_v-by_value
+        .short .Lend_v-.Ltry_v+1, .Ltry_v-by_value
         .word .Lcatch_v(prel31), _ZTI1A(target2), 0
         .fnend
         .size by_value, .-by_value
@@ -73,7 +74,7 @@ by_pointer: .fnstart
         pop {r4, pc}
         .personalityindex 0
         .handlerdata
-        .half .Lend_p-.Ltry_p+1, .Ltry_p-by_pointer
+        .short .Lend_p-.Ltry_p+1, .Ltry_p-by_pointer
         .word .Lcatch_p(prel31), _ZTIPK1A(target2), 0
         .fnend
         .size by_pointer, .-by_pointer

@@ -11,6 +11,7 @@
 @ > -- exit 0
 @ exit status 0
 
+        .syntax unified
         .global main
         .type main, %function
 main:   .fnstart
@@ -26,7 +27,7 @@ main:   .fnstart
         pop {r4, pc}
         .personalityindex 0
         .handlerdata
-        .half .Lend-.Ltry+1, .Ltry-main
+        .short .Lend-.Ltry+1, .Ltry-main
         .word .Lcatch(prel31), _ZTIi(target2), 0
         .fnend
         .size main, .-main
@@ -44,7 +45,7 @@ outer:  .fnstart
         bl __cxa_end_cleanup
         .personalityindex 0
         .handlerdata
-        .half .Lto_o-.Lfrom_o, .Lfrom_o-outer   @ no mark: a cleanup
+        .short .Lto_o-.Lfrom_o, .Lfrom_o-outer   @ no mark: a cleanup
         .word .Lclean_o(prel31), 0
         .fnend
         .size outer, .-outer
@@ -64,7 +65,7 @@ inner:  .fnstart
         bl __cxa_end_cleanup
         .personalityindex 0
         .handlerdata
-        .half .Lto_i-.Lfrom_i, .Lfrom_i-inner
+        .short .Lto_i-.Lfrom_i, .Lfrom_i-inner
         .word .Lclean_i(prel31), 0
         .fnend
         .size inner, .-inner

@@ -9,6 +9,7 @@
 @ > -- exit 0
 @ exit status 0
 
+        .syntax unified
         .global main
         .type main, %function
 main:   .fnstart
@@ -24,7 +25,7 @@ main:   .fnstart
         pop {r4, pc}
         .personalityindex 0
         .handlerdata
-        .half .Lend-.Ltry+1, .Ltry-main
+        .short .Lend-.Ltry+1, .Ltry-main
         .word .Lcatch(prel31), 0xFFFFFFFF, 0    @ a catch of everything
         .fnend
         .size main, .-main

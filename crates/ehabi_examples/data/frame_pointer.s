@@ -10,6 +10,7 @@
 @ > -- exit 0
 @ exit status 0
 
+        .syntax unified
         .global main
         .type main, %function
 main:   .fnstart
@@ -23,7 +24,7 @@ main:   .fnstart
         pop {r4, pc}
         .personalityindex 0
         .handlerdata
-        .half .Lend-.Ltry+1, .Ltry-main
+        .short .Lend-.Ltry+1, .Ltry-main
         .word .Lcatch(prel31), _ZTIi(target2), 0
         .fnend
         .size main, .-main
@@ -47,7 +48,7 @@ deep:   .fnstart
         bl __cxa_end_cleanup
         .personalityindex 0
         .handlerdata
-        .half .Lto-.Lfrom, .Lfrom-deep
+        .short .Lto-.Lfrom, .Lfrom-deep
         .word .Lclean(prel31), 0
         .fnend
         .size deep, .-deep

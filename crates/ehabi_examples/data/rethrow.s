@@ -12,6 +12,7 @@
 @ > -- exit 0
 @ exit status 0
 
+        .syntax unified
         .global main
         .type main, %function
 main:   .fnstart
@@ -28,7 +29,7 @@ main:   .fnstart
         pop {r4, pc}
         .personalityindex 0
         .handlerdata
-        .half .Lend-.Ltry+1, .Ltry-main
+        .short .Lend-.Ltry+1, .Ltry-main
         .word .Lcatch(prel31), _ZTIi(target2), 0
         .fnend
         .size main, .-main
@@ -48,9 +49,9 @@ middle: .fnstart
         bl __cxa_end_cleanup
         .personalityindex 0
         .handlerdata
-        .half .Lend_m-.Ltry_m+1, .Ltry_m-middle
+        .short .Lend_m-.Ltry_m+1, .Ltry_m-middle
         .word .Lcatch_m(prel31), 0xFFFFFFFF     @ a catch of everything
-        .half .Lto-.Lfrom, .Lfrom-middle
+        .short .Lto-.Lfrom, .Lfrom-middle
         .word .Lclean(prel31), 0
         .fnend
         .size middle, .-middle

@@ -7,6 +7,7 @@
 @ > -- trap SavedSlot 3FFFFFE8 at 00008012
 @ exit status 5
 
+        .syntax unified
         .global main
         .type main, %function
 main:   .fnstart

@@ -8,6 +8,7 @@
 @ > -- exit 13
 @ exit status 1
 
+        .syntax unified
         .global main
         .type main, %function
 main:   .fnstart

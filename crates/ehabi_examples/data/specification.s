@@ -11,6 +11,7 @@
 @ > -- terminate Unexpected
 @ exit status 4
 
+        .syntax unified
         .global main
         .type main, %function
 main:   .fnstart
@@ -26,7 +27,7 @@ main:   .fnstart
         pop {r4, pc}
         .personalityindex 0
         .handlerdata
-        .half .Lend-.Ltry+1, .Ltry-main
+        .short .Lend-.Ltry+1, .Ltry-main
         .word .Lcatch(prel31), _ZTIi(target2), 0
         .fnend
         .size main, .-main
@@ -39,7 +40,7 @@ numbers: .fnstart
 .Lto_i: pop {r4, pc}
         .personalityindex 0
         .handlerdata
-        .half .Lto_i-.Lfrom_i, .Lfrom_i-numbers+1       @ 1 more in the offset marks a specification
+        .short .Lto_i-.Lfrom_i, .Lfrom_i-numbers+1       @ 1 more in the offset marks a specification
         .word 1, _ZTIi(target2), 0                      @ of one type, without a landing pad
         .fnend
         .size numbers, .-numbers
@@ -53,7 +54,7 @@ nothing: .fnstart
 .Lpad:  bl __cxa_call_unexpected
         .personalityindex 0
         .handlerdata
-        .half .Lto_n-.Lfrom_n, .Lfrom_n-nothing+1
+        .short .Lto_n-.Lfrom_n, .Lfrom_n-nothing+1
         .word 0x80000000, .Lpad(prel31), 0              @ of no type, with a landing pad
         .fnend
         .size nothing, .-nothing

@@ -9,6 +9,7 @@
 @ > -- terminate Unexpected
 @ exit status 4
 
+        .syntax unified
         .global main
         .type main, %function
 main:   .fnstart
@@ -18,7 +19,7 @@ main:   .fnstart
 .Lto:   pop {r4, pc}
         .personalityindex 0
         .handlerdata
-        .half .Lto-.Lfrom, .Lfrom-main+1
+        .short .Lto-.Lfrom, .Lfrom-main+1
         .word 0, 0              @ no types; the end of the list
         .fnend
         .size main, .-main
@@ -34,7 +35,7 @@ inner:  .fnstart
         bl __cxa_end_cleanup
         .personalityindex 0
         .handlerdata
-        .half .Lto_i-.Lfrom_i, .Lfrom_i-inner
+        .short .Lto_i-.Lfrom_i, .Lfrom_i-inner
         .word .Lclean(prel31), 0
         .fnend
         .size inner, .-inner

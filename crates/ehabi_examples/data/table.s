@@ -7,6 +7,7 @@
 @ > -- exit 0
 @ exit status 0
 
+        .syntax unified
         .global main
         .type main, %function
 main:   .fnstart
@@ -21,7 +22,7 @@ main:   .fnstart
         pop {r4, pc}
         .personalityindex 0
         .handlerdata
-        .half .Lto-.Lfrom+1, .Lfrom-main
+        .short .Lto-.Lfrom+1, .Lfrom-main
         .word .Lpad(prel31), _ZTIi(target2), 0
         .fnend
         .size main, .-main

@@ -8,6 +8,7 @@
 @ > -- exit 0
 @ exit status 0
 
+        .syntax unified
         .global main
         .type main, %function
 main:   .fnstart
@@ -25,7 +26,7 @@ main:   .fnstart
         pop {r4, pc}
         .personalityindex 0
         .handlerdata
-        .half .Lend-.Ltry+1, .Ltry-main         @ 1 more in the length marks a catch
+        .short .Lend-.Ltry+1, .Ltry-main         @ 1 more in the length marks a catch
         .word .Lcatch(prel31), _ZTIi(target2), 0
         .fnend
         .size main, .-main

@@ -12,6 +12,7 @@
 @ > -- terminate LeavesCleanup
 @ exit status 4
 
+        .syntax unified
         .global main
         .type main, %function
 main:   .fnstart
@@ -25,7 +26,7 @@ main:   .fnstart
         pop {r4, pc}
         .personalityindex 0
         .handlerdata
-        .half .Lend-.Ltry+1, .Ltry-main
+        .short .Lend-.Ltry+1, .Ltry-main
         .word .Lcatch(prel31), _ZTIi(target2), 0
         .fnend
         .size main, .-main
@@ -41,7 +42,7 @@ middle: .fnstart
         bl __cxa_end_cleanup
         .personalityindex 0
         .handlerdata
-        .half .Lto-.Lfrom, .Lfrom-middle
+        .short .Lto-.Lfrom, .Lfrom-middle
         .word .Lclean(prel31), 0
         .fnend
         .size middle, .-middle
@@ -59,7 +60,7 @@ safe:   .fnstart
         pop {r4, pc}
         .personalityindex 0
         .handlerdata
-        .half .Lend_s-.Ltry_s+1, .Ltry_s-safe
+        .short .Lend_s-.Ltry_s+1, .Ltry_s-safe
         .word .Lcatch_s(prel31), _ZTIi(target2), 0
         .fnend
         .size safe, .-safe

@@ -6,6 +6,7 @@
 @ > -- exit 7
 @ exit status 1
 
+        .syntax unified
         .global main
         .type main, %function
 main:   .fnstart

@@ -1,5 +1,6 @@
 @ The second file of two_main.s: adds r0 and r1, shows the sum and gives it back.
 
+        .syntax unified
         .global sum
         .type sum, %function
 sum:    .fnstart

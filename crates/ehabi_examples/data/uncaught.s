@@ -8,6 +8,7 @@
 @ > -- terminate NoHandler
 @ exit status 4
 
+        .syntax unified
         .global main
         .type main, %function
 main:   .fnstart
@@ -21,7 +22,7 @@ main:   .fnstart
         pop {r4, pc}
         .personalityindex 0
         .handlerdata
-        .half .Lend-.Ltry+1, .Ltry-main
+        .short .Lend-.Ltry+1, .Ltry-main
         .word .Lcatch(prel31), _ZTIc(target2), 0
         .fnend
         .size main, .-main
@@ -37,7 +38,7 @@ middle: .fnstart
         bl __cxa_end_cleanup
         .personalityindex 0
         .handlerdata
-        .half .Lto-.Lfrom, .Lfrom-middle
+        .short .Lto-.Lfrom, .Lfrom-middle
         .word .Lclean(prel31), 0
         .fnend
         .size middle, .-middle

@@ -4,6 +4,7 @@
 @ > main+0: BadDescriptor
 @ exit status 3
 
+        .syntax unified
         .global main
         .type main, %function
 main:   .fnstart
@@ -13,6 +14,6 @@ main:   .fnstart
 .Lto:   pop {r4, pc}
         .personalityindex 0
         .handlerdata
-        .half .Lto-.Lfrom+1, .Lfrom-main+1
+        .short .Lto-.Lfrom+1, .Lfrom-main+1
         .word 0, 0
         .fnend

@@ -4,6 +4,7 @@
 @ > main+2: CallNotFunction
 @ exit status 3
 
+        .syntax unified
         .global main
         .type main, %function
 main:   .fnstart

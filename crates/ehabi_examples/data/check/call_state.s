@@ -4,6 +4,7 @@
 @ > main+4: CallState r4
 @ exit status 3
 
+        .syntax unified
         .global main
         .type main, %function
 main:   .fnstart

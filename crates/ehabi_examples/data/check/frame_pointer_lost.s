@@ -4,6 +4,7 @@
 @ > main+2: FramePointerLost r7
 @ exit status 3
 
+        .syntax unified
         .global main
         .type main, %function
 main:   .fnstart

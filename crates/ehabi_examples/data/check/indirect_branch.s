@@ -4,6 +4,7 @@
 @ > main+6: IndirectBranch
 @ exit status 3
 
+        .syntax unified
         .global main
         .type main, %function
 main:   lsls r0, r0, #2

@@ -4,6 +4,7 @@
 @ > main+6: JoinDepth
 @ exit status 3
 
+        .syntax unified
         .global main
         .type main, %function
 main:   cmp r0, #0

@@ -4,6 +4,7 @@
 @ > main+2: PadDepth
 @ exit status 3
 
+        .syntax unified
         .global main
         .type main, %function
 main:   .fnstart
@@ -13,7 +14,7 @@ main:   .fnstart
 .Lto:   pop {r4, pc}
         .personalityindex 0
         .handlerdata
-        .half .Lto-.Lfrom, .Lfrom-main
+        .short .Lto-.Lfrom, .Lfrom-main
         .word clean(prel31), 0
         .fnend
 

@@ -4,6 +4,7 @@
 @ > main+2: ReturnState
 @ exit status 3
 
+        .syntax unified
         .global main
         .type main, %function
 main:   movs r4, #0

@@ -4,6 +4,7 @@
 @ > main+4: SpWrite
 @ exit status 3
 
+        .syntax unified
         .global main
         .type main, %function
 main:   .fnstart

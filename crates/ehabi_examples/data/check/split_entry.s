@@ -4,6 +4,7 @@
 @ > main+0: SplitEntry
 @ exit status 3
 
+        .syntax unified
         .global main
         .type main, %function
 main:   .fnstart

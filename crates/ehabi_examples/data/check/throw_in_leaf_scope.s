@@ -4,6 +4,7 @@
 @ > main+0: ThrowInLeafScope
 @ exit status 3
 
+        .syntax unified
         .global main
         .type main, %function
 main:   .fnstart
@@ -12,6 +13,6 @@ main:   .fnstart
 .Lpad:  udf #0
         .personalityindex 0
         .handlerdata
-        .half .Lto-.Lfrom+1, .Lfrom-main
+        .short .Lto-.Lfrom+1, .Lfrom-main
         .word .Lpad(prel31), 0xFFFFFFFF, 0
         .fnend

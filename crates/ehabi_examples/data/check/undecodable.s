@@ -4,7 +4,8 @@
 @ > main+0: Undecodable
 @ exit status 3
 
+        .syntax unified
         .global main
         .type main, %function
-main:   .half 0xBE00
+main:   .short 0xBE00
         bx lr
