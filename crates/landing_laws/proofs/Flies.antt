@@ -1,0 +1,195 @@
+-- A throw and a rethrow that go on: the exception flies, its barrier is written, and phase 2 goes to it.
+use Rattle.std.proofs.Common.{◌≡◌, ℕ, Bool, true, false, cond, List, [], ◌∷◌, inl, Option, Some, None, Result, Ok, Err, refl, sym, ap, subst, ◌∙◌, arith}
+use Rattle.std.specs.Prelude.{is_some}
+use Rattle.eh_cxa.specs.Catch.{rethrow_by, rethrow_at, rethrow_of}
+use Rattle.eh_cxa.specs.ListCalls.{throw_by_list, throw_entry, throw_list, rethrow_by_list, rethrow_entry, rethrow_from, rethrow_list}
+use Rattle.eh_cxa.specs.Lists.{Lists, Record, Entry, Free, OutOfUse, Live, entry, state_in}
+use Rattle.eh_cxa.specs.States.{named, is_fresh, is_caught}
+use Rattle.eh_cxa.specs.Throw.{Throw, throw_by, start_throw_of}
+use Rattle.eh_cxa.specs.Words.{Write, Pool, block, block_slot, object_slot}
+use Rattle.eh_cxa.specs.declared.globals.CxaFault.{CxaFault}
+use Rattle.eh_cxa.specs.declared.globals.Globals.{Globals}
+use Rattle.eh_cxa.specs.declared.layout.TheConstants.{STATE}
+use Rattle.eh_cxa.specs.declared.state.State.TheVariants.{Flying}
+use Rattle.eh_gates.specs.State.{Guide}
+use Rattle.eh_gates.specs.Throwing.{barrier_in, throw_event}
+use Rattle.eh_gates.specs.declared.state.Turned.TheVariants.{Went}
+use Rattle.eh_phase.specs.declared.phase1.Barrier.{Barrier}
+use Rattle.eh_phase.specs.declared.phase1.Found.{Found}
+use Rattle.eh_phase.specs.declared.phase1.Found.TheVariants as found
+use Rattle.eh_phase.specs.declared.verdict.Thrown.{Thrown}
+use Rattle.eh_trace.specs.declared.event.Event.{Event}
+use Rattle.eh_trace.specs.declared.event.EventKind.{EventKind}
+use Rattle.eh_trace.specs.declared.event.EventKind.TheVariants as event
+use Rattle.eh_types.specs.Graph.{row_of}
+use Rattle.thumb_core.specs.declared.ends.End.TheVariants as the_end
+use Rattle.thumb_core.specs.declared.ends.TrapKind.TheVariants as trap
+use Rattle.two_machines.specs.Activations.{Recorded, reg_in, memory_of, words_in, heads, with_lists, first_place}
+use Rattle.two_machines.specs.ActivationMachine as machine
+use Rattle.landing_laws.proofs.Beside.{AreBeside}
+use Rattle.landing_laws.proofs.FlightDue.{not_went}
+
+-- The exception of a slot, which is in no cleanup, flies: lists with the same cleanups, and words beside those of barriers.
+pub record FliesTo (g : Guide) (s t : Recorded) (slot : ℕ) (thrown : Thrown) : Type 0 where
+  pub barrier : Barrier
+  pub found : machine.searched g s thrown ≡ found.Barrier barrier
+  pub lists : Lists
+  pub cleanups : lists.cleanups ≡ s.lists.cleanups
+  pub writes : List Write
+  pub beside : AreBeside writes
+  pub told : Event
+  pub idle : state_in (entry s.lists slot) ≡ Some Flying → ⊥
+  pub goes : machine.throw_to g s.regs.pc (block slot) barrier (with_lists lists writes (machine.logged s told)) ≡ (Went, t)
+
+module _ (g : Guide) (s t : Recorded) where
+  abbrev Sought : Thrown → (Barrier → Recorded → machine.Outcome) → Type 0
+  Sought thrown further = (b : Barrier) × (machine.searched g s thrown ≡ found.Barrier b) × (told : Event) × (further b (machine.logged s told) ≡ (Went, t))
+
+  -- behind the search
+  sought_so : (what : EventKind) (thrown : Thrown) (further : Barrier → Recorded → machine.Outcome) → machine.from_barrier further (machine.sought g s what thrown) ≡ (Went, t) → Sought thrown further
+  unfolding machine.sought
+  sought_so what thrown further e = go (throw_event what (memory_of s) thrown (machine.size_of s.lists (object_slot thrown.object))) (is_some (row_of g.types thrown.ty)) e
+    where
+      by : (told : Event) (f : Found) → machine.searched g s thrown ≡ f → machine.from_barrier further (barrier_in s.regs.pc f, machine.logged s told) ≡ (Went, t) → Sought thrown further
+      by told (found.Barrier b) is e = (b, is, told, e)
+      by told (found.Terminate why) is e = absurd (not_went (the_end.Terminate why) (machine.logged s told) t e)
+      by told (found.ObjectRead a) is e = absurd (not_went (the_end.Trap trap.ObjectRead a s.regs.pc) (machine.logged s told) t e)
+
+      go : (told : Event) (b : Bool)
+          → machine.from_barrier further (cond b (barrier_in s.regs.pc (machine.searched g s thrown), machine.logged s told) (Err (the_end.Trap trap.BadType thrown.ty s.regs.pc), s)) ≡ (Went, t) → Sought thrown further
+      go told true e = by told (machine.searched g s thrown) refl e
+      go told false e = absurd (not_went (the_end.Trap trap.BadType thrown.ty s.regs.pc) s t e)
+
+-- ---- a throw
+
+throw_beside : (w : Pool) (h : Globals) (o : Option ℕ) (words : Throw) → AreBeside (start_throw_of w h o words).writes
+throw_beside w h None words = tt
+throw_beside w h (Some slot) words = go (is_fresh (named (w slot STATE)))
+  where
+    go : (b : Bool) → AreBeside (throw_by b h slot words).writes
+    go true = (inl (omega arith), omega arith, (inl (omega arith), omega arith, (inl (omega arith), omega arith, (inl (omega arith), omega arith, (inl (omega arith), omega arith, tt)))))
+    go false = tt
+
+throw_keeps : (l : Lists) (o : Option ℕ) (words : Throw) → (throw_list l o words).lists.cleanups ≡ l.cleanups
+throw_keeps l None words = refl
+throw_keeps l (Some slot) words = by (entry l slot)
+  where
+    fresh : (b : Bool) (r : Record) → (throw_by_list b l slot r words).lists.cleanups ≡ l.cleanups
+    fresh true r = refl
+    fresh false r = refl
+
+    by : (e : Entry) → (throw_entry l slot e words).lists.cleanups ≡ l.cleanups
+    by Free = refl
+    by OutOfUse = refl
+    by (Live r) = fresh (is_fresh (Some r.state)) r
+
+-- what a throw answers is the control block of a slot whose exception doesn't fly
+record IsThrown (l : Lists) (slot control : ℕ) : Type 0 where
+  pub is : control ≡ block slot
+  pub idle : state_in (entry l slot) ≡ Some Flying → ⊥
+
+thrown_is : (l : Lists) (slot control : ℕ) (words : Throw) → (throw_list l (Some slot) words).answer ≡ Ok control → IsThrown l slot control
+thrown_is l slot control words e = by (entry l slot) refl e
+  where
+    refused : (why : CxaFault) → ◌≡◌ {A = Result ℕ CxaFault} (Err why) (Ok control) → ⊥
+    refused why f = absurd cc
+
+    fresh : (b : Bool) (r : Record) → is_fresh (Some r.state) ≡ b → entry l slot ≡ Live r → (throw_by_list b l slot r words).answer ≡ Ok control → IsThrown l slot control
+    fresh true r f there q = record {
+      is = cc;
+      idle = λ h.
+          let state : Some r.state ≡ Some Flying = sym (ap state_in there) ∙ h in
+          let clash : true ≡ false = sym f ∙ ap is_fresh state in cc;
+    }
+    fresh false r f there q = absurd (refused _ q)
+
+    by : (d : Entry) → entry l slot ≡ d → (throw_entry l slot d words).answer ≡ Ok control → IsThrown l slot control
+    by Free there q = absurd (refused _ q)
+    by OutOfUse there q = absurd (refused _ q)
+    by (Live r) there q = fresh (is_fresh (Some r.state)) r refl there q
+
+pub throw_flies : (g : Guide) (s t : Recorded) (slot : ℕ) → object_slot (reg_in s 0) ≡ Some slot → machine.throw_gate g s ≡ (Went, t) → FliesTo g s t slot (machine.thrown_first s)
+throw_flies g s t slot at e = by (machine.first_flight s).answer refl e
+  where
+    by : (r : Result ℕ CxaFault) → (machine.first_flight s).answer ≡ r → machine.throws g s r ≡ (Went, t) → FliesTo g s t slot (machine.thrown_first s)
+    by (Err why) is q = absurd (not_went _ s t q)
+    by (Ok control) is q =
+        let thrown = thrown_is s.lists slot control (machine.thrown_words s) (sym (ap (λ (o : Option ℕ). (throw_list s.lists o (machine.thrown_words s)).answer) at) ∙ is) in
+        let w = sought_so g s t event.Throw (machine.thrown_first s) (λ b u. machine.throw_to g s.regs.pc control b (machine.flies_first u)) q in
+        record {
+          barrier = w.0;
+          found = w.1;
+          lists = (machine.first_flight s).lists;
+          cleanups = throw_keeps s.lists (object_slot (reg_in s 0)) (machine.thrown_words s);
+          writes = (start_throw_of (words_in s.lists) (heads s.lists) (object_slot (reg_in s 0)) (machine.thrown_words s)).writes;
+          beside = throw_beside (words_in s.lists) (heads s.lists) (object_slot (reg_in s 0)) (machine.thrown_words s);
+          told = w.2;
+          idle = thrown.idle;
+          goes = subst (λ (n : ℕ). machine.throw_to g s.regs.pc n w.0 (machine.flies_first (machine.logged s w.2)) ≡ (Went, t)) thrown.is w.3;
+        }
+
+-- ---- a rethrow
+
+again_beside : (w : Pool) (h : Globals) (o : Option ℕ) → AreBeside (rethrow_at w h o).writes
+again_beside w h None = tt
+again_beside w h (Some slot) = go (is_caught (named (w slot STATE)))
+  where
+    go : (b : Bool) → AreBeside (rethrow_by b w h slot).writes
+    go true = (inl (omega arith), omega arith, (inl (omega arith), omega arith, tt))
+    go false = tt
+
+again_keeps : (l : Lists) (caught : List ℕ) → (rethrow_from l caught).lists.cleanups ≡ l.cleanups
+again_keeps l [] = refl
+again_keeps l (slot ∷ more) = by (entry l slot)
+  where
+    caught : (b : Bool) (r : Record) → (rethrow_by_list b l slot r).lists.cleanups ≡ l.cleanups
+    caught true r = refl
+    caught false r = refl
+
+    by : (e : Entry) → (rethrow_entry l slot e).lists.cleanups ≡ l.cleanups
+    by Free = refl
+    by OutOfUse = refl
+    by (Live r) = caught (is_caught (Some r.state)) r
+
+again_is : (l : Lists) (caught : List ℕ) (slot control : ℕ) → first_place caught ≡ Some slot → (rethrow_from l caught).answer ≡ Ok control → IsThrown l slot control
+again_is l [] slot control at e = absurd cc
+again_is l (top ∷ more) slot control at e = subst (λ (n : ℕ). IsThrown l n control) (let same : top ≡ slot = cc in same) (by (entry l top) refl e)
+  where
+    refused : (why : CxaFault) → ◌≡◌ {A = Result ℕ CxaFault} (Err why) (Ok control) → ⊥
+    refused why f = absurd cc
+
+    caught : (b : Bool) (r : Record) → is_caught (Some r.state) ≡ b → entry l top ≡ Live r → (rethrow_by_list b l top r).answer ≡ Ok control → IsThrown l top control
+    caught true r f there q = record {
+      is = cc;
+      idle = λ h.
+          let state : Some r.state ≡ Some Flying = sym (ap state_in there) ∙ h in
+          let clash : true ≡ false = sym f ∙ ap is_caught state in cc;
+    }
+    caught false r f there q = absurd (refused _ q)
+
+    by : (d : Entry) → entry l top ≡ d → (rethrow_entry l top d).answer ≡ Ok control → IsThrown l top control
+    by Free there q = absurd (refused _ q)
+    by OutOfUse there q = absurd (refused _ q)
+    by (Live r) there q = caught (is_caught (Some r.state)) r refl there q
+
+pub rethrow_flies : (g : Guide) (s t : Recorded) (slot : ℕ) → block_slot (block slot) ≡ Some slot → first_place s.lists.caught ≡ Some slot → machine.rethrow_gate g s ≡ (Went, t)
+    → FliesTo g s t slot (machine.thrown_of_slot s.lists (Some slot))
+rethrow_flies g s t slot own at e = by (rethrow_list s.lists).answer refl e
+  where
+    by : (r : Result ℕ CxaFault) → (rethrow_list s.lists).answer ≡ r → machine.rethrows g s r ≡ (Went, t) → FliesTo g s t slot (machine.thrown_of_slot s.lists (Some slot))
+    by (Err why) is q = absurd (not_went _ s t q)
+    by (Ok control) is q =
+        let thrown = again_is s.lists s.lists.caught slot control at is in
+        let here : block_slot control ≡ Some slot = ap block_slot thrown.is ∙ own in
+        let w = sought_so g s t event.Rethrow (machine.thrown_of_slot s.lists (block_slot control)) (λ b u. machine.throw_to g s.regs.pc control b (machine.flies_again u)) q in
+        record {
+          barrier = w.0;
+          found = sym (ap (λ (o : Option ℕ). machine.searched g s (machine.thrown_of_slot s.lists o)) here) ∙ w.1;
+          lists = (rethrow_list s.lists).lists;
+          cleanups = again_keeps s.lists s.lists.caught;
+          writes = (rethrow_of (words_in s.lists) (heads s.lists)).writes;
+          beside = again_beside (words_in s.lists) (heads s.lists) (block_slot (heads s.lists).caught);
+          told = w.2;
+          idle = thrown.idle;
+          goes = subst (λ (n : ℕ). machine.throw_to g s.regs.pc n w.0 (machine.flies_again (machine.logged s w.2)) ≡ (Went, t)) thrown.is w.3;
+        }

@@ -1,0 +1,140 @@
+-- One landing of an exception that flies: what phase 2 enters is the first that is due, and what is due behind it stays due.
+use Rattle.std.proofs.Common.{◌≡◌, ℕ, zero, suc, ◌<◌, ◌==◌, Bool, true, cond, List, [], ◌∷◌, ◌++◌, drop, length, Option, Some, None, refl, sym, ◌∙◌, ap, subst, arith}
+use Rattle.std.specs.Prelude.{slice_index, unwrap_or}
+use Rattle.std.specs.List.{cons_option}
+use Rattle.std.proofs.lemmas.Bool.Decides.{nat_tests}
+use Rattle.eh_bus.specs.Lists.{Has}
+use Rattle.elf_image.specs.Image.{Image, IsSound}
+use Rattle.eh_cxa.specs.Lists.{Cleanup, slots}
+use Rattle.eh_cxa.specs.Words.{block}
+use Rattle.eh_cxa.specs.declared.layout.TheConstants.{SLOTS}
+use Rattle.eh_bytecode.specs.declared.frame.Vrs.{Vrs}
+use Rattle.eh_phase.specs.declared.phase2.Goal.{Goal}
+use Rattle.eh_phase.specs.declared.phase2.Entered.{Entered}
+use Rattle.eh_phase.specs.declared.phase2.Entered.TheVariants as enters
+use Rattle.eh_phase.specs.Cleanups.{due, is_reached}
+use Rattle.eh_phase.specs.Firsts.{first_some}
+use Rattle.eh_phase.specs.Laws.{Lands}
+use Rattle.eh_phase.specs.Phases.{Frame, Frames, entered_at, places, phase2}
+use Rattle.eh_phase.proofs.Reached.{Heads, heads}
+use Rattle.eh_gates.specs.declared.state.Turned.{Turned}
+use Rattle.eh_gates.specs.declared.state.Turned.TheVariants.{Went, Ended}
+use Rattle.thumb_core.specs.declared.regs.TheConstants.{SP}
+use Rattle.two_machines.specs.Activations.{Activation, Recorded, frames_at}
+use Rattle.two_machines.specs.ActivationMachine as machine
+use Rattle.stands_for.specs.Cleanups.{goal_at, by_sp}
+use Rattle.frames_same.specs.Landings.{Fit}
+use Rattle.throws_keep.proofs.FramesBehind.{frames_behind}
+use Rattle.landing_laws.specs.Landings.{Pad, stands_at, pad_in, pads, AreFirst}
+use Rattle.landing_laws.specs.Due.{kept_frames, due_of, due_among, left_due}
+use Rattle.landing_laws.proofs.Beside.{same_goal}
+use Rattle.landing_laws.proofs.Kept.{kept_same, kept_here, none_due}
+use Rattle.landing_laws.proofs.Landed.{Listed, IsLanded, landed, went_is}
+use Rattle.landing_laws.proofs.LandsDue.{IsDueFrom, lands_due}
+use Rattle.landing_laws.proofs.PadsBySp.{pads_by_sp}
+use Rattle.landing_laws.proofs.Reached.{in_order}
+
+pub none_more : {A : Type 0} (xs : List A) → xs ≡ xs ++ []
+none_more [] = refl
+none_more (x ∷ xs) = ap (λ ys. x ∷ ys) (none_more xs)
+
+-- the first cleanup is the slot's
+own_due : (image : Image) (t : Recorded) (n : ℕ) (places : List ℕ) (c : Cleanup) (cleanups : List Cleanup) → t.places ≡ n ∷ places → t.lists.cleanups ≡ c ∷ cleanups → left_due image t c.slot ≡ due_of image t n c
+own_due image t n places c cleanups p l =
+    let same : (c.slot == c.slot) ≡ true = grind (arith, nat_tests) in
+    ap (λ (ps : List ℕ). due_among image t c.slot ps t.lists.cleanups) p ∙ ap (due_among image t c.slot (n ∷ places)) l
+    ∙ ap (λ (b : Bool). cond b (due_of image t n c) (due_among image t c.slot places cleanups)) same
+
+pub not_went : (end : _) (s t : Recorded) → ◌≡◌ {A = machine.Outcome} (Ended end, s) (Went, t) → ⊥
+not_went end s t e = let f : ◌≡◌ {A = Turned} (Ended end) Went = ap (λ (o : machine.Outcome). o.0) e in cc
+
+-- what is within reach is entered: phase 2 never ends without
+pub reached_lands : (g : Goal) (from : ℕ) (fs : Frames) → is_reached g from fs.frames ≡ true → Lands (phase2 g from fs)
+unfolding phase2
+reached_lands g from fs reached =
+    let first : Heads g (places from fs.frames) = heads g (places from fs.frames) reached in
+    subst Lands (sym (ap (λ (o : Option Entered). unwrap_or o (enters.Terminate fs.last)) first.first)) first.lands
+
+module _ (image : Image) (sound : IsSound image) (u t : Recorded) (i : ℕ) (a : Activation) (outer : List Activation) (suffix : a ∷ outer ≡ drop i (u.first ∷ u.outer)) (slot object : ℕ) (small : slot < SLOTS)
+    (idle : Has (slots u.lists.cleanups) slot → ⊥) (g : Goal) (goal : goal_at u slot ≡ g) (from site : ℕ) (r : List ℕ) (sp : ℕ)
+    (fit : Fit sp (frames_at image None site r a outer).frames (a ∷ outer)) (reached : is_reached g from (frames_at image None site r a outer).frames ≡ true) where
+  abbrev fs : Frames
+  fs = frames_at image None site r a outer
+
+  abbrev e : Entered
+  e = phase2 g from fs
+
+  abbrev j : ℕ
+  j = machine.passed_by g from fs.frames
+
+  abbrev acts : List Activation
+  acts = drop j (a ∷ outer)
+
+  first : Heads g (places from fs.frames)
+  first = heads g (places from fs.frames) reached
+
+  entered_is : e ≡ first.entered
+  unfolding phase2
+  entered_is = ap (λ (o : Option Entered). unwrap_or o (enters.Terminate fs.last)) first.first
+
+  due_is : due g from fs.frames ≡ e ∷ first.later
+  due_is = first.due ∙ ap (λ (d : Entered). d ∷ first.later) (sym entered_is)
+
+  drop_none : (n : ℕ) → drop {A = Activation} n [] ≡ []
+  drop_none zero = refl
+  drop_none (suc n) = refl
+
+  cut_again : (k l : ℕ) (xs : List Activation) → (m : ℕ) × (drop k (drop l xs) ≡ drop m xs)
+  cut_again k zero xs = (k, refl)
+  cut_again k (suc l) [] = (0, drop_none k)
+  cut_again k (suc l) (x ∷ xs) = let w = cut_again k l xs in (suc w.0, w.1)
+
+  module _ (went : machine.advances u (a ∷ outer) (block slot) object g from fs ≡ (Went, t)) where
+    abbrev place : (m : ℕ) × (drop j (drop i (u.first ∷ u.outer)) ≡ drop m (u.first ∷ u.outer))
+    place = cut_again j i (u.first ∷ u.outer)
+
+    pub is_landed : IsLanded u acts slot e t
+    is_landed = went_is (IsLanded u acts slot e) (machine.entered u acts (block slot) object e) t (landed u place.0 acts (ap (drop j) suffix ∙ place.1) slot object small e) went
+
+    -- the pad that is entered goes first
+    pads_are : pads (due g from fs.frames) ≡ stands_at t ∷ pads first.later
+    pads_are = ap pads due_is ∙ ap (λ (o : Option Pad). cons_option o (pads first.later)) is_landed.at
+
+    same : goal_at t slot ≡ g
+    same = same_goal u t slot (is_landed.same slot) ∙ goal
+
+    in_cleanup : (vrs : Vrs) (pad next at : ℕ) → e ≡ enters.Cleanup vrs pad next at → AreFirst (stands_at t ∷ left_due image t slot) (pads (due g from fs.frames))
+    in_cleanup vrs pad next at is =
+        let there : first_some (entered_at g) (places from fs.frames) ≡ Some (enters.Cleanup vrs pad next at) = first.first ∙ ap Some (sym entered_is ∙ is) in
+        let l : IsDueFrom g from fs.frames (a ∷ outer) vrs pad next at = lands_due g from sp fs.frames (a ∷ outer) vrs pad next at fit (in_order image site r a outer sound) there in
+        let c : Cleanup = record { slot = slot; next = next; sp = slice_index vrs.r SP; site = at } in
+        let listed : Listed u acts slot (enters.Cleanup vrs pad next at) t = subst (λ (d : Entered). Listed u acts slot d t) is is_landed.listed in
+        let stands = is_landed.stands l.first l.more l.passed in
+        let behind : (frames_at image None l.frame.site l.frame.r l.first l.more).frames ≡ l.frame ∷ l.outer = frames_behind image site r a outer l.inner l.frame l.outer l.cut l.first l.more l.frames l.all l.beside in
+        let at_site : (frames_at image None at vrs.r l.first l.more).frames ≡ l.frame ∷ l.outer =
+        ap (λ (n : ℕ). (frames_at image None n vrs.r l.first l.more).frames) (sym l.stands) ∙ ap (λ (v : Vrs). (frames_at image None l.frame.site v.r l.first l.more).frames) (sym l.registers) ∙ behind in
+        let places_are : t.places ≡ length l.more ∷ u.places = listed.1 ∙ ap (λ (xs : List Activation). machine.outside_of xs ∷ u.places) l.passed in
+        let kept : kept_frames image (length l.more) c (t.first ∷ t.outer) ≡ (frames_at image None at (by_sp (slice_index vrs.r SP)) l.first l.more).frames =
+        kept_same image (length l.more) c (t.first ∷ t.outer) (l.first ∷ l.more) stands ∙ kept_here image (length l.more) c l.first l.more refl in
+        let left : left_due image t slot ≡ pads (due g next (l.frame ∷ l.outer)) =
+        own_due image t (length l.more) u.places c u.lists.cleanups places_are listed.0
+        ∙ ap (λ (h : Goal). pads (due h next (kept_frames image (length l.more) c (t.first ∷ t.outer)))) same ∙ ap (λ (xs : List Frame). pads (due g next xs)) kept
+        ∙ sym (pads_by_sp g next image at vrs.r (slice_index vrs.r SP) l.first l.more refl) ∙ ap (λ (xs : List Frame). pads (due g next xs)) at_site in
+        let head : pad_in (enters.Cleanup vrs pad next at) ≡ Some (stands_at t) = ap pad_in (sym is) ∙ is_landed.at in
+        let all : pads (due g from fs.frames) ≡ stands_at t ∷ pads (due g next (l.frame ∷ l.outer)) = ap pads l.due ∙ ap (λ (o : Option Pad). cons_option o (pads (due g next (l.frame ∷ l.outer)))) head in
+        record { rest = []; is = all ∙ ap (λ (ps : List Pad). stands_at t ∷ ps) (sym left ∙ none_more (left_due image t slot)) }
+
+    in_handler : t.lists.cleanups ≡ u.lists.cleanups → AreFirst (stands_at t ∷ left_due image t slot) (pads (due g from fs.frames))
+    in_handler cleanups =
+        let none : left_due image t slot ≡ [] = none_due image t slot t.places t.lists.cleanups (λ h. idle (subst (λ (cs : List Cleanup). Has (slots cs) slot) cleanups h)) in
+        record { rest = pads first.later; is = pads_are ∙ ap (λ (ps : List Pad). stands_at t ∷ (ps ++ pads first.later)) (sym none) }
+
+    pub flight_due : AreFirst (stands_at t ∷ left_due image t slot) (pads (due g from fs.frames))
+    flight_due = go e refl is_landed.listed
+      where
+        go : (d : Entered) → e ≡ d → Listed u acts slot d t → AreFirst (stands_at t ∷ left_due image t slot) (pads (due g from fs.frames))
+        go (enters.Cleanup vrs pad next at) is l = in_cleanup vrs pad next at is
+        go (enters.Catch vrs pad) is l = in_handler l.0
+        go (enters.Spec vrs pad) is l = in_handler l.0
+        go enters.Unexpected is l = absurd l
+        go (enters.Terminate why) is l = absurd l

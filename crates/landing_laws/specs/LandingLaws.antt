@@ -1,0 +1,54 @@
+-- The landing pads of one throw are the cleanups that are due, in order, and then its barrier (docs/standing-for.md).
+use Rattle.std.specs.Prelude.{ℕ, None, Some, List, ◌≡◌}
+use Rattle.event_runs.specs.Runs.{Reached, reached, Ends}
+use Rattle.eh_phase.specs.Cleanups.{due}
+use Rattle.eh_phase.specs.Laws.{goal_of, Lands}
+use Rattle.eh_phase.specs.Phases.{Frames, phase2}
+use Rattle.eh_phase.specs.declared.phase1.Barrier.{Barrier}
+use Rattle.eh_phase.specs.declared.phase1.Found.TheVariants as found
+use Rattle.eh_phase.specs.declared.verdict.Thrown.{Thrown}
+use Rattle.eh_gates.specs.declared.gates.TheConstants.{END_CLEANUP_GATE}
+use Rattle.thumb_core.specs.declared.ends.Cause.{Cause}
+use Rattle.thumb_core.specs.declared.ends.Cause.TheVariants as cause
+use Rattle.thumb_core.specs.declared.ends.End.TheVariants as the_end
+use Rattle.frame_check.specs.Accepts.{Accepted}
+use Rattle.two_machines.specs.Activations.{Recorded, recorded_start}
+use Rattle.two_machines.specs.ActivationMachine.{recorded_event, searched, frames_from}
+use Rattle.two_machines.specs.Checked.{program_of}
+use Rattle.two_machines.specs.Program.{guide}
+use Rattle.stands_for.specs.Stands.{Keeps, IsProgram}
+use Rattle.machines_agree.specs.Turned.{AreBytes}
+use Rattle.landing_laws.specs.Landings.{gate_at, ThrowsWhat, landings, flight_of, pads, AreFirst}
+use Rattle.landing_laws.specs.Due.{DueAfter}
+
+-- ---- one event
+
+-- of any exception but one that it throws, an event enters what is due next or leaves what is due
+abbrev pub DueGoesOn : Type 0
+DueGoesOn = (x : Accepted) (s : Recorded) (input : List ℕ) (slot : ℕ) → IsProgram x → Keeps x s → AreBytes input
+    → DueAfter x.image s slot (recorded_event (program_of x) s input)
+
+-- ---- runs
+
+-- where a run stands behind so many events
+abbrev pub Stood : Accepted → ℕ → List ℕ → Reached Recorded → Type 0
+Stood x n input r = reached (recorded_event (program_of x)) n (recorded_start (program_of x)) input ≡ Some r
+
+-- the frames of all live activations, the first at pc
+abbrev pub live_frames : Accepted → Recorded → Frames
+live_frames x s = frames_from (guide (program_of x)) s None s.regs.pc
+
+-- Where the search of a throw gives a barrier, phase 2 enters a cleanup or the barrier; and the landings of the throw and its resumes, along the
+-- run from there, are the first of its cleanups in order and then its barrier.
+pub record LandsInOrder (x : Accepted) (s : Recorded) (input : List ℕ) (slot m : ℕ) (b : Barrier) : Type 0 where
+  pub enters : Lands (phase2 (goal_of b) 0 (live_frames x s))
+  pub order : AreFirst (flight_of slot (landings (program_of x) m s input)) (pads (due (goal_of b) 0 (live_frames x s).frames))
+
+abbrev pub ThrowsLandInOrder : Type 0
+ThrowsLandInOrder = (x : Accepted) (n m : ℕ) (input : List ℕ) (r : Reached Recorded) (slot : ℕ) (thrown : Thrown) (b : Barrier) → IsProgram x → AreBytes input → Stood x n input r
+    → ThrowsWhat r.state slot thrown → searched (guide (program_of x)) r.state thrown ≡ found.Barrier b → LandsInOrder x r.state r.left slot m b
+
+-- Nor does a resume end a run by anything but a specification without a pad.
+abbrev pub ResumesLand : Type 0
+ResumesLand = (x : Accepted) (n : ℕ) (input : List ℕ) (r : Reached Recorded) (why : Cause) (t : Recorded) → IsProgram x → AreBytes input → Stood x n input r
+    → gate_at r.state ≡ Some END_CLEANUP_GATE → recorded_event (program_of x) r.state r.left ≡ Ends (the_end.Terminate why) t → why ≡ cause.Unexpected

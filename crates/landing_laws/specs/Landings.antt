@@ -1,0 +1,129 @@
+-- Where exceptions land along a run of the machine with recorded activations, and the landings of one throw (docs/standing-for.md).
+use Rattle.std.specs.Prelude.{ℕ, zero, suc, ◌==◌, Bool, true, false, if◌then◌else◌, List, [], ◌∷◌, ◌++◌, ◌≡◌, Option, Some, None, ◌⊎◌}
+use Rattle.std.specs.List.{filter_map, cons_option}
+use Rattle.event_runs.specs.Runs.{Event, Goes, Ends}
+use Rattle.eh_cxa.specs.Lists.{Cleanup}
+use Rattle.eh_cxa.specs.Words.{object_slot}
+use Rattle.eh_phase.specs.declared.phase2.Entered.{Entered}
+use Rattle.eh_phase.specs.declared.phase2.Entered.TheVariants as enters
+use Rattle.eh_phase.specs.declared.verdict.Thrown.{Thrown}
+use Rattle.std.specs.Prelude.{slice_index}
+use Rattle.thumb_core.specs.Registers.{even}
+use Rattle.thumb_core.specs.Step.{step_of}
+use Rattle.thumb_core.specs.declared.regs.TheConstants.{SP}
+use Rattle.thumb_core.specs.declared.regs.Stepped.{Stepped}
+use Rattle.thumb_core.specs.declared.regs.Stepped.TheVariants.{Done, Call, Return, Gate, Trap}
+use Rattle.thumb_core.specs.declared.ends.End.{End}
+use Rattle.eh_gates.specs.declared.gates.TheConstants.{THROW_GATE, RETHROW_GATE, END_CLEANUP_GATE}
+use Rattle.two_machines.specs.Program.{Program}
+use Rattle.two_machines.specs.Activations.{Recorded, reg_in, memory_of, first_place}
+use Rattle.two_machines.specs.ActivationMachine.{recorded_event, thrown_first, thrown_of_slot}
+
+-- ---- what an event throws, and what it resumes
+
+-- the gate that an instruction is
+abbrev pub gate_in : Stepped → Option ℕ
+gate_in (Gate number) = Some number
+gate_in Done = None
+gate_in (Call target ret) = None
+gate_in (Return to) = None
+gate_in (Trap trap) = None
+
+abbrev pub gate_at : Recorded → Option ℕ
+gate_at s = gate_in (step_of s.regs (memory_of s)).0
+
+-- The exception that a gate throws, by its slot: that of the object in r0, or for a rethrow the one on top of the caught stack.
+abbrev pub thrown_by : Recorded → Option ℕ → Option ℕ
+thrown_by s None = None
+thrown_by s (Some number) =
+    if number == THROW_GATE then object_slot (reg_in s 0) else (if number == RETHROW_GATE then first_place s.lists.caught else None)
+
+abbrev pub thrown_at : Recorded → Option ℕ
+thrown_at s = thrown_by s (gate_at s)
+
+-- .. and with it the object and the type
+abbrev pub ThrowsWhat : Recorded → ℕ → Thrown → Type 0
+ThrowsWhat s slot thrown =
+    ((gate_at s ≡ Some THROW_GATE) × (object_slot (reg_in s 0) ≡ Some slot) × (thrown ≡ thrown_first s))
+    ⊎ ((gate_at s ≡ Some RETHROW_GATE) × (first_place s.lists.caught ≡ Some slot) × (thrown ≡ thrown_of_slot s.lists (Some slot)))
+
+-- the exception of the innermost cleanup in progress
+abbrev pub innermost : List Cleanup → Option ℕ
+innermost [] = None
+innermost (c ∷ more) = Some c.slot
+
+-- the exception that goes on where a gate ends a cleanup
+abbrev pub resumed_by : Recorded → Option ℕ → Option ℕ
+resumed_by s None = None
+resumed_by s (Some number) = if number == END_CLEANUP_GATE then innermost s.lists.cleanups else None
+
+abbrev pub resumed_at : Recorded → Option ℕ
+resumed_at s = resumed_by s (gate_at s)
+
+-- ---- landings
+
+-- a landing pad and the sp there
+abbrev pub Pad : Type 0
+Pad = ℕ × ℕ
+
+-- an exception landed: by its throw, or when a cleanup of it ended
+pub record Landing : Type 0 where
+  pub exception : ℕ
+  pub resumes : Bool
+  pub pad : Pad
+
+abbrev pub landed_by : Pad → Option ℕ → Option ℕ → Option Landing
+landed_by at (Some slot) resumed = Some (record { exception = slot; resumes = false; pad = at })
+landed_by at None (Some slot) = Some (record { exception = slot; resumes = true; pad = at })
+landed_by at None None = None
+
+-- where a state stands
+abbrev pub stands_at : Recorded → Pad
+stands_at t = (t.regs.pc, reg_in t SP)
+
+-- an event that goes on from one state to another landed where it threw or resumed
+abbrev pub landing_by : Recorded → Recorded → Option Landing
+landing_by s t = landed_by (stands_at t) (thrown_at s) (resumed_at s)
+
+abbrev pub landings_from : Recorded → Event Recorded End → (Recorded → List ℕ → List Landing) → List Landing
+landings_from s (Goes t text left) further = cons_option (landing_by s t) (further t left)
+landings_from s (Ends end t) further = []
+
+-- of at most so many events, in order
+unfoldable pub landings : Program → ℕ → Recorded → List ℕ → List Landing
+landings p zero s input = []
+landings p (suc n) s input = landings_from s (recorded_event p s input) (landings p n)
+
+-- ---- the landings of one throw
+
+abbrev pub if_own : Bool → Bool → Pad → List Pad → List Pad
+if_own true true at further = at ∷ further
+if_own true false at further = []
+if_own false resumes at further = further
+
+-- of some landings those of an exception's resumes, up to where it is thrown again
+abbrev pub resumes_of : ℕ → List Landing → List Pad
+resumes_of slot [] = []
+resumes_of slot (l ∷ more) = if_own (l.exception == slot) l.resumes l.pad (resumes_of slot more)
+
+-- the landing of a throw, with which these begin, and those of its resumes
+abbrev pub flight_of : ℕ → List Landing → List Pad
+flight_of slot [] = []
+flight_of slot (l ∷ more) = l.pad ∷ resumes_of slot more
+
+-- ---- the pads of what phase 2 enters
+
+abbrev pub pad_in : Entered → Option Pad
+pad_in (enters.Cleanup vrs pad next site) = Some (even pad, slice_index vrs.r SP)
+pad_in (enters.Catch vrs pad) = Some (even pad, slice_index vrs.r SP)
+pad_in (enters.Spec vrs pad) = Some (even pad, slice_index vrs.r SP)
+pad_in enters.Unexpected = None
+pad_in (enters.Terminate why) = None
+
+abbrev pub pads : List Entered → List Pad
+pads es = filter_map pad_in es
+
+-- the first of some pads, in order, as many as they are
+pub record AreFirst (some all : List Pad) : Type 0 where
+  pub rest : List Pad
+  pub is : all ≡ some ++ rest
