@@ -1,0 +1,5 @@
+pub mod Alike
+pub mod Worded
+pub mod Pointed
+pub mod Heard
+pub mod Ended

@@ -1,0 +1,4 @@
+pub mod Types
+pub mod Pointers
+pub mod Catches
+pub mod FrameEnds

@@ -1,0 +1,5 @@
+pub mod Words
+pub mod Tables
+pub mod Descriptors
+pub mod Indexes
+pub mod CodeBytes
