@@ -1,0 +1,5 @@
+use Rattle.event_laws.proofs.Ways.{fall_off}
+use Rattle.event_laws.proofs.gates_fall_off.Goals as goal
+
+pub returns : goal.returns
+returns c = fall_off

@@ -1,0 +1,19 @@
+-- The heads of both chains of exceptions over events and runs (docs/machine.md, "The state").
+use Rattle.std.specs.Prelude.{ℕ, List}
+use Rattle.event_runs.specs.Runs.{Event, Goes, Ends, run}
+use Rattle.thumb_core.specs.declared.ends.End.{End}
+use Rattle.thumb_core.specs.declared.ends.End.TheVariants.{Budget}
+use Rattle.eh_gates.specs.State.{State}
+use Rattle.eh_gates.specs.Laws.{AreHeads}
+use Rattle.two_machines.specs.Program.{Program}
+use Rattle.two_machines.specs.Machine.{machine_event}
+
+-- whatever an event does, it leaves a state
+abbrev pub state_behind : Event State End → State
+state_behind (Goes t text left) = t
+state_behind (Ends end t) = t
+
+-- where each head is none or a slot's control block, it is so behind every event and every run
+pub record HeadsStayHeads : Type 0 where
+  pub event : (p : Program) (s : State) (input : List ℕ) → AreHeads s.globals → AreHeads (state_behind (machine_event p s input)).globals
+  pub run : (p : Program) (n : ℕ) (s : State) (input : List ℕ) → AreHeads s.globals → AreHeads (run (machine_event p) Budget n s input).state.globals

@@ -1,0 +1,50 @@
+-- sp above the landing sp of a cleanup in progress (docs/machine.md, "An event").
+use Rattle.std.specs.Prelude.{◌≡◌, ℕ, ◌<◌, true, List, slice_index, Some}
+use Rattle.event_runs.specs.Runs.{Ends}
+use Rattle.eh_bus.specs.Memory.{Memory}
+use Rattle.eh_cxa.specs.Words.{word, block_slot}
+use Rattle.thumb_core.specs.Step.{step_of}
+use Rattle.thumb_core.specs.declared.regs.Regs.{Regs}
+use Rattle.thumb_core.specs.declared.regs.CoreTrap.{CoreTrap}
+use Rattle.thumb_core.specs.declared.regs.Stepped.{Stepped}
+use Rattle.thumb_core.specs.declared.regs.Stepped.TheVariants.{Trap}
+use Rattle.thumb_core.specs.declared.ends.TrapKind.TheVariants as kind
+use Rattle.thumb_core.specs.declared.ends.End.TheVariants as the_end
+use Rattle.eh_gates.specs.State.{State, reg}
+use Rattle.two_machines.specs.Program.{Program}
+use Rattle.two_machines.specs.Machine.{machine_event}
+
+-- a checked instruction does something that is no trap
+pub record Does (p : Program) (s : State) (what : Stepped) (after : Regs) (m : Memory) : Type 0 where
+  pub checked : (p.look s.regs.pc).is_instr ≡ true
+  pub step : step_of s.regs s.memory ≡ (what, after, m)
+  pub no_trap : (trap : CoreTrap) → what ≡ Trap trap → ⊥
+
+-- the innermost cleanup in progress, by word 25 of its slot, was entered with this sp
+pub record IsInnermost (s : State) (landing : ℕ) : Type 0 where
+  pub slot : ℕ
+  pub is : block_slot s.globals.cleanup ≡ Some slot
+  pub sp : word s.memory slot 25 ≡ landing
+
+-- sp (r13) rises, and above the landing sp
+pub record RisesAbove (s : State) (after : Regs) (landing : ℕ) : Type 0 where
+  pub rises : reg s 13 < slice_index after.r 13
+  pub above : landing < slice_index after.r 13
+
+-- then the event is SpInCleanup with the new sp, and leaves the state
+abbrev pub RisesAreRefused : Type 0
+RisesAreRefused =
+    (p : Program) (s : State) (input : List ℕ) (what : Stepped) (after : Regs) (m : Memory) (landing : ℕ) → Does p s what after m → IsInnermost s landing
+    → RisesAbove s after landing → machine_event p s input ≡ Ends (the_end.Trap kind.SpInCleanup (slice_index after.r 13) s.regs.pc) s
+
+-- and only then: not where sp rises to the landing sp or stays below it
+pub record IsRefused (s : State) (after : Regs) (value : ℕ) : Type 0 where
+  pub landing : ℕ
+  pub innermost : IsInnermost s landing
+  pub rises : RisesAbove s after landing
+  pub is_value : value ≡ slice_index after.r 13
+
+abbrev pub OnlyRisesAreRefused : Type 0
+OnlyRisesAreRefused =
+    (p : Program) (s t : State) (input : List ℕ) (what : Stepped) (after : Regs) (m : Memory) (value pc : ℕ) → Does p s what after m
+    → machine_event p s input ≡ Ends (the_end.Trap kind.SpInCleanup value pc) t → IsRefused s after value

@@ -1,0 +1,49 @@
+//! What one event promises, and a run, in the words of their users (docs/machine.md, "An event").
+#![tactic(auto)]
+
+ghost use Rattle.event_laws.specs.Stack.{RisesAreRefused, OnlyRisesAreRefused};
+ghost use Rattle.event_laws.specs.Ways.{GatesGoOn, GatesFallOff};
+ghost use Rattle.event_laws.specs.Saves.{PushesGuardTheirSaves};
+ghost use Rattle.event_laws.specs.Refused.{RefusedStoresEnd};
+ghost use Rattle.event_laws.specs.Ends.{NoEventIsBudget};
+ghost use Rattle.event_laws.specs.Heads.{HeadsStayHeads};
+
+/// Where sp rises above the landing sp of the innermost cleanup in progress, the event is SpInCleanup with the new sp.
+pub fn rises_are_refused()
+    ensures { RisesAreRefused }
+{}
+
+/// SpInCleanup comes only there: not where sp rises to the landing sp, and not where it stays below it.
+pub fn only_rises_are_refused()
+    ensures { OnlyRisesAreRefused }
+{}
+
+/// A gate that goes on, but for 18, 21 and 22, goes on at the next address.
+pub fn gates_go_on()
+    ensures { GatesGoOn }
+{}
+
+/// Where that address begins a function, each of the gates that go on falls off.
+pub fn gates_fall_off()
+    ensures { GatesFallOff }
+{}
+
+/// The words that a PUSH guards are the saves of its function among those that it stores, and no other.
+pub fn pushes_guard_their_saves()
+    ensures { PushesGuardTheirSaves }
+{}
+
+/// A PUSH or an STM that a guarded word refuses ends the run by SavedSlot with that word's address, and leaves the state as it was.
+pub fn refused_stores_end()
+    ensures { RefusedStoresEnd }
+{}
+
+/// No event ends a run as Budget: over bytes, with recorded activations, and of raw code.
+pub fn no_event_is_budget()
+    ensures { NoEventIsBudget }
+{}
+
+/// Where the heads of both chains of exceptions are each none or a slot's control block, they are so behind every event and every run.
+pub fn heads_stay_heads()
+    ensures { HeadsStayHeads }
+{}

@@ -1,0 +1,5 @@
+pub mod Landings
+pub mod Refusals
+pub mod Throws
+pub mod Pointers
+pub mod Resumes

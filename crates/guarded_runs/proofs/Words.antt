@@ -1,0 +1,18 @@
+-- A run over bytes stands where the run with recorded activations does, and there the slots are guarded.
+use Rattle.std.proofs.Common.{◌≡◌, inl, sym, subst, Err}
+use Rattle.resumes_keep.specs.eh_bus.Memory.{store_run}
+use Rattle.resumes_keep.specs.eh_bus.declared.fault.BusFault.TheVariants.{SavedSlot}
+use Rattle.resumes_keep.specs.eh_gates.State.{State}
+use Rattle.resumes_keep.proofs.two_machines.Saving.{are_guarded}
+use Rattle.machines_agree.proofs.WholeRuns.{runs_same}
+use Rattle.memory_laws.specs.Runs.{place_of, CanStore}
+use Rattle.memory_laws.proofs.Guarded.{runs_refused}
+use Rattle.guarded_runs.specs.Words.{recorded_at, RunsGuardWords}
+
+pub guard_words : RunsGuardWords
+guard_words x n input is fits a words k low inside before slot =
+    let w = (runs_same x n input is fits).state in
+    let t = recorded_at x n input in
+    let guarded = ((are_guarded t).guards (place_of a k)).1 (inl slot) in
+    subst (λ (c : State). CanStore c.memory a words k → store_run c.memory a words ≡ (Err (SavedSlot (place_of a k)), c.memory)) (sym w.same)
+    (λ can. runs_refused _ a words k w.keeps.corresponds.map low inside can guarded) before

@@ -1,0 +1,28 @@
+-- Stores of several words along runs of accepted images (docs/standing-for.md, "What is proved").
+use Rattle.std.specs.Prelude.{◌≡◌, ℕ, ◌^◌, ◌<◌, List, ◌∷◌, length, Err}
+use Rattle.resumes_keep.specs.frame_check.Accepts.{Accepted}
+use Rattle.resumes_keep.specs.eh_bus.Lists.{Has}
+use Rattle.resumes_keep.specs.eh_bus.Memory.{store_run}
+use Rattle.resumes_keep.specs.eh_bus.declared.fault.BusFault.TheVariants.{SavedSlot}
+use Rattle.resumes_keep.specs.eh_gates.State.{State}
+use Rattle.resumes_keep.specs.two_machines.Activations.{Recorded, slots_of}
+use Rattle.resumes_keep.specs.stands_for.Stands.{IsProgram}
+use Rattle.machines_agree.specs.Turned.{AreBytes, byte_run, recorded_run}
+use Rattle.memory_laws.specs.Runs.{place_of, CanStore}
+
+-- where a run has come to, over bytes and with recorded activations
+abbrev pub bytes_at : Accepted → ℕ → List ℕ → State
+bytes_at x n input = (byte_run x n input).state
+
+abbrev pub recorded_at : Accepted → ℕ → List ℕ → Recorded
+recorded_at x n input = (recorded_run x n input).state
+
+-- a word is a slot of a live activation
+abbrev pub IsSlot : Accepted → ℕ → List ℕ → ℕ → Type 0
+IsSlot x n input g = Has (slots_of ((recorded_at x n input).first ∷ (recorded_at x n input).outer)) g
+
+-- words stored upwards, the first of which that can't be stored is such a slot, are refused with that slot's address, and none is stored
+abbrev pub RunsGuardWords : Type 0
+RunsGuardWords = (x : Accepted) (n : ℕ) (input : List ℕ) → IsProgram x → AreBytes input
+    → (a : ℕ) (words : List ℕ) (k : ℕ) → a < 2 ^ 32 → k < length words → CanStore (bytes_at x n input).memory a words k → IsSlot x n input (place_of a k)
+    → store_run (bytes_at x n input).memory a words ≡ (Err (SavedSlot (place_of a k)), (bytes_at x n input).memory)
