@@ -1,0 +1,71 @@
+-- What is told of an instruction before it is done, and the sites of calls.
+use Rattle.std.proofs.Common.{◌≡◌, ℕ, ◌+◌, ◌-◌, ◌%◌, ◌^◌, ◌<◌, ◌≤◌, ◌==◌, not, Bool, true, false, cond, Some, inl, inr, refl, sym, ap, subst, ◌∙◌, arith}
+use Rattle.std.specs.Prelude.{slice_index}
+use Rattle.eh_bus.specs.Memory.{Memory}
+use Rattle.thumb_isa.specs.declared.instr.Instr.{Instr}
+use Rattle.thumb_isa.specs.declared.instr.Instr.TheVariants.{AddHigh, MovHigh, Bx, Blx, Pop, BCond, B, Bl}
+use Rattle.thumb_core.specs.declared.regs.Regs.{Regs}
+use Rattle.thumb_core.specs.declared.regs.CoreTrap.TheVariants.{EvenTarget}
+use Rattle.thumb_core.specs.declared.regs.Stepped.{Stepped}
+use Rattle.thumb_core.specs.declared.regs.Stepped.TheVariants.{Done, Call, Trap}
+use Rattle.thumb_core.specs.Registers.{operand, with_next, even}
+use Rattle.thumb_core.specs.Data.{forward}
+use Rattle.thumb_core.specs.Outcome.{Outcome}
+use Rattle.thumb_core.specs.Branch.{passes, branch, call_to}
+use Rattle.thumb_core.specs.Step.{effect}
+use Rattle.eh_phase.specs.Frames.{site_of as frame_site}
+use Rattle.step_ahead.specs.declared.instruction.Ahead.TheVariants.{Level, Pushes, Jumps, Other}
+use Rattle.step_ahead.specs.Ahead.{is_level, branches}
+use Rattle.frame_scene.specs.Ways.{goes_on}
+use Rattle.frame_scene.specs.Sites.{site_of}
+use Rattle.checker_laws.specs.WayLaws.{IsWay, WhatIsAheadIsAWay, CallsStandAtTheirSites}
+use Rattle.checker_laws.proofs.Ways.{branch_to}
+
+level_on : (i : Instr) (regs : Regs) → is_level i ≡ true → branches i regs ≡ false → goes_on i ≡ true
+level_on (B off) regs level taken = absurd cc
+level_on (Bx k) regs level taken = absurd cc
+level_on (Pop list) regs level taken = absurd cc
+level_on (AddHigh d k) regs level taken = ap not taken
+level_on (MovHigh d k) regs level taken = ap not taken
+level_on i regs level taken = refl
+
+jumps : (i : Instr) (regs : Regs) (m : Memory) (to : ℕ) → branches i regs ≡ true → effect i 2 regs m ≡ (Done, record regs { pc = to }, m) → IsWay i regs (Jumps to)
+jumps (B off) regs m to taken goes =
+    inl (record { target = forward (regs.pc + 4) off; is = refl; pc = sym (ap (λ (o : Outcome). o.1.pc) goes) ∙ branch_to off regs })
+jumps (BCond condition off) regs m to taken goes =
+    let pc : (cond (passes condition regs) (branch off regs) (with_next 2 regs)).pc ≡ to = ap (λ (o : Outcome). o.1.pc) goes in
+    inl (record {
+      target = forward (regs.pc + 4) off;
+      is = refl;
+      pc = sym (subst (λ (b : Bool). (cond b (branch off regs) (with_next 2 regs)).pc ≡ to) taken pc) ∙ branch_to off regs;
+    })
+jumps (AddHigh d k) regs m to taken goes = inr (record { on = ap not taken; target = refl })
+jumps (MovHigh d k) regs m to taken goes = inr (record { on = ap not taken; target = refl })
+jumps i regs m to taken goes = absurd cc
+
+pub ahead : WhatIsAheadIsAWay
+ahead i regs m Level h = level_on i regs h.level h.taken
+ahead i regs m (Pushes count) h = level_on i regs h.level h.taken
+ahead i regs m (Jumps to) h = jumps i regs m to h.taken (h.goes 2 m)
+ahead i regs m (Other taken) h = tt
+
+-- ---- calls
+
+site_behind : (a size ret back : ℕ) → a % 2 ≡ 0 → a + size < 2 ^ 32 → (a + size) % 2 ≡ 0 → 2 ≤ size → ret ≡ even ((a + size) % 2 ^ 32) + 1 → back ≡ ret
+    → (back - back % 2 + (2 ^ 32 - 2)) % 2 ^ 32 ≡ a + size - 2
+site_behind a size ret back aligned low e two is same = omega (arith, aligned, low, e, two, is, same)
+
+pub calls : CallsStandAtTheirSites
+calls (Bl off) size target ret regs m r sized aligned low gone back =
+    let link : ret ≡ even ((regs.pc + size) % 2 ^ 32) + 1 = cc in
+    let site = site_behind regs.pc size ret (slice_index r 15) aligned low (omega (arith, sized, aligned)) (omega (arith, sized)) link back in
+    ap (λ (x : ℕ). Some x) (let n : (regs.pc + 2) % 2 ^ 32 ≡ frame_site r = omega (arith, site, sized, low) in n)
+calls (Blx k) size target ret regs m r sized aligned low gone back = go (operand regs k % 2 == 0) gone
+  where
+    go : (b : Bool) → (cond b (let p : Stepped × Regs = (Trap (EvenTarget (operand regs k)), regs) in p) (call_to (operand regs k) size regs)).0 ≡ Call target ret → site_of regs.pc (Blx k) ≡ Some (frame_site r)
+    go true gone = absurd cc
+    go false gone =
+        let link : ret ≡ even ((regs.pc + size) % 2 ^ 32) + 1 = cc in
+        let site = site_behind regs.pc size ret (slice_index r 15) aligned low (omega (arith, sized, aligned)) (omega (arith, sized)) link back in
+        ap (λ (x : ℕ). Some x) (let n : regs.pc ≡ frame_site r = omega (arith, site, sized, low) in n)
+calls i size target ret regs m r sized aligned low gone back = absurd sized

@@ -1,0 +1,4 @@
+mod Covered
+mod Pads
+mod Ways
+mod Calls

@@ -1,0 +1,36 @@
+//! Two definitions of one thing are one: what the checker of frames says of a site or of an instruction is what phase 2 and the core do there
+//! (docs/scenes.md, "Laws").
+#![tactic(auto)]
+
+ghost use Rattle.checker_laws.specs.SiteLaws.{ScopesAreOne, EntriesAreOne, PadsAreOne};
+ghost use Rattle.checker_laws.specs.WayLaws.{InstructionsGoTheirWays, WhatIsAheadIsAWay, CallsStandAtTheirSites};
+
+/// A descriptor has the same sites in its scope for the checker and for the phases.
+pub fn scopes_are_one()
+    ensures { ScopesAreOne }
+{}
+
+/// The checker finds a recipe at a site exactly where phase 2 has codes of which it is the recipe, and both see the same descriptors.
+pub fn entries_are_one()
+    ensures { EntriesAreOne }
+{}
+
+/// What phase 2 enters at a site is the landing pad to which the checker has a way, and a cleanup for both or for neither.
+pub fn pads_are_one()
+    ensures { PadsAreOne }
+{}
+
+/// The core goes from an instruction where the checker has a way.
+pub fn instructions_go_their_ways()
+    ensures { InstructionsGoTheirWays }
+{}
+
+/// What is told of an instruction before it is done is a way of the checker.
+pub fn what_is_ahead_is_a_way()
+    ensures { WhatIsAheadIsAWay }
+{}
+
+/// A frame that has called stands at the site that the checker looked at.
+pub fn calls_stand_at_their_sites()
+    ensures { CallsStandAtTheirSites }
+{}

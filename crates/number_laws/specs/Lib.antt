@@ -1,0 +1,9 @@
+pub mod Memory
+pub mod Unwinding
+pub mod TypesOf
+pub mod Images
+pub mod Core
+pub mod Gates
+pub mod Checker
+pub mod Sources
+pub mod Linked
