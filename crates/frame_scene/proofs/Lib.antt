@@ -1,4 +1,5 @@
 pub mod Distinct
 pub mod Items
+pub mod Kept
 pub mod Inside
 pub mod Landings

@@ -2,6 +2,7 @@
 //! sites. docs/scenes.md states the rules.
 #![tactic(auto)]
 
+pub mod cover;
 pub mod laws;
 pub mod places;
 pub mod scene;
@@ -9,6 +10,7 @@ pub mod sites;
 pub mod unwinding;
 pub mod ways;
 
+pub use cover::Cover;
 pub use places::Standing;
 pub use scene::Scene;
 pub use unwinding::Unwinding;

@@ -2,32 +2,65 @@
 ghost use Rattle.std.specs.Prelude.{◌≡◌};
 ghost use Rattle.frame_scene.specs.Scene.{Scene as Parts};
 
-use eh_index::Index;
+use crate::cover::Cover;
+use crate::unwinding::Unwinding;
+use eh_desc::{Desc, DescFault};
+use eh_index::{Entry, Index};
 use std::marker::Model;
 
 /// A function of an image whose exception index is read, by its first address and the first one above it, in bytes. Contracts see the
-/// image and these two. It takes no memory.
+/// image and these two. It takes no memory: what is kept of an entry is lent by a `Cover`.
 #[derive(Drop)]
 pub struct Scene<'s, 'i, 'a> {
     pub(crate) index: &'s Index<'i, 'a>,
     pub(crate) start: u32,
     pub(crate) end: u32,
+    pub(crate) entry: Option<Entry>,
+    pub(crate) unwinding: Unwinding,
+    pub(crate) items: &'s [Result<Desc, DescFault>],
+    pub(crate) faulty: bool,
 }
 
 impl<'s, 'i, 'a> Model for Scene<'s, 'i, 'a> {
     ghost use Rattle.frame_scene.specs.Scene.{Scene as Parts};
+    ghost use Rattle.frame_scene.specs.Cover.{IsKept};
 
     ghost Value = { Parts };
 
     ghost view = { λ s. record { image = s.index.now; start = s.start; end = s.end } };
+
+    ghost invariant = { λ s. IsKept s.index.now s.entry s.unwinding s.items.now s.faulty };
 }
 
 impl<'s, 'i, 'a> Scene<'s, 'i, 'a> {
-    /// The function from `start` to below `end`.
+    /// The function from `start` to below `end`. Each question of an entry reads it anew.
     pub fn new(index: &'s Index<'i, 'a>, start: u32, end: u32) -> Scene<'s, 'i, 'a>
         ensures { result ≡ record { image = index.entry.now; start = start; end = end } }
     {
-        Scene { index, start, end }
+        Scene {
+            index,
+            start,
+            end,
+            entry: None,
+            unwinding: Unwinding::Refused,
+            items: &[],
+            faulty: false,
+        }
+    }
+
+    /// The same. What is asked of the entry of the cover is answered by what that keeps.
+    pub fn under(cover: &'s Cover<'s, 'i, 'a>, start: u32, end: u32) -> Scene<'s, 'i, 'a>
+        ensures { result ≡ record { image = cover.entry.now; start = start; end = end } }
+    {
+        Scene {
+            index: cover.index,
+            start,
+            end,
+            entry: cover.entry,
+            unwinding: cover.unwinding,
+            items: &cover.items,
+            faulty: cover.faulty,
+        }
     }
 
     /// The first address.

@@ -5,14 +5,16 @@ ghost use Rattle.eh_index.specs.Places.{table_of};
 ghost use Rattle.eh_desc.specs.Grammar.{items_of};
 ghost use Rattle.frame_scene.specs.Places.{place_of};
 ghost use Rattle.frame_scene.specs.Ways.{ways_to};
-ghost use Rattle.frame_scene.specs.Unwinding.{landing_changes};
+ghost use Rattle.frame_scene.specs.Unwinding.{landing_changes, of_body};
 ghost use Rattle.frame_scene.specs.Sites.{Item, is_one, is_fault, site_of, site_at, entry_at, unwinding_at, items_at, covers, is_scoped, has_fault, pad_of, is_cleanup, cleans, pad_for, pad_ways, ways_from, ways_of, lands_out, pads_out, is_split};
 
+use crate::cover::{is_entry, is_fault};
 use crate::places::Standing;
 use crate::scene::Scene;
 use crate::unwinding::{Unwinding, of_entry};
 use crate::ways::{Way, add_way};
 use eh_desc::{Desc, DescFault, DescKind, Descs};
+use eh_index::Entry;
 use std::alloc::{AllocError, Global};
 use thumb_isa::instr::Instr;
 
@@ -97,13 +99,11 @@ fn some_covered(site: u32, descs: Descs) -> bool
     false
 }
 
-fn is_fault(item: Result<Desc, DescFault>) -> bool
-    ensures { result ≡ is_fault item }
+/// The same of a list of items.
+fn any_covered(site: u32, items: &[Result<Desc, DescFault>]) -> bool
+    ensures { result ≡ list_any (is_one (covers site)) items.now }
 {
-    match item {
-        Ok(_) => false,
-        Err(_) => true,
-    }
+    items.iter().any(|item| is_covered(site, *item))
 }
 
 #[tactic(auto, using(crate::proofs::Items::any_past, crate::proofs::Items::any_here, crate::proofs::Items::any_none))]
@@ -130,6 +130,18 @@ impl<'s, 'i, 'a> Scene<'s, 'i, 'a> {
         site_of(self.address_of(place), i)
     }
 
+    /// What the codes of an entry say.
+    #[tactic(auto, using(crate::proofs::Kept::kept_unwinding))]
+    fn unwinding_by(&self, e: &Entry) -> Unwinding
+        ensures { result ≡ of_body e.now.body (table_of self.now.image e.now) }
+    {
+        if is_entry(self.entry, e) {
+            self.unwinding
+        } else {
+            of_entry(self.index, e)
+        }
+    }
+
     /// What the codes of the entry say that covers an address.
     #[tactic(auto, unfolding(crate::specs::Sites::unwinding_at))]
     pub fn unwinding_at(&self, a: u32) -> Unwinding
@@ -137,7 +149,19 @@ impl<'s, 'i, 'a> Scene<'s, 'i, 'a> {
     {
         match self.index.find(a) {
             None => Unwinding::Refused,
-            Some(e) => of_entry(self.index, &e),
+            Some(e) => self.unwinding_by(&e),
+        }
+    }
+
+    /// Whether a descriptor of an entry has the site in its scope.
+    #[tactic(auto, using(crate::proofs::Kept::kept_items))]
+    fn is_scoped_by(&self, site: u32, e: &Entry) -> bool
+        ensures { result ≡ list_any (is_one (covers site)) (items_of e.now (table_of self.now.image e.now)) }
+    {
+        if is_entry(self.entry, e) {
+            any_covered(site, self.items)
+        } else {
+            some_covered(site, Descs::of(self.index, e))
         }
     }
 
@@ -148,7 +172,19 @@ impl<'s, 'i, 'a> Scene<'s, 'i, 'a> {
     {
         match self.index.find(site) {
             None => false,
-            Some(e) => some_covered(site, Descs::of(self.index, &e)),
+            Some(e) => self.is_scoped_by(site, &e),
+        }
+    }
+
+    /// Whether a descriptor of an entry can't be read.
+    #[tactic(auto, using(crate::proofs::Kept::kept_fault))]
+    fn has_fault_by(&self, e: &Entry) -> bool
+        ensures { result ≡ list_any is_fault (items_of e.now (table_of self.now.image e.now)) }
+    {
+        if is_entry(self.entry, e) {
+            self.faulty
+        } else {
+            some_fault(Descs::of(self.index, e))
         }
     }
 
@@ -159,7 +195,7 @@ impl<'s, 'i, 'a> Scene<'s, 'i, 'a> {
     {
         match self.index.find(a) {
             None => false,
-            Some(e) => some_fault(Descs::of(self.index, &e)),
+            Some(e) => self.has_fault_by(&e),
         }
     }
 
@@ -195,6 +231,24 @@ impl<'s, 'i, 'a> Scene<'s, 'i, 'a> {
         false
     }
 
+    /// The same of a list of items.
+    fn any_out(&self, site: u32, items: &[Result<Desc, DescFault>]) -> bool
+        ensures { result ≡ list_any (is_one (lands_out self.now site)) items.now }
+    {
+        items.iter().any(|item| self.item_lands_out(site, *item))
+    }
+
+    #[tactic(auto, using(crate::proofs::Kept::kept_items))]
+    fn pads_out_by(&self, site: u32, e: &Entry) -> bool
+        ensures { result ≡ list_any (is_one (lands_out self.now site)) (items_of e.now (table_of self.now.image e.now)) }
+    {
+        if is_entry(self.entry, e) {
+            self.any_out(site, self.items)
+        } else {
+            self.some_out(site, Descs::of(self.index, e))
+        }
+    }
+
     /// Whether a landing pad of a site isn't code of the function.
     #[tactic(auto, unfolding(crate::specs::Sites::items_at))]
     pub fn pads_out(&self, site: u32) -> bool
@@ -202,7 +256,7 @@ impl<'s, 'i, 'a> Scene<'s, 'i, 'a> {
     {
         match self.index.find(site) {
             None => false,
-            Some(e) => self.some_out(site, Descs::of(self.index, &e)),
+            Some(e) => self.pads_out_by(site, &e),
         }
     }
 
@@ -223,6 +277,23 @@ impl<'s, 'i, 'a> Scene<'s, 'i, 'a> {
         self.place_of(pad)
     }
 
+    /// Adds the way to the landing pad of a descriptor, where it has one.
+    fn add_pad_of(
+        &self,
+        ways: &mut Vec<Way>,
+        site: u32,
+        unwinding: &Unwinding,
+        resumed: bool,
+        d: &Desc,
+    ) -> Result<(), AllocError>
+        ensures { OnOk result (ways.new.items ≡ ways.old.items ++ ways_to (landing_changes unwinding.now resumed) (option_and_then (place_of self.now) (pad_for site d.now))) }
+    {
+        match self.place_for(site, d) {
+            None => Ok(()),
+            Some(to) => add_way(ways, unwinding.landing_changes(resumed), Some(to)),
+        }
+    }
+
     /// Adds the way to the landing pad of an item, and answers whether it or one before it cleans.
     fn add_pad(
         &self,
@@ -236,11 +307,7 @@ impl<'s, 'i, 'a> Scene<'s, 'i, 'a> {
     {
         match item {
             Ok(d) => {
-                add_way(
-                    ways,
-                    unwinding.landing_changes(resumed),
-                    self.place_for(site, &d),
-                )?;
+                self.add_pad_of(ways, site, unwinding, resumed, &d)?;
                 Ok(resumed || cleans(site, &d))
             }
             Err(_) => Ok(resumed),
@@ -264,6 +331,41 @@ impl<'s, 'i, 'a> Scene<'s, 'i, 'a> {
         Ok(())
     }
 
+    /// The same of a list of items.
+    fn add_listed_pads(
+        &self,
+        ways: &mut Vec<Way>,
+        site: u32,
+        unwinding: &Unwinding,
+        items: &[Result<Desc, DescFault>],
+    ) -> Result<(), AllocError>
+        ensures { OnOk result (ways.new.items ≡ ways.old.items ++ pad_ways self.now site unwinding.now false items.now) }
+    {
+        let mut resumed = false;
+        for item in items {
+            resumed = self.add_pad(ways, site, unwinding, resumed, *item)?;
+        }
+        Ok(())
+    }
+
+    /// The same of an entry's descriptors.
+    #[tactic(auto, using(crate::proofs::Kept::kept_items))]
+    fn add_pads_by(
+        &self,
+        ways: &mut Vec<Way>,
+        site: u32,
+        unwinding: &Unwinding,
+        e: &Entry,
+    ) -> Result<(), AllocError>
+        ensures { OnOk result (ways.new.items ≡ ways.old.items ++ pad_ways self.now site unwinding.now false (items_of e.now (table_of self.now.image e.now))) }
+    {
+        if is_entry(self.entry, e) {
+            self.add_listed_pads(ways, site, unwinding, self.items)
+        } else {
+            self.add_pads(ways, site, unwinding, Descs::of(self.index, e))
+        }
+    }
+
     /// Adds the ways from a site.
     #[tactic(auto, unfolding(crate::specs::Sites::items_at))]
     fn add_landings(&self, ways: &mut Vec<Way>, site: u32) -> Result<(), AllocError>
@@ -272,7 +374,7 @@ impl<'s, 'i, 'a> Scene<'s, 'i, 'a> {
         let unwinding = self.unwinding_at(site);
         match self.index.find(site) {
             None => Ok(()),
-            Some(e) => self.add_pads(ways, site, &unwinding, Descs::of(self.index, &e)),
+            Some(e) => self.add_pads_by(ways, site, &unwinding, &e),
         }
     }
 

@@ -1,0 +1,126 @@
+//! What the exception index says of an entry, read once for all sites of a function and for the next function that it covers.
+//! docs/scenes.md, "Sites".
+ghost use Rattle.std.specs.Prelude.{◌≡◌, ◌++◌, Some, true, IfOk};
+ghost use Rattle.std.specs.List.{list_any};
+ghost use Rattle.eh_index.specs.Places.{table_of};
+ghost use Rattle.eh_desc.specs.Grammar.{items_of};
+ghost use Rattle.frame_scene.specs.Sites.{is_fault};
+
+use crate::unwinding::{Unwinding, of_entry};
+use eh_desc::{Desc, DescFault, Descs};
+use eh_index::{Entry, Index};
+use std::alloc::{AllocError, Global};
+use std::marker::Model;
+
+/// An entry of an exception index with what it says, or no entry yet. Contracts see the image alone: what is kept is what its bytes say.
+#[derive(Drop)]
+pub struct Cover<'s, 'i, 'a> {
+    pub(crate) index: &'s Index<'i, 'a>,
+    pub(crate) entry: Option<Entry>,
+    pub(crate) unwinding: Unwinding,
+    pub(crate) items: Vec<Result<Desc, DescFault>>,
+    pub(crate) faulty: bool,
+}
+
+impl<'s, 'i, 'a> Model for Cover<'s, 'i, 'a> {
+    ghost use Rattle.elf_image.specs.Image.{Image as Parts};
+    ghost use Rattle.frame_scene.specs.Cover.{IsKept};
+
+    ghost Value = { Parts };
+
+    ghost view = { λ c. c.index.now };
+
+    ghost invariant = { λ c. IsKept c.index.now c.entry c.unwinding c.items.items c.faulty };
+}
+
+/// Whether the entry that is kept is this one.
+pub(crate) fn is_entry(kept: Option<Entry>, e: &Entry) -> bool
+    ensures { result ≡ true → kept ≡ Some e.now }
+{
+    match kept {
+        None => false,
+        Some(k) => k == *e,
+    }
+}
+
+/// Whether an item can't be read.
+pub(crate) fn is_fault(item: Result<Desc, DescFault>) -> bool
+    ensures { result ≡ is_fault item }
+{
+    match item {
+        Ok(_) => false,
+        Err(_) => true,
+    }
+}
+
+/// The descriptors of an entry as a list.
+fn items_of(
+    alloc: Global,
+    index: &Index,
+    e: &Entry,
+) -> Result<Vec<Result<Desc, DescFault>>, AllocError>
+    ensures { IfOk result (λ items. items.items ≡ items_of e.now (table_of index.now e.now)) }
+{
+    let mut items = Vec::new(alloc);
+    for item in Descs::of(index, e) {
+        items.push(item)?;
+    }
+    Ok(items)
+}
+
+fn any_fault(items: &[Result<Desc, DescFault>]) -> bool
+    ensures { result ≡ list_any is_fault items.now }
+{
+    items.iter().any(|item| is_fault(*item))
+}
+
+impl<'s, 'i, 'a> Cover<'s, 'i, 'a> {
+    /// No entry yet.
+    pub fn new(alloc: Global, index: &'s Index<'i, 'a>) -> Cover<'s, 'i, 'a>
+        ensures { result ≡ index.entry.now }
+    {
+        Cover {
+            index,
+            entry: None,
+            unwinding: Unwinding::Refused,
+            items: Vec::new(alloc),
+            faulty: false,
+        }
+    }
+
+    /// This entry.
+    fn read(
+        alloc: Global,
+        index: &'s Index<'i, 'a>,
+        e: Entry,
+    ) -> Result<Cover<'s, 'i, 'a>, AllocError>
+        ensures { IfOk result (λ c. c ≡ index.entry.now) }
+    {
+        let items = items_of(alloc, index, &e)?;
+        let faulty = any_fault(&items);
+        Ok(Cover {
+            index,
+            entry: Some(e),
+            unwinding: of_entry(index, &e),
+            items,
+            faulty,
+        })
+    }
+
+    /// The entry that covers an address. It is read only where another one is kept.
+    pub fn turned(self, alloc: Global, a: u32) -> Result<Cover<'s, 'i, 'a>, AllocError>
+        ensures { IfOk result (λ c. c ≡ self.entry) }
+    {
+        let index = self.index;
+        match index.find(a) {
+            None => Ok(self),
+            Some(e) => {
+                if is_entry(self.entry, &e) {
+                    Ok(self)
+                } else {
+                    Cover::read(alloc, index, e)
+                }
+            }
+        }
+    }
+}
