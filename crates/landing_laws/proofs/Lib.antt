@@ -15,3 +15,5 @@ mod Threw
 mod Ended
 mod OneEvent
 mod Runs
+mod Flights
+mod SameLandings

@@ -42,7 +42,7 @@ use Rattle.machines_agree.proofs.RunsOn.{AlikeOn}
 use Rattle.machines_agree.proofs.WholeRuns.{alike}
 use Rattle.landing_laws.specs.Landings.{gate_at, gate_in, thrown_by, thrown_at, resumed_at, landed_by, ThrowsWhat, Pad, Landing, stands_at, landing_by, landings, landings_from, resumes_of, flight_of, if_own, pads, AreFirst}
 use Rattle.landing_laws.specs.Due.{left_due, GoesOn, GoesOnBy, DueAfter}
-use Rattle.landing_laws.specs.LandingLaws.{ThrowsLandInOrder, ResumesLand}
+use Rattle.landing_laws.specs.LandingLaws.{ThrowsLandInOrder, ResumesLand, RunsLandInOrder}
 use Rattle.landing_laws.proofs.Ended.{EndsSo, ends_so, ends_by}
 use Rattle.landing_laws.proofs.Flies.{FliesTo, throw_flies, rethrow_flies}
 use Rattle.landing_laws.proofs.FlightDue.{reached_lands}
@@ -97,7 +97,7 @@ module _ (x : Accepted) (is : IsProgram x) where
     none_yet : (old : List Pad) → AreFirst [] old
     none_yet old = record { rest = old; is = refl }
 
-    one_more : (at : Pad) (some new old : List Pad) → AreFirst (at ∷ new) old → AreFirst some new → AreFirst (at ∷ some) old
+    pub one_more : (at : Pad) (some new old : List Pad) → AreFirst (at ∷ new) old → AreFirst some new → AreFirst (at ∷ some) old
     one_more at some new old a b = record {
       rest = b.rest ++ a.rest;
       is = a.is ∙ ap (λ (ps : List Pad). at ∷ (ps ++ a.rest)) b.is ∙ ap (λ (ps : List Pad). at ∷ ps) (append_assoc some b.rest a.rest);
@@ -112,7 +112,7 @@ module _ (x : Accepted) (is : IsProgram x) where
         go true false w = none_yet old
         go false c w = subst (AreFirst (resumes_of slot further)) w f
 
-    resumes_first : (n : ℕ) (s : Recorded) (input : List ℕ) → Keeps x s → AreBytes input → AreFirst (resumes_of slot (landings (program_of x) n s input)) (left_due x.image s slot)
+    pub resumes_first : (n : ℕ) (s : Recorded) (input : List ℕ) → Keeps x s → AreBytes input → AreFirst (resumes_of slot (landings (program_of x) n s input)) (left_due x.image s slot)
     unfolding landings
     resumes_first zero s input k bytes = none_yet (left_due x.image s slot)
     resumes_first (suc n) s input k bytes =
@@ -216,11 +216,15 @@ module _ (x : Accepted) (is : IsProgram x) where
           absurd (trap why (let w : end ≡ the_end.Terminate why = cc in w))
 
 pub throws_land_in_order : ThrowsLandInOrder
-throws_land_in_order x n m input r slot thrown b is bytes stood what search =
-    let w = reached_kept x is n (recorded_start (program_of x)) input r (starts_stand x is) bytes stood in
-    record { enters = threw_enters x is r.state w.0 slot thrown what b search; order = flight_first x is r.state w.0 slot thrown what b search m r.left w.1 }
+throws_land_in_order x s input slot m thrown b is k bytes what search = record { enters = threw_enters x is s k slot thrown what b search; order = flight_first x is s k slot thrown what b search m input bytes }
 
 pub resumes_land : ResumesLand
-resumes_land x n input r why t is bytes stood gate ends =
+resumes_land x s input why t is k bytes gate ends = resume_ends x is s k input why t gate ends
+
+pub runs_land_in_order : RunsLandInOrder
+runs_land_in_order x n input r is bytes stood =
     let w = reached_kept x is n (recorded_start (program_of x)) input r (starts_stand x is) bytes stood in
-    resume_ends x is r.state w.0 r.left why t gate ends
+    record {
+      throws = λ slot m thrown b what search. throws_land_in_order x r.state r.left slot m thrown b is w.0 w.1 what search;
+      resumes = λ why t gate ends. resumes_land x r.state r.left why t is w.0 w.1 gate ends;
+    }

@@ -1,5 +1,5 @@
 -- The landing pads of one throw are the cleanups that are due, in order, and then its barrier (docs/standing-for.md).
-use Rattle.std.specs.Prelude.{ℕ, None, Some, List, ◌≡◌}
+use Rattle.std.specs.Prelude.{ℕ, None, Some, List, ◌∷◌, ◌≡◌}
 use Rattle.event_runs.specs.Runs.{Reached, reached, Ends}
 use Rattle.eh_phase.specs.Cleanups.{due}
 use Rattle.eh_phase.specs.Laws.{goal_of, Lands}
@@ -7,18 +7,22 @@ use Rattle.eh_phase.specs.Phases.{Frames, phase2}
 use Rattle.eh_phase.specs.declared.phase1.Barrier.{Barrier}
 use Rattle.eh_phase.specs.declared.phase1.Found.TheVariants as found
 use Rattle.eh_phase.specs.declared.verdict.Thrown.{Thrown}
+use Rattle.eh_cxa.specs.Words.{block}
 use Rattle.eh_gates.specs.declared.gates.TheConstants.{END_CLEANUP_GATE}
+use Rattle.eh_gates.specs.declared.state.Turned.TheVariants.{Went}
 use Rattle.thumb_core.specs.declared.ends.Cause.{Cause}
 use Rattle.thumb_core.specs.declared.ends.Cause.TheVariants as cause
 use Rattle.thumb_core.specs.declared.ends.End.TheVariants as the_end
 use Rattle.frame_check.specs.Accepts.{Accepted}
-use Rattle.two_machines.specs.Activations.{Recorded, recorded_start}
+use Rattle.two_machines.specs.Activations.{Recorded, recorded_start, bytes_of}
 use Rattle.two_machines.specs.ActivationMachine.{recorded_event, searched, frames_from}
 use Rattle.two_machines.specs.Checked.{program_of}
 use Rattle.two_machines.specs.Program.{guide}
 use Rattle.stands_for.specs.Stands.{Keeps, IsProgram}
 use Rattle.machines_agree.specs.Turned.{AreBytes}
-use Rattle.landing_laws.specs.Landings.{gate_at, ThrowsWhat, landings, flight_of, pads, AreFirst}
+use Rattle.resumes_keep.specs.Flying.{all_frames, fly_from, CanFly}
+use Rattle.landing_laws.specs.Landings.{gate_at, ThrowsWhat, stands_at, landings, resumes_of, flight_of, pads, AreFirst}
+use Rattle.landing_laws.specs.ByteLandings.{byte_landings}
 use Rattle.landing_laws.specs.Due.{DueAfter}
 
 -- ---- one event
@@ -28,11 +32,7 @@ abbrev pub DueGoesOn : Type 0
 DueGoesOn = (x : Accepted) (s : Recorded) (input : List ℕ) (slot : ℕ) → IsProgram x → Keeps x s → AreBytes input
     → DueAfter x.image s slot (recorded_event (program_of x) s input)
 
--- ---- runs
-
--- where a run stands behind so many events
-abbrev pub Stood : Accepted → ℕ → List ℕ → Reached Recorded → Type 0
-Stood x n input r = reached (recorded_event (program_of x)) n (recorded_start (program_of x)) input ≡ Some r
+-- ---- throws, from any state that events keep
 
 -- the frames of all live activations, the first at pc
 abbrev pub live_frames : Accepted → Recorded → Frames
@@ -45,10 +45,38 @@ pub record LandsInOrder (x : Accepted) (s : Recorded) (input : List ℕ) (slot m
   pub order : AreFirst (flight_of slot (landings (program_of x) m s input)) (pads (due (goal_of b) 0 (live_frames x s).frames))
 
 abbrev pub ThrowsLandInOrder : Type 0
-ThrowsLandInOrder = (x : Accepted) (n m : ℕ) (input : List ℕ) (r : Reached Recorded) (slot : ℕ) (thrown : Thrown) (b : Barrier) → IsProgram x → AreBytes input → Stood x n input r
-    → ThrowsWhat r.state slot thrown → searched (guide (program_of x)) r.state thrown ≡ found.Barrier b → LandsInOrder x r.state r.left slot m b
+ThrowsLandInOrder = (x : Accepted) (s : Recorded) (input : List ℕ) (slot m : ℕ) (thrown : Thrown) (b : Barrier) → IsProgram x → Keeps x s → AreBytes input → ThrowsWhat s slot thrown
+    → searched (guide (program_of x)) s thrown ≡ found.Barrier b → LandsInOrder x s input slot m b
 
--- Nor does a resume end a run by anything but a specification without a pad.
+-- Nor does the end of a cleanup terminate a run, but by a specification without a pad.
 abbrev pub ResumesLand : Type 0
-ResumesLand = (x : Accepted) (n : ℕ) (input : List ℕ) (r : Reached Recorded) (why : Cause) (t : Recorded) → IsProgram x → AreBytes input → Stood x n input r
-    → gate_at r.state ≡ Some END_CLEANUP_GATE → recorded_event (program_of x) r.state r.left ≡ Ends (the_end.Terminate why) t → why ≡ cause.Unexpected
+ResumesLand = (x : Accepted) (s : Recorded) (input : List ℕ) (why : Cause) (t : Recorded) → IsProgram x → Keeps x s → AreBytes input → gate_at s ≡ Some END_CLEANUP_GATE
+    → recorded_event (program_of x) s input ≡ Ends (the_end.Terminate why) t → why ≡ cause.Unexpected
+
+-- ---- flights
+
+-- From any exception that flies and is in no cleanup, to any barrier within reach: where it lands, and where its resumes land in a run from there,
+-- are the first of the cleanups in order and then that barrier.
+abbrev pub FlightsLandInOrder : Type 0
+FlightsLandInOrder = (x : Accepted) (s : Recorded) (site slot : ℕ) (b : Barrier) (t : Recorded) (m : ℕ) (input : List ℕ) → IsProgram x → Keeps x s → CanFly x s site slot b → AreBytes input
+    → fly_from (guide (program_of x)) site (block slot) b s ≡ (Went, t)
+    → AreFirst (stands_at t ∷ resumes_of slot (landings (program_of x) m t input)) (pads (due (goal_of b) 0 (all_frames x s site).frames))
+
+-- ---- runs from the start
+
+-- where a run stands behind so many events
+abbrev pub Stood : Accepted → ℕ → List ℕ → Reached Recorded → Type 0
+Stood x n input r = reached (recorded_event (program_of x)) n (recorded_start (program_of x)) input ≡ Some r
+
+pub record LandsAt (x : Accepted) (s : Recorded) (input : List ℕ) : Type 0 where
+  pub throws : (slot m : ℕ) (thrown : Thrown) (b : Barrier) → ThrowsWhat s slot thrown → searched (guide (program_of x)) s thrown ≡ found.Barrier b → LandsInOrder x s input slot m b
+  pub resumes : (why : Cause) (t : Recorded) → gate_at s ≡ Some END_CLEANUP_GATE → recorded_event (program_of x) s input ≡ Ends (the_end.Terminate why) t → why ≡ cause.Unexpected
+
+abbrev pub RunsLandInOrder : Type 0
+RunsLandInOrder = (x : Accepted) (n : ℕ) (input : List ℕ) (r : Reached Recorded) → IsProgram x → AreBytes input → Stood x n input r → LandsAt x r.state r.left
+
+-- ---- over bytes
+
+-- the machine that unwinds lands where the one with recorded activations does, of each exception with the same pad and sp
+abbrev pub LandingsSame : Type 0
+LandingsSame = (x : Accepted) (s : Recorded) (n : ℕ) (input : List ℕ) → IsProgram x → Keeps x s → AreBytes input → byte_landings (program_of x) n (bytes_of s) input ≡ landings (program_of x) n s input

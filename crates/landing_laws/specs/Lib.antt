@@ -1,3 +1,4 @@
 pub mod Landings
+pub mod ByteLandings
 pub mod Due
 pub mod LandingLaws

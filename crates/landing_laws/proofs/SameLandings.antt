@@ -1,0 +1,74 @@
+-- Over bytes exceptions land where they do with recorded activations.
+use Rattle.std.proofs.Common.{◌≡◌, ℕ, zero, suc, ◌==◌, cond, List, [], ◌∷◌, Option, Some, None, refl, ap, subst, ◌∙◌}
+use Rattle.std.specs.List.{cons_option}
+use Rattle.event_runs.specs.Runs.{Event, Goes, Ends}
+use Rattle.eh_cxa.specs.Lists.{Cleanup, slots}
+use Rattle.eh_cxa.specs.Stands as cxa
+use Rattle.eh_cxa.specs.Words.{word, block_slot, object_slot}
+use Rattle.eh_cxa.specs.declared.layout.TheConstants.{NEXT_CAUGHT, NEXT_CLEANUP}
+use Rattle.eh_gates.specs.State.{State}
+use Rattle.eh_gates.specs.declared.gates.TheConstants.{THROW_GATE, RETHROW_GATE, END_CLEANUP_GATE}
+use Rattle.thumb_core.specs.declared.ends.End.{End}
+use Rattle.frame_check.specs.Accepts.{Accepted}
+use Rattle.two_machines.specs.Checked.{program_of}
+use Rattle.two_machines.specs.Machine.{machine_event}
+use Rattle.two_machines.specs.Activations.{Recorded, reg_in, memory_of, heads, head_of, bytes_of, first_place}
+use Rattle.two_machines.specs.ActivationMachine.{recorded_event}
+use Rattle.stands_for.specs.Stands.{Keeps, StandsFor}
+use Rattle.machines_agree.specs.Turned.{AreBytes}
+use Rattle.machines_agree.proofs.RunsOn.{AlikeOn}
+use Rattle.machines_agree.proofs.WholeRuns.{alike}
+use Rattle.landing_laws.specs.Landings.{Landing, gate_at, thrown_by, innermost, resumed_by, landed_by, stands_at, landing_by, landings, landings_from}
+use Rattle.landing_laws.specs.ByteLandings.{byte_thrown_by, byte_resumed_by, byte_landing_by, byte_landings, byte_landings_from}
+use Rattle.landing_laws.specs.LandingLaws.{LandingsSame}
+
+none_at : block_slot 0 ≡ None
+unfolding block_slot
+none_at = refl
+
+module _ (x : Accepted) (s : Recorded) (k : Keeps x s) where
+  caught_same : block_slot (heads s.lists).caught ≡ first_place s.lists.caught
+  caught_same = go s.lists.caught refl k.corresponds.stands.shows.caught
+    where
+      go : (xs : List ℕ) → s.lists.caught ≡ xs → cxa.Chain (λ t. word (memory_of s) t NEXT_CAUGHT) (heads s.lists).caught xs → block_slot (heads s.lists).caught ≡ first_place xs
+      go [] e h = ap (λ (ys : List ℕ). block_slot (head_of ys)) e ∙ none_at
+      go (y ∷ more) e h = h.0
+
+  cleanup_same : block_slot (heads s.lists).cleanup ≡ innermost s.lists.cleanups
+  cleanup_same = go s.lists.cleanups refl k.corresponds.stands.shows.cleanups
+    where
+      go : (cs : List Cleanup) → s.lists.cleanups ≡ cs → cxa.Chain (λ t. word (memory_of s) t NEXT_CLEANUP) (heads s.lists).cleanup (slots cs) → block_slot (heads s.lists).cleanup ≡ innermost cs
+      go [] e h = ap (λ (ys : List Cleanup). block_slot (head_of (slots ys))) e ∙ none_at
+      go (c ∷ more) e h = h.0
+
+  thrown_same : (gate : Option ℕ) → byte_thrown_by (bytes_of s) gate ≡ thrown_by s gate
+  thrown_same None = refl
+  thrown_same (Some number) = ap (λ (o : Option ℕ). cond (number == THROW_GATE) (object_slot (reg_in s 0)) (cond (number == RETHROW_GATE) o None)) caught_same
+
+  resumed_same : (gate : Option ℕ) → byte_resumed_by (bytes_of s) gate ≡ resumed_by s gate
+  resumed_same None = refl
+  resumed_same (Some number) = ap (λ (o : Option ℕ). cond (number == END_CLEANUP_GATE) o None) cleanup_same
+
+  landing_same : (t : Recorded) → byte_landing_by (bytes_of s) (bytes_of t) ≡ landing_by s t
+  landing_same t =
+      ap (λ (o : Option ℕ). landed_by (stands_at t) o (byte_resumed_by (bytes_of s) (gate_at s))) (thrown_same (gate_at s)) ∙ ap (landed_by (stands_at t) (thrown_by s (gate_at s))) (resumed_same (gate_at s))
+
+pub landings_same : LandingsSame
+unfolding landings byte_landings
+landings_same x s zero input is k bytes = refl
+landings_same x s (suc n) input is k bytes =
+    go (machine_event (program_of x) (bytes_of s) input) (recorded_event (program_of x) s input) (alike x is (bytes_of s) s input bytes (record { same = refl; keeps = k })) (λ t left h f. landings_same x t n left is h f)
+  where
+    by : (b : State) (t : Recorded) (left rest : List ℕ) → b ≡ bytes_of t → left ≡ rest → byte_landings (program_of x) n (bytes_of t) rest ≡ landings (program_of x) n t rest
+        → cons_option (byte_landing_by (bytes_of s) b) (byte_landings (program_of x) n b left) ≡ cons_option (landing_by s t) (landings (program_of x) n t rest)
+    by b t left rest e f w =
+        ap (λ (c : State). cons_option (byte_landing_by (bytes_of s) c) (byte_landings (program_of x) n c left)) e ∙ ap (λ (l : List ℕ). cons_option (byte_landing_by (bytes_of s) (bytes_of t)) (byte_landings (program_of x) n (bytes_of t) l)) f
+        ∙ ap (λ (o : Option Landing). cons_option o (byte_landings (program_of x) n (bytes_of t) rest)) (landing_same x s k t) ∙ ap (cons_option (landing_by s t)) w
+
+    go : (e : Event State End) (d : Event Recorded End) → AlikeOn State Recorded End AreBytes (StandsFor x) e d
+        → ((t : Recorded) (left : List ℕ) → Keeps x t → AreBytes left → byte_landings (program_of x) n (bytes_of t) left ≡ landings (program_of x) n t left)
+        → byte_landings_from (bytes_of s) e (byte_landings (program_of x) n) ≡ landings_from s d (landings (program_of x) n)
+    go (Goes b text left) (Goes t said rest) a further = by b t left rest a.0.same a.2 (further t rest a.0.keeps (subst AreBytes a.2 a.3))
+    go (Goes b text left) (Ends why t) a further = absurd a
+    go (Ends end b) (Goes t said rest) a further = absurd a
+    go (Ends end b) (Ends why t) a further = refl

@@ -1,0 +1,39 @@
+-- Where exceptions land along a run of the machine that unwinds, by its registers, its memory and the heads of its chains.
+use Rattle.std.specs.Prelude.{ℕ, zero, suc, ◌==◌, if◌then◌else◌, List, [], Option, Some, None}
+use Rattle.std.specs.List.{cons_option}
+use Rattle.event_runs.specs.Runs.{Event, Goes, Ends}
+use Rattle.eh_cxa.specs.Words.{block_slot, object_slot}
+use Rattle.eh_gates.specs.State.{State, reg}
+use Rattle.eh_gates.specs.declared.gates.TheConstants.{THROW_GATE, RETHROW_GATE, END_CLEANUP_GATE}
+use Rattle.thumb_core.specs.Step.{step_of}
+use Rattle.thumb_core.specs.declared.regs.TheConstants.{SP}
+use Rattle.thumb_core.specs.declared.ends.End.{End}
+use Rattle.two_machines.specs.Machine.{machine_event}
+use Rattle.two_machines.specs.Program.{Program}
+use Rattle.landing_laws.specs.Landings.{Landing, gate_in, landed_by}
+
+abbrev pub byte_gate_at : State → Option ℕ
+byte_gate_at b = gate_in (step_of b.regs b.memory).0
+
+-- the exception that a gate throws: that of the object in r0, or the one at the head of the caught chain
+abbrev pub byte_thrown_by : State → Option ℕ → Option ℕ
+byte_thrown_by b None = None
+byte_thrown_by b (Some number) =
+    if number == THROW_GATE then object_slot (reg b 0) else (if number == RETHROW_GATE then block_slot b.globals.caught else None)
+
+-- the one that goes on where a gate ends a cleanup: at the head of the chain of cleanups
+abbrev pub byte_resumed_by : State → Option ℕ → Option ℕ
+byte_resumed_by b None = None
+byte_resumed_by b (Some number) = if number == END_CLEANUP_GATE then block_slot b.globals.cleanup else None
+
+abbrev pub byte_landing_by : State → State → Option Landing
+byte_landing_by b c = landed_by (c.regs.pc, reg c SP) (byte_thrown_by b (byte_gate_at b)) (byte_resumed_by b (byte_gate_at b))
+
+abbrev pub byte_landings_from : State → Event State End → (State → List ℕ → List Landing) → List Landing
+byte_landings_from b (Goes c text left) further = cons_option (byte_landing_by b c) (further c left)
+byte_landings_from b (Ends end c) further = []
+
+-- of at most so many events, in order
+unfoldable pub byte_landings : Program → ℕ → State → List ℕ → List Landing
+byte_landings p zero b input = []
+byte_landings p (suc n) b input = byte_landings_from b (machine_event p b input) (byte_landings p n)
