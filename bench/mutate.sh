@@ -60,9 +60,11 @@ def is_own(command, status, said):
     return status in ENDS and re.search(ENDS[status], said) is not None and b"\n-- trace\n" in said
 
 
+# A kind of answer: the command, its status, and the word that says why.
 def kind(command, status, said):
-    words = re.findall(rb"\b(?:accepted|[A-Z][a-z]+[A-Za-z]*)\b", said.splitlines()[-1] if said and command != "build" else b"")
-    return f"{command} {status} " + (words[0].decode() if status in (3, 4, 5) and words else "")
+    line = said.splitlines()[-1] if status in (3, 4, 5) else b""
+    found = re.search(rb"(?:.*: |-- terminate |-- trap )([A-Z][A-Za-z]+)", line)
+    return f"{command} {status} " + (found[1].decode() if found else "")
 
 
 class Stop(Exception):
