@@ -18,7 +18,7 @@ use eh_word::Name;
 use elf_image::function::Function;
 use elf_image::image::Image;
 use frame_flow::FrameFault;
-use frame_scene::Scene;
+use frame_scene::{Cover, Scene};
 use std::alloc::Global;
 
 /// What a run asks of an image that is accepted.
@@ -49,33 +49,35 @@ fn rejected(alloc: Global, scene: &Scene, f: &Function, fault: FrameFault) -> Ch
     }
 }
 
-/// Checks a function, and marks its addresses where it is well.
+/// Checks a function, and marks its addresses where it is well. The cover keeps the entry of its start.
 fn check_function(
     alloc: Global,
     spots: &mut Spots,
-    index: &Index,
+    cover: &Cover,
     f: &Function,
 ) -> Result<(), CheckFault>
     requires { IsPlaced f.now }
-    ensures taken { OnOk result (IsTaken index.now f.now spots.old spots.new) }
-    ensures refused { IfErr result (RefusesOne index.now f.now) }
+    ensures taken { OnOk result (IsTaken cover.now f.now spots.old spots.new) }
+    ensures refused { IfErr result (RefusesOne cover.now f.now) }
 {
-    let scene = Scene::new(index, f.start, f.end);
+    let scene = Scene::under(cover, f.start, f.end);
     match judge(alloc, &scene) {
         Err(fault) => Err(rejected(alloc, &scene, f, fault)),
         Ok(reached) => Ok(mark(alloc, spots, &scene, &reached)?),
     }
 }
 
-/// Checks the functions, in rising order.
+/// Checks the functions, in rising order. An entry that covers several is read once.
 fn check_functions(alloc: Global, index: &Index) -> Result<Spots, CheckFault>
     ensures well { OnOk result (AreWell index.now index.now.functions) }
     ensures spots { IfOk result (AreSpots index.now index.now.functions) }
     ensures refused { IfErr result (RefusesFunctions index.now) }
 {
     let mut spots = Spots::new(alloc);
+    let mut cover = Cover::new(alloc, index);
     for f in index.image().functions() {
-        match check_function(alloc, &mut spots, index, f) {
+        cover = cover.turned(alloc, f.start)?;
+        match check_function(alloc, &mut spots, &cover, f) {
             Ok(()) => {}
             Err(fault) => return Err(fault),
         }

@@ -2,12 +2,13 @@ use Rattle.std.proofs.Common.{arith, sym, ap, ◌∙◌, subst}
 use Rattle.elf_image.specs.Image.{Image}
 use Rattle.frame_reach.proofs.Existing.{marks_agree}
 use Rattle.frame_check.specs.Accepts.{AreSpots}
+use Rattle.frame_check.specs.Judged.{RefusesOne, IsTaken}
 use Rattle.frame_check.proofs.Images.{no_spots}
 use Rattle.frame_check.proofs.Wells.{placed_item, rejected_item, taken_item}
 use Rattle.frame_check.proofs.checking.check_functions.Goals as goal
 
 pub loop-f-init : goal.loop-f-init
-loop-f-init c = record { well = λ k d l. absurd (omega arith); spots = subst (λ t. AreSpots c.args.index.now _ t) (sym c.new-spots.ensures) (no_spots c.args.index.now) }
+loop-f-init c = record { well = λ k d l. absurd (omega arith); spots = subst (λ t. AreSpots c.args.index.now _ t) (sym c.new-spots.ensures) (no_spots c.args.index.now); cover = c.new-cover.ensures }
 
 pub check_function-requires : goal.check_function-requires
 check_function-requires c =
@@ -17,10 +18,13 @@ check_function-requires c =
 pub returns-in-Err-clause-refused : goal.returns-in-Err-clause-refused
 returns-in-Err-clause-refused c =
     rejected_item c.args.index.now c.functions-f-items.result.now c.loop-f.f-index c.f-item.result c.in-Err.fault
-    (c.functions-f-items.ensures.functions ∙ ap (λ (i : Image). i.functions) c.image.ensures) c.loop-f-test.true c.f-item.is c.loop-f.invariant.well c.in-Err.ensures.refused
+    (c.functions-f-items.ensures.functions ∙ ap (λ (i : Image). i.functions) c.image.ensures) c.loop-f-test.true c.f-item.is c.loop-f.invariant.well
+    (subst (λ (i : Image). RefusesOne i c.f-item.result c.in-Err.fault) (c.in_ok-cover.ensures ∙ c.loop-f.invariant.cover) c.in-Err.ensures.refused)
 
 pub loop-f-preserved : goal.loop-f-preserved
 loop-f-preserved c =
+    let covered = c.in_ok-cover.ensures ∙ c.loop-f.invariant.cover in
     let t = taken_item c.args.index.now c.image.result.now c.functions-f-items.result.now c.loop-f.f-index c.f-item.result c.loop-f.spots c.check_function.new.spots marks_agree c.functions-f-items.ensures.sound c.image.ensures
-    (c.functions-f-items.ensures.functions ∙ ap (λ (i : Image). i.functions) c.image.ensures) c.loop-f-test.true c.f-item.is c.loop-f.invariant.well c.loop-f.invariant.spots c.in-Ok.ensures.taken in
-    record { well = t.0; spots = t.1 }
+    (c.functions-f-items.ensures.functions ∙ ap (λ (i : Image). i.functions) c.image.ensures) c.loop-f-test.true c.f-item.is c.loop-f.invariant.well c.loop-f.invariant.spots
+    (subst (λ (i : Image). IsTaken i c.f-item.result c.loop-f.spots c.check_function.new.spots) covered c.in-Ok.ensures.taken) in
+    record { well = t.0; spots = t.1; cover = covered }
