@@ -13,7 +13,8 @@ use std::alloc::Global;
 use std::io::{ErrorKind, Read, Write};
 use std::{fs, rt};
 
-/// The files of the system. A file that does not exist is missing.
+/// The files of the system. A file that does not exist is missing, also where its path leads through a file, and where no file can have
+/// its name, which is longer than the system takes.
 #[derive(Drop)]
 pub struct HostFiles<R: rt::Files + Drop> {
     pub host: R,
@@ -75,7 +76,9 @@ impl<R: rt::Files + Drop> Files for HostFiles<R> {
         let answer = match fs::open(&self.host, name) {
             Ok(mut file) => read_within(alloc, &mut file, most),
             Err(error) => match error.kind() {
-                ErrorKind::NotFound => Ok(FileAnswer::Missing),
+                ErrorKind::NotFound | ErrorKind::NotADirectory | ErrorKind::InvalidFilename => {
+                    Ok(FileAnswer::Missing)
+                }
                 ErrorKind::OutOfMemory => Err(FileFault::OutOfMemory),
                 _ => Err(FileFault::Failed),
             },

@@ -93,6 +93,28 @@ fn a_missing_file_is_no_fault(rt: HostRuntime) {
     assert_eq!(rt; files.faults, 0);
 }
 
+/// A path that leads through a file, and a name that is longer than the system takes.
+#[test]
+fn what_no_file_can_be_is_missing(rt: HostRuntime) -> Result<(), Fail> {
+    let alloc = rt.alloc();
+    let mut files = HostFiles {
+        host: &rt,
+        faults: 0,
+    };
+    let mut long = String::new(alloc);
+    for _ in 0..300 {
+        long.push('n')?;
+    }
+    fs::write(&rt, "a_file_on_the_way_of_words_test", b"")?;
+    let through = files.read(alloc, "a_file_on_the_way_of_words_test/name", BLOCK);
+    fs::remove_file(&rt, "a_file_on_the_way_of_words_test")?;
+    let named = files.read(alloc, long.as_str(), BLOCK);
+    assert!(rt; matches!(&through, Ok(FileAnswer::Missing)));
+    assert!(rt; matches!(&named, Ok(FileAnswer::Missing)));
+    assert_eq!(rt; files.faults, 0);
+    Ok(())
+}
+
 #[test]
 fn a_folder_is_a_fault(rt: HostRuntime) {
     let mut files = HostFiles {
