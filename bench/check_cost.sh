@@ -2,7 +2,7 @@
 # What `check` costs on images that are made to cost it much, each at a size and at twice the size: gates under descriptors of which none
 # is in scope, calls under cleanups in scope that have one landing pad, an executable segment of zeros, functions under one table of
 # descriptors, gates under an entry of many code bytes, and types that overlap. Prints a line each, with the answer, seconds and
-# megabytes. Some are refused at twice the size, since docs/elf.md and docs/scenes.md set limits; the line says so. A run is cut off after
+# megabytes. The larger ones are near the limits of docs/elf.md and docs/scenes.md, or at them. A run is cut off after
 # 300 seconds. Needs GNU time and python3. `EHABI_RUN=PROGRAM bench/check_cost.sh` measures another build of the program.
 set -eu
 top=$(cd "$(dirname "$0")/.." && pwd)
@@ -39,7 +39,7 @@ def call(at, to):
     j1, j2 = ((1 - (off >> k & 1)) ^ s for k in (23, 22))
     return halfwords(0xF000 | s << 10 | (off >> 12) & 0x3FF, 0xD000 | j1 << 13 | j2 << 11 | (off >> 1) & 0x7FF)
 
-# a table's first words, with personality 1 or 2: three codes stand in the first word at most, the rest behind it
+# a table's first words, with personality 1 or 2: two codes stand in the first word, the rest behind it
 def code_words(personality, codes):
     more = max(0, (len(codes) - 2 + 3) // 4)
     codes = codes + [0xB0] * (2 + 4 * more - len(codes))
