@@ -1,0 +1,25 @@
+-- The limits of the command line and the statuses, in digits (docs/command-line.md).
+use Rattle.std.specs.Prelude.{◌≡◌}
+use Rattle.ehabi_top.specs.declared.sources.TheConstants as ehabi_top-sources
+use Rattle.ehabi_top.specs.declared.words.TheConstants as ehabi_top-words
+use Rattle.ehabi_top.specs.declared.status.TheConstants as ehabi_top-status
+
+-- the numbers that the definitions of ehabi_top cite
+pub record CommandNumbers : Type 0 where
+  pub file_limit : ehabi_top-sources.FILE_LIMIT ≡ 4194304
+  pub most_instructions : ehabi_top-words.MOST_INSTRUCTIONS ≡ 1000000000
+  pub most_sources : ehabi_top-words.MOST_SOURCES ≡ 16
+  pub most_digits : ehabi_top-words.MOST_DIGITS ≡ 10
+  pub most_number : ehabi_top-words.MOST_NUMBER ≡ 4294967295
+  pub most_function_digits : ehabi_top-words.MOST_FUNCTION_DIGITS ≡ 4
+  pub done : ehabi_top-status.DONE ≡ 0
+  pub exits : ehabi_top-status.EXITS ≡ 1
+  pub usage : ehabi_top-status.USAGE ≡ 2
+  pub refused : ehabi_top-status.REFUSED ≡ 3
+  pub terminated : ehabi_top-status.TERMINATED ≡ 4
+  pub trapped : ehabi_top-status.TRAPPED ≡ 5
+  pub spent : ehabi_top-status.SPENT ≡ 6
+  pub read_failed : ehabi_top-status.READ_FAILED ≡ 7
+  pub write_failed : ehabi_top-status.WRITE_FAILED ≡ 8
+  pub no_memory : ehabi_top-status.NO_MEMORY ≡ 9
+  pub lacking : ehabi_top-status.LACKING ≡ 10

@@ -1,0 +1,14 @@
+-- The report of a run of an accepted image is one (docs/command-line.md): it doesn't rest on how the checker has kept what it found.
+use Rattle.std.specs.Prelude.{◌≡◌, ℕ, List}
+use Rattle.elf_image.specs.Image.{Image}
+use Rattle.ehabi_top.specs.GenerateReport.{CountsImage}
+use Rattle.ehabi_top.specs.Loading.{Report}
+use Rattle.ehabi_top.specs.RunReport.{RunsImage}
+
+-- of one image, with one budget and one input, `run` has one report
+abbrev pub ReportsAreOne : Type 0
+ReportsAreOne = (budget : ℕ) (image : Image) (input : List ℕ) (r q : Report) → RunsImage budget image input r → RunsImage budget image input q → r ≡ q
+
+-- and so has `gen`
+abbrev pub CountsAreOne : Type 0
+CountsAreOne = (image : Image) (input : List ℕ) (r q : Report) → CountsImage image input r → CountsImage image input q → r ≡ q

@@ -1,0 +1,26 @@
+//! The report of an accepted image's run is one; and the limits and statuses of the command line, in digits (docs/command-line.md).
+#![tactic(auto)]
+
+ghost use Rattle.report_laws.specs.Numbers.{CommandNumbers};
+ghost use Rattle.report_laws.specs.OneReport.{ReportsAreOne, CountsAreOne};
+
+use accepted_laws::programs_are_one;
+
+/// `run` has one report of an accepted image, a budget and an input.
+pub fn reports_are_one()
+    ensures { ReportsAreOne }
+{
+    programs_are_one();
+}
+
+/// `gen` has one report of the image that it builds.
+pub fn counts_are_one()
+    ensures { CountsAreOne }
+{
+    programs_are_one();
+}
+
+/// The limits of files, of the budget and of the words, and the statuses.
+pub fn command_numbers()
+    ensures { CommandNumbers }
+{}
