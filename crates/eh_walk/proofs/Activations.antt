@@ -1,0 +1,68 @@
+-- A walk over bytes is the walk over the activations that they stand for.
+use Rattle.std.proofs.Common.{◌≡◌, ℕ, List, [], ◌∷◌, length, map, take, refl, sym, ap, subst, ◌∙◌, Option, Some, None}
+use Rattle.std.specs.Prelude.{option_map}
+use Rattle.std.proofs.lemmas.List.{length-map}
+use Rattle.eh_bus.specs.Memory.{Memory}
+use Rattle.thumb_core.specs.Registers.{all_of}
+use Rattle.thumb_core.specs.declared.regs.Regs.{Regs}
+use Rattle.eh_phase.specs.Calls.{stack_of}
+use Rattle.eh_phase.specs.Laws.{seen, seen_frames}
+use Rattle.eh_phase.specs.Phases.{Frame, Frames}
+use Rattle.eh_phase.specs.Frames.{frames_of}
+use Rattle.eh_gates.specs.declared.state.Core.{Core}
+use Rattle.eh_gates.specs.State.{State, state_of}
+use Rattle.eh_trace.specs.Trace.{Trace}
+use Rattle.frame_check.specs.Accepts.{Accepted}
+use Rattle.two_machines.specs.Activations.{Recorded, memory_of, frames_at}
+use Rattle.two_machines.specs.Agreeing.{handed_on, Agree}
+use Rattle.two_machines.specs.Program.{Program}
+use Rattle.two_machines.specs.Checked.{program_of}
+use Rattle.stands_for.specs.Stands.{Keeps, IsProgram, StandsFor}
+use Rattle.frames_same.proofs.FramesSame.{frames_are_same}
+use Rattle.eh_walk.specs.declared.walk.Backtrace.{Backtrace}
+use Rattle.eh_walk.specs.Laws.{WalksActivations, SameWalks, WalksSame}
+use Rattle.eh_walk.specs.Sites.{site_state}
+use Rattle.eh_walk.specs.Walks.{shown, IsWalk, walk_of, recorded_walk}
+use Rattle.eh_walk.proofs.Places.{all_shown}
+use Rattle.eh_walk.proofs.SiteStates.{throws_there}
+
+-- ---- frames that agree show the same
+
+shown_seen : (fs : List Frame) → map shown (map (seen handed_on) fs) ≡ map shown fs
+shown_seen [] = refl
+shown_seen (f ∷ more) = ap (λ rest. shown f ∷ rest) (shown_seen more)
+
+shown_same : (fs gs : Frames) → Agree fs gs → all_shown fs ≡ all_shown gs
+shown_same fs gs e = sym (shown_seen fs.frames) ∙ ap all_shown e ∙ shown_seen gs.frames
+
+last_same : (fs gs : Frames) → Agree fs gs → fs.last ≡ gs.last
+last_same fs gs e = ap (λ (v : Frames). v.last) e
+
+count_same : (fs gs : Frames) → Agree fs gs → length fs.frames ≡ length gs.frames
+count_same fs gs e = sym (length-map fs.frames shown) ∙ ap length (shown_same fs gs e) ∙ length-map gs.frames shown
+
+same_walks : (fs gs : Frames) → Agree fs gs → SameWalks (Some fs) (Some gs)
+same_walks fs gs e = record {
+  frames = λ most. ap (take most) (shown_same fs gs e);
+  end = λ most. rw (count_same fs gs e, last_same fs gs e) refl;
+}
+
+-- ---- a walk
+
+module _ (x : Accepted) (is : IsProgram x) (s : Recorded) (k : Keeps x s) where
+  by_site : (o : Option ℕ) → site_state (program_of x) s.regs (memory_of s) ≡ o
+      → SameWalks (option_map (λ site. frames_of x.image (stack_of (memory_of s)) None site (all_of s.regs)) o) (option_map (λ site. frames_at x.image None site (all_of s.regs) s.first s.outer) o)
+  by_site None e = record { frames = λ most. refl; end = λ most. refl }
+  by_site (Some site) e = same_walks _ _ (frames_are_same x s site is k (throws_there x s site is k e)).all
+
+  recorded : SameWalks (walk_of (program_of x) s.regs (memory_of s)) (recorded_walk (program_of x) s)
+  recorded = by_site (site_state (program_of x) s.regs (memory_of s)) refl
+
+pub walks_are_same : WalksSame
+walks_are_same x b s is r = subst (λ (c : State). SameWalks (walk_of (program_of x) c.regs c.memory) (recorded_walk (program_of x) s)) (sym r.same) (recorded x is s r.keeps)
+
+pub walks_activations : (p : Program) (core : Core) (m : Memory) (most : ℕ) (t : Backtrace) → IsWalk most (walk_of p core.regs m) t → WalksActivations p core m most t
+walks_activations p core m most t w events x s is e r =
+    let same = walks_are_same x (state_of core m events) s is r in
+    let here = subst (λ (q : Program). IsWalk most (walk_of q core.regs m) t) e w in
+    record { frames = here.frames ∙ same.frames most; end = here.end ∙ same.end most }

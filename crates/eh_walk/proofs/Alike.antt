@@ -1,0 +1,53 @@
+-- A run to a site is the same over bytes and with recorded activations.
+use Rattle.std.proofs.Common.{◌≡◌, ℕ, ◌+◌, ◌-◌, ◌==◌, ◌&&◌, Bool, true, false, cond, List, refl, ap, subst, ◌∙◌}
+use Rattle.event_runs.specs.Runs.{Event, Goes, Ends}
+use Rattle.event_runs.specs.Laws.{SameRan}
+use Rattle.thumb_core.specs.declared.ends.End.{End}
+use Rattle.thumb_core.specs.declared.ends.End.TheVariants.{Budget}
+use Rattle.eh_gates.specs.State.{State}
+use Rattle.frame_check.specs.Accepts.{Accepted}
+use Rattle.two_machines.specs.Activations.{Recorded, recorded_start}
+use Rattle.two_machines.specs.ActivationMachine.{recorded_event}
+use Rattle.two_machines.specs.Checked.{program_of}
+use Rattle.two_machines.specs.Machine.{machine_event}
+use Rattle.two_machines.specs.Start.{start_of}
+use Rattle.stands_for.specs.Stands.{IsProgram, StandsFor}
+use Rattle.stands_for.proofs.First.{starts_stand}
+use Rattle.machines_agree.specs.Turned.{AreBytes}
+use Rattle.machines_agree.proofs.RunsOn.{AlikeOn, same_on}
+use Rattle.machines_agree.proofs.WholeRuns.{alike}
+use Rattle.eh_walk.specs.Laws.{OnwardFor, ReachesSame}
+use Rattle.eh_walk.specs.Reaching.{Onward, at_left, counted, stops, is_at_site, is_recorded_at_site, site_machine, recorded_site_machine, most_events}
+
+module _ (x : Accepted) (is : IsProgram x) (o : Onward State) (u : Onward Recorded) (r : OnwardFor x o u) where
+  abbrev Both : Event (Onward State) End → Event (Onward Recorded) End → Type 0
+  Both e d = AlikeOn (Onward State) (Onward Recorded) End AreBytes (OnwardFor x) e d
+
+  counts : (e : Event State End) (d : Event Recorded End) → AlikeOn State Recorded End AreBytes (StandsFor x) e d → Both (counted o.left e) (counted u.left d)
+  counts (Goes b text left) (Goes s said rest) a = (record { left = ap (λ n. n - 1) r.left; stands = a.0 }, a.1, a.2, a.3)
+  counts (Ends end b) (Ends why s) a = (a.0, record { left = r.left; stands = a.1 })
+  counts (Goes b text left) (Ends why s) a = absurd a
+  counts (Ends end b) (Goes s said rest) a = absurd a
+
+  stops_same : stops (is_at_site (program_of x)) o.left o.state ≡ stops (is_recorded_at_site (program_of x)) u.left u.state
+  stops_same =
+      ap (λ n. stops (is_at_site (program_of x)) n o.state) r.left ∙ ap (stops (is_at_site (program_of x)) u.left) r.stands.same
+
+  by_stop : (b c : Bool) → b ≡ c → (e : Event State End) (d : Event Recorded End) → AlikeOn State Recorded End AreBytes (StandsFor x) e d
+      → Both (cond b (Ends Budget o) (counted o.left e)) (cond c (Ends Budget u) (counted u.left d))
+  by_stop true true same e d a = (refl, r)
+  by_stop false false same e d a = counts e d a
+  by_stop true false same e d a = absurd cc
+  by_stop false true same e d a = absurd cc
+
+  event_same : (input : List ℕ) → AreBytes input → Both ((site_machine (program_of x)).event o input) ((recorded_site_machine (program_of x)).event u input)
+  event_same input fits =
+      by_stop (stops (is_at_site (program_of x)) o.left o.state) (stops (is_recorded_at_site (program_of x)) u.left u.state) stops_same
+      (machine_event (program_of x) o.state input) (recorded_event (program_of x) u.state input) (alike x is o.state u.state input fits r.stands)
+
+pub reaches_same : ReachesSame
+reaches_same x budget input is fits =
+    let first : OnwardFor x (at_left budget (start_of (program_of x))) (at_left budget (recorded_start (program_of x))) =
+    record { left = refl; stands = record { same = refl; keeps = starts_stand x is } } in
+    (same_on (Onward State) (Onward Recorded) End AreBytes (OnwardFor x) (site_machine (program_of x)).event (recorded_site_machine (program_of x)).event Budget
+    (λ o u left f r. event_same x is o u r left f) (most_events budget) (at_left budget (start_of (program_of x))) (at_left budget (recorded_start (program_of x))) input fits first).same

@@ -1,0 +1,125 @@
+-- What stands at a place of a walk is the first of the frames from there, and behind it come those from the next place.
+use Rattle.std.proofs.Common.{◌≡◌, ℕ, ◌≤◌, Bool, true, false, List, [], ◌∷◌, map, slice_index, refl, sym, ap, subst, ◌∙◌, Option, Some, None, Result, Ok, Err}
+use Rattle.std.specs.Prelude.{is_some}
+use Rattle.eh_bus.specs.declared.map.TheConstants.{STACK_END}
+use Rattle.elf_image.specs.Image.{Image}
+use Rattle.thumb_core.specs.declared.ends.Cause.{Cause}
+use Rattle.thumb_core.specs.declared.ends.Cause.TheVariants.{CannotUnwind}
+use Rattle.eh_bytecode.specs.declared.frame.Vrs.{Vrs}
+use Rattle.eh_phase.specs.declared.walk.Covered.{Covered}
+use Rattle.eh_phase.specs.declared.walk.Cursor.{Cursor}
+use Rattle.eh_phase.specs.Phases.{Frames}
+use Rattle.eh_phase.specs.Frames.{Stack, MOST_FRAMES, frames_in, covered_at, outer, site_of, frame_of, then_outer, walked, framed, ended}
+use Rattle.eh_phase.proofs.Whole.{frames_are_whole}
+use Rattle.eh_walk.specs.declared.walk.WalkEnd.{WalkEnd}
+use Rattle.eh_walk.specs.declared.walk.WalkEnd.TheVariants.{NoUnwind}
+use Rattle.eh_walk.specs.declared.walk.WalkFrame.{WalkFrame}
+use Rattle.eh_walk.specs.declared.stands.Stands.{Stands}
+use Rattle.eh_walk.specs.declared.stands.Stands.TheVariants.{Nothing, Last, Inside}
+use Rattle.eh_walk.specs.Walks.{shown, end_by, frame_shown, outside_of, stands_by, stands_at}
+
+-- the frames from a place on
+abbrev pub frames_from : Image → Stack → Cursor → Frames
+frames_from image stack at = frames_in MOST_FRAMES image stack None at.innermost at.site at.vrs.r
+
+-- what is shown of them
+abbrev pub all_shown : Frames → List WalkFrame
+all_shown fs = map shown fs.frames
+
+module _ (image : Image) (stack : Stack) where
+  abbrev further : List ℕ → Frames
+  further new = frames_in MOST_FRAMES image stack None false (site_of new) new
+
+  module _ (at : Cursor) where
+    abbrev by_cover : Option Covered → Frames
+    by_cover o = walked further stack None at.innermost at.site at.vrs.r o
+
+    -- ---- no frame
+
+    not_nothing : (o : Result Vrs Cause) → outside_of o ≡ Nothing → ⊥
+    not_nothing (Ok next) e = cc
+    not_nothing (Err cause) e = cc
+
+    nothing_by : (o : Option Covered) → stands_by stack at o ≡ Nothing → by_cover o ≡ ended CannotUnwind
+    nothing_by None e = refl
+    nothing_by (Some c) e = absurd (not_nothing (outer stack None at.innermost c.codes at.vrs.r) e)
+
+    -- ---- the last one
+
+    end_in : Stands → WalkEnd
+    end_in Nothing = NoUnwind
+    end_in (Last end) = end
+    end_in (Inside next) = NoUnwind
+
+    IsLast : Frames → WalkEnd → Type 0
+    IsLast fs end = (all_shown fs ≡ frame_shown at ∷ []) × (end_by fs.last ≡ end)
+
+    last_outside : (c : Covered) (o : Result Vrs Cause) (end : WalkEnd) → outside_of o ≡ Last end → IsLast (framed (frame_of at.site at.vrs.r c) (then_outer further o)) end
+    unfolding IsLast end_in
+    last_outside c (Ok next) end e = absurd cc
+    last_outside c (Err cause) end e = (refl, ap end_in e)
+
+    last_by : (o : Option Covered) (end : WalkEnd) → stands_by stack at o ≡ Last end → IsLast (by_cover o) end
+    last_by None end e = absurd cc
+    last_by (Some c) end e = last_outside c (outer stack None at.innermost c.codes at.vrs.r) end e
+
+    -- ---- one inside another
+
+    next_in : Cursor → Stands → Cursor
+    next_in other Nothing = other
+    next_in other (Last end) = other
+    next_in other (Inside next) = next
+
+    GoesOn : Frames → Cursor → Type 0
+    GoesOn fs next = (all_shown fs ≡ frame_shown at ∷ all_shown (frames_from image stack next)) × (fs.last ≡ (frames_from image stack next).last)
+
+    inside_outside : (c : Covered) (o : Result Vrs Cause) (next : Cursor) → outside_of o ≡ Inside next → GoesOn (framed (frame_of at.site at.vrs.r c) (then_outer further o)) next
+    unfolding GoesOn next_in
+    inside_outside c (Ok vrs) next e =
+        let same : record { vrs = vrs; site = site_of vrs.r; innermost = false } ≡ next = ap (next_in next) e in
+        subst (GoesOn (framed (frame_of at.site at.vrs.r c) (further vrs.r))) same (refl, refl)
+    inside_outside c (Err cause) next e = absurd cc
+
+    inside_by : (o : Option Covered) (next : Cursor) → stands_by stack at o ≡ Inside next → GoesOn (by_cover o) next
+    inside_by None next e = absurd cc
+    inside_by (Some c) next e = inside_outside c (outer stack None at.innermost c.codes at.vrs.r) next e
+
+    -- ---- whether one stands there
+
+    HasMore : Frames → Type 0
+    HasMore fs = (rest : List WalkFrame) × (all_shown fs ≡ frame_shown at ∷ rest)
+
+    more_by : (o : Option Covered) → is_some o ≡ true → HasMore (by_cover o)
+    unfolding HasMore
+    more_by None e = absurd cc
+    more_by (Some c) e = (all_shown (then_outer further (outer stack None at.innermost c.codes at.vrs.r)), refl)
+
+    none_by : (o : Option Covered) → is_some o ≡ false → by_cover o ≡ ended CannotUnwind
+    none_by None e = refl
+    none_by (Some c) e = absurd cc
+
+    -- ---- of a stack whose end is no higher than that of all stacks
+
+    module _ (low : stack.end ≤ STACK_END) where
+      whole : frames_from image stack at ≡ by_cover (covered_at image at.site)
+      whole = frames_are_whole image stack None at.innermost at.site at.vrs.r low
+
+      pub nothing_stands : stands_at image stack at ≡ Nothing → frames_from image stack at ≡ ended CannotUnwind
+      unfolding stands_at
+      nothing_stands e = whole ∙ nothing_by (covered_at image at.site) e
+
+      pub last_stands : (end : WalkEnd) → stands_at image stack at ≡ Last end → (all_shown (frames_from image stack at) ≡ frame_shown at ∷ []) × (end_by (frames_from image stack at).last ≡ end)
+      unfolding stands_at IsLast
+      last_stands end e = subst (λ fs. IsLast fs end) (sym whole) (last_by (covered_at image at.site) end e)
+
+      pub inside_stands : (next : Cursor) → stands_at image stack at ≡ Inside next
+          → (all_shown (frames_from image stack at) ≡ frame_shown at ∷ all_shown (frames_from image stack next)) × ((frames_from image stack at).last ≡ (frames_from image stack next).last)
+      unfolding stands_at GoesOn
+      inside_stands next e = subst (λ fs. GoesOn fs next) (sym whole) (inside_by (covered_at image at.site) next e)
+
+      pub more_stands : is_some (covered_at image at.site) ≡ true → (rest : List WalkFrame) × (all_shown (frames_from image stack at) ≡ frame_shown at ∷ rest)
+      unfolding HasMore
+      more_stands e = subst HasMore (sym whole) (more_by (covered_at image at.site) e)
+
+      pub none_stands : is_some (covered_at image at.site) ≡ false → frames_from image stack at ≡ ended CannotUnwind
+      none_stands e = whole ∙ none_by (covered_at image at.site) e

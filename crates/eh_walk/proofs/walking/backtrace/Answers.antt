@@ -1,0 +1,10 @@
+use Rattle.std.proofs.Common.{sym}
+use Rattle.eh_walk.proofs.Backtraces.{walked_from, activations}
+use Rattle.eh_walk.proofs.walking.backtrace.Goals as goal
+
+pub returns-in-Some-clause-recorded : goal.returns-in-Some-clause-recorded
+returns-in-Some-clause-recorded g c =
+    let p = g.C.Checked.program c.args.a.now in
+    let m = g.B.Bus.memory c.args.shared.now.bus in
+    activations p c.args.core.now m c.args.most c.walk_from.result
+    (walked_from p c.args.core.now m c.args.most c.walk_from.result c.in-Some.site c.tables.result.index (sym c.in-Some.ensures) c.tables.ensures.index c.walk_from.ensures)

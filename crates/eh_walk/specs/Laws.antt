@@ -1,0 +1,47 @@
+-- What walks promise of an accepted image, in recorded activations (docs/walks.md, "Laws").
+use Rattle.std.specs.Prelude.{ℕ, ◌≡◌, List, Option}
+use Rattle.eh_bus.specs.Memory.{Memory}
+use Rattle.eh_trace.specs.Trace.{Trace}
+use Rattle.event_runs.specs.Laws.{SameRan}
+use Rattle.eh_phase.specs.Phases.{Frames}
+use Rattle.eh_gates.specs.declared.state.Core.{Core}
+use Rattle.eh_gates.specs.State.{State, state_of}
+use Rattle.frame_check.specs.Accepts.{Accepted}
+use Rattle.two_machines.specs.Activations.{Recorded, recorded_start}
+use Rattle.two_machines.specs.Program.{Program}
+use Rattle.two_machines.specs.Checked.{program_of}
+use Rattle.two_machines.specs.Start.{start_of}
+use Rattle.stands_for.specs.Stands.{IsProgram, StandsFor}
+use Rattle.machines_agree.specs.Turned.{AreBytes}
+use Rattle.eh_machine.specs.Follows.{Follows}
+use Rattle.eh_walk.specs.declared.walk.Backtrace.{Backtrace}
+use Rattle.eh_walk.specs.Reaching.{Onward, run_to_site, recorded_run_to_site}
+use Rattle.eh_walk.specs.Walks.{IsWalk, frames_given, end_given, walk_of, recorded_walk}
+
+-- ---- a walk
+
+-- From each state with recorded activations that the registers, globals and memory stand for, whatever its events are, the walk is the one
+-- over its activations.
+abbrev pub WalksActivations : Program → Core → Memory → ℕ → Backtrace → Type 0
+WalksActivations p core m most t = (events : Trace) → Follows p (state_of core m events) (λ x s. IsWalk most (recorded_walk (program_of x) s) t)
+
+-- two lists of frames of which every walk gives the same
+pub record SameWalks (one two : Option Frames) : Type 0 where
+  pub frames : (most : ℕ) → frames_given most one ≡ frames_given most two
+  pub end : (most : ℕ) → end_given most one ≡ end_given most two
+
+-- states that stand for each other have the same walks
+abbrev pub WalksSame : Type 0
+WalksSame = (x : Accepted) (b : State) (s : Recorded) → IsProgram x → StandsFor x b s → SameWalks (walk_of (program_of x) b.regs b.memory) (recorded_walk (program_of x) s)
+
+-- ---- a run to a site
+
+-- states that stand for each other, with as much left of the budget
+pub record OnwardFor (x : Accepted) (o : Onward State) (u : Onward Recorded) : Type 0 where
+  pub left : o.left ≡ u.left
+  pub stands : StandsFor x o.state u.state
+
+-- from the start, on an input of bytes: the same text, end and input left, in states that stand for each other
+abbrev pub ReachesSame : Type 0
+ReachesSame = (x : Accepted) (budget : ℕ) (input : List ℕ) → IsProgram x → AreBytes input
+    → SameRan (OnwardFor x) (run_to_site (program_of x) budget (start_of (program_of x)) input) (recorded_run_to_site (program_of x) budget (recorded_start (program_of x)) input)

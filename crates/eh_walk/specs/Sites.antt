@@ -1,0 +1,23 @@
+-- Where the innermost frame of a state stands in its function (docs/walks.md, "Sites").
+use Rattle.std.specs.Prelude.{ℕ, ◌+◌, ◌%◌, ◌^◌, if◌then◌else◌, Option, Some, None}
+use Rattle.eh_bus.specs.Memory.{Memory}
+use Rattle.thumb_isa.specs.declared.instr.Instr.{Instr}
+use Rattle.thumb_isa.specs.declared.instr.Instr.TheVariants.{Bl, Blx, Svc}
+use Rattle.thumb_core.specs.Step.{instr_at}
+use Rattle.thumb_core.specs.declared.regs.Regs.{Regs}
+use Rattle.two_machines.specs.Program.{Program}
+
+-- a gate and BLX stand at their own address, and BL at that of its second halfword: two bytes below where the call returns to
+abbrev pub site_by : ℕ → Instr → Option ℕ
+site_by pc (Bl off) = Some ((pc + 2) % 2 ^ 32)
+site_by pc (Blx m) = Some pc
+site_by pc (Svc imm) = Some pc
+site_by pc i = None
+
+abbrev pub site_at : ℕ → Option (Instr × ℕ) → Option ℕ
+site_at pc None = None
+site_at pc (Some (i, size)) = site_by pc i
+
+-- the site of a state: the checker reached an instruction at pc, and the one that the memory has there is a gate or a call
+unfoldable pub site_state : Program → Regs → Memory → Option ℕ
+site_state p regs m = if (p.look regs.pc).is_instr then site_at regs.pc (instr_at m regs.pc) else None
