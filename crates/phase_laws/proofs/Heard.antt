@@ -1,5 +1,5 @@
 -- What a frame's first descriptor says and enters.
-use Rattle.std.proofs.Common.{◌≡◌, ◌⊎◌, ℕ, ◌+◌, ◌%◌, ◌^◌, ◌<◌, ◌≤◌, Bool, true, false, cond, List, ◌∷◌, Some, None, refl, ap, sym, ◌∙◌, arith, inl, inr}
+use Rattle.std.proofs.Common.{◌≡◌, ◌⊎◌, ℕ, ◌+◌, ◌%◌, ◌^◌, ◌<◌, ◌≤◌, ◌==◌, Bool, true, false, cond, List, ◌∷◌, Some, None, refl, ap, sym, ◌∙◌, arith, inl, inr}
 use Rattle.std.specs.Prelude.{◌&&◌, nat_le, nat_lt, unwrap_or, option_map, Result, Ok, Err}
 use Rattle.std.specs.Option.{is_some}
 use Rattle.std.proofs.lemmas.Bool.Decides.{nat_tests}
@@ -15,10 +15,10 @@ use Rattle.eh_phase.specs.declared.phase2.Entered.{Entered}
 use Rattle.eh_phase.specs.declared.phase2.Entered.TheVariants as enters
 use Rattle.eh_phase.specs.Firsts.{first_some, or_next}
 use Rattle.eh_phase.specs.Verdict.{Meeting, in_scope, heard, by_match, says_by, verdict_of}
-use Rattle.eh_phase.specs.Phases.{Frame, found_by, found_in, phase1, phase2, places, entered_item, entered_at, entered_by}
+use Rattle.eh_phase.specs.Phases.{Frame, found_by, found_in, phase1, phase2, places, entered_item, entered_at, entered_by, is_goal, spec_entered, vrs_of}
 use Rattle.eh_phase.proofs.First.{first_past, first_here}
 use Rattle.eh_phase.proofs.Steps.{parted}
-use Rattle.phase_laws.specs.Catches.{frames, IsInside, IsOutside, OutsideIsPassed, CleanupsAreEntered, EverythingStops, EverythingFails, TypesStop, FaultsEnd}
+use Rattle.phase_laws.specs.Catches.{frames, IsInside, IsOutside, OutsideIsPassed, CleanupsAreEntered, EverythingStops, EverythingFails, TypesStop, FaultsEnd, IsBarrier, IsElsewhere, BarriersStop}
 
 -- ---- scopes
 
@@ -118,4 +118,34 @@ pub faults_end : FaultsEnd
 faults_end f fault more outer last = record {
   search = λ m. spoken m f (Err fault) (says.Terminate CannotUnwind) more outer last refl;
   advance = λ g. entered g f (Err fault) (enters.Terminate CannotUnwind) more outer last refl;
+}
+
+-- ---- the barrier
+
+goal_met : (g : Goal) (f : Frame) (d : Desc) → IsBarrier g f d → is_goal g f d.at ≡ true
+goal_met g f d h =
+    let a : (f.sp == g.sp) ≡ true = grind (arith, nat_tests, h.sp) in
+    let b : (d.at == g.desc) ≡ true = grind (arith, nat_tests, h.at) in
+    rw (a, b) refl
+
+goal_missed : (g : Goal) (f : Frame) (d : Desc) → IsElsewhere g f d → is_goal g f d.at ≡ false
+goal_missed g f d (inl apart) = let a : (f.sp == g.sp) ≡ false = grind (arith, nat_tests, apart) in ap (λ b. b && (d.at == g.desc)) a
+goal_missed g f d (inr apart) =
+    let a : (d.at == g.desc) ≡ false = grind (arith, nat_tests, apart) in ap (λ b. (f.sp == g.sp) && b) a ∙ and_false (f.sp == g.sp)
+
+in_enters : (g : Goal) (f : Frame) (d : Desc) → IsInside f.site d → entered_item g f (Ok d) ≡ entered_by g f d d.kind
+in_enters g f d h = ap (λ b. cond b (entered_by g f d d.kind) None) (inside f.site d h)
+
+pub barriers_stop : BarriersStop
+barriers_stop g f d more outer last h = record {
+  catch = λ pad reference type k is. entered g f (Ok d) _ more outer last
+      (in_enters g f d h ∙ ap (entered_by g f d) k ∙ ap (λ b. cond b (Some (enters.Catch (vrs_of f) pad)) None) (goal_met g f d is));
+  padded = λ types count pad k is. entered g f (Ok d) _ more outer last
+      (in_enters g f d h ∙ ap (entered_by g f d) k ∙ ap (λ b. cond b (Some (spec_entered f (Some pad))) None) (goal_met g f d is));
+  bare = λ types count k is. entered g f (Ok d) _ more outer last
+      (in_enters g f d h ∙ ap (entered_by g f d) k ∙ ap (λ b. cond b (Some (spec_entered f None)) None) (goal_met g f d is));
+  other_catch = λ pad reference type k apart. passed g f (Ok d) more outer last
+      (in_enters g f d h ∙ ap (entered_by g f d) k ∙ ap (λ b. cond b (Some (enters.Catch (vrs_of f) pad)) None) (goal_missed g f d apart));
+  other_spec = λ types count pad k apart. passed g f (Ok d) more outer last
+      (in_enters g f d h ∙ ap (entered_by g f d) k ∙ ap (λ b. cond b (Some (spec_entered f pad)) None) (goal_missed g f d apart));
 }

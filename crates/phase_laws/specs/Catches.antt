@@ -1,11 +1,12 @@
 -- What a descriptor in scope says of a thrown object, and which are in scope (IHI 0038, "Phase 1 unwinding"; docs/phases.md): laws above the
 -- two phases.
-use Rattle.std.specs.Prelude.{◌≡◌, ◌⊎◌, ℕ, ◌+◌, ◌<◌, ◌≤◌, Bool, List, ◌∷◌, Result, Ok, Err}
+use Rattle.std.specs.Prelude.{◌≡◌, ◌≢◌, ◌⊎◌, ℕ, ◌+◌, ◌<◌, ◌≤◌, Bool, List, ◌∷◌, Option, Some, None, Result, Ok, Err}
 use Rattle.thumb_core.specs.declared.ends.Cause.{Cause}
 use Rattle.thumb_core.specs.declared.ends.Cause.TheVariants.{CannotUnwind, NoThrow}
 use Rattle.eh_match.specs.declared.rules.Match.TheVariants.{Failed, Object, PointerToBase, Unreadable}
+use Rattle.eh_desc.specs.declared.descriptor.CatchType.{CatchType}
 use Rattle.eh_desc.specs.declared.descriptor.CatchType.TheVariants.{All, AllFails, One}
-use Rattle.eh_desc.specs.declared.descriptor.DescKind.TheVariants.{Cleanup, Catch}
+use Rattle.eh_desc.specs.declared.descriptor.DescKind.TheVariants.{Cleanup, Catch, Spec}
 use Rattle.eh_desc.specs.declared.descriptor.Desc.{Desc}
 use Rattle.eh_desc.specs.declared.descriptor.DescFault.{DescFault}
 use Rattle.eh_phase.specs.declared.phase1.Found.TheVariants as found
@@ -85,3 +86,30 @@ pub record IsNotRead (f : Frame) (fault : DescFault) (more : List (Result Desc D
 
 abbrev pub FaultsEnd : Type 0
 FaultsEnd = (f : Frame) (fault : DescFault) (more : List (Result Desc DescFault)) (outer : List Frame) (last : Cause) → IsNotRead f fault more outer last
+
+-- ---- the barrier
+
+-- the barrier stands in the frame with its sp, at its address
+pub record IsBarrier (g : Goal) (f : Frame) (d : Desc) : Type 0 where
+  pub sp : f.sp ≡ g.sp
+  pub at : d.at ≡ g.desc
+
+-- any other descriptor stands in another frame, or at another address
+abbrev pub IsElsewhere : Goal → Frame → Desc → Type 0
+IsElsewhere g f d = (f.sp ≢ g.sp) ⊎ (d.at ≢ g.desc)
+
+-- phase 2 enters a catch or a specification where it is the barrier, and passes every other one
+pub record StopsAt (g : Goal) (f : Frame) (d : Desc) (more : List (Result Desc DescFault)) (outer : List Frame) (last : Cause) : Type 0 where
+  pub catch : (pad : ℕ) (reference : Bool) (type : CatchType) → d.kind ≡ Catch pad reference type → IsBarrier g f d
+      → phase2 g 0 (frames f (Ok d ∷ more) outer last) ≡ enters.Catch (record { r = f.r }) pad
+  pub padded : (types count pad : ℕ) → d.kind ≡ Spec types count (Some pad) → IsBarrier g f d
+      → phase2 g 0 (frames f (Ok d ∷ more) outer last) ≡ enters.Spec (record { r = f.r }) pad
+  pub bare : (types count : ℕ) → d.kind ≡ Spec types count None → IsBarrier g f d → phase2 g 0 (frames f (Ok d ∷ more) outer last) ≡ enters.Unexpected
+  pub other_catch : (pad : ℕ) (reference : Bool) (type : CatchType) → d.kind ≡ Catch pad reference type → IsElsewhere g f d
+      → phase2 g 0 (frames f (Ok d ∷ more) outer last) ≡ phase2 g 0 (frames f more outer last)
+  pub other_spec : (types count : ℕ) (pad : Option ℕ) → d.kind ≡ Spec types count pad → IsElsewhere g f d
+      → phase2 g 0 (frames f (Ok d ∷ more) outer last) ≡ phase2 g 0 (frames f more outer last)
+
+abbrev pub BarriersStop : Type 0
+BarriersStop =
+    (g : Goal) (f : Frame) (d : Desc) (more : List (Result Desc DescFault)) (outer : List Frame) (last : Cause) → IsInside f.site d → StopsAt g f d more outer last
