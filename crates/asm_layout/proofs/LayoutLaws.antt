@@ -14,12 +14,12 @@ use Rattle.std.proofs.lemmas.Map.Made.{is_some-lookup}
 use Rattle.std.proofs.lemmas.Slice.Eq.{slice_eq-Decides}
 use Rattle.std.proofs.lemmas.Bool.Decides.{Decides-eqb, nat_tests}
 use Rattle.eh_word.specs.Names.{same_bytes}
-use Rattle.asm_read.specs.declared.statement.Stmt.{Stmt}
-use Rattle.asm_read.specs.declared.statement.StmtKind.{StmtKind}
-use Rattle.asm_read.specs.declared.statement.StmtKind.TheVariants.{Label as DefinesLabel, Size, TypeFunction, TypeObject, Global}
+use Rattle.asm_statements.specs.declared.statement.Stmt.{Stmt}
+use Rattle.asm_statements.specs.declared.statement.StmtKind.{StmtKind}
+use Rattle.asm_statements.specs.declared.statement.StmtKind.TheVariants.{Label as DefinesLabel, Size, TypeFunction, TypeObject, Global}
 use Rattle.asm_unwind.specs.declared.entry.EntryWords.{EntryWords}
 use Rattle.asm_layout.specs.declared.fault.AsmFault.{AsmFault}
-use Rattle.asm_layout.specs.declared.place.Place.{Place}
+use Rattle.relocatable_object.specs.declared.place.Place.{Place}
 use Rattle.asm_layout.specs.declared.labels.Label.{Label}
 use Rattle.asm_layout.specs.PlacedStmt.{PlacedStmt}
 use Rattle.asm_layout.specs.Placing.{placed_of}

@@ -1,7 +1,7 @@
 -- What the labels of a source are without what its directives say.
 use Rattle.std.proofs.Common.{◌≡◌, List, map, Option}
 use Rattle.std.proofs.lemmas.List.{map-id}
-use Rattle.asm_read.specs.declared.statement.Stmt.{Stmt}
+use Rattle.asm_statements.specs.declared.statement.Stmt.{Stmt}
 use Rattle.asm_unwind.specs.declared.entry.EntryWords.{EntryWords}
 use Rattle.asm_layout.specs.Labels.{Named, named_in, labelled}
 use Rattle.asm_layout.proofs.LayoutLaws.{map_after}

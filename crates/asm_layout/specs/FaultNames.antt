@@ -1,6 +1,6 @@
 -- The names of refusals in a report (docs/objects.md, "Refusals").
 use Rattle.std.specs.Prelude.{ℕ, List, codes}
-use Rattle.thumb_encode.specs.FaultNames.{fault_name as encode_name}
+use Rattle.thumb_isa.specs.FaultNames.{fault_name as encode_name}
 use Rattle.asm_unwind.specs.FaultNames.{fault_name as unwind_name}
 use Rattle.asm_layout.specs.declared.fault.AsmWhat.{AsmWhat}
 use Rattle.asm_layout.specs.declared.fault.AsmWhat.TheVariants as what

@@ -1,6 +1,6 @@
 -- Data of a source, whichever directive gives it: fields of one width, a text, or zeros (docs/objects.md, "Sections and places").
 use Rattle.std.specs.Prelude.{ℕ, ℤ, Bool, true, false, List, Option, Some, None}
-use Rattle.asm_read.specs.declared.statement.Expr.{Expr}
+use Rattle.asm_statements.specs.declared.statement.Expr.{Expr}
 use Rattle.asm_layout.specs.declared.given.TheConstants.{BYTE_LIMIT, HALF_LIMIT}
 use Rattle.asm_layout.specs.declared.given.Width.{Width}
 use Rattle.asm_layout.specs.declared.given.Width.TheVariants.{Byte, Half, Word}

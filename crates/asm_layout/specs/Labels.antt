@@ -2,11 +2,11 @@
 use Rattle.std.specs.Prelude.{ℕ, ◌-◌, Bool, true, false, if◌then◌else◌, List, [], ◌∷◌, ◌++◌, map, Option, Some, None}
 use Rattle.std.specs.List.{list_any}
 use Rattle.eh_word.specs.Names.{same_bytes}
-use Rattle.asm_read.specs.declared.statement.Stmt.{Stmt}
-use Rattle.asm_read.specs.declared.statement.StmtKind.{StmtKind}
-use Rattle.asm_read.specs.declared.statement.StmtKind.TheVariants as stmt
+use Rattle.asm_statements.specs.declared.statement.Stmt.{Stmt}
+use Rattle.asm_statements.specs.declared.statement.StmtKind.{StmtKind}
+use Rattle.asm_statements.specs.declared.statement.StmtKind.TheVariants as stmt
 use Rattle.asm_unwind.specs.declared.entry.EntryWords.{EntryWords}
-use Rattle.asm_layout.specs.declared.place.Place.{Place}
+use Rattle.relocatable_object.specs.declared.place.Place.{Place}
 use Rattle.asm_layout.specs.declared.labels.Label.{Label}
 use Rattle.asm_layout.specs.declared.fault.AsmFault.{AsmFault}
 use Rattle.asm_layout.specs.declared.fault.AsmWhat.TheVariants.{DuplicateLabel, SectionTooLarge}
@@ -15,7 +15,8 @@ use Rattle.asm_layout.specs.Sizes.{is_too_large}
 use Rattle.asm_layout.specs.declared.walk.Walk.{Walk}
 use Rattle.asm_layout.specs.PlacedStmt.{PlacedStmt}
 use Rattle.asm_layout.specs.Placing.{placed_from}
-use Rattle.asm_layout.specs.Walks.{start, next, same_section, sizes_with_pool}
+use Rattle.asm_layout.specs.Walks.{start, next, sizes_with_pool}
+use Rattle.relocatable_object.specs.Sections.{same_section}
 
 -- a name at its place
 pub record Named : Type 0 where

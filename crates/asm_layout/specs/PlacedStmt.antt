@@ -1,8 +1,8 @@
 -- A statement where it stands (docs/objects.md, "Sections and places").
 use Rattle.std.specs.Prelude.{ℕ, Option, Some, None}
 use Rattle.std.specs.Global.{Box}
-use Rattle.asm_read.specs.declared.statement.Stmt.{Stmt}
-use Rattle.asm_layout.specs.declared.place.Place.{Place}
+use Rattle.asm_statements.specs.declared.statement.Stmt.{Stmt}
+use Rattle.relocatable_object.specs.declared.place.Place.{Place}
 use Rattle.asm_layout.specs.declared.placed.Extra.{Extra}
 use Rattle.asm_layout.specs.declared.placed.Puts.{Puts}
 use Rattle.asm_layout.specs.declared.placed.Puts.TheVariants.{Nothing}

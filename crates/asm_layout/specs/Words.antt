@@ -1,8 +1,7 @@
 -- What words stand for (docs/objects.md).
-use Rattle.std.specs.Prelude.{ℕ, ◌-◌, ◌%◌, ◌^◌, ℤ, pos, negsuc, nat_eq, Bool, List, codes}
-use Rattle.std.specs.List.{starts_with}
-use Rattle.asm_read.specs.declared.statement.Expr.{Expr}
-use Rattle.asm_read.specs.declared.statement.Expr.TheVariants as expr
+use Rattle.std.specs.Prelude.{ℕ, ◌-◌, ◌%◌, ◌^◌, ℤ, pos, negsuc}
+use Rattle.asm_statements.specs.declared.statement.Expr.{Expr}
+use Rattle.asm_statements.specs.declared.statement.Expr.TheVariants as expr
 use Rattle.asm_layout.specs.declared.word.Word.{Word}
 use Rattle.asm_layout.specs.declared.word.Word.TheVariants.{Num, Of, Diff, Prel31, Prel31Ref, Target2, Rel}
 
@@ -20,7 +19,3 @@ word_of (expr.Prel31 name) = Prel31 name
 word_of (expr.Prel31Ref name) = Prel31Ref name
 word_of (expr.Target2 name) = Target2 name
 word_of (expr.Rel name) = Rel name
-
--- a name that begins with `.L`
-abbrev pub is_local : List ℕ → Bool
-is_local name = starts_with nat_eq name (codes ".L")

@@ -5,7 +5,7 @@ ghost use Rattle.asm_layout.specs.Faults.{number_of, is_before, first_with, firs
 
 use asm_unwind::UnwindFault;
 use std::alloc::AllocError;
-use thumb_encode::code::EncodeFault;
+use thumb_isa::encode_fault::EncodeFault;
 
 /// Why statements have no object, and at which line; for want of memory the line is 0.
 #[derive(Clone, Copy, PartialEq, Eq, Debug)]

@@ -6,7 +6,7 @@ ghost use Rattle.asm_layout.specs.Faults.{fault_at, first_with, first_of_all};
 ghost use Rattle.asm_layout.specs.Functions.{field_of, directive_of, no_frame, next_frame, entry_or_none, new_entries, entry_faults, new_faults, open_faults, entries_of, unwind_faults_of};
 
 use crate::fault::{AsmFault, AsmWhat, first_with};
-use asm_read::{Stmt, StmtKind};
+use asm_statements::{Stmt, StmtKind};
 use asm_unwind::{EntryWords, FrameText, UnwindDirective, UnwindFault, new_frame};
 use eh_list::Seq;
 use std::alloc::{AllocError, Global};

@@ -2,7 +2,7 @@
 ghost use Rattle.std.specs.Prelude.{◌≡◌};
 ghost use Rattle.asm_layout.specs.Given.{bytes_of, limit, takes_addresses};
 
-use asm_read::Expr;
+use asm_statements::Expr;
 
 /// The width of a field: all that tells `.byte`, `.half` and `.word` apart.
 #[derive(Clone, Copy)]

@@ -1,17 +1,17 @@
 //! The labels of a source, and what directives say of them (docs/objects.md).
 ghost use Rattle.std.specs.Prelude.{◌≡◌, [], ◌++◌, map, IfOk, OnOk, None, Some};
-ghost use Rattle.asm_read.specs.declared.statement.StmtKind.TheVariants.{Size};
+ghost use Rattle.asm_statements.specs.declared.statement.StmtKind.TheVariants.{Size};
 ghost use Rattle.asm_layout.specs.Faults.{first_of_all};
 ghost use Rattle.asm_layout.specs.Labels.{find, is_among, size_between, label_unless, labels_in, named_in, duplicates_from, stmt_of};
 ghost use Rattle.asm_layout.specs.LabelSteps.{fresh, sized, entry_behind, labels_behind, defines_again, entry_typed, entry_global, described_by, described};
 
 use crate::fault::{AsmFault, AsmWhat, first_if};
-use crate::place::Place;
 use crate::placed::PlacedStmt;
-use crate::word::copied;
-use asm_read::{Stmt, StmtKind};
+use asm_statements::{Stmt, StmtKind};
 use eh_word::Name;
 use indexmap::IndexMap;
+use relocatable_object::name::copied;
+use relocatable_object::place::Place;
 use std::alloc::{AllocError, Global};
 use std::marker::Model;
 

@@ -9,7 +9,7 @@ use crate::fault::{AsmFault, AsmWhat, first_if};
 use crate::labels::{Defined, Labels, defined_in};
 use crate::placed::{PlacedPool, PlacedStmt};
 use crate::walk::Walk;
-use asm_read::Stmt;
+use asm_statements::Stmt;
 use asm_unwind::EntryWords;
 use eh_list::Seq;
 use std::alloc::{AllocError, Global};

@@ -9,7 +9,6 @@ pub mod frames;
 pub mod given;
 pub mod labels;
 pub mod layout;
-pub mod place;
 pub mod placed;
 pub mod sort;
 pub mod walk;

@@ -3,9 +3,9 @@ ghost use Rattle.std.specs.Prelude.{◌≡◌, length, None, Some, IfOk};
 ghost use Rattle.asm_layout.specs.PlacedStmt.{word_in, puts_in};
 ghost use Rattle.asm_layout.specs.Placing.{moved_word, moved, has_words, puts_pool};
 
-use crate::place::Place;
 use crate::word::Words;
-use asm_read::Stmt;
+use asm_statements::Stmt;
+use relocatable_object::place::Place;
 use std::alloc::{AllocError, Global};
 use std::marker::Model;
 

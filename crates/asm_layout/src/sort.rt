@@ -7,7 +7,7 @@ ghost use Rattle.asm_layout.specs.Sorts.{given};
 
 use crate::given::{Data, Width};
 use crate::{bare_form, branch_form, name_form, nameless_form, reader_form};
-use asm_read::StmtKind;
+use asm_statements::StmtKind;
 
 /// An instruction of one halfword that names nothing, but for `udf`.
 #[macro_export]

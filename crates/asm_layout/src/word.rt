@@ -1,10 +1,11 @@
-//! Words as values, and the names in them (docs/objects.md).
+//! Words as values (docs/objects.md).
 ghost use Rattle.std.specs.Prelude.{◌≡◌, ◌==◌, ◌%◌, ◌^◌, length, IfOk};
-ghost use Rattle.asm_layout.specs.Words.{low_word, is_local, word_of};
+ghost use Rattle.asm_layout.specs.Words.{low_word, word_of};
 
-use asm_read::Expr;
+use asm_statements::Expr;
 use eh_list::Seq;
 use eh_word::Name;
+use relocatable_object::name::copied;
 use std::alloc::{AllocError, Global};
 
 /// What a word stands for, with its numbers modulo 2^32. Words are equal where they are equal as values of this type.
@@ -45,20 +46,6 @@ pub fn low_part(n: u64) -> u32
     ensures { result ≡ n % 2 ^ 32 }
 {
     (n % 0x1_0000_0000) as u32
-}
-
-/// A copy of a name.
-pub fn copied(alloc: Global, name: &Name) -> Result<Name, AllocError>
-    ensures { IfOk result (λ n. n ≡ name.now) }
-{
-    Ok(Name::of_vec(Vec::from_slice(alloc, name.bytes())?))
-}
-
-/// Whether a name is local: it begins with `.L`.
-pub fn is_local(name: &Name) -> bool
-    ensures { result ≡ is_local name.now }
-{
-    name.bytes().starts_with(b".L")
 }
 
 /// The word that an expression gives.

@@ -10,7 +10,7 @@ use Rattle.asm_layout.specs.Faults.{fault_at, first_of, first_of_all}
 use Rattle.asm_layout.specs.Labels.{Named}
 use Rattle.asm_layout.proofs.FaultLaws.{first_behind}
 use Rattle.asm_layout.proofs.FirstLaws.{some_stays}
-use Rattle.asm_object.specs.declared.object.IndexRow.{IndexRow}
+use Rattle.relocatable_object.specs.declared.object.IndexRow.{IndexRow}
 use Rattle.asm_object.specs.declared.parts.Sections.{Sections}
 use Rattle.asm_object.specs.Pieces.{pieces_at, pieces_of, put_rows, rows_of}
 use Rattle.asm_object.specs.Objects.{faults_at, refusals_at, refusals_of}

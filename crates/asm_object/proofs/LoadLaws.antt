@@ -7,10 +7,10 @@ use Rattle.std.proofs.lemmas.Grind.{flat_map-append}
 use Rattle.std.proofs.lemmas.List.{drop-drop}
 use Rattle.std.proofs.Math.Seq.{drop-append_seam, take-append_seam}
 use Rattle.eh_word.specs.Names.{same_bytes}
-use Rattle.asm_read.specs.declared.statement.Expr.{Expr}
-use Rattle.asm_read.specs.declared.statement.Stmt.{Stmt}
-use Rattle.asm_read.specs.declared.statement.StmtKind.{StmtKind}
-use Rattle.asm_read.specs.declared.statement.StmtKind.TheVariants as stmt
+use Rattle.asm_statements.specs.declared.statement.Expr.{Expr}
+use Rattle.asm_statements.specs.declared.statement.Stmt.{Stmt}
+use Rattle.asm_statements.specs.declared.statement.StmtKind.{StmtKind}
+use Rattle.asm_statements.specs.declared.statement.StmtKind.TheVariants as stmt
 use Rattle.thumb_isa.specs.declared.instr.Instr.TheVariants.{LdrLit}
 use Rattle.thumb_encode.specs.Codes.{encoded_of}
 use Rattle.asm_unwind.specs.declared.entry.EntryWords.{EntryWords}
@@ -19,21 +19,22 @@ use Rattle.asm_layout.specs.declared.walk.Walk.{Walk}
 use Rattle.asm_layout.specs.declared.walk.TheConstants.{MOST_BYTES}
 use Rattle.asm_layout.specs.declared.word.Word.{Word}
 use Rattle.asm_layout.specs.declared.word.Word.TheVariants as word
-use Rattle.asm_layout.specs.declared.place.Section.TheVariants.{Text}
+use Rattle.relocatable_object.specs.declared.place.Section.TheVariants.{Text}
 use Rattle.asm_layout.specs.Words.{word_of}
 use Rattle.asm_layout.specs.SameWords.{same_word}
 use Rattle.asm_layout.specs.Functions.{entries_of, no_frame}
 use Rattle.asm_layout.specs.Labels.{Named, labels_of}
 use Rattle.asm_layout.specs.Sizes.{sum_64, times, is_too_large}
 use Rattle.eh_list.specs.Bytes.{gap}
-use Rattle.asm_layout.specs.Walks.{start, here, same_section, next, is_empty, is_in_text, ends_pool, pool_with, pool_place, coming_pool, sizes_with_pool, walk_behind}
+use Rattle.asm_layout.specs.Walks.{start, here, next, is_empty, is_in_text, ends_pool, pool_with, pool_place, coming_pool, sizes_with_pool, walk_behind}
+use Rattle.relocatable_object.specs.Sections.{same_section}
 use Rattle.asm_layout.proofs.LayoutLaws.{same_bytes-true}
 use Rattle.asm_object.specs.Bytes.{word_bytes, filling_bytes}
 use Rattle.asm_object.specs.Values.{held}
 use Rattle.asm_object.specs.Pieces.{Piece, words_bytes, pool_pieces, bytes_in, bytes_of_code, pieces_of}
 use Rattle.asm_object.specs.Refusals.{instruction_fault, refusal}
 use Rattle.asm_object.specs.LoadLaw.{LoadsItsWord, LoadsReadTheirWords}
-use Rattle.asm_object.specs.declared.object.Object.{Object}
+use Rattle.relocatable_object.specs.declared.object.Object.{Object}
 use Rattle.asm_object.specs.Instructions.{literal, literal_to}
 use Rattle.asm_object.specs.Objects.{joined}
 use Rattle.asm_object.proofs.PlaceLaws.{Fewer, filled_length, words_length, not_large, none_parts, none_behind, walks_on, law_of_ends, law_of_bytes, refusal_parts, not_false, text_here, gives, loads}

@@ -8,16 +8,16 @@ use Rattle.std.proofs.lemmas.List.Folds.{list_all-append}
 use Rattle.std.proofs.lemmas.Grind.{flat_map-append}
 use Rattle.std.proofs.lemmas.List.{length-map}
 use Rattle.std.proofs.lemmas.List.Elements.{filter-append}
-use Rattle.asm_read.specs.declared.statement.Stmt.{Stmt}
-use Rattle.asm_read.specs.declared.statement.StmtKind.{StmtKind}
-use Rattle.asm_read.specs.declared.statement.StmtKind.TheVariants as stmt
+use Rattle.asm_statements.specs.declared.statement.Stmt.{Stmt}
+use Rattle.asm_statements.specs.declared.statement.StmtKind.{StmtKind}
+use Rattle.asm_statements.specs.declared.statement.StmtKind.TheVariants as stmt
 use Rattle.asm_unwind.specs.declared.directive.UnwindDirective.{UnwindDirective}
 use Rattle.asm_unwind.specs.declared.entry.EntryWords.{EntryWords}
 use Rattle.asm_unwind.specs.declared.entry.EntryWords.TheVariants as entry
 use Rattle.asm_layout.specs.declared.fault.AsmFault.{AsmFault}
-use Rattle.asm_layout.specs.declared.place.Place.{Place}
-use Rattle.asm_layout.specs.declared.place.Section.{Section}
-use Rattle.asm_layout.specs.declared.place.Section.TheVariants.{Text, Rodata, Extab, Init, Bss}
+use Rattle.relocatable_object.specs.declared.place.Place.{Place}
+use Rattle.relocatable_object.specs.declared.place.Section.{Section}
+use Rattle.relocatable_object.specs.declared.place.Section.TheVariants.{Text, Rodata, Extab, Init, Bss}
 use Rattle.asm_layout.specs.declared.walk.Sizes.{Sizes}
 use Rattle.asm_layout.specs.declared.walk.Walk.{Walk}
 use Rattle.asm_layout.specs.declared.walk.TheConstants.{MOST_BYTES}
@@ -28,17 +28,19 @@ use Rattle.asm_layout.specs.Functions.{Frame, directive_of, next_frame, new_entr
 use Rattle.asm_layout.specs.Labels.{Named, labels_of, duplicates_from, too_large_from}
 use Rattle.asm_layout.specs.Sizes.{sum_64, times, multiple, size_in, sizes_grown, is_too_large}
 use Rattle.eh_list.specs.Bytes.{gap}
-use Rattle.asm_layout.specs.Walks.{start, next, coming_pool, here, same_section, is_empty, is_in_text, entry_at, pool_place, sizes_with_pool, walk_behind}
+use Rattle.asm_layout.specs.Walks.{start, next, coming_pool, here, is_empty, is_in_text, entry_at, pool_place, sizes_with_pool, walk_behind}
+use Rattle.relocatable_object.specs.Sections.{same_section}
 use Rattle.asm_layout.specs.Words.{word_of}
-use Rattle.asm_object.specs.declared.object.Object.{Object}
-use Rattle.asm_object.specs.declared.object.Reloc.{Reloc}
+use Rattle.relocatable_object.specs.declared.object.Object.{Object}
+use Rattle.relocatable_object.specs.declared.object.Reloc.{Reloc}
 use Rattle.asm_object.specs.Instructions.{linked_unless, text_place}
 use Rattle.asm_object.specs.Values.{link_of}
 use Rattle.asm_object.specs.Pieces.{Piece, place_at, relocs_of, word_relocs, filling_piece, words_piece, pool_pieces, table_pieces, own_piece, relocs_in, bytes_in, put_pieces, pieces_of}
 use Rattle.asm_object.specs.Refusals.{refusal}
 use Rattle.asm_object.specs.Objects.{faults_of, joined, object_unless, object_of}
-use Rattle.asm_object.specs.ObjectLaw.{kinds, StandInOrder, FieldsStandInOrder, RelocsGoBySection, RelocsHaveKinds, relocs_at, bytes_at}
-use Rattle.asm_object.specs.Relocations.{field_size}
+use Rattle.asm_object.specs.ObjectLaw.{kinds, FieldsStandInOrder, RelocsGoBySection, RelocsHaveKinds}
+use Rattle.relocatable_object.specs.Fields.{StandInOrder, relocs_at, bytes_at}
+use Rattle.relocatable_object.specs.Relocations.{field_size}
 use Rattle.asm_layout.proofs.FirstLaws.{law_of_none}
 use Rattle.asm_object.proofs.PlaceLaws.{Fewer, not_large, next_sizes, none_parts, law_of_ends, earlier, split}
 use Rattle.asm_object.proofs.Statements.{walk_sets, walk_pieces}

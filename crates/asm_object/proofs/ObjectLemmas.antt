@@ -1,19 +1,20 @@
 -- The object of a source by its layout, and the first of its refusals.
 use Rattle.std.proofs.Common.{◌≡◌, ℕ, ◌==◌, ◌&&◌, not, false, cond, List, [], ◌∷◌, ◌++◌, map, length, Option, Some, None, Ok, Err, refl, sym, ap, ◌∙◌, arith, append_assoc}
 use Rattle.std.proofs.lemmas.List.{append-nil}
-use Rattle.asm_read.specs.declared.statement.Stmt.{Stmt}
+use Rattle.asm_statements.specs.declared.statement.Stmt.{Stmt}
 use Rattle.asm_unwind.specs.declared.entry.EntryWords.{EntryWords}
 use Rattle.asm_layout.specs.declared.fault.AsmFault.{AsmFault}
 use Rattle.asm_layout.specs.declared.labels.Label.{Label}
 use Rattle.asm_layout.specs.declared.placed.PlacedPool.{PlacedPool}
 use Rattle.asm_layout.specs.PlacedStmt.{PlacedStmt}
-use Rattle.asm_object.specs.declared.object.IndexRow.{IndexRow}
-use Rattle.asm_object.specs.declared.object.Object.{Object}
-use Rattle.asm_layout.specs.declared.place.Section.{Section}
-use Rattle.asm_layout.specs.declared.place.Section.TheVariants.{Text, Rodata, Extab, Init, Bss}
+use Rattle.relocatable_object.specs.declared.object.IndexRow.{IndexRow}
+use Rattle.relocatable_object.specs.declared.object.Object.{Object}
+use Rattle.relocatable_object.specs.declared.place.Section.{Section}
+use Rattle.relocatable_object.specs.declared.place.Section.TheVariants.{Text, Rodata, Extab, Init, Bss}
 use Rattle.asm_layout.specs.Faults.{first_of, first_of_all}
 use Rattle.asm_layout.specs.Functions.{entries_of, unwind_faults_of}
-use Rattle.asm_layout.specs.Walks.{start, walk_behind, same_section}
+use Rattle.asm_layout.specs.Walks.{start, walk_behind}
+use Rattle.relocatable_object.specs.Sections.{same_section}
 use Rattle.asm_layout.specs.Labels.{labels_of, labelled, named_in, duplicates_from, too_large_from}
 use Rattle.asm_layout.specs.Placing.{placed_of, last_pool}
 use Rattle.asm_layout.proofs.FaultLaws.{first_behind, first_by_itself}

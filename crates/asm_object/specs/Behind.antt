@@ -1,12 +1,12 @@
 -- What the statements behind some others give, from where a source has come to: laws speak of it.
 use Rattle.std.specs.Prelude.{List, Option}
-use Rattle.asm_read.specs.declared.statement.Stmt.{Stmt}
+use Rattle.asm_statements.specs.declared.statement.Stmt.{Stmt}
 use Rattle.asm_unwind.specs.declared.entry.EntryWords.{EntryWords}
 use Rattle.asm_layout.specs.declared.fault.AsmFault.{AsmFault}
 use Rattle.asm_layout.specs.declared.walk.Walk.{Walk}
 use Rattle.asm_layout.specs.Labels.{Named}
 use Rattle.asm_layout.specs.Placing.{placed_from, last_pool}
-use Rattle.asm_object.specs.declared.object.IndexRow.{IndexRow}
+use Rattle.relocatable_object.specs.declared.object.IndexRow.{IndexRow}
 use Rattle.asm_object.specs.Objects.{refusals_of}
 use Rattle.asm_object.specs.Pieces.{Piece, pieces_of, rows_of}
 

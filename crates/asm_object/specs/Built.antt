@@ -1,14 +1,14 @@
 -- What the parts of an object stand for, piece by piece (docs/objects.md).
 use Rattle.std.specs.Prelude.{ℕ, ◌==◌, ◌%◌, ◌^◌, map, not, Bool, if◌then◌else◌, List, [], ◌++◌, fold, length, Some, None}
-use Rattle.asm_layout.specs.declared.place.Section.{Section}
-use Rattle.asm_layout.specs.declared.place.Section.TheVariants.{Text, Rodata, Extab, Init, Bss}
-use Rattle.asm_object.specs.declared.object.Reloc.{Reloc}
+use Rattle.relocatable_object.specs.declared.place.Section.{Section}
+use Rattle.relocatable_object.specs.declared.place.Section.TheVariants.{Text, Rodata, Extab, Init, Bss}
+use Rattle.relocatable_object.specs.declared.object.Reloc.{Reloc}
 use Rattle.asm_object.specs.declared.part.Part.{Part}
 use Rattle.asm_object.specs.declared.parts.Marked.{Marked}
 use Rattle.asm_object.specs.declared.parts.Sections.{Sections}
 use Rattle.asm_layout.specs.declared.labels.Label.{Label}
-use Rattle.asm_object.specs.declared.object.IndexRow.{IndexRow}
-use Rattle.asm_object.specs.declared.object.Object.{Object}
+use Rattle.relocatable_object.specs.declared.object.IndexRow.{IndexRow}
+use Rattle.relocatable_object.specs.declared.object.Object.{Object}
 use Rattle.asm_object.specs.Pieces.{Piece, mark_of}
 use Rattle.asm_object.specs.Objects.{symbol_of}
 

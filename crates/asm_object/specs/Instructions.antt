@@ -1,19 +1,19 @@
 -- The instruction of a statement (Armv6-M Architecture Reference Manual, DDI 0419).
 use Rattle.std.specs.Prelude.{ℕ, ◌*◌, ◌/◌, ℤ, pos, negsuc, ◌-ℤ◌, if◌then◌else◌, List, Option, Some, None, Result}
-use Rattle.asm_read.specs.declared.statement.StmtKind.{StmtKind}
+use Rattle.asm_statements.specs.declared.statement.StmtKind.{StmtKind}
 use Rattle.thumb_isa.specs.declared.instr.Instr.{Instr}
 use Rattle.thumb_isa.specs.declared.instr.Instr.TheVariants.{LdrLit, Adr, BCond, B, Bl}
-use Rattle.asm_layout.specs.declared.place.Section.TheVariants.{Text}
-use Rattle.asm_layout.specs.declared.place.Place.{Place}
+use Rattle.relocatable_object.specs.declared.place.Section.TheVariants.{Text}
+use Rattle.relocatable_object.specs.declared.place.Place.{Place}
 use Rattle.asm_layout.specs.Sizes.{sum_64}
 use Rattle.asm_layout.specs.Sorts.{Operation, Nameless, Undefined, AdrOf, LdrOf, LdrValue, BTo, BCondTo, BlTo, offset, operation}
-use Rattle.asm_layout.specs.Walks.{same_section}
+use Rattle.relocatable_object.specs.Sections.{same_section}
 use Rattle.asm_layout.specs.Labels.{Named, find}
-use Rattle.asm_object.specs.declared.relocation.TheConstants.{R_ARM_THM_CALL, R_ARM_THM_JUMP11, R_ARM_THM_JUMP8}
+use Rattle.relocatable_object.specs.declared.relocation.TheConstants.{R_ARM_THM_CALL, R_ARM_THM_JUMP11, R_ARM_THM_JUMP8}
 use Rattle.asm_object.specs.declared.value.Link.{Link}
 use Rattle.asm_object.specs.Values.{linked}
 use Rattle.thumb_encode.specs.declared.code.Code.{Code}
-use Rattle.thumb_encode.specs.declared.code.EncodeFault.{EncodeFault}
+use Rattle.thumb_isa.specs.declared.encode_fault.EncodeFault.{EncodeFault}
 use Rattle.thumb_encode.specs.Codes.{encoded_of}
 
 -- where an instruction finds its pc

@@ -1,5 +1,4 @@
 pub mod Bytes
-pub mod Relocations
 pub mod Values
 pub mod Instructions
 pub mod Refusals

@@ -1,16 +1,16 @@
 -- What `ldr rt, =value` loads. Where a pool's word stands is counted in one place, the word's bytes are joined in another: the law
 -- says that the offset of the instruction leads to the bytes of its own value (docs/objects.md, "Pools").
 use Rattle.std.specs.Prelude.{◌≡◌, ◌^◌, ◌<◌, ℕ, List, ◌∷◌, ◌++◌, drop, length, take, Ok}
-use Rattle.asm_read.specs.declared.statement.Expr.{Expr}
-use Rattle.asm_read.specs.declared.statement.Stmt.{Stmt}
-use Rattle.asm_read.specs.declared.statement.StmtKind.TheVariants.{LdrPool}
+use Rattle.asm_statements.specs.declared.statement.Expr.{Expr}
+use Rattle.asm_statements.specs.declared.statement.Stmt.{Stmt}
+use Rattle.asm_statements.specs.declared.statement.StmtKind.TheVariants.{LdrPool}
 use Rattle.thumb_isa.specs.declared.instr.Instr.TheVariants.{LdrLit}
 use Rattle.thumb_encode.specs.Codes.{encoded_of}
 use Rattle.asm_layout.specs.Functions.{entries_of}
 use Rattle.asm_layout.specs.Labels.{labels_of}
 use Rattle.asm_layout.specs.Walks.{start, here, walk_behind}
 use Rattle.asm_layout.specs.Words.{word_of}
-use Rattle.asm_object.specs.declared.object.Object.{Object}
+use Rattle.relocatable_object.specs.declared.object.Object.{Object}
 use Rattle.asm_object.specs.Bytes.{word_bytes}
 use Rattle.asm_object.specs.Instructions.{literal}
 use Rattle.asm_object.specs.Objects.{object_of}

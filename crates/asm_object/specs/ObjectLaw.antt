@@ -1,39 +1,22 @@
 -- What holds of every object that statements stand for. The linker's fields stand in the order of the sections, and in a section
 -- one behind the other, each whole in the section's bytes, so that no two share a byte; each has a kind of the standard (IHI 0044).
 -- A label's symbol stands where the statements before it end. Of statements there are fewer than 2^64.
-use Rattle.std.specs.Prelude.{◌≡◌, ◌+◌, ◌^◌, ◌<◌, ◌≤◌, ◌==◌, if◌then◌else◌, true, ℕ, List, [], ◌∷◌, ◌++◌, length, Option, Some, None, Ok}
-use Rattle.std.specs.List.{filter, list_all, list_any}
+use Rattle.std.specs.Prelude.{◌≡◌, ◌^◌, ◌<◌, ◌==◌, if◌then◌else◌, true, ℕ, List, [], ◌∷◌, ◌++◌, length, Option, Some, None, Ok}
+use Rattle.std.specs.List.{list_all, list_any}
 use Rattle.eh_word.specs.Names.{same_bytes}
-use Rattle.asm_read.specs.declared.statement.Stmt.{Stmt}
-use Rattle.asm_read.specs.declared.statement.StmtKind.TheVariants.{Label}
-use Rattle.asm_layout.specs.declared.place.Place.{Place}
-use Rattle.asm_layout.specs.declared.place.Section.{Section}
-use Rattle.asm_layout.specs.declared.place.Section.TheVariants.{Text, Rodata, Extab, Init, Bss}
+use Rattle.asm_statements.specs.declared.statement.Stmt.{Stmt}
+use Rattle.asm_statements.specs.declared.statement.StmtKind.TheVariants.{Label}
+use Rattle.relocatable_object.specs.declared.place.Place.{Place}
+use Rattle.relocatable_object.specs.declared.place.Section.{Section}
+use Rattle.relocatable_object.specs.declared.place.Section.TheVariants.{Text, Rodata, Extab, Init, Bss}
 use Rattle.asm_layout.specs.Functions.{entries_of}
-use Rattle.asm_layout.specs.Walks.{start, here, same_section, walk_behind}
-use Rattle.asm_object.specs.declared.object.Object.{Object}
-use Rattle.asm_object.specs.declared.object.ObjSymbol.{ObjSymbol}
-use Rattle.asm_object.specs.declared.object.Reloc.{Reloc}
-use Rattle.asm_object.specs.declared.relocation.TheConstants.{R_ARM_ABS32, R_ARM_REL32, R_ARM_THM_CALL, R_ARM_TARGET2, R_ARM_PREL31, R_ARM_THM_JUMP11, R_ARM_THM_JUMP8}
-use Rattle.asm_object.specs.Relocations.{field_size}
+use Rattle.asm_layout.specs.Walks.{start, here, walk_behind}
+use Rattle.relocatable_object.specs.declared.object.Object.{Object}
+use Rattle.relocatable_object.specs.declared.object.ObjSymbol.{ObjSymbol}
+use Rattle.relocatable_object.specs.declared.object.Reloc.{Reloc}
+use Rattle.relocatable_object.specs.declared.relocation.TheConstants.{R_ARM_ABS32, R_ARM_REL32, R_ARM_THM_CALL, R_ARM_TARGET2, R_ARM_PREL31, R_ARM_THM_JUMP11, R_ARM_THM_JUMP8}
+use Rattle.relocatable_object.specs.Fields.{StandInOrder, relocs_at, bytes_at}
 use Rattle.asm_object.specs.Objects.{object_of}
-
--- fields from an offset on and up to another one, one behind the other
-abbrev pub StandInOrder : ℕ → List Reloc → ℕ → Type 0
-StandInOrder from [] end = from ≤ end
-StandInOrder from (reloc ∷ more) end = (from ≤ reloc.offset) × StandInOrder (reloc.offset + field_size reloc) more end
-
--- the relocations of a section
-abbrev pub relocs_at : Section → Object → List Reloc
-relocs_at section object = filter (λ reloc. same_section reloc.section section) object.relocs
-
--- the bytes of a section
-abbrev pub bytes_at : Section → Object → List ℕ
-bytes_at Text object = object.text
-bytes_at Rodata object = object.rodata
-bytes_at Extab object = object.extab
-bytes_at Init object = object.init
-bytes_at Bss object = []
 
 -- the fields of a section stand one behind the other, each whole in its bytes
 abbrev pub FieldsStandInOrder : Type 0

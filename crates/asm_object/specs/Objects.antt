@@ -1,9 +1,9 @@
 -- The object of statements, or why there is none (docs/objects.md).
 use Rattle.std.specs.Prelude.{ℕ, ◌%◌, ◌^◌, List, [], ◌∷◌, ◌++◌, map, flat_map, Option, Some, None, Result, Ok, Err}
-use Rattle.asm_read.specs.declared.statement.Stmt.{Stmt}
-use Rattle.asm_layout.specs.declared.place.Section.TheVariants.{Text, Rodata, Extab, Init}
-use Rattle.asm_object.specs.declared.object.ObjSymbol.{ObjSymbol}
-use Rattle.asm_object.specs.declared.object.Object.{Object}
+use Rattle.asm_statements.specs.declared.statement.Stmt.{Stmt}
+use Rattle.relocatable_object.specs.declared.place.Section.TheVariants.{Text, Rodata, Extab, Init}
+use Rattle.relocatable_object.specs.declared.object.ObjSymbol.{ObjSymbol}
+use Rattle.relocatable_object.specs.declared.object.Object.{Object}
 use Rattle.asm_layout.specs.declared.fault.AsmFault.{AsmFault}
 use Rattle.asm_layout.specs.declared.fault.AsmWhat.{AsmWhat}
 use Rattle.asm_layout.specs.Faults.{fault_at, first_of_all}

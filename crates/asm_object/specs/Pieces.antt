@@ -1,21 +1,21 @@
 -- The bytes of statements, each piece at its place, and what the linker fills in them (docs/objects.md, "Sections and places").
 use Rattle.std.specs.Prelude.{ℕ, ◌+◌, ◌%◌, ◌^◌, ◌==◌, ◌&&◌, not, ℤ, pos, negsuc, Bool, true, false, nat_lt, if◌then◌else◌, List, [], ◌∷◌, ◌++◌, map, flat_map, length, Option, Some, None, Result, Ok, Err}
 use Rattle.byteorder.specs.Endian.{little_bytes}
-use Rattle.asm_read.specs.declared.statement.Expr.{Expr}
-use Rattle.asm_read.specs.declared.statement.StmtKind.{StmtKind}
+use Rattle.asm_statements.specs.declared.statement.Expr.{Expr}
+use Rattle.asm_statements.specs.declared.statement.StmtKind.{StmtKind}
 use Rattle.asm_unwind.specs.declared.entry.EntryWords.{EntryWords}
 use Rattle.asm_unwind.specs.declared.entry.EntryWords.TheVariants as entry
 use Rattle.thumb_isa.specs.declared.instr.Instr.{Instr}
 use Rattle.thumb_encode.specs.declared.code.Code.{Code}
-use Rattle.thumb_encode.specs.declared.code.EncodeFault.{EncodeFault}
-use Rattle.asm_layout.specs.declared.place.Section.{Section}
-use Rattle.asm_layout.specs.declared.place.Section.TheVariants.{Text, Extab}
-use Rattle.asm_object.specs.declared.object.Reloc.{Reloc}
-use Rattle.asm_object.specs.declared.object.Mark.{Mark}
-use Rattle.asm_object.specs.declared.object.RowEntry.{RowEntry}
-use Rattle.asm_object.specs.declared.object.RowEntry.TheVariants as row
-use Rattle.asm_object.specs.declared.object.IndexRow.{IndexRow}
-use Rattle.asm_layout.specs.declared.place.Place.{Place}
+use Rattle.thumb_isa.specs.declared.encode_fault.EncodeFault.{EncodeFault}
+use Rattle.relocatable_object.specs.declared.place.Section.{Section}
+use Rattle.relocatable_object.specs.declared.place.Section.TheVariants.{Text, Extab}
+use Rattle.relocatable_object.specs.declared.object.Reloc.{Reloc}
+use Rattle.relocatable_object.specs.declared.object.Mark.{Mark}
+use Rattle.relocatable_object.specs.declared.object.RowEntry.{RowEntry}
+use Rattle.relocatable_object.specs.declared.object.RowEntry.TheVariants as row
+use Rattle.relocatable_object.specs.declared.object.IndexRow.{IndexRow}
+use Rattle.relocatable_object.specs.declared.place.Place.{Place}
 use Rattle.asm_layout.specs.declared.word.Word.{Word}
 use Rattle.asm_layout.specs.Words.{word_of}
 use Rattle.asm_layout.specs.Sizes.{sum_64, multiple, natural, is_instruction}
@@ -29,7 +29,8 @@ use Rattle.asm_layout.specs.declared.placed.PlacedPool.{PlacedPool}
 use Rattle.asm_layout.specs.declared.placed.Puts.{Puts}
 use Rattle.asm_layout.specs.declared.placed.Puts.TheVariants as puts
 use Rattle.asm_layout.specs.PlacedStmt.{PlacedStmt}
-use Rattle.asm_layout.specs.Walks.{entry_at, is_empty, same_section}
+use Rattle.asm_layout.specs.Walks.{entry_at, is_empty}
+use Rattle.relocatable_object.specs.Sections.{same_section}
 use Rattle.asm_layout.specs.Labels.{Named}
 use Rattle.asm_object.specs.declared.value.Link.{Link}
 use Rattle.asm_object.specs.Values.{number, held, low_or_zero, link_of}

@@ -2,9 +2,9 @@
 -- where nothing is refused and no section is too large, both agree. Of entries there are fewer than 2^64.
 -- (docs/objects.md, "Sections and places")
 use Rattle.std.specs.Prelude.{◌≡◌, ◌+◌, ◌^◌, ◌<◌, false, List, [], ◌++◌, drop, length, Option}
-use Rattle.asm_read.specs.declared.statement.Stmt.{Stmt}
+use Rattle.asm_statements.specs.declared.statement.Stmt.{Stmt}
 use Rattle.asm_unwind.specs.declared.entry.EntryWords.{EntryWords}
-use Rattle.asm_layout.specs.declared.place.Section.{Section}
+use Rattle.relocatable_object.specs.declared.place.Section.{Section}
 use Rattle.asm_layout.specs.declared.walk.Walk.{Walk}
 use Rattle.asm_layout.specs.Sizes.{size_in, is_too_large}
 use Rattle.asm_layout.specs.Walks.{start, walk_behind, sizes_with_pool}

@@ -2,22 +2,22 @@
 use Rattle.std.specs.Prelude.{ℕ, ◌-◌, ◌*◌, ◌==◌, ◌&&◌, ◌||◌, not, ℤ, pos, negsuc, Bool, true, false, nat_lt, nat_le, if◌then◌else◌, List, length, Option, Some, None, is_some, Result}
 use Rattle.std.specs.List.{list_all}
 use Rattle.std.specs.Result.{result_err}
-use Rattle.asm_read.specs.declared.statement.Expr.{Expr}
-use Rattle.asm_read.specs.declared.statement.StmtKind.{StmtKind}
-use Rattle.asm_read.specs.declared.statement.StmtKind.TheVariants as stmt
+use Rattle.asm_statements.specs.declared.statement.Expr.{Expr}
+use Rattle.asm_statements.specs.declared.statement.StmtKind.{StmtKind}
+use Rattle.asm_statements.specs.declared.statement.StmtKind.TheVariants as stmt
 use Rattle.thumb_isa.specs.declared.instr.Instr.{Instr}
 use Rattle.thumb_encode.specs.declared.code.Code.{Code}
-use Rattle.thumb_encode.specs.declared.code.EncodeFault.{EncodeFault}
-use Rattle.thumb_encode.specs.declared.code.EncodeFault.TheVariants.{RegisterRange, ImmediateRange}
-use Rattle.asm_layout.specs.declared.place.Section.{Section}
-use Rattle.asm_layout.specs.declared.place.Section.TheVariants.{Text, Bss}
+use Rattle.thumb_isa.specs.declared.encode_fault.EncodeFault.{EncodeFault}
+use Rattle.thumb_isa.specs.declared.encode_fault.EncodeFault.TheVariants.{RegisterRange, ImmediateRange}
+use Rattle.relocatable_object.specs.declared.place.Section.{Section}
+use Rattle.relocatable_object.specs.declared.place.Section.TheVariants.{Text, Bss}
 use Rattle.asm_layout.specs.declared.fault.AsmWhat.{AsmWhat}
 use Rattle.asm_layout.specs.declared.fault.AsmWhat.TheVariants.{UndefinedLocal, Encode, PoolTooFar, Placement}
 use Rattle.asm_layout.specs.Sizes.{is_instruction}
 use Rattle.asm_layout.specs.declared.given.Width.{Width}
 use Rattle.asm_layout.specs.Given.{Given, FieldsOf, TextOf, ZerosOf, limit, takes_addresses}
 use Rattle.asm_layout.specs.Sorts.{Operation, Nameless, Undefined, AdrOf, LdrOf, LdrValue, BTo, BCondTo, BlTo, Sort, CodeOf, DataOf, Filling, AboutName, Bare, sort_of, given}
-use Rattle.asm_layout.specs.Walks.{same_section}
+use Rattle.relocatable_object.specs.Sections.{same_section}
 use Rattle.asm_layout.specs.Labels.{Named}
 use Rattle.asm_object.specs.Values.{is_known, is_word_known, number}
 use Rattle.asm_object.specs.declared.refusal.TheConstants.{MOST_TO_POOL}

@@ -1,15 +1,16 @@
 -- What names, words and numbers stand for (docs/objects.md; IHI 0044).
 use Rattle.std.specs.Prelude.{ℕ, ◌-◌, ◌^◌, ℤ, pos, negsuc, ◌+ℤ◌, ◌-ℤ◌, Bool, true, nat_lt, if◌then◌else◌, List, Option, Some, None, is_some}
-use Rattle.asm_read.specs.declared.statement.Expr.{Expr}
-use Rattle.asm_read.specs.declared.statement.Expr.TheVariants as expr
-use Rattle.asm_layout.specs.declared.place.Place.{Place}
+use Rattle.asm_statements.specs.declared.statement.Expr.{Expr}
+use Rattle.asm_statements.specs.declared.statement.Expr.TheVariants as expr
+use Rattle.relocatable_object.specs.declared.place.Place.{Place}
 use Rattle.asm_layout.specs.declared.word.Word.{Word}
 use Rattle.asm_layout.specs.declared.word.Word.TheVariants as word
-use Rattle.asm_layout.specs.Words.{low_word, is_local}
-use Rattle.asm_object.specs.declared.relocation.TheConstants.{R_ARM_ABS32, R_ARM_REL32, R_ARM_TARGET2, R_ARM_PREL31}
+use Rattle.asm_layout.specs.Words.{low_word}
+use Rattle.relocatable_object.specs.Names.{is_local}
+use Rattle.relocatable_object.specs.declared.relocation.TheConstants.{R_ARM_ABS32, R_ARM_REL32, R_ARM_TARGET2, R_ARM_PREL31}
 use Rattle.asm_object.specs.declared.value.Link.{Link}
 use Rattle.unwind_codes.specs.declared.words.TheConstants.{REFERENCE_MARK}
-use Rattle.asm_layout.specs.Walks.{same_section}
+use Rattle.relocatable_object.specs.Sections.{same_section}
 use Rattle.asm_layout.specs.Labels.{Named, find}
 
 -- a local name has a label

@@ -9,7 +9,6 @@ ghost use Rattle.asm_object.specs.Objects.{refusals_at, refusals_of, object_of};
 ghost use Rattle.asm_object.specs.Built.{with_pieces, no_sections, object_built};
 
 use crate::code::{Coded, coded};
-use crate::object::{IndexRows, Object};
 use crate::part::Part;
 use crate::parts::{Marked, Sections, push_row};
 use crate::refusal::refusal;
@@ -20,8 +19,9 @@ use asm_layout::labels::Labels;
 use asm_layout::layout::{Layout, layout_of};
 use asm_layout::placed::{PlacedPool, PlacedStmt};
 use asm_layout::word::low_part;
-use asm_read::Stmt;
+use asm_statements::Stmt;
 use asm_unwind::EntryWords;
+use relocatable_object::object::{IndexRows, Object};
 use std::alloc::{AllocError, Global};
 
 /// What statements give so far: the first refusal, and where there is none their sections and rows.

@@ -5,9 +5,9 @@ ghost use Rattle.eh_list.specs.Bytes.{gap};
 ghost use Rattle.asm_layout.specs.Given.{bytes_of};
 ghost use Rattle.asm_object.specs.Bytes.{byte_bytes, half_bytes, word_bytes, code_bytes, filling_bytes};
 
-use crate::object::Octets;
 use asm_layout::given::Width;
 use eh_list::bytes::gap;
+use relocatable_object::object::Octets;
 use std::alloc::AllocError;
 use thumb_encode::code::Code;
 

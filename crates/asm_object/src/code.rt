@@ -4,17 +4,18 @@ ghost use Rattle.asm_layout.specs.Labels.{named_in};
 ghost use Rattle.asm_layout.specs.Sorts.{unsigned, offset, compare, add_eight, add_three};
 ghost use Rattle.asm_object.specs.Instructions.{pc, base, between, text_place, branch, literal, literal_to, label_literal, instruction, coded, branch_link};
 
-use crate::relocation::{R_ARM_THM_CALL, R_ARM_THM_JUMP8, R_ARM_THM_JUMP11};
 use crate::value::Link;
 use asm_layout::labels::Labels;
-use asm_layout::place::{Place, Section};
-use asm_layout::word::copied;
 use asm_layout::{bare_form, data_form, name_form, nameless_form, reader_form};
-use asm_read::StmtKind;
+use asm_statements::StmtKind;
 use eh_word::Name;
+use relocatable_object::name::copied;
+use relocatable_object::place::{Place, Section};
+use relocatable_object::relocation::{R_ARM_THM_CALL, R_ARM_THM_JUMP8, R_ARM_THM_JUMP11};
 use std::alloc::{AllocError, Global};
-use thumb_encode::code::{Code, EncodeFault};
+use thumb_encode::code::Code;
 use thumb_encode::encode::encode;
+use thumb_isa::encode_fault::EncodeFault;
 use thumb_isa::instr::Instr;
 
 /// A number as a field without sign takes it; one too large for every field where it is none of 32 bits.

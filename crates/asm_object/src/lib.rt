@@ -12,20 +12,17 @@ ghost use Rattle.asm_object.specs.ObjectLaw.{FieldsStandInOrder, RelocsGoBySecti
 pub mod assembly;
 mod bytes;
 mod code;
-pub mod object;
 mod part;
 mod parts;
 mod refusal;
-pub mod relocation;
 mod symbols;
 mod value;
 
 pub use asm_layout::fault::{AsmFault, AsmWhat};
-pub use asm_layout::place::Section;
 pub use assembly::assemble;
-pub use object::{
+pub use relocatable_object::{
     IndexRow, IndexRows, Mark, Marks, ObjSymbol, ObjSymbols, Object, Octets, Reloc, Relocs,
-    RowEntry,
+    RowEntry, Section,
 };
 
 /// Where a statement stands is the number of bytes of its section before it, where nothing is refused and no section is too

@@ -12,15 +12,15 @@ ghost use Rattle.asm_object.specs.Built.{part_with, no_part};
 
 use crate::bytes::{push_code, push_field, push_half};
 use crate::code::{Coded, branch_link};
-use crate::object::{Octets, Reloc, Relocs};
 use crate::value::{Link, held, link_of, number};
 use asm_layout::given::{Data, Width};
 use asm_layout::labels::Labels;
-use asm_layout::place::{Place, Section};
 use asm_layout::sort::given;
 use asm_layout::word::{Word, Words, low_number, low_part, word_of};
 use asm_layout::{bare_form, branch_form, data_form, name_form, nameless_form, reader_form};
-use asm_read::{Expr, StmtKind};
+use asm_statements::{Expr, StmtKind};
+use relocatable_object::object::{Octets, Reloc, Relocs};
+use relocatable_object::place::{Place, Section};
 use std::alloc::{AllocError, Global};
 
 /// Adds what the linker fills at a place, if anything.

@@ -8,17 +8,17 @@ ghost use Rattle.asm_object.specs.Built.{marked, text_with, with_piece, with_pie
 
 use crate::bytes::push_filling;
 use crate::code::Coded;
-use crate::object::{IndexRow, IndexRows, Mark, Marks, Octets, RowEntry};
 use crate::part::Part;
 use asm_layout::labels::Labels;
-use asm_layout::place::{Place, Section};
 use asm_layout::placed::{PlacedFunction, PlacedPool, Puts};
 use asm_layout::walk::{entry_at, is_instruction, multiple};
 use asm_layout::word::{Words, low_part};
 use asm_layout::{bare_form, branch_form, data_form, name_form, nameless_form, reader_form};
-use asm_read::StmtKind;
+use asm_statements::StmtKind;
 use asm_unwind::EntryWords;
 use eh_list::bytes::gap;
+use relocatable_object::object::{IndexRow, IndexRows, Mark, Marks, Octets, RowEntry};
+use relocatable_object::place::{Place, Section};
 use std::alloc::{AllocError, Global};
 
 /// The text so far, with a mark at each change between code and words.

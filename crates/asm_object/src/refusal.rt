@@ -11,12 +11,12 @@ use crate::value::{is_known, is_word_known, number};
 use asm_layout::fault::AsmWhat;
 use asm_layout::given::{Data, Width};
 use asm_layout::labels::Labels;
-use asm_layout::place::{Place, Section};
 use asm_layout::sort::given;
 use asm_layout::walk::is_instruction;
 use asm_layout::{bare_form, branch_form, data_form, name_form, nameless_form, reader_form};
-use asm_read::{Expr, StmtKind};
-use thumb_encode::code::EncodeFault;
+use asm_statements::{Expr, StmtKind};
+use relocatable_object::place::{Place, Section};
+use thumb_isa::encode_fault::EncodeFault;
 
 /// The most bytes from a `ldr` to its pool word.
 pub const MOST_TO_POOL: u64 = 1020;

@@ -2,10 +2,10 @@
 ghost use Rattle.std.specs.Prelude.{◌≡◌, ◌++◌, map, IfOk};
 ghost use Rattle.asm_object.specs.Objects.{symbol_of};
 
-use crate::object::{ObjSymbol, ObjSymbols, Relocs};
 use asm_layout::labels::{Label, Labels};
 use asm_layout::word::low_part;
 use eh_word::Name;
+use relocatable_object::object::{ObjSymbol, ObjSymbols, Relocs};
 use std::alloc::{AllocError, Global};
 
 /// A label as a symbol.

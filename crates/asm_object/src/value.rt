@@ -3,11 +3,12 @@ ghost use Rattle.std.specs.Prelude.{◌≡◌, ◌^◌, pos, neg_ℤ, ◌<ℤ◌
 ghost use Rattle.asm_layout.specs.Labels.{named_in};
 ghost use Rattle.asm_object.specs.Values.{is_known, distance, is_word_known, number, held, signed, link_of};
 
-use crate::relocation::{R_ARM_ABS32, R_ARM_PREL31, R_ARM_REL32, R_ARM_TARGET2};
 use asm_layout::labels::Labels;
-use asm_layout::word::{Word, is_local, low_number};
-use asm_read::Expr;
+use asm_layout::word::{Word, low_number};
+use asm_statements::Expr;
 use eh_word::Name;
+use relocatable_object::name::is_local;
+use relocatable_object::relocation::{R_ARM_ABS32, R_ARM_PREL31, R_ARM_REL32, R_ARM_TARGET2};
 use unwind_codes::words::REFERENCE_MARK;
 
 /// Bit 31: as a signed number, one that has it is below 0.

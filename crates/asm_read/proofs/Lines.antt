@@ -4,7 +4,7 @@ use Rattle.std.proofs.lemmas.List.{append-nil}
 use Rattle.std.specs.List.{prefix_len}
 use Rattle.std.proofs.lemmas.Bool.Decides.{nat_tests}
 use Rattle.asm_read.specs.declared.read.TheConstants.{MOST_LINES}
-use Rattle.asm_read.specs.declared.statement.Stmt.{Stmt}
+use Rattle.asm_statements.specs.declared.statement.Stmt.{Stmt}
 use Rattle.asm_read.specs.declared.fault.SourceFault.{SourceFault}
 use Rattle.asm_read.specs.Fault.{fault_at}
 use Rattle.asm_read.specs.Reading.{is_inside, lines_of, added, excess, line_of, read_lines, read_of}

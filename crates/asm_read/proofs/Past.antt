@@ -2,7 +2,7 @@
 use Rattle.std.proofs.Common.{◌≡◌, ℕ, ◌<◌, ◌≤◌, zero, suc, Bool, false, List, [], length, Err, refl, arith, pos, add-zero}
 use Rattle.std.proofs.lemmas.List.{drop_all}
 use Rattle.asm_read.specs.declared.token.Kind.TheVariants.{End}
-use Rattle.asm_read.specs.declared.statement.Expr.TheVariants.{Num}
+use Rattle.asm_statements.specs.declared.statement.Expr.TheVariants.{Num}
 use Rattle.asm_read.specs.Tokens.{token_at, token, front_of}
 use Rattle.asm_read.specs.Operands.{stopped}
 use Rattle.asm_read.specs.Expressions.{expression_at, listed_at, list_item_at, expressions_at, expr_from, exprs_of}

@@ -2,7 +2,7 @@
 use Rattle.std.proofs.Common.{◌≡◌, ℕ, ◌-◌, ◌<◌, ◌≤◌, Bool, List, [], ◌∷◌, ◌++◌, append_assoc, if◌then◌else◌, map, Some, None, Result, Ok, Err, bit_or, arith}
 use Rattle.asm_read.specs.Expressions.{list_item_at, Series, expressions_at, end_of, expr_of, exprs_of}
 use Rattle.asm_read.specs.declared.expression.ListItem.{ListItem}
-use Rattle.asm_read.specs.declared.statement.Expr.{Expr}
+use Rattle.asm_statements.specs.declared.statement.Expr.{Expr}
 use Rattle.asm_read.specs.declared.line.Stop.{Stop}
 use Rattle.asm_read.specs.Tokens.{token_at}
 use Rattle.asm_read.specs.Operands.{◌>>=◌, stopped, is_mark_of, register_mask, item_at, list_from}

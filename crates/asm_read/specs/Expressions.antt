@@ -10,8 +10,8 @@ use Rattle.asm_read.specs.declared.expression.Shape.{Shape}
 use Rattle.asm_read.specs.declared.expression.Shape.TheVariants.{Num, Of, Diff, Prel31, Prel31Ref, Target2, Rel}
 use Rattle.asm_read.specs.declared.expression.Shaped.{Shaped}
 use Rattle.asm_read.specs.declared.expression.ListItem.{ListItem}
-use Rattle.asm_read.specs.declared.statement.Expr.{Expr}
-use Rattle.asm_read.specs.declared.statement.Expr.TheVariants.{Num as NumExpr, Of as OfExpr, Diff as DiffExpr, Prel31 as Prel31Expr, Prel31Ref as Prel31RefExpr, Target2 as Target2Expr, Rel as RelExpr}
+use Rattle.asm_statements.specs.declared.statement.Expr.{Expr}
+use Rattle.asm_statements.specs.declared.statement.Expr.TheVariants.{Num as NumExpr, Of as OfExpr, Diff as DiffExpr, Prel31 as Prel31Expr, Prel31Ref as Prel31RefExpr, Target2 as Target2Expr, Rel as RelExpr}
 use Rattle.asm_read.specs.Tokens.{token_at}
 use Rattle.asm_read.specs.Operands.{◌>>=◌, span, stop, stopped, bytes_of, same, name_of, is_mark_of, mark_at, name_at, number_at}
 

@@ -8,9 +8,9 @@ use Rattle.asm_read.specs.declared.line.Stop.{Stop}
 use Rattle.asm_read.specs.declared.plan.Plan.{Plan}
 use Rattle.asm_read.specs.declared.read.TheConstants.{MOST_LINES}
 use Rattle.asm_read.specs.declared.choice.Statement.{Statement}
-use Rattle.asm_read.specs.declared.statement.Stmt.{Stmt}
-use Rattle.asm_read.specs.declared.statement.StmtKind.{StmtKind}
-use Rattle.asm_read.specs.declared.statement.StmtKind.TheVariants.{Label}
+use Rattle.asm_statements.specs.declared.statement.Stmt.{Stmt}
+use Rattle.asm_statements.specs.declared.statement.StmtKind.{StmtKind}
+use Rattle.asm_statements.specs.declared.statement.StmtKind.TheVariants.{Label}
 use Rattle.asm_read.specs.Fault.{fault_at}
 use Rattle.asm_read.specs.Operands.{bytes_of}
 use Rattle.asm_read.specs.Statements.{kind_of}

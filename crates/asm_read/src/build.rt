@@ -10,8 +10,8 @@ use crate::expression::{Shape, expression_at, list_item_at};
 use crate::form::Operands;
 use crate::line::{Span, bytes_of};
 use crate::makes::{Computation, Control, Directive, Makes, Named, Transfer};
-use crate::statement::{Expr, Exprs, PoolValue, StmtKind};
 use crate::token::escape;
+use asm_statements::statement::{Expr, Exprs, PoolValue, StmtKind};
 use eh_word::{Name, NameMemory};
 use std::alloc::{AllocError, Global};
 

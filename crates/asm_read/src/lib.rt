@@ -11,10 +11,9 @@ mod makes;
 mod pattern;
 mod plan;
 pub mod read;
-pub mod statement;
 mod table;
 mod token;
 
+pub use asm_statements::statement::{Expr, Exprs, PoolValue, Stmt, StmtKind};
 pub use fault::{SourceFault, SourceWhat};
 pub use read::read_source;
-pub use statement::{Expr, Exprs, PoolValue, Stmt, StmtKind};

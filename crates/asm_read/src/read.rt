@@ -9,7 +9,7 @@ use crate::build::kind_of;
 use crate::fault::{SourceFault, SourceWhat};
 use crate::line::bytes_of;
 use crate::plan::{Plan, line_plan, not_plain};
-use crate::statement::{Stmt, StmtKind};
+use asm_statements::statement::{Stmt, StmtKind};
 use eh_word::Name;
 use std::alloc::{AllocError, Global};
 

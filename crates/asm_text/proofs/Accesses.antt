@@ -3,7 +3,7 @@ use Rattle.std.proofs.Common.{◌≡◌, ◌≢◌, ℕ, ◌<◌, Bool, true, fa
 use Rattle.asm_read.specs.declared.makes.Makes.TheVariants as makes
 use Rattle.asm_read.specs.declared.makes.Computation.TheVariants as computation
 use Rattle.asm_read.specs.declared.makes.Transfer.TheVariants as transfer
-use Rattle.asm_read.specs.declared.statement.StmtKind.TheVariants.{AddReg, MemImm, MemReg, MemSp}
+use Rattle.asm_statements.specs.declared.statement.StmtKind.TheVariants.{AddReg, MemImm, MemReg, MemSp}
 use Rattle.asm_read.specs.Operands.{same}
 use Rattle.asm_read.specs.Forms.{directives, a_to_b, c_to_l, m_to_z, rows}
 use Rattle.asm_text.proofs.Pieces.{register_sp_number, sp_number as sp_number_pieces, two_registers, register_name, register_value, sp_offset as sp_offset_pieces, sp_alone, base_offset, base_alone, base_index}

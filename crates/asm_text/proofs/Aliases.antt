@@ -7,9 +7,9 @@ use Rattle.asm_read.specs.declared.makes.Makes.TheVariants as makes
 use Rattle.asm_read.specs.declared.makes.Transfer.TheVariants as transfer
 use Rattle.asm_read.specs.declared.makes.Directive.TheVariants as directive
 use Rattle.asm_read.specs.declared.makes.Named.TheVariants as name
-use Rattle.asm_read.specs.declared.statement.Expr.{Expr}
-use Rattle.asm_read.specs.declared.statement.StmtKind.{StmtKind}
-use Rattle.asm_read.specs.declared.statement.StmtKind.TheVariants.{MemImm, MemSp, BCond, Global, Words, Halves, Space, Align, Pool, Pad, SetFp, PersonalityIndex}
+use Rattle.asm_statements.specs.declared.statement.Expr.{Expr}
+use Rattle.asm_statements.specs.declared.statement.StmtKind.{StmtKind}
+use Rattle.asm_statements.specs.declared.statement.StmtKind.TheVariants.{MemImm, MemSp, BCond, Global, Words, Halves, Space, Align, Pool, Pad, SetFp, PersonalityIndex}
 use Rattle.asm_read.specs.Operands.{same}
 use Rattle.asm_read.specs.Forms.{directives, a_to_b, c_to_l, m_to_z, rows}
 use Rattle.asm_text.proofs.Pieces.{register_name, register_value, sp_offset as sp_offset_pieces, sp_alone, base_offset, base_alone}

@@ -9,7 +9,7 @@ use Rattle.asm_read.specs.declared.makes.Makes.{Makes}
 use Rattle.asm_read.specs.declared.choice.Statement.{Statement}
 use Rattle.asm_read.specs.declared.plan.Plan.{Plan}
 use Rattle.asm_read.specs.declared.plan.TheConstants.{LONGEST}
-use Rattle.asm_read.specs.declared.statement.StmtKind.{StmtKind}
+use Rattle.asm_statements.specs.declared.statement.StmtKind.{StmtKind}
 use Rattle.asm_read.specs.Tokens.{front_of, token, token_at}
 use Rattle.asm_read.specs.declared.fault.SourceWhat.TheVariants.{NotAscii, LineTooLong}
 use Rattle.asm_read.specs.Operands.{◌>>=◌, span, stop, same, is_mark_of, bytes_of, name_in}
@@ -23,7 +23,7 @@ use Rattle.asm_read.specs.Reading.{in_front, lines_of, stmt, stmts_of, line_as, 
 use Rattle.asm_text.specs.Written.{is_name}
 use Rattle.asm_text.proofs.Texts.{plain, and_left, and_right, not_true, front_of_name, blank_of_name, both, name_plain}
 use Rattle.asm_read.specs.declared.line.Span.{Span}
-use Rattle.asm_read.specs.declared.statement.StmtKind.TheVariants.{Label}
+use Rattle.asm_statements.specs.declared.statement.StmtKind.TheVariants.{Label}
 use Rattle.std.proofs.lemmas.List.Folds.{list_all-append}
 use Rattle.asm_text.proofs.Heads.{head_of}
 use Rattle.asm_text.proofs.Items.{Item, flat}

@@ -7,10 +7,10 @@ use Rattle.asm_read.specs.declared.form.Operands.{Operands}
 use Rattle.asm_read.specs.declared.makes.Makes.{Makes}
 use Rattle.asm_read.specs.declared.makes.Makes.TheVariants as makes
 use Rattle.asm_read.specs.declared.makes.Named.TheVariants as name
-use Rattle.asm_read.specs.declared.statement.StmtKind.{StmtKind}
-use Rattle.asm_read.specs.declared.statement.StmtKind.TheVariants.{LdrPool, Words, Halves, Bytes}
-use Rattle.asm_read.specs.declared.statement.Expr.{Expr}
-use Rattle.asm_read.specs.declared.statement.Expr.TheVariants.{Num, Of, Diff, Prel31, Prel31Ref, Target2, Rel}
+use Rattle.asm_statements.specs.declared.statement.StmtKind.{StmtKind}
+use Rattle.asm_statements.specs.declared.statement.StmtKind.TheVariants.{LdrPool, Words, Halves, Bytes}
+use Rattle.asm_statements.specs.declared.statement.Expr.{Expr}
+use Rattle.asm_statements.specs.declared.statement.Expr.TheVariants.{Num, Of, Diff, Prel31, Prel31Ref, Target2, Rel}
 use Rattle.asm_read.specs.Tokens.{is_name_byte, front_of}
 use Rattle.asm_read.specs.Operands.{is_mark_of}
 use Rattle.asm_read.specs.Forms.{directives, a_to_b, c_to_l, m_to_z, rows}

@@ -16,7 +16,7 @@ use Rattle.asm_read.specs.declared.fault.SourceWhat.TheVariants.{BadOperand}
 use Rattle.asm_read.specs.declared.line.Listed.{Listed}
 use Rattle.asm_read.specs.declared.expression.Shaped.{Shaped}
 use Rattle.asm_read.specs.Expressions.{expression_at, expressions_at, expr_of, expr_from, expr_or_zero, exprs_of}
-use Rattle.asm_read.specs.declared.statement.Expr.{Expr}
+use Rattle.asm_statements.specs.declared.statement.Expr.{Expr}
 use Rattle.asm_text.proofs.Toks.{Tok, reg, word, num, sign, quote, kind_of, word_in, register_in, Reads}
 use Rattle.asm_text.proofs.Heads.{register_heads, mark_heads, word_heads, hash_heads, name_heads, number_heads, limited_heads, text_heads, end_heads, head_of}
 use Rattle.asm_text.proofs.Lists.{masked, listed_reads, expr_reads, exprs_reads, AllStand, Over, exprs_toks}

@@ -1,6 +1,6 @@
 -- What stands in a line behind its word: tokens, and what a piece of a form takes whole.
 use Rattle.std.proofs.Common.{ℕ, Bool, false, List, [], ◌∷◌, ℤ}
-use Rattle.asm_read.specs.declared.statement.Expr.{Expr}
+use Rattle.asm_statements.specs.declared.statement.Expr.{Expr}
 use Rattle.asm_text.proofs.Toks.{Tok}
 use Rattle.asm_text.proofs.Toks as toks
 use Rattle.asm_text.proofs.Lists.{list_toks, expr_toks, exprs_toks, Stands, AllStand}

@@ -5,8 +5,8 @@ use Rattle.asm_read.specs.declared.makes.Makes.{Makes}
 use Rattle.asm_read.specs.declared.makes.Makes.TheVariants as makes
 use Rattle.asm_read.specs.declared.makes.Transfer.TheVariants as transfer
 use Rattle.asm_read.specs.declared.makes.Directive.TheVariants as directive
-use Rattle.asm_read.specs.declared.statement.StmtKind.{StmtKind}
-use Rattle.asm_read.specs.declared.statement.StmtKind.TheVariants.{Push, Pop, Stm, LdmBack, Ldm, Save}
+use Rattle.asm_statements.specs.declared.statement.StmtKind.{StmtKind}
+use Rattle.asm_statements.specs.declared.statement.StmtKind.TheVariants.{Push, Pop, Stm, LdmBack, Ldm, Save}
 use Rattle.asm_read.specs.Operands.{has_register}
 use Rattle.asm_read.specs.Forms.{directives, a_to_b, c_to_l, m_to_z, rows}
 use Rattle.asm_text.proofs.Pieces.{base_list, base_back_list}

@@ -6,8 +6,8 @@ use Rattle.asm_read.specs.declared.token.Kind.{Kind}
 use Rattle.asm_read.specs.declared.expression.Shape.TheVariants as shape
 use Rattle.asm_read.specs.declared.expression.Shaped.{Shaped}
 use Rattle.asm_read.specs.declared.expression.ListItem.{ListItem}
-use Rattle.asm_read.specs.declared.statement.Expr.{Expr}
-use Rattle.asm_read.specs.declared.statement.Expr.TheVariants.{Num, Of, Diff, Prel31, Prel31Ref, Target2, Rel}
+use Rattle.asm_statements.specs.declared.statement.Expr.{Expr}
+use Rattle.asm_statements.specs.declared.statement.Expr.TheVariants.{Num, Of, Diff, Prel31, Prel31Ref, Target2, Rel}
 use Rattle.asm_read.specs.Tokens.{token_at}
 use Rattle.asm_read.specs.Operands.{◌>>=◌, span, bytes_of, is_mark_of, register_mask, item_at, list_from, list_at}
 use Rattle.asm_read.specs.Expressions.{shaped, relation_of, related, difference, behind_name, expression_of, expression_at, listed_at, item, list_item_at, Series, series, and_more, expressions_at, expr_of}

@@ -3,7 +3,7 @@ use Rattle.std.proofs.Common.{◌≡◌, ℕ, ◌<◌, ◌==◌, Bool, true, Lis
 use Rattle.std.proofs.lemmas.Bool.{eq-eqb}
 use Rattle.asm_read.specs.declared.makes.Makes.TheVariants as makes
 use Rattle.asm_read.specs.declared.makes.Named.TheVariants as name
-use Rattle.asm_read.specs.declared.statement.StmtKind.TheVariants.{Adr, LdrLabel, B, BCond, Bl, Global, TypeFunction, TypeObject, Size}
+use Rattle.asm_statements.specs.declared.statement.StmtKind.TheVariants.{Adr, LdrLabel, B, BCond, Bl, Global, TypeFunction, TypeObject, Size}
 use Rattle.asm_read.specs.Operands.{same}
 use Rattle.asm_read.specs.Forms.{directives, a_to_b, c_to_l, m_to_z, rows}
 use Rattle.asm_text.proofs.Pieces.{name_size}

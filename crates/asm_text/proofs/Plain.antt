@@ -4,7 +4,7 @@ use Rattle.asm_read.specs.declared.makes.Makes.TheVariants as makes
 use Rattle.asm_read.specs.declared.makes.Computation.TheVariants as computation
 use Rattle.asm_read.specs.declared.makes.Control.TheVariants as control
 use Rattle.asm_read.specs.declared.makes.Directive.TheVariants as directive
-use Rattle.asm_read.specs.declared.statement.StmtKind.TheVariants.{MovsReg, Mov, CmpReg, AddSubReg, Alu, Extend, Rev, Bx, Blx, Hint, Barrier, Text, Data, Bss, Rodata, Pool, FnStart, FnEnd, CantUnwind, HandlerData}
+use Rattle.asm_statements.specs.declared.statement.StmtKind.TheVariants.{MovsReg, Mov, CmpReg, AddSubReg, Alu, Extend, Rev, Bx, Blx, Hint, Barrier, Text, Data, Bss, Rodata, Pool, FnStart, FnEnd, CantUnwind, HandlerData}
 use Rattle.asm_read.specs.Forms.{directives, a_to_b, c_to_l, m_to_z, rows}
 use Rattle.asm_read.specs.Statements.{kind_of as kind_made}
 use Rattle.asm_read.specs.Reading.{stmt, read_of}

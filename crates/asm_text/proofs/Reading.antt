@@ -1,7 +1,7 @@
 -- Each row of the table reads a line of the statement that it makes.
 use Rattle.std.proofs.Common.{inl, inr, ℕ, List, [], ◌∷◌, refl, sym, subst, codes, true, false}
 use Rattle.asm_read.specs.declared.form.Operands.{Operands}
-use Rattle.asm_read.specs.declared.statement.StmtKind.TheVariants.{MemImm, MemSp}
+use Rattle.asm_statements.specs.declared.statement.StmtKind.TheVariants.{MemImm, MemSp}
 use Rattle.asm_read.specs.Statements.{made_of}
 use Rattle.asm_read.specs.Fits.{fresh}
 use Rattle.asm_read.specs.Patterns.{pieces_of}

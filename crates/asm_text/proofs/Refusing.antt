@@ -10,7 +10,7 @@ use Rattle.asm_read.specs.declared.line.Stop.{Stop}
 use Rattle.asm_read.specs.declared.plan.Plan.{Plan}
 use Rattle.asm_read.specs.declared.choice.Statement.{Statement}
 use Rattle.asm_read.specs.declared.read.TheConstants.{MOST_LINES}
-use Rattle.asm_read.specs.declared.statement.Stmt.{Stmt}
+use Rattle.asm_statements.specs.declared.statement.Stmt.{Stmt}
 use Rattle.asm_read.specs.Tokens.{token_at}
 use Rattle.asm_read.specs.Fault.{fault_at}
 use Rattle.asm_read.specs.Operands.{◌>>=◌, span, is_mark_of, mark_at}

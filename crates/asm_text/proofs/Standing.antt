@@ -5,7 +5,7 @@ use Rattle.std.proofs.lemmas.List.{append-nil}
 use Rattle.asm_read.specs.declared.form.Operands.{Operands}
 use Rattle.asm_read.specs.declared.makes.Makes.{Makes}
 use Rattle.asm_read.specs.declared.plan.TheConstants.{LONGEST}
-use Rattle.asm_read.specs.declared.statement.StmtKind.{StmtKind}
+use Rattle.asm_statements.specs.declared.statement.StmtKind.{StmtKind}
 use Rattle.asm_read.specs.Tokens.{is_digit, is_name_byte, front_of, front}
 use Rattle.asm_read.specs.Operands.{is_mark_of}
 use Rattle.asm_read.specs.Forms.{rows}

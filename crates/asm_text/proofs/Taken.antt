@@ -12,7 +12,7 @@ use Rattle.asm_read.specs.declared.choice.Statement.{Statement}
 use Rattle.asm_read.specs.declared.plan.Plan.{Plan}
 use Rattle.asm_read.specs.declared.fault.SourceFault.{SourceFault}
 use Rattle.asm_read.specs.declared.read.TheConstants.{MOST_LINES}
-use Rattle.asm_read.specs.declared.statement.Stmt.{Stmt}
+use Rattle.asm_statements.specs.declared.statement.Stmt.{Stmt}
 use Rattle.asm_read.specs.Tokens.{token_at}
 use Rattle.asm_read.specs.Fault.{fault_at}
 use Rattle.asm_read.specs.Operands.{◌>>=◌, span, bytes_of, same, name_of, past_if, is_mark_of, mark_at, name_span, name_at}

@@ -1,7 +1,7 @@
 -- Every statement of the law.
 use Rattle.std.proofs.Common.{◌≡◌, ℕ, zero, suc, ◌<◌, true, false, List, [], ◌∷◌, Ok, ℤ, pos, negsuc, refl, arith}
-use Rattle.asm_read.specs.declared.statement.StmtKind.{StmtKind}
-use Rattle.asm_read.specs.declared.statement.StmtKind.TheVariants.{Label, MovsImm, MovsReg, Mov, CmpImm, CmpReg, AddSubTwo, AddSubReg, AddSubThree, AddReg, AddRdSp, AddSp, SubSp, ShiftImm, Alu, Rsbs, Adr, LdrLabel, LdrPool, MemImm, MemReg, MemSp, Push, Pop, Stm, LdmBack, Ldm, Extend, Rev, B, BCond, Bl, Bx, Blx, Svc, Udf, Hint, Barrier, Text, Data, Bss, Rodata, Global, TypeFunction, TypeObject, Size, Words, Halves, Bytes, Ascii, Asciz, Space, Align, Pool, FnStart, FnEnd, Save, Pad, SetFp, CantUnwind, PersonalityIndex, HandlerData}
+use Rattle.asm_statements.specs.declared.statement.StmtKind.{StmtKind}
+use Rattle.asm_statements.specs.declared.statement.StmtKind.TheVariants.{Label, MovsImm, MovsReg, Mov, CmpImm, CmpReg, AddSubTwo, AddSubReg, AddSubThree, AddReg, AddRdSp, AddSp, SubSp, ShiftImm, Alu, Rsbs, Adr, LdrLabel, LdrPool, MemImm, MemReg, MemSp, Push, Pop, Stm, LdmBack, Ldm, Extend, Rev, B, BCond, Bl, Bx, Blx, Svc, Udf, Hint, Barrier, Text, Data, Bss, Rodata, Global, TypeFunction, TypeObject, Size, Words, Halves, Bytes, Ascii, Asciz, Space, Align, Pool, FnStart, FnEnd, Save, Pad, SetFp, CantUnwind, PersonalityIndex, HandlerData}
 use Rattle.asm_read.specs.Reading.{stmt, read_of}
 use Rattle.asm_text.specs.Written.{written, IsWritable, ReadsBack}
 use Rattle.asm_text.proofs.Chosen.{label_is}

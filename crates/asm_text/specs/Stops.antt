@@ -17,7 +17,7 @@ use Rattle.asm_read.specs.declared.form.Piece.{Piece}
 use Rattle.asm_read.specs.declared.form.Piece.TheVariants.{MaybeHash, Registers, RegistersWithFirst, Expression, Expressions, WordExpressions}
 use Rattle.asm_read.specs.declared.form.Operands.{Operands}
 use Rattle.asm_read.specs.declared.read.TheConstants.{MOST_LINES}
-use Rattle.asm_read.specs.declared.statement.Stmt.{Stmt}
+use Rattle.asm_statements.specs.declared.statement.Stmt.{Stmt}
 use Rattle.asm_read.specs.Tokens.{token_at}
 use Rattle.asm_read.specs.Operands.{name_of, register_at, mark_at, name_at, item_at}
 use Rattle.asm_read.specs.Expressions.{relation_of, listed_at}

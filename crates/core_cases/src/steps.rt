@@ -3,10 +3,10 @@ ghost use Rattle.std.specs.Prelude.{◌≤◌, length};
 ghost use Rattle.core_cases.specs.declared.steps.TheConstants.{MOST_BYTES};
 
 use crate::start::{PROGRAM, Start, start_of};
+use bus_memories::flat::FlatBus;
 use case_rows::{Asked, Unanswered};
 use eh_bus::bus::Bus;
 use eh_bus::fault::{BusFault, BusMemory};
-use eh_bus::flat::FlatBus;
 use eh_bus::segment::SegmentSpec;
 use std::alloc::{AllocError, Global};
 use thumb_core::regs::{CoreTrap, Regs, Stepped};

@@ -1,5 +1,6 @@
 //! Codes of instructions, and the faults of those that have none. No text stands for most of the latter, so they are rows here.
-use thumb_encode::code::{Code, EncodeFault};
+use thumb_encode::code::Code;
+use thumb_isa::encode_fault::EncodeFault;
 use thumb_encode::encode::encode;
 use thumb_isa::instr::Instr;
 

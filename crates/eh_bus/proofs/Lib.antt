@@ -1,14 +1,10 @@
-pub mod Places
 pub mod ByteLaws
 pub mod Kept
-pub mod FlagLemmas
 pub mod BuiltLemmas
 pub mod WordLaws
 pub mod AccessLaws
+pub mod GuardOrder
 pub mod MapLaws
 pub mod UndoLaws
 pub mod GuardLaws
 pub mod PartLaws
-pub mod CallLaws
-pub mod PageLaws
-pub mod PageBuild

@@ -8,7 +8,7 @@ use Rattle.eh_bus.specs.Map.{SameMap, SameSegment, CodeIsFixed, AreApart, IsMap,
 use Rattle.eh_bus.specs.Built.{CanBuild, built}
 use Rattle.eh_bus.specs.declared.segment.SegmentSpec.{SegmentSpec}
 use Rattle.eh_bus.proofs.BuiltLemmas.{built_segments, image_bytes}
-use Rattle.eh_bus.proofs.FlagLemmas.{inserted_rises, filter_rises}
+use Rattle.eh_bus.proofs.GuardOrder.{inserted_rises, filter_rises}
 use Rattle.eh_bus.specs.declared.fault.BusFault.{BusFault}
 use Rattle.eh_bus.specs.declared.fault.BusFault.TheVariants.{NotExecutable, Unaligned, ReadOnly}
 use Rattle.eh_bus.proofs.Kept.{Inside, inside, length_with, kept, run_kept}

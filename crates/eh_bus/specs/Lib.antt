@@ -6,7 +6,3 @@ pub mod Map
 pub mod Undo
 pub mod Built
 pub mod Place
-pub mod Flags
-pub mod Flat
-pub mod Pages
-pub mod Paged

@@ -1,14 +1,8 @@
-//! The memory of the machine: segments of bytes, guarded words of the stack, and the closed part of the pool.
+//! The memory of the machine as every memory meets it: segments of bytes, guarded words of the stack, and the closed part of the
+//! pool (docs/memory-map.md). The memories themselves are in bus_memories.
 #![tactic(auto)]
 
-mod access;
 pub mod bus;
 pub mod fault;
-pub mod flat;
-mod guards;
 pub mod map;
-pub mod paged;
-mod pages;
-mod part;
 pub mod segment;
-mod segments;

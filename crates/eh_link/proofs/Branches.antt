@@ -12,8 +12,8 @@ use Rattle.thumb_isa.proofs.Table.{b, b_cond_low, b_cond_mid, b_cond_high}
 use Rattle.thumb_encode.specs.Codes.{IsCodeOf, encoded_of, refused_if, with_field, target_field, bl_code}
 use Rattle.thumb_encode.specs.declared.code.Code.{Code}
 use Rattle.thumb_encode.specs.declared.code.Code.TheVariants as code
-use Rattle.thumb_encode.specs.declared.code.EncodeFault.{EncodeFault}
-use Rattle.thumb_encode.specs.declared.code.EncodeFault.TheVariants.{RegisterRange, TargetRange}
+use Rattle.thumb_isa.specs.declared.encode_fault.EncodeFault.{EncodeFault}
+use Rattle.thumb_isa.specs.declared.encode_fault.EncodeFault.TheVariants.{RegisterRange, TargetRange}
 use Rattle.thumb_encode.proofs.Long.{bl_code as bl_decodes}
 
 -- the field of an offset gives the offset back

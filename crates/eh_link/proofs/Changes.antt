@@ -5,18 +5,18 @@ use Rattle.std.proofs.lemmas.List.{at_drop_more}
 use Rattle.byteorder.specs.Endian.{little_number}
 use Rattle.thumb_encode.specs.Codes.{with_field, refused_if, target_field}
 use Rattle.thumb_encode.specs.declared.code.Code.TheVariants as code
-use Rattle.thumb_encode.specs.declared.code.EncodeFault.{EncodeFault}
-use Rattle.thumb_encode.specs.declared.code.EncodeFault.TheVariants.{RegisterRange}
-use Rattle.asm_layout.specs.declared.place.Section.{Section}
-use Rattle.asm_object.specs.declared.object.Reloc.{Reloc}
+use Rattle.thumb_isa.specs.declared.encode_fault.EncodeFault.{EncodeFault}
+use Rattle.thumb_isa.specs.declared.encode_fault.EncodeFault.TheVariants.{RegisterRange}
+use Rattle.relocatable_object.specs.declared.place.Section.{Section}
+use Rattle.relocatable_object.specs.declared.object.Reloc.{Reloc}
 use Rattle.eh_link.specs.declared.names.Meaning.{Meaning}
-use Rattle.asm_object.specs.declared.relocation.FieldKind.{FieldKind}
-use Rattle.asm_object.specs.declared.relocation.FieldKind.TheVariants.{Absolute, Relative, Prel31, Call, Jump, CondJump}
+use Rattle.relocatable_object.specs.declared.relocation.FieldKind.{FieldKind}
+use Rattle.relocatable_object.specs.declared.relocation.FieldKind.TheVariants.{Absolute, Relative, Prel31, Call, Jump, CondJump}
 use Rattle.eh_link.specs.declared.field.Change.{Change}
 use Rattle.eh_link.specs.declared.field.Change.TheVariants.{Keep, Half, Word, Unreachable}
 use Rattle.eh_link.specs.Layout.{address_at}
 use Rattle.eh_link.specs.Fields.{size_of, branch, distance, filling, change_by, change_of, changed, filled, unreachable_in, unreachable_at, lower}
-use Rattle.asm_object.specs.Relocations.{width}
+use Rattle.relocatable_object.specs.Relocations.{width}
 
 size_le_4 : (c : Change) → size_of c ≤ 4
 size_le_4 Keep = omega arith

@@ -16,18 +16,18 @@ use Rattle.thumb_isa.specs.declared.instr.Instr.TheVariants.{BCond, B, Bl}
 use Rattle.thumb_encode.specs.Codes.{IsCodeOf, encoded_of}
 use Rattle.thumb_encode.specs.declared.code.Code.{Code}
 use Rattle.thumb_encode.specs.declared.code.Code.TheVariants as code
-use Rattle.thumb_encode.specs.declared.code.EncodeFault.{EncodeFault}
-use Rattle.asm_layout.specs.declared.place.Section.{Section}
-use Rattle.asm_object.specs.declared.object.Reloc.{Reloc}
+use Rattle.thumb_isa.specs.declared.encode_fault.EncodeFault.{EncodeFault}
+use Rattle.relocatable_object.specs.declared.place.Section.{Section}
+use Rattle.relocatable_object.specs.declared.object.Reloc.{Reloc}
 use Rattle.elf_write.specs.Layout.{word, half}
 use Rattle.eh_link.specs.declared.names.Meaning.{Meaning}
-use Rattle.asm_object.specs.declared.relocation.FieldKind.{FieldKind}
-use Rattle.asm_object.specs.declared.relocation.FieldKind.TheVariants.{Absolute, Relative, Prel31, Call, Jump, CondJump}
+use Rattle.relocatable_object.specs.declared.relocation.FieldKind.{FieldKind}
+use Rattle.relocatable_object.specs.declared.relocation.FieldKind.TheVariants.{Absolute, Relative, Prel31, Call, Jump, CondJump}
 use Rattle.eh_link.specs.declared.field.Change.{Change}
 use Rattle.eh_link.specs.declared.field.Change.TheVariants.{Half, Word}
 use Rattle.eh_link.specs.Layout.{address_at}
 use Rattle.eh_link.specs.Fields.{size_of, relative, branch, filling, change_of, written_at, changed, filled, lower, unreachable_at, unreachable_in}
-use Rattle.asm_object.specs.Relocations.{width, field_size}
+use Rattle.relocatable_object.specs.Relocations.{width, field_size}
 use Rattle.eh_link.specs.EquationLaw.{target_of, way_of, IsField, Stands, Decodes, AbsoluteFields, RelativeFields, Prel31Fields, Calls, Jumps, CondJumps}
 use Rattle.eh_link.proofs.Changes.{filling_fits}
 use Rattle.eh_link.proofs.Holding.{word_length, half_length, changed_length, change_within, filled_length, same_behind, law_of_fields}

@@ -6,18 +6,18 @@ use Rattle.std.proofs.lemmas.List.{length-take-le, get_or-drop, get_or-take, get
 use Rattle.byteorder.specs.Endian.{little_number}
 use Rattle.thumb_isa.specs.declared.instr.Instr.TheVariants.{BCond}
 use Rattle.thumb_encode.specs.Codes.{encoded_of}
-use Rattle.asm_layout.specs.declared.place.Section.{Section}
-use Rattle.asm_object.specs.declared.object.Reloc.{Reloc}
+use Rattle.relocatable_object.specs.declared.place.Section.{Section}
+use Rattle.relocatable_object.specs.declared.object.Reloc.{Reloc}
 use Rattle.elf_write.specs.Layout.{word, half}
 use Rattle.eh_link.specs.declared.names.Meaning.{Meaning}
-use Rattle.asm_object.specs.declared.relocation.FieldKind.{FieldKind}
-use Rattle.asm_object.specs.declared.relocation.FieldKind.TheVariants.{Absolute, Relative, Prel31, Call, Jump, CondJump}
+use Rattle.relocatable_object.specs.declared.relocation.FieldKind.{FieldKind}
+use Rattle.relocatable_object.specs.declared.relocation.FieldKind.TheVariants.{Absolute, Relative, Prel31, Call, Jump, CondJump}
 use Rattle.eh_link.specs.declared.field.Change.{Change}
 use Rattle.eh_link.specs.declared.field.Change.TheVariants.{Keep, Half, Word, Unreachable}
 use Rattle.eh_link.specs.Layout.{address_at}
 use Rattle.eh_link.specs.Fields.{size_of, branch, distance, filling, relative, change_by, change_of, written_at, changed, filled}
-use Rattle.asm_layout.specs.Walks.{same_section}
-use Rattle.asm_object.specs.Relocations.{kind_of, width, field_size}
+use Rattle.relocatable_object.specs.Sections.{same_section}
+use Rattle.relocatable_object.specs.Relocations.{kind_of, width, field_size}
 use Rattle.eh_link.specs.FieldLaw.{IsInField, IsInNoField, StandsAlone, OtherBytesStay, FieldsHold}
 use Rattle.eh_link.proofs.Changes.{filling_fits, change_fits}
 

@@ -2,18 +2,18 @@
 use Rattle.std.proofs.Common.{◌≡◌, ℕ, ◌+◌, ◌-◌, ◌*◌, ◌^◌, ◌≤◌, ◌<◌, Bool, true, false, cond, List, [], ◌∷◌, ◌++◌, length, drop, All, flat_map, Option, Some, None, Result, Ok, ℤ, not, nat_le, nat_lt, refl, ap, ◌∙◌, arith, length-append, length-drop}
 use Rattle.std.proofs.lemmas.Bool.Decides.{nat_tests}
 use Rattle.std.proofs.lemmas.List.Elements.{All-nil, All-cons, All-head, All-tail, All-append, All-map, All-weaker}
-use Rattle.asm_layout.specs.declared.place.Section.{Section}
-use Rattle.asm_layout.specs.declared.place.Section.TheVariants.{Text, Rodata, Extab, Init, Bss}
-use Rattle.asm_object.specs.declared.object.Object.{Object}
-use Rattle.asm_object.specs.declared.object.IndexRow.{IndexRow}
-use Rattle.asm_object.specs.declared.object.RowEntry.{RowEntry}
-use Rattle.asm_object.specs.declared.object.RowEntry.TheVariants as entry
-use Rattle.asm_object.specs.declared.object.Reloc.{Reloc}
+use Rattle.relocatable_object.specs.declared.place.Section.{Section}
+use Rattle.relocatable_object.specs.declared.place.Section.TheVariants.{Text, Rodata, Extab, Init, Bss}
+use Rattle.relocatable_object.specs.declared.object.Object.{Object}
+use Rattle.relocatable_object.specs.declared.object.IndexRow.{IndexRow}
+use Rattle.relocatable_object.specs.declared.object.RowEntry.{RowEntry}
+use Rattle.relocatable_object.specs.declared.object.RowEntry.TheVariants as entry
+use Rattle.relocatable_object.specs.declared.object.Reloc.{Reloc}
 use Rattle.elf_write.specs.declared.parts.ImageParts.{ImageParts}
 use Rattle.eh_link.specs.declared.fault.LinkFault.{LinkFault}
 use Rattle.eh_link.specs.declared.fault.LinkFault.TheVariants.{Duplicate, Undefined, NoEntry, TooLarge, RelocationRange}
-use Rattle.asm_object.specs.declared.relocation.FieldKind.{FieldKind}
-use Rattle.asm_object.specs.declared.relocation.FieldKind.TheVariants.{Absolute, Relative, Prel31, Call, Jump, CondJump}
+use Rattle.relocatable_object.specs.declared.relocation.FieldKind.{FieldKind}
+use Rattle.relocatable_object.specs.declared.relocation.FieldKind.TheVariants.{Absolute, Relative, Prel31, Call, Jump, CondJump}
 use Rattle.eh_link.specs.declared.field.Change.TheVariants.{Keep}
 use Rattle.unwind_codes.specs.declared.row.Entry.{Entry}
 use Rattle.unwind_codes.specs.declared.row.TheConstants.{ROW_SIZE}
@@ -24,8 +24,8 @@ use Rattle.eh_link.specs.Placed.{Placed}
 use Rattle.eh_link.specs.Layout.{address_at, layout_of, is_too_large, firsts, all_aligned, ends, placed_from, placed_of}
 use Rattle.eh_link.specs.Symbols.{meaning_of, duplicate_of, undefined_of, has_entry}
 use Rattle.eh_link.specs.Fields.{change_by, change_of, part_in, filled_of, unreachable_in, unreachable_for, unreachable_by, lowest_unreachable}
-use Rattle.asm_layout.specs.Walks.{same_section}
-use Rattle.asm_object.specs.Relocations.{width, kind_of}
+use Rattle.relocatable_object.specs.Sections.{same_section}
+use Rattle.relocatable_object.specs.Relocations.{width, kind_of}
 use Rattle.eh_link.specs.Index.{row_of, rows_in, body_at}
 use Rattle.eh_link.specs.Linked.{unless, unless_true, linked}
 use Rattle.eh_link.specs.LayoutLaw.{StandsAt, linked_index, linked_code}

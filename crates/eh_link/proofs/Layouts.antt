@@ -2,9 +2,9 @@
 use Rattle.std.proofs.Common.{◌≡◌, ℕ, ◌+◌, ◌-◌, ◌<◌, ◌≤◌, Bool, true, false, cond, nat_lt, List, [], ◌∷◌, ◌++◌, append_assoc, length, drop, get_or, Some, None, refl, sym, ap, subst, ◌∙◌, arith}
 use Rattle.std.proofs.lemmas.Bool.Decides.{nat_tests}
 use Rattle.std.proofs.lemmas.List.{at_drop_more}
-use Rattle.asm_layout.specs.declared.place.Section.{Section}
-use Rattle.asm_layout.specs.declared.place.Section.TheVariants.{Text, Rodata, Extab, Init, Bss}
-use Rattle.asm_object.specs.declared.object.Object.{Object}
+use Rattle.relocatable_object.specs.declared.place.Section.{Section}
+use Rattle.relocatable_object.specs.declared.place.Section.TheVariants.{Text, Rodata, Extab, Init, Bss}
+use Rattle.relocatable_object.specs.declared.object.Object.{Object}
 use Rattle.eh_link.specs.declared.places.Addresses.{Addresses}
 use Rattle.eh_link.specs.declared.places.Layout.{Layout}
 use Rattle.eh_link.specs.declared.places.TheConstants.{CODE_START, PAGE, MOST_MEMORY, REACH}

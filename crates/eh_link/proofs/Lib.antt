@@ -8,5 +8,4 @@ pub mod Reading
 pub mod Sorting
 pub mod Standing
 pub mod Steps
-pub mod AssembledLaws
 pub mod Words

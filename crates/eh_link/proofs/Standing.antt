@@ -5,9 +5,9 @@ use Rattle.std.proofs.lemmas.List.Sums.{sum_by-cons}
 use Rattle.std.proofs.lemmas.List.Elements.{All-nil, All-cons}
 use Rattle.elf_write.specs.Layout.{word}
 use Rattle.eh_list.specs.Bytes.{zeros, length-zeros, gap}
-use Rattle.asm_layout.specs.declared.place.Section.{Section}
-use Rattle.asm_layout.specs.declared.place.Section.TheVariants.{Text, Rodata, Extab, Init, Bss}
-use Rattle.asm_object.specs.declared.object.Object.{Object}
+use Rattle.relocatable_object.specs.declared.place.Section.{Section}
+use Rattle.relocatable_object.specs.declared.place.Section.TheVariants.{Text, Rodata, Extab, Init, Bss}
+use Rattle.relocatable_object.specs.declared.object.Object.{Object}
 use Rattle.eh_link.specs.declared.places.Addresses.{Addresses}
 use Rattle.elf_write.specs.declared.parts.ImageParts.{ImageParts}
 use Rattle.eh_link.specs.declared.fault.LinkFault.{LinkFault}
@@ -20,7 +20,7 @@ use Rattle.unwind_codes.proofs.RowBytes.{length-rows}
 use Rattle.eh_link.specs.declared.places.TheConstants.{CODE_START, PAGE}
 use Rattle.eh_link.specs.Placed.{Placed}
 use Rattle.eh_link.specs.Layout.{size_in, address_in, end_of, index_size, layout_of, is_too_large, firsts, all_aligned, ends, placed_from, placed_of, address_at, aligned}
-use Rattle.asm_object.specs.ObjectLaw.{bytes_at}
+use Rattle.relocatable_object.specs.Fields.{bytes_at}
 use Rattle.eh_link.specs.Fields.{part_in, filled_in, filled_of, lowest_unreachable}
 use Rattle.eh_link.specs.Symbols.{meaning_of, duplicate_of, undefined_of, has_entry}
 use Rattle.eh_link.specs.Index.{row_of, rows_in, row_among, in_order, closing, index_of}

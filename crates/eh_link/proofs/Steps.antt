@@ -7,13 +7,13 @@ use Rattle.std.specs.Option.{option_or, option_map, is_some}
 use Rattle.std.proofs.lemmas.List.{at_drop_more}
 use Rattle.eh_word.specs.Names.{same_bytes}
 use Rattle.eh_list.specs.Bytes.{zeros, gap}
-use Rattle.asm_object.specs.declared.object.Object.{Object}
-use Rattle.asm_object.specs.declared.object.ObjSymbol.{ObjSymbol}
+use Rattle.relocatable_object.specs.declared.object.Object.{Object}
+use Rattle.relocatable_object.specs.declared.object.ObjSymbol.{ObjSymbol}
 use Rattle.eh_link.specs.declared.names.Meaning.{Meaning}
 use Rattle.eh_link.specs.Placed.{Placed}
 use Rattle.eh_link.specs.Symbols.{is_label, is_global, has_label, has_global, global_names, field_names, duplicate_of, undefined_of, first_label, first_in, looked_up, meaning_by, meaning_of}
 use Rattle.eh_link.specs.Fields.{lower, filled_in, filled_by, filled_of, unreachable_for, unreachable_by, lowest_unreachable}
-use Rattle.asm_layout.specs.declared.place.Section.TheVariants.{Text, Rodata, Extab, Init}
+use Rattle.relocatable_object.specs.declared.place.Section.TheVariants.{Text, Rodata, Extab, Init}
 use Rattle.eh_link.specs.declared.fill.Filled.{Filled}
 use Rattle.eh_link.specs.Linked.{joined}
 use Rattle.eh_link.proofs.Changes.{lower_assoc}

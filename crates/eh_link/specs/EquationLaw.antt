@@ -11,18 +11,18 @@ use Rattle.thumb_encode.specs.Codes.{IsCodeOf}
 use Rattle.thumb_encode.specs.declared.code.Code.{Code}
 use Rattle.thumb_encode.specs.declared.code.Code.TheVariants as code
 use Rattle.unwind_codes.specs.declared.row.TheConstants.{PREL31_LIMIT}
-use Rattle.asm_layout.specs.declared.place.Section.{Section}
-use Rattle.asm_object.specs.declared.object.Object.{Object}
-use Rattle.asm_object.specs.declared.object.Reloc.{Reloc}
+use Rattle.relocatable_object.specs.declared.place.Section.{Section}
+use Rattle.relocatable_object.specs.declared.object.Object.{Object}
+use Rattle.relocatable_object.specs.declared.object.Reloc.{Reloc}
 use Rattle.elf_write.specs.declared.parts.ImageParts.{ImageParts}
 use Rattle.eh_link.specs.declared.names.Meaning.{Meaning}
-use Rattle.asm_object.specs.declared.relocation.FieldKind.{FieldKind}
-use Rattle.asm_object.specs.declared.relocation.FieldKind.TheVariants.{Absolute, Relative, Prel31, Call, Jump, CondJump}
+use Rattle.relocatable_object.specs.declared.relocation.FieldKind.{FieldKind}
+use Rattle.relocatable_object.specs.declared.relocation.FieldKind.TheVariants.{Absolute, Relative, Prel31, Call, Jump, CondJump}
 use Rattle.eh_link.specs.Layout.{placed_of}
 use Rattle.eh_link.specs.Symbols.{meaning_of}
 use Rattle.eh_link.specs.Fields.{filled, unreachable_in, unreachable_for}
-use Rattle.asm_layout.specs.Walks.{same_section}
-use Rattle.asm_object.specs.Relocations.{kind_of, width}
+use Rattle.relocatable_object.specs.Sections.{same_section}
+use Rattle.relocatable_object.specs.Relocations.{kind_of, width}
 use Rattle.eh_link.specs.FieldLaw.{StandsAlone}
 use Rattle.eh_link.specs.Linked.{linked}
 

@@ -1,10 +1,10 @@
 -- What the bytes of a section are behind its relocations: a byte in no field is the object's, and a field that shares no byte
 -- with another one holds what its own relocation writes into the object's bytes (docs/linking.md, "Relocations"; IHI 0044).
 use Rattle.std.specs.Prelude.{◌≡◌, ℕ, ◌+◌, ◌<◌, ◌≤◌, true, List, [], ◌∷◌, ◌++◌, slice_index, Option}
-use Rattle.asm_layout.specs.declared.place.Section.{Section}
-use Rattle.asm_layout.specs.Walks.{same_section}
-use Rattle.asm_object.specs.declared.object.Reloc.{Reloc}
-use Rattle.asm_object.specs.Relocations.{field_size}
+use Rattle.relocatable_object.specs.declared.place.Section.{Section}
+use Rattle.relocatable_object.specs.Sections.{same_section}
+use Rattle.relocatable_object.specs.declared.object.Reloc.{Reloc}
+use Rattle.relocatable_object.specs.Relocations.{field_size}
 use Rattle.eh_link.specs.declared.names.Meaning.{Meaning}
 use Rattle.eh_link.specs.Fields.{change_of, changed, filled}
 

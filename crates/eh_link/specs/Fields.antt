@@ -8,19 +8,19 @@ use Rattle.thumb_isa.specs.declared.instr.Instr.TheVariants.{BCond, B, Bl}
 use Rattle.thumb_encode.specs.Codes.{encoded_of}
 use Rattle.thumb_encode.specs.declared.code.Code.{Code}
 use Rattle.thumb_encode.specs.declared.code.Code.TheVariants as code
-use Rattle.thumb_encode.specs.declared.code.EncodeFault.{EncodeFault}
+use Rattle.thumb_isa.specs.declared.encode_fault.EncodeFault.{EncodeFault}
 use Rattle.unwind_codes.specs.declared.row.TheConstants.{PREL31_LIMIT}
 use Rattle.unwind_codes.specs.Rows.{prel31_to}
-use Rattle.asm_layout.specs.declared.place.Section.{Section}
-use Rattle.asm_layout.specs.declared.place.Section.TheVariants.{Text, Rodata, Extab, Init, Bss}
-use Rattle.asm_object.specs.declared.object.Reloc.{Reloc}
+use Rattle.relocatable_object.specs.declared.place.Section.{Section}
+use Rattle.relocatable_object.specs.declared.place.Section.TheVariants.{Text, Rodata, Extab, Init, Bss}
+use Rattle.relocatable_object.specs.declared.object.Reloc.{Reloc}
 use Rattle.elf_write.specs.Layout.{word, half}
 use Rattle.eh_link.specs.declared.names.Meaning.{Meaning}
-use Rattle.asm_layout.specs.Walks.{same_section}
-use Rattle.asm_object.specs.Relocations.{kind_of, width}
-use Rattle.asm_object.specs.ObjectLaw.{bytes_at}
-use Rattle.asm_object.specs.declared.relocation.FieldKind.{FieldKind}
-use Rattle.asm_object.specs.declared.relocation.FieldKind.TheVariants.{Absolute, Relative, Prel31, Call, Jump, CondJump}
+use Rattle.relocatable_object.specs.Sections.{same_section}
+use Rattle.relocatable_object.specs.Relocations.{kind_of, width}
+use Rattle.relocatable_object.specs.Fields.{bytes_at}
+use Rattle.relocatable_object.specs.declared.relocation.FieldKind.{FieldKind}
+use Rattle.relocatable_object.specs.declared.relocation.FieldKind.TheVariants.{Absolute, Relative, Prel31, Call, Jump, CondJump}
 use Rattle.eh_link.specs.declared.field.Change.{Change}
 use Rattle.eh_link.specs.declared.field.Change.TheVariants.{Keep, Half, Word, Unreachable}
 use Rattle.eh_link.specs.declared.fill.Filled.{Filled}

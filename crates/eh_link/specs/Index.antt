@@ -6,9 +6,9 @@ use Rattle.unwind_codes.specs.declared.row.Entry.{Entry}
 use Rattle.unwind_codes.specs.declared.row.EntryBody.{EntryBody}
 use Rattle.unwind_codes.specs.declared.row.EntryBody.TheVariants.{CantUnwind, Inline, Table}
 use Rattle.unwind_codes.specs.Rows.{rows_bytes}
-use Rattle.asm_object.specs.declared.object.IndexRow.{IndexRow}
-use Rattle.asm_object.specs.declared.object.RowEntry.{RowEntry}
-use Rattle.asm_object.specs.declared.object.RowEntry.TheVariants as entry
+use Rattle.relocatable_object.specs.declared.object.IndexRow.{IndexRow}
+use Rattle.relocatable_object.specs.declared.object.RowEntry.{RowEntry}
+use Rattle.relocatable_object.specs.declared.object.RowEntry.TheVariants as entry
 use Rattle.eh_link.specs.declared.places.Addresses.{Addresses}
 use Rattle.eh_link.specs.Placed.{Placed}
 use Rattle.eh_link.specs.Layout.{address_at}

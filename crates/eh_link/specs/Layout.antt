@@ -3,12 +3,12 @@
 -- holds the data with given bytes, then the data that begins as zeros. Each object's part of a section, an empty one too,
 -- and the index begin at the next multiple of 4 (docs/linking.md, "Layout").
 use Rattle.std.specs.Prelude.{ℕ, ◌+◌, ◌-◌, ◌*◌, ◌%◌, ◌^◌, ◌≤◌, Bool, nat_lt, List, [], ◌∷◌, length, sum_by}
-use Rattle.asm_object.specs.declared.object.Object.{Object}
-use Rattle.asm_layout.specs.declared.place.Section.{Section}
-use Rattle.asm_layout.specs.declared.place.Section.TheVariants.{Text, Rodata, Extab, Init, Bss}
+use Rattle.relocatable_object.specs.declared.object.Object.{Object}
+use Rattle.relocatable_object.specs.declared.place.Section.{Section}
+use Rattle.relocatable_object.specs.declared.place.Section.TheVariants.{Text, Rodata, Extab, Init, Bss}
 use Rattle.eh_list.specs.Bytes.{next_multiple}
 use Rattle.unwind_codes.specs.declared.row.TheConstants.{ROW_SIZE}
-use Rattle.asm_object.specs.ObjectLaw.{bytes_at}
+use Rattle.relocatable_object.specs.Fields.{bytes_at}
 use Rattle.eh_link.specs.declared.places.TheConstants.{CODE_START, PAGE, MOST_MEMORY, REACH}
 use Rattle.eh_link.specs.declared.places.Addresses.{Addresses}
 use Rattle.eh_link.specs.declared.places.Layout.{Layout}

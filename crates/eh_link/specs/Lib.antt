@@ -7,6 +7,5 @@ pub mod FieldLaw
 pub mod Index
 pub mod Linked
 pub mod LayoutLaw
-pub mod AssembledLaw
 pub mod IndexLaw
 pub mod EquationLaw

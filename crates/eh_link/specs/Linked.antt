@@ -1,7 +1,7 @@
 -- What objects link to: the parts of an image, or the first of the refusals in their order (docs/linking.md).
 use Rattle.std.specs.Prelude.{ℕ, ◌-◌, ◌%◌, ◌==◌, not, Bool, true, false, if◌then◌else◌, List, [], ◌∷◌, ◌++◌, length, map, Option, Some, None, Result, Ok, Err}
 use Rattle.std.specs.Option.{option_map_or}
-use Rattle.asm_object.specs.declared.object.Object.{Object}
+use Rattle.relocatable_object.specs.declared.object.Object.{Object}
 use Rattle.eh_list.specs.Bytes.{zeros, gap}
 use Rattle.elf_write.specs.declared.parts.ImageParts.{ImageParts}
 use Rattle.elf_write.specs.declared.parts.OwnSegment.{OwnSegment}
@@ -13,7 +13,7 @@ use Rattle.eh_link.specs.declared.fill.Filled.{Filled}
 use Rattle.eh_link.specs.Placed.{Placed}
 use Rattle.eh_link.specs.Layout.{layout_of, code_size, data_size, is_too_large, placed_of}
 use Rattle.eh_link.specs.Symbols.{duplicate_of, undefined_of, has_entry, is_entry, first_in, symbols_of}
-use Rattle.asm_layout.specs.declared.place.Section.TheVariants.{Text, Rodata, Extab, Init}
+use Rattle.relocatable_object.specs.declared.place.Section.TheVariants.{Text, Rodata, Extab, Init}
 use Rattle.eh_link.specs.Fields.{filled_of, part_in, lowest_unreachable}
 use Rattle.eh_link.specs.Index.{index_of}
 

@@ -5,10 +5,10 @@ use Rattle.std.specs.List.{list_any, flat_map}
 use Rattle.std.specs.Option.{option_or, option_map}
 use Rattle.std.specs.Map.{lookup}
 use Rattle.eh_word.specs.Names.{same_bytes}
-use Rattle.asm_object.specs.declared.object.Object.{Object}
-use Rattle.asm_object.specs.declared.object.ObjSymbol.{ObjSymbol}
-use Rattle.asm_object.specs.declared.object.Mark.{Mark}
-use Rattle.asm_layout.specs.Words.{is_local}
+use Rattle.relocatable_object.specs.declared.object.Object.{Object}
+use Rattle.relocatable_object.specs.declared.object.ObjSymbol.{ObjSymbol}
+use Rattle.relocatable_object.specs.declared.object.Mark.{Mark}
+use Rattle.relocatable_object.specs.Names.{is_local}
 use Rattle.elf_write.specs.declared.parts.OwnSymbol.{OwnSymbol}
 use Rattle.elf_write.specs.declared.parts.SymbolKind.{SymbolKind}
 use Rattle.elf_write.specs.declared.parts.SymbolKind.TheVariants as kind

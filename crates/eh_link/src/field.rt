@@ -2,14 +2,15 @@
 ghost use Rattle.std.specs.Prelude.{◌≡◌, ◌+◌, ◌*◌, ◌^◌, ◌<◌, ◌≤◌, length, Option, Some, None};
 ghost use Rattle.thumb_isa.specs.declared.instr.Instr.TheVariants.{BCond, B, Bl};
 ghost use Rattle.thumb_encode.specs.Codes.{encoded_of};
-ghost use Rattle.asm_object.specs.Relocations.{kind_of, width};
+ghost use Rattle.relocatable_object.specs.Relocations.{kind_of, width};
 ghost use Rattle.eh_link.specs.Fields.{absolute, relative, distance, branch, filling, change_by, change_of};
 
 use crate::names::Meaning;
-use asm_object::relocation::{FieldKind, kind_of, width};
 use byteorder::{ByteOrder, LittleEndian};
-use thumb_encode::code::{Code, EncodeFault};
+use relocatable_object::relocation::{FieldKind, kind_of, width};
+use thumb_encode::code::Code;
 use thumb_encode::encode::encode;
+use thumb_isa::encode_fault::EncodeFault;
 use thumb_isa::instr::Instr;
 use unwind_codes::row::{PREL31_LIMIT, prel31_to};
 

@@ -1,15 +1,15 @@
 //! The fields of objects filled by their relocations (docs/linking.md; IHI 0044).
 ghost use Rattle.std.specs.Prelude.{◌≡◌, ◌+◌, ◌≤◌, length, drop, map, IfOk};
-ghost use Rattle.asm_object.specs.ObjectLaw.{bytes_at};
+ghost use Rattle.relocatable_object.specs.Fields.{bytes_at};
 ghost use Rattle.eh_link.specs.Symbols.{looked_up, meaning_by};
 ghost use Rattle.eh_link.specs.Fields.{size_of, change_of, written_at, changed, unreachable_at, filled, lower, unreachable_in, part_in, filled_in, filled_by, filled_of, unreachable_for, unreachable_by, lowest_unreachable};
 
 use crate::field::{Change, change_by};
 use crate::names::{Meanings, global_meanings, looked_up, own_meanings};
 use crate::places::{Placed, address_at, address_in};
-use asm_layout::place::{Section, same_section};
-use asm_object::object::{Object, Reloc};
 use elf_write::parts::OwnBytes;
+use relocatable_object::object::{Object, Reloc};
+use relocatable_object::place::{Section, same_section};
 use std::alloc::{AllocError, Global};
 
 /// The parts of an object with their fields filled.

@@ -4,7 +4,7 @@ ghost use Rattle.std.specs.List.{flat_map};
 ghost use Rattle.eh_link.specs.Index.{row_of, rows_in, in_order, closing, index_of};
 
 use crate::places::{Addresses, Placed, address_at};
-use asm_object::object::{IndexRow, RowEntry};
+use relocatable_object::object::{IndexRow, RowEntry};
 use std::alloc::{AllocError, Global};
 use unwind_codes::row::{Entry, EntryBody, push_rows};
 

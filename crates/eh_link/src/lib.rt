@@ -2,7 +2,6 @@
 #![tactic(auto)]
 
 ghost use Rattle.eh_link.specs.FieldLaw.{OtherBytesStay, FieldsHold};
-ghost use Rattle.eh_link.specs.AssembledLaw.{AssembledFieldsStandAlone};
 ghost use Rattle.eh_link.specs.EquationLaw.{AbsoluteFields, RelativeFields, Prel31Fields, Calls, Jumps, CondJumps, ImagesReach};
 ghost use Rattle.eh_link.specs.LayoutLaw.{ImagesHaveTheseBytes, SizesAreOfBytes, CodeStands, IndexStands, DataStands};
 ghost use Rattle.eh_link.specs.IndexLaw.{RowsAscend, RowsAreKept, SameStartsKeepTheirOrder, IndexReadsBack, ImagesHaveTheirRows};
@@ -25,12 +24,6 @@ pub use linking::link;
 pub fn fields_hold_what_their_relocations_write()
     ensures stay { OtherBytesStay }
     ensures hold { FieldsHold }
-{}
-
-/// Each field of an object that the assembler gives shares no byte with another one, and lies within its section. So what the two
-/// laws beside this one say of fields holds of every field of a source.
-pub fn assembled_fields_stand_alone()
-    ensures { AssembledFieldsStandAlone }
 {}
 
 /// A field that shares no byte with another one and lies within its section holds what the equation of its kind (IHI 0044) says of

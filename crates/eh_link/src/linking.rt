@@ -14,9 +14,9 @@ use crate::names::{NameSet, duplicate, entry_meaning, has_entry, undefined};
 use crate::places::{Layout, Placed, lay_out, place};
 use crate::segments::segments_of;
 use crate::symbols::symbols_of;
-use asm_layout::word::copied;
-use asm_object::object::Object;
 use elf_write::parts::{ImageParts, OwnSegments, OwnSymbols};
+use relocatable_object::name::copied;
+use relocatable_object::object::Object;
 use std::alloc::{AllocError, Global};
 
 /// The address of the entry, with bit 0 clear.

@@ -7,10 +7,10 @@ ghost use Rattle.eh_word.specs.Names.{same_bytes};
 ghost use Rattle.eh_link.specs.Symbols.{has_label, has_global, is_label, is_global, is_entry, has_entry, global_names, field_names, duplicate_of, undefined_of, symbol_address, meaning, first_label, first_in, looked_up};
 
 use crate::places::{Addresses, Placed, address_at, address_in};
-use asm_layout::word::copied;
-use asm_object::object::{ObjSymbol, Object};
 use eh_word::Name;
 use indexmap::{IndexMap, IndexSet};
+use relocatable_object::name::copied;
+use relocatable_object::object::{ObjSymbol, Object};
 use std::alloc::{AllocError, Global};
 use std::marker::Model;
 

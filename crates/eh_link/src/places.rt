@@ -2,9 +2,9 @@
 ghost use Rattle.std.specs.Prelude.{◌≡◌, ◌+◌, ◌*◌, ◌^◌, ◌<◌, ◌≤◌, Bool, false, None, Some, if◌then◌else◌, length, IfOk, IfSome, IfNone};
 ghost use Rattle.eh_link.specs.Layout.{aligned, size_in, address_in, end_of, index_size, page_behind, Rises, layout_of, is_too_large, firsts, all_aligned, ends, placed_of, address_at};
 
-use asm_layout::place::Section;
-use asm_object::object::Object;
 use eh_list::bytes::next_multiple_32;
+use relocatable_object::object::Object;
+use relocatable_object::place::Section;
 use std::alloc::{AllocError, Global};
 use std::marker::Model;
 use unwind_codes::row::ROW_SIZE;

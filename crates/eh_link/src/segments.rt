@@ -6,9 +6,9 @@ ghost use Rattle.eh_link.specs.Linked.{joined, code_bytes, data_bytes, segments_
 
 use crate::fill::{Filled, part_in};
 use crate::places::{CODE_START, Layout};
-use asm_layout::place::Section;
 use eh_list::bytes::{gap, push_zeros};
 use elf_write::parts::{OwnBytes, OwnSegment};
+use relocatable_object::place::Section;
 use std::alloc::{AllocError, Global};
 
 /// Puts a part at the next multiple of 4.

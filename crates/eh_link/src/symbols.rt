@@ -6,10 +6,10 @@ ghost use Rattle.eh_link.specs.Layout.{Rises};
 
 use crate::names::symbol_address;
 use crate::places::{Addresses, Layout, Placed, address_at, aligned};
-use asm_layout::word::{copied, is_local};
-use asm_object::object::{Mark, ObjSymbol};
 use eh_word::Name;
 use elf_write::parts::{OwnSymbol, SymbolKind};
+use relocatable_object::name::{copied, is_local};
+use relocatable_object::object::{Mark, ObjSymbol};
 use std::alloc::{AllocError, Global};
 
 fn symbol(alloc: Global, name: &[u8], value: u32, kind: SymbolKind) -> Result<OwnSymbol, AllocError>

@@ -1,6 +1,6 @@
 //! The state that a run starts in (docs/machine.md, "The start").
 ghost use Rattle.std.specs.Prelude.{◌≡◌, IfOk, IsSome};
-ghost use Rattle.eh_bus.specs.Paged.{memory_of};
+ghost use Rattle.bus_memories.specs.Paged.{memory_of};
 ghost use Rattle.eh_cxa.specs.Words.{block_slot};
 ghost use Rattle.eh_gates.specs.State.{state_of};
 ghost use Rattle.eh_gates.specs.Throwing.{throw_to};
@@ -13,8 +13,8 @@ use crate::checked::Checked;
 use crate::event::Shared;
 use crate::memory::MachineMemory;
 use crate::run::Machine;
+use bus_memories::paged::PagedBus;
 use eh_bus::bus::Bus;
-use eh_bus::paged::PagedBus;
 use eh_cxa::Globals;
 use eh_gates::{Core, Turned};
 use eh_phase::Barrier;

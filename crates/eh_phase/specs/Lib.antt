@@ -5,3 +5,4 @@ pub mod Frames
 pub mod Calls
 pub mod Cleanups
 pub mod Laws
+pub mod FirstLanding

@@ -2,6 +2,7 @@
 //! give: which frame's descriptor stops an exception, and which landing pad is entered next. docs/phases.md states the rules.
 #![tactic(auto)]
 
+pub mod joined;
 pub mod laws;
 pub mod phase1;
 pub mod phase2;

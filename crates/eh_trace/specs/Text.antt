@@ -1,7 +1,7 @@
 -- The text of a trace. Each line ends in a line feed.
 use Rattle.std.specs.Prelude.{ℕ, ◌+◌, ◌-◌, ◌==◌, ◌&&◌, nat_le, nat_lt, min, List, [], ◌∷◌, ◌++◌, map, take, find, flat_map, codes, decimal, Option, Some, None, if◌then◌else◌}
 use Rattle.hex.specs.Hex.{encode_lower}
-use Rattle.eh_digits.specs.Address.{address_text}
+use Rattle.eh_word.specs.Address.{address_text}
 use Rattle.elf_image.specs.Image.{Image}
 use Rattle.elf_image.specs.Functions.{Function, is_inside}
 use Rattle.eh_trace.specs.declared.event.EventKind.{EventKind}

@@ -1,9 +1,9 @@
 //! The parts of a trace's lines: addresses, offsets, names, bytes and places: docs/exceptions.md.
 ghost use Rattle.std.specs.Prelude.{◌≡◌, ◌<◌, ◌≤◌, ◌++◌, [], map, OnOk, option_copied};
-ghost use Rattle.eh_digits.specs.Address.{address_text};
+ghost use Rattle.eh_word.specs.Address.{address_text};
 ghost use Rattle.eh_trace.specs.Text.{without_zeros, offset_text, printed, type_text, bytes_text, named_place, holder, place_text};
 
-use eh_digits::address_text;
+use eh_word::address_text;
 use elf_image::{Function, Image};
 use std::alloc::{AllocError, Global};
 

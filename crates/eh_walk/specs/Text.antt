@@ -1,6 +1,6 @@
 -- The text of a walk. Each line ends in a line feed.
 use Rattle.std.specs.Prelude.{List, ℕ, ◌++◌, codes, flat_map}
-use Rattle.eh_digits.specs.Address.{address_text}
+use Rattle.eh_word.specs.Address.{address_text}
 use Rattle.elf_image.specs.Image.{Image}
 use Rattle.eh_trace.specs.Text.{place_text}
 use Rattle.eh_walk.specs.declared.walk.WalkFrame.{WalkFrame}

@@ -1,12 +1,12 @@
 //! The text of a walk (docs/walks.md, "The command").
 ghost use Rattle.std.specs.Prelude.{◌≡◌, ◌++◌, IfOk, OnOk, option_copied};
-ghost use Rattle.eh_digits.specs.Address.{address_text};
+ghost use Rattle.eh_word.specs.Address.{address_text};
 ghost use Rattle.eh_trace.specs.Text.{holder, place_text};
 ghost use Rattle.eh_walk.specs.Text.{frame_line, walk_text};
 
 use crate::walk::WalkFrame;
-use eh_digits::address_text;
 use eh_trace::push_named_place;
+use eh_word::address_text;
 use elf_image::{Function, Image};
 use std::alloc::{AllocError, Global};
 

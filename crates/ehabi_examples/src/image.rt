@@ -1,5 +1,6 @@
 //! What `build` writes, beside the parts that the sources link to.
-use asm_object::{Object, assemble};
+use asm_object::assemble;
+use relocatable_object::Object;
 use asm_read::read_source;
 use eh_kit::stubs;
 use eh_link::link;

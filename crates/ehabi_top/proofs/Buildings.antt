@@ -1,6 +1,6 @@
 -- What sources are built to, from what each part of the way answers.
 use Rattle.std.proofs.Common.{◌≡◌, ℕ, List, [], ◌∷◌, ◌++◌, Ok, Err, refl}
-use Rattle.asm_object.specs.declared.object.Object.{Object}
+use Rattle.relocatable_object.specs.declared.object.Object.{Object}
 use Rattle.elf_write.specs.declared.parts.ImageParts.{ImageParts}
 use Rattle.ehabi_top.specs.Building.{statements_of, assembled, linked_parts, written_bytes, stubs, built}
 use Rattle.ehabi_top.specs.Sources.{NamedText, NamedStmts, all_answers}

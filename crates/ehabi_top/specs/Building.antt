@@ -4,9 +4,9 @@ use Rattle.std.specs.Result.{result_map_both}
 use Rattle.asm_layout.specs.declared.fault.AsmWhat.{AsmWhat}
 use Rattle.asm_layout.specs.declared.fault.AsmWhat.TheVariants as asm
 use Rattle.asm_object.specs.Objects.{object_of}
-use Rattle.asm_object.specs.declared.object.Object.{Object}
+use Rattle.relocatable_object.specs.declared.object.Object.{Object}
 use Rattle.asm_read.specs.Reading.{read_of}
-use Rattle.asm_read.specs.declared.statement.Stmt.{Stmt}
+use Rattle.asm_statements.specs.declared.statement.Stmt.{Stmt}
 use Rattle.asm_read.specs.declared.fault.SourceWhat.{SourceWhat}
 use Rattle.asm_read.specs.declared.fault.SourceWhat.TheVariants as source
 use Rattle.eh_kit.specs.Stubs.{stubs_text}

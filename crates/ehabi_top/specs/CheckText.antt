@@ -1,6 +1,6 @@
 -- The lines of `check` (docs/command-line.md). Each ends in a line feed.
 use Rattle.std.specs.Prelude.{ℕ, ◌==◌, List, [], ◌++◌, codes, decimal, if◌then◌else◌}
-use Rattle.eh_digits.specs.Address.{address_text}
+use Rattle.eh_word.specs.Address.{address_text}
 use Rattle.eh_index.specs.FaultNames.{fault_name as index_name}
 use Rattle.eh_index.specs.declared.fault.IndexFault.{IndexFault}
 use Rattle.eh_index.specs.declared.fault.IndexFault.TheVariants.{Length, OutsideImage, Unsorted}

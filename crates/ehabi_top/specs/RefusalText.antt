@@ -7,7 +7,7 @@ use Rattle.asm_read.specs.declared.fault.SourceFault.{SourceFault}
 use Rattle.eh_link.specs.FaultNames.{fault_name as link_name}
 use Rattle.eh_link.specs.declared.fault.LinkFault.{LinkFault}
 use Rattle.eh_link.specs.declared.fault.LinkFault.TheVariants as link
-use Rattle.eh_digits.specs.Address.{address_text}
+use Rattle.eh_word.specs.Address.{address_text}
 use Rattle.ehabi_top.specs.Text.{refusal_line, behind_blank}
 
 -- ---- a text that is no source

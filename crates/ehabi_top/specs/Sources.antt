@@ -1,6 +1,6 @@
 -- Sources, and the answers for each of several.
 use Rattle.std.specs.Prelude.{ℕ, List, [], ◌∷◌, Result, Ok, Err}
-use Rattle.asm_read.specs.declared.statement.Stmt.{Stmt}
+use Rattle.asm_statements.specs.declared.statement.Stmt.{Stmt}
 
 -- a source by the name of its file and its bytes
 pub record NamedText : Type 0 where

@@ -1,6 +1,6 @@
 -- The texts that the program writes. Each line ends in a line feed.
 use Rattle.std.specs.Prelude.{ℕ, ◌+◌, List, [], ◌++◌, codes, decimal}
-use Rattle.eh_digits.specs.Address.{address_text}
+use Rattle.eh_word.specs.Address.{address_text}
 use Rattle.eh_trace.specs.Trace.{Trace, total_of}
 use Rattle.eh_trace.specs.declared.event.EventKind.TheVariants.{Throw, Rethrow, Cleanup, Catch}
 use Rattle.elf_image.specs.Fault.{fault_name as image_name}

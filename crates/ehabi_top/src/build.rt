@@ -13,12 +13,13 @@ use crate::refusal::{BuildFault, FilesFault, answer_files_fault, is_memory};
 use crate::sources::{Loaded, load};
 use crate::status::DONE;
 use crate::stop::Stop;
-use asm_object::{Object, assemble};
+use asm_object::assemble;
 use asm_read::read_source;
 use eh_kit::stubs;
 use eh_link::link;
 use eh_port::{Files, Sink};
 use elf_write::{ImageParts, write_image};
+use relocatable_object::Object;
 use std::alloc::Global;
 
 // The statements of a source.

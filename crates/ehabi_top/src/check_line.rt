@@ -4,10 +4,10 @@ ghost use Rattle.ehabi_top.specs.Text.{behind_blank};
 ghost use Rattle.ehabi_top.specs.CheckText.{accepted_line, index_line, register_name, cause_said, cause_line, type_line};
 
 use crate::line::{Line, append, refusal_line, refusal_line_with};
-use eh_digits::address_text;
 use eh_index::IndexFault;
 use eh_trace::push_named_place;
 use eh_types::TypeFault;
+use eh_word::address_text;
 use frame_check::Rejected;
 use frame_facts::FrameCause;
 use itoa::Buffer;

@@ -1,11 +1,11 @@
 //! The lines that are written, each built before it is written.
 ghost use Rattle.std.specs.Prelude.{◌≡◌, ◌≤◌, ◌+◌, ◌++◌, [], length};
 ghost use Rattle.arrayvec.specs.ArrayVec.{array_vec_len};
-ghost use Rattle.eh_digits.specs.Address.{address_text};
+ghost use Rattle.eh_word.specs.Address.{address_text};
 ghost use Rattle.ehabi_top.specs.Text.{end_line, refusal_line, behind_blank, image_fault_line};
 
 use arrayvec::ArrayVec;
-use eh_digits::address_text;
+use eh_word::address_text;
 use elf_image::ImageFault;
 use itoa::Buffer;
 use thumb_core::ends::End;

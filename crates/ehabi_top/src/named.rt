@@ -1,5 +1,5 @@
 //! Sources under the names of their files.
-use asm_read::Stmt;
+use asm_statements::Stmt;
 use eh_port::Bytes;
 use std::marker::Model;
 

@@ -1,9 +1,9 @@
 //! A pool, its words by slot and number and by address, and what the guest may do with them.
 use crate::answers;
+use bus_memories::flat::FlatBus;
 use case_rows::Unanswered;
 use eh_bus::bus::Bus;
 use eh_bus::fault::BusFault;
-use eh_bus::flat::FlatBus;
 use eh_bus::map::{POOL_END, POOL_START};
 use eh_cxa::layout::{COUNT, NEXT_CAUGHT, NEXT_CLEANUP, SLOT_WORDS, SLOTS, STATE};
 use eh_cxa::{Globals, pool};

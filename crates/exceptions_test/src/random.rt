@@ -4,7 +4,7 @@ ghost use Rattle.std.specs.Prelude.{◌<◌};
 
 use crate::model::{Held, Model, Phase, Running, block, object};
 use crate::words::{chain, empty_pool, put, word};
-use eh_bus::flat::FlatBus;
+use bus_memories::flat::FlatBus;
 use eh_cxa::layout::{
     BARRIER_OBJECT, CLEANUP_NEXT, CLEANUP_SITE, CLEANUP_SP, COUNT, DESTRUCTOR, NEXT_CAUGHT,
     NEXT_CLEANUP, STATE, TYPE,

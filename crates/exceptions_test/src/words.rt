@@ -1,6 +1,6 @@
 //! A bus with an empty pool, and words of slots by number, for the tests of this crate.
+use bus_memories::flat::FlatBus;
 use eh_bus::fault::BusMemory;
-use eh_bus::flat::FlatBus;
 use eh_cxa::layout::{SLOT_WORDS, SLOTS};
 use eh_cxa::pool;
 use std::alloc::{AllocError, Global};

@@ -6,7 +6,7 @@ use Rattle.thumb_isa.specs.declared.instr.Instr.TheVariants.{AddHigh, MovHigh, B
 use Rattle.frame_facts.specs.declared.facts.Source.{Source}
 use Rattle.frame_facts.specs.declared.facts.Fact.{Fact}
 use Rattle.frame_facts.specs.declared.saves.Prologue.{Prologue}
-use Rattle.frame_facts.specs.declared.branches.TheConstants.{CALL_CHANGES, GATE_CHANGES}
+use Rattle.thumb_core.specs.declared.calls.TheConstants.{CALL_CHANGES, GATE_CHANGES}
 use Rattle.thumb_core.specs.Words.{listed}
 use Rattle.frame_facts.specs.Facts.{source, is_entry}
 use Rattle.frame_facts.specs.Lists.{popped_pc}

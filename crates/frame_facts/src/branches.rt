@@ -8,12 +8,8 @@ ghost use Rattle.frame_facts.specs.Branches.{call_changes, gate_changes, kept_by
 use crate::facts::{Fact, Source, forget};
 use crate::lists;
 use crate::saves::Prologue;
+use thumb_core::calls::{CALL_CHANGES, GATE_CHANGES};
 use thumb_isa::instr::Instr;
-
-/// What a call may change: r0 to r3, r12 and lr.
-pub const CALL_CHANGES: u16 = 0x500F;
-/// What a gate may change: r0 to r3 and r12.
-pub const GATE_CHANGES: u16 = 0x100F;
 
 /// A call, behind its return.
 pub(crate) fn call(fact: &Fact) -> Fact

@@ -13,7 +13,7 @@ use Rattle.eh_bytecode.specs.declared.recipe.RecipeFault.TheVariants.{BadCode, R
 use Rattle.eh_bytecode.specs.Codes.{inline_codes, table_codes}
 use Rattle.eh_bytecode.specs.Recipe.{is_same, recipe}
 use Rattle.eh_bytecode.specs.Once.{popped}
-use Rattle.frame_facts.specs.declared.branches.TheConstants.{CALL_CHANGES}
+use Rattle.thumb_core.specs.declared.calls.TheConstants.{CALL_CHANGES}
 use Rattle.frame_scene.specs.declared.unwinding.Unwinding.{Unwinding}
 use Rattle.frame_scene.specs.declared.unwinding.Unwinding.TheVariants.{Finds, Refused, BadBytecode, GenericModel}
 

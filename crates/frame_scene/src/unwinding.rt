@@ -7,7 +7,7 @@ ghost use Rattle.frame_scene.specs.Unwinding.{pop_once, of_codes, of_fault, of_b
 
 use eh_bytecode::{Codes, CodesFault, Recipe, RecipeFault, Src, pops_once, summarise};
 use eh_index::{Entry, EntryBody, Index};
-use frame_facts::branches::CALL_CHANGES;
+use thumb_core::calls::CALL_CHANGES;
 
 /// What an entry says of how a frame is unwound.
 #[derive(Clone, Copy, PartialEq, Eq, Debug)]

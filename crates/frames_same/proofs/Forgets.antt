@@ -4,7 +4,7 @@ use Rattle.std.specs.List.{list_any}
 use Rattle.std.proofs.lemmas.Bool.{eqb-true}
 use Rattle.std.specs.Int.{bit_at}
 use Rattle.accesses_keep.specs.thumb_core.Words.{listed, numbers}
-use Rattle.accesses_keep.specs.frame_facts.declared.branches.TheConstants.{CALL_CHANGES}
+use Rattle.accesses_keep.specs.thumb_core.declared.calls.TheConstants.{CALL_CHANGES}
 use Rattle.accesses_keep.specs.frame_scene.declared.unwinding.Unwinding.{Unwinding}
 use Rattle.accesses_keep.specs.frame_scene.Unwinding.{changes, change_bit, resume_changes, landing_changes}
 

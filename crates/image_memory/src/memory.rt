@@ -1,14 +1,14 @@
 //! The memory of an image, and of raw code.
 ghost use Rattle.std.specs.Prelude.{◌≡◌, ◌≤◌, length, map, IfOk};
-ghost use Rattle.eh_bus.specs.Flat.{memory_of};
-ghost use Rattle.eh_bus.specs.Paged.{memory_of as paged_memory_of};
+ghost use Rattle.bus_memories.specs.Flat.{memory_of};
+ghost use Rattle.bus_memories.specs.Paged.{memory_of as paged_memory_of};
 ghost use Rattle.image_memory.specs.Placing.{placed};
 ghost use Rattle.image_memory.specs.Start.{image_start, code_start};
 
+use bus_memories::flat::FlatBus;
+use bus_memories::paged::PagedBus;
 use eh_bus::fault::BusMemory;
-use eh_bus::flat::FlatBus;
 use eh_bus::map::MAX_IMAGE_SIZE;
-use eh_bus::paged::PagedBus;
 use eh_bus::segment::SegmentSpec;
 use elf_image::image::Image;
 use elf_image::segment::Segment;

@@ -1,7 +1,7 @@
 -- An address of a function has the function's own entry.
 use Rattle.eh_link.specs.declared.places.TheConstants.{CODE_START, MOST_MEMORY}
 use Rattle.eh_link.proofs.Layouts.{rising, ends_of, end_ge}
-use Rattle.asm_layout.specs.declared.place.Section.TheVariants.{Text}
+use Rattle.relocatable_object.specs.declared.place.Section.TheVariants.{Text}
 use Rattle.asm_object.proofs.ObjectLaws.{taken}
 use Rattle.std.proofs.Common.{◌≡◌, ℕ, ◌+◌, ◌%◌, ◌^◌, ◌≤◌, ◌<◌, nat_le, true, false, cond, List, [], ◌∷◌, ◌++◌, length, take, drop, map, flat_map, fold, All, Option, Some, None, Result, Ok, refl, sym, ap, ◌∙◌, arith, append_assoc, subst, zero, suc}
 use Rattle.std.specs.Prelude.{slice_get}
@@ -18,8 +18,8 @@ use Rattle.asm_unwind.specs.Entries.{entry_words_of}
 use Rattle.unwind_codes.specs.declared.row.Entry.{Entry}
 use Rattle.unwind_codes.specs.declared.row.EntryBody.{EntryBody}
 use Rattle.unwind_codes.specs.declared.row.EntryBody.TheVariants as body
-use Rattle.asm_object.specs.declared.object.IndexRow.{IndexRow}
-use Rattle.asm_object.specs.declared.object.Object.{Object}
+use Rattle.relocatable_object.specs.declared.object.IndexRow.{IndexRow}
+use Rattle.relocatable_object.specs.declared.object.Object.{Object}
 use Rattle.asm_object.proofs.ListLemmas.{drop_here}
 use Rattle.elf_write.specs.Parts.{image_of_parts}
 use Rattle.eh_link.specs.Placed.{Placed}

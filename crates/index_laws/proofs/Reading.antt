@@ -14,7 +14,7 @@ use Rattle.unwind_codes.specs.declared.row.TheConstants.{ROW_SIZE, PREL31_LIMIT}
 use Rattle.unwind_codes.specs.Rows.{even, as_read, entry_of}
 use Rattle.unwind_codes.specs.Laws.{SaysRow, HasRows, IsTold}
 use Rattle.unwind_codes.proofs.RowBytes.{read_number, law_of_reading as law_of_words}
-use Rattle.asm_object.specs.declared.object.Object.{Object}
+use Rattle.relocatable_object.specs.declared.object.Object.{Object}
 use Rattle.elf_image.specs.Segments.{Segment}
 use Rattle.elf_image.specs.Image.{Image}
 use Rattle.elf_write.specs.Parts.{own_segment, image_of_parts}

@@ -1,5 +1,5 @@
 -- The bytes of a function's table in the image.
-use Rattle.std.proofs.Common.{◌≡◌, ℕ, ◌+◌, ◌-◌, ◌*◌, ◌≤◌, ◌<◌, Bool, true, false, cond, List, [], ◌∷◌, ◌++◌, length, take, drop, find, flat_map, get_or, All, Some, refl, sym, ap, ◌∙◌, arith, append_assoc, length-append, length-drop, subst}
+use Rattle.std.proofs.Common.{◌≡◌, ℕ, ◌+◌, ◌-◌, ◌*◌, ◌≤◌, ◌<◌, Bool, true, false, cond, List, [], ◌∷◌, ◌++◌, length, take, drop, find, flat_map, get_or, All, Some, refl, sym, ap, ◌∙◌, arith, append_assoc, length-append, length-drop, subst, filter}
 use Rattle.std.specs.Prelude.{option_map}
 use Rattle.std.proofs.lemmas.Bool.{true≢false}
 use Rattle.std.proofs.lemmas.Grind.{same_number_lists}
@@ -7,14 +7,14 @@ use Rattle.std.proofs.lemmas.List.{drop-drop, drop-append-le, take-append-drop, 
 use Rattle.std.proofs.Math.Seq.{drop-append_seam, take-append_seam}
 use Rattle.asm_unwind.specs.declared.entry.EntryWords.{EntryWords}
 use Rattle.asm_unwind.specs.declared.entry.EntryWords.TheVariants as words
-use Rattle.asm_layout.specs.declared.place.Section.{Section}
-use Rattle.asm_layout.specs.declared.place.Section.TheVariants.{Extab}
-use Rattle.asm_layout.specs.Walks.{same_section}
-use Rattle.asm_object.specs.declared.object.Object.{Object}
-use Rattle.asm_object.specs.declared.object.Reloc.{Reloc}
+use Rattle.relocatable_object.specs.declared.place.Section.{Section}
+use Rattle.relocatable_object.specs.declared.place.Section.TheVariants.{Extab}
+use Rattle.relocatable_object.specs.Sections.{same_section}
+use Rattle.relocatable_object.specs.declared.object.Object.{Object}
+use Rattle.relocatable_object.specs.declared.object.Reloc.{Reloc}
 use Rattle.asm_object.specs.Bytes.{word_bytes}
-use Rattle.asm_object.specs.ObjectLaw.{StandInOrder}
-use Rattle.asm_object.specs.Relocations.{field_size}
+use Rattle.relocatable_object.specs.Fields.{StandInOrder}
+use Rattle.relocatable_object.specs.Relocations.{field_size}
 use Rattle.eh_list.specs.Bytes.{next_multiple}
 use Rattle.elf_image.specs.Segments.{Segment}
 use Rattle.eh_link.specs.declared.places.TheConstants.{CODE_START}
@@ -24,7 +24,6 @@ use Rattle.eh_link.specs.FieldLaw.{IsInField, IsInNoField}
 use Rattle.eh_link.specs.Fields.{part_in, filled_of}
 use Rattle.eh_link.specs.LayoutLaw.{StandsAt, linked_code}
 use Rattle.eh_link.specs.Symbols.{meaning_of}
-use Rattle.eh_link.proofs.AssembledLaws.{kept}
 use Rattle.eh_link.proofs.Holding.{law_of_other_bytes}
 use Rattle.eh_link.proofs.Standing.{extab_sizes, law_of_code}
 use Rattle.eh_index.specs.Places.{holds_byte, bytes_at}
@@ -46,6 +45,10 @@ NotIn offset (reloc ∷ more) = (reloc.offset ≤ offset → offset < reloc.offs
 not_in_both : (offset : ℕ) (xs ys : List Reloc) → NotIn offset xs → NotIn offset ys → NotIn offset (xs ++ ys)
 not_in_both offset [] ys h k = k
 not_in_both offset (x ∷ xs) ys h k = (h.0, not_in_both offset xs ys h.1 k)
+
+-- the relocations of a section
+abbrev kept : Section → List Reloc → List Reloc
+kept section relocs = filter (λ reloc. same_section reloc.section section) relocs
 
 from_kept : (section : Section) (offset : ℕ) (relocs : List Reloc) → NotIn offset (kept section relocs) → IsInNoField section offset relocs
 from_kept section offset [] h = tt

@@ -1,7 +1,7 @@
 -- The index of an image, as the sources of its objects meant it (docs/unwind-index.md, "From the source").
 use Rattle.std.specs.Prelude.{◌≡◌, ℕ, ◌+◌, ◌-◌, ◌*◌, ◌%◌, ◌^◌, ◌<◌, ◌≤◌, List, [], ◌∷◌, ◌++◌, length, drop, map, flat_map, All, Some, None, Ok}
 use Rattle.eh_list.specs.Bytes.{next_multiple}
-use Rattle.asm_read.specs.declared.statement.Stmt.{Stmt}
+use Rattle.asm_statements.specs.declared.statement.Stmt.{Stmt}
 use Rattle.asm_unwind.specs.declared.entry.EntryWords.{EntryWords}
 use Rattle.asm_unwind.specs.declared.entry.EntryWords.TheVariants as words
 use Rattle.asm_unwind.specs.Entries.{entry_words_of}
@@ -9,8 +9,8 @@ use Rattle.unwind_codes.specs.declared.row.Entry.{Entry}
 use Rattle.unwind_codes.specs.Rows.{even, as_read}
 use Rattle.unwind_codes.specs.declared.row.EntryBody.{EntryBody}
 use Rattle.unwind_codes.specs.declared.row.EntryBody.TheVariants as body
-use Rattle.asm_layout.specs.declared.place.Section.TheVariants.{Extab}
-use Rattle.asm_object.specs.declared.object.Object.{Object}
+use Rattle.relocatable_object.specs.declared.place.Section.TheVariants.{Extab}
+use Rattle.relocatable_object.specs.declared.object.Object.{Object}
 use Rattle.asm_object.specs.Bytes.{word_bytes}
 use Rattle.asm_object.specs.Objects.{object_of}
 use Rattle.elf_write.specs.declared.parts.ImageParts.{ImageParts}

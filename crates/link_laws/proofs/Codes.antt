@@ -13,7 +13,7 @@ use Rattle.thumb_isa.proofs.Table.{ldr_lit, adr}
 use Rattle.thumb_encode.specs.Codes.{IsCodeOf, encoded_of, refused_if, with_field}
 use Rattle.thumb_encode.specs.declared.code.Code.{Code}
 use Rattle.thumb_encode.specs.declared.code.Code.TheVariants as code
-use Rattle.thumb_encode.specs.declared.code.EncodeFault.TheVariants.{RegisterRange, ImmediateRange, ImmediateAlign}
+use Rattle.thumb_isa.specs.declared.encode_fault.EncodeFault.TheVariants.{RegisterRange, ImmediateRange, ImmediateAlign}
 use Rattle.asm_object.specs.Bytes.{half_bytes, code_bytes}
 use Rattle.eh_link.specs.EquationLaw.{Stands}
 use Rattle.eh_link.proofs.Branches.{IsSmall}

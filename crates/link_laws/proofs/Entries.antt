@@ -4,9 +4,9 @@ use Rattle.std.specs.List.{list_any}
 use Rattle.std.specs.Option.{option_map_or}
 use Rattle.std.proofs.lemmas.Bool.{true≢false}
 use Rattle.eh_word.specs.Names.{same_bytes}
-use Rattle.asm_layout.specs.declared.place.Section.TheVariants.{Text}
-use Rattle.asm_object.specs.declared.object.Mark.{Mark}
-use Rattle.asm_object.specs.declared.object.Object.{Object}
+use Rattle.relocatable_object.specs.declared.place.Section.TheVariants.{Text}
+use Rattle.relocatable_object.specs.declared.object.Mark.{Mark}
+use Rattle.relocatable_object.specs.declared.object.Object.{Object}
 use Rattle.elf_write.specs.declared.parts.ImageParts.{ImageParts}
 use Rattle.elf_write.specs.declared.parts.OwnSymbol.{OwnSymbol}
 use Rattle.eh_link.specs.declared.fault.LinkFault.{LinkFault}

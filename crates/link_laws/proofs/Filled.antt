@@ -9,17 +9,18 @@ use Rattle.thumb_isa.specs.Fields.{field}
 use Rattle.thumb_isa.specs.declared.instr.Instr.{Instr}
 use Rattle.thumb_encode.specs.declared.code.Code.{Code}
 use Rattle.thumb_encode.specs.declared.code.Code.TheVariants as code
-use Rattle.asm_read.specs.declared.statement.Stmt.{Stmt}
-use Rattle.asm_layout.specs.declared.place.Section.{Section}
-use Rattle.asm_layout.specs.declared.place.Section.TheVariants.{Text, Rodata, Extab, Init, Bss}
-use Rattle.asm_layout.specs.Walks.{same_section}
-use Rattle.asm_object.specs.declared.object.Object.{Object}
-use Rattle.asm_object.specs.declared.object.Reloc.{Reloc}
-use Rattle.asm_object.specs.declared.relocation.FieldKind.{FieldKind}
-use Rattle.asm_object.specs.declared.relocation.FieldKind.TheVariants.{Absolute, Relative, Prel31, Call, Jump, CondJump}
+use Rattle.asm_statements.specs.declared.statement.Stmt.{Stmt}
+use Rattle.relocatable_object.specs.declared.place.Section.{Section}
+use Rattle.relocatable_object.specs.declared.place.Section.TheVariants.{Text, Rodata, Extab, Init, Bss}
+use Rattle.relocatable_object.specs.Sections.{same_section}
+use Rattle.relocatable_object.specs.declared.object.Object.{Object}
+use Rattle.relocatable_object.specs.declared.object.Reloc.{Reloc}
+use Rattle.relocatable_object.specs.declared.relocation.FieldKind.{FieldKind}
+use Rattle.relocatable_object.specs.declared.relocation.FieldKind.TheVariants.{Absolute, Relative, Prel31, Call, Jump, CondJump}
 use Rattle.asm_object.specs.Objects.{object_of}
-use Rattle.asm_object.specs.ObjectLaw.{bytes_at, kinds}
-use Rattle.asm_object.specs.Relocations.{kind_of, width}
+use Rattle.asm_object.specs.ObjectLaw.{kinds}
+use Rattle.relocatable_object.specs.Fields.{bytes_at}
+use Rattle.relocatable_object.specs.Relocations.{kind_of, width}
 use Rattle.asm_object.proofs.ObjectLaws.{law_of_kinds}
 use Rattle.elf_write.specs.declared.parts.ImageParts.{ImageParts}
 use Rattle.eh_link.specs.declared.names.Meaning.{Meaning}
@@ -29,7 +30,7 @@ use Rattle.eh_link.specs.Symbols.{meaning_of}
 use Rattle.eh_link.specs.Fields.{part_in, filled, filled_of, unreachable_in, unreachable_for}
 use Rattle.eh_link.specs.EquationLaw.{IsField, Stands, Decodes}
 use Rattle.eh_link.specs.Linked.{linked}
-use Rattle.eh_link.proofs.AssembledLaws.{law_of_assembled}
+use Rattle.link_laws.proofs.AssembledLaws.{law_of_assembled}
 use Rattle.eh_link.proofs.Equations.{law_of_absolute, law_of_relative, law_of_prel31, law_of_calls, law_of_jumps, law_of_cond_jumps}
 use Rattle.eh_link.proofs.Holding.{filled_length}
 use Rattle.eh_link.proofs.Images.{law_of_reach}

@@ -3,26 +3,27 @@ use Rattle.asm_layout.specs.declared.walk.TheConstants.{MOST_BYTES}
 use Rattle.std.proofs.Common.{◌≡◌, ℕ, ◌+◌, ◌≤◌, ◌<◌, ◌^◌, not, Bool, true, false, cond, List, [], ◌∷◌, ◌++◌, length, drop, Option, Some, None, refl, sym, ap, ◌∙◌, arith, length-append, subst}
 use Rattle.std.proofs.lemmas.Bool.{true≢false}
 use Rattle.std.proofs.lemmas.Grind.{flat_map-append}
-use Rattle.asm_read.specs.declared.statement.Stmt.{Stmt}
-use Rattle.asm_read.specs.declared.statement.StmtKind.{StmtKind}
+use Rattle.asm_statements.specs.declared.statement.Stmt.{Stmt}
+use Rattle.asm_statements.specs.declared.statement.StmtKind.{StmtKind}
 use Rattle.asm_unwind.specs.declared.entry.EntryWords.{EntryWords}
-use Rattle.thumb_encode.specs.declared.code.EncodeFault.{EncodeFault}
+use Rattle.thumb_isa.specs.declared.encode_fault.EncodeFault.{EncodeFault}
 use Rattle.asm_layout.specs.declared.fault.AsmWhat.TheVariants.{UndefinedLocal, PoolTooFar, Placement}
-use Rattle.asm_layout.specs.declared.place.Place.{Place}
-use Rattle.asm_layout.specs.declared.place.Section.{Section}
-use Rattle.asm_layout.specs.declared.place.Section.TheVariants.{Text, Rodata, Extab, Init, Bss}
+use Rattle.relocatable_object.specs.declared.place.Place.{Place}
+use Rattle.relocatable_object.specs.declared.place.Section.{Section}
+use Rattle.relocatable_object.specs.declared.place.Section.TheVariants.{Text, Rodata, Extab, Init, Bss}
 use Rattle.asm_layout.specs.declared.walk.Walk.{Walk}
 use Rattle.asm_layout.specs.Functions.{entries_of, no_frame}
 use Rattle.asm_layout.specs.Labels.{Named, labels_of}
 use Rattle.asm_layout.specs.Sizes.{size_in, is_too_large}
-use Rattle.asm_layout.specs.Walks.{start, next, here, same_section, coming_pool, walk_behind, sizes_with_pool}
-use Rattle.asm_object.specs.declared.object.Object.{Object}
-use Rattle.asm_object.specs.declared.object.Reloc.{Reloc}
+use Rattle.asm_layout.specs.Walks.{start, next, here, coming_pool, walk_behind, sizes_with_pool}
+use Rattle.relocatable_object.specs.Sections.{same_section}
+use Rattle.relocatable_object.specs.declared.object.Object.{Object}
+use Rattle.relocatable_object.specs.declared.object.Reloc.{Reloc}
 use Rattle.asm_object.specs.Objects.{joined}
-use Rattle.asm_object.specs.ObjectLaw.{StandInOrder, bytes_at}
+use Rattle.relocatable_object.specs.Fields.{StandInOrder, bytes_at}
 use Rattle.asm_object.specs.Pieces.{Piece, own_piece, bytes_in, relocs_in, pieces_of}
 use Rattle.asm_object.specs.Refusals.{are_names_known, encode_fault, encode_or, is_pool_too_far, is_misplaced, refusal}
-use Rattle.asm_object.specs.Relocations.{field_size}
+use Rattle.relocatable_object.specs.Relocations.{field_size}
 use Rattle.asm_object.proofs.PlaceLaws.{Fewer, earlier, law_of_bytes, law_of_ends, none_behind, none_parts, not_large, own_stands, refusal_parts, split, walks_on}
 use Rattle.asm_object.proofs.ObjectLaws.{IsTaken, OfSection, AllOwn, of_in, all_own, all_stand, earlier_stand, ends_small, entries_count, same_is}
 use Rattle.eh_link.specs.FieldLaw.{IsInNoField}

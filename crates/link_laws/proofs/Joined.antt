@@ -1,5 +1,5 @@
 -- A `.word name+n` of a source is in the image the sum that it says.
-use Rattle.asm_read.specs.declared.statement.Expr.TheVariants as expr
+use Rattle.asm_statements.specs.declared.statement.Expr.TheVariants as expr
 use Rattle.link_laws.specs.JoinedLaw.{WordsAreSums}
 use Rattle.link_laws.proofs.Said.{law_of_words as law_of_said_words}
 

@@ -5,11 +5,11 @@ use Rattle.std.specs.Option.{option_or, option_map}
 use Rattle.std.proofs.lemmas.Bool.{true≢false}
 use Rattle.std.proofs.lemmas.List.Elements.{All-nil, All-cons, All-head, All-tail}
 use Rattle.eh_word.specs.Names.{same_bytes}
-use Rattle.asm_layout.specs.declared.place.Section.{Section}
-use Rattle.asm_layout.specs.declared.place.Section.TheVariants.{Text, Rodata, Extab, Init, Bss}
-use Rattle.asm_layout.specs.Words.{is_local}
-use Rattle.asm_object.specs.declared.object.Object.{Object}
-use Rattle.asm_object.specs.declared.object.ObjSymbol.{ObjSymbol}
+use Rattle.relocatable_object.specs.declared.place.Section.{Section}
+use Rattle.relocatable_object.specs.declared.place.Section.TheVariants.{Text, Rodata, Extab, Init, Bss}
+use Rattle.relocatable_object.specs.Names.{is_local}
+use Rattle.relocatable_object.specs.declared.object.Object.{Object}
+use Rattle.relocatable_object.specs.declared.object.ObjSymbol.{ObjSymbol}
 use Rattle.elf_write.specs.declared.parts.ImageParts.{ImageParts}
 use Rattle.elf_write.specs.declared.parts.OwnSymbol.{OwnSymbol}
 use Rattle.eh_link.specs.declared.fault.LinkFault.{LinkFault}

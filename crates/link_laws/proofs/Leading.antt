@@ -6,26 +6,27 @@ use Rattle.std.proofs.lemmas.Bool.Decides.{nat_tests}
 use Rattle.std.proofs.lemmas.Int.{ints}
 use Rattle.std.specs.Result.{result_err}
 use Rattle.eh_word.specs.Names.{same_bytes}
-use Rattle.asm_read.specs.declared.statement.Stmt.{Stmt}
-use Rattle.asm_read.specs.declared.statement.StmtKind.{StmtKind}
-use Rattle.asm_read.specs.declared.statement.StmtKind.TheVariants as statement
+use Rattle.asm_statements.specs.declared.statement.Stmt.{Stmt}
+use Rattle.asm_statements.specs.declared.statement.StmtKind.{StmtKind}
+use Rattle.asm_statements.specs.declared.statement.StmtKind.TheVariants as statement
 use Rattle.asm_unwind.specs.declared.entry.EntryWords.{EntryWords}
 use Rattle.thumb_isa.specs.declared.instr.Instr.{Instr}
 use Rattle.thumb_isa.specs.declared.instr.Instr.TheVariants as instr
 use Rattle.thumb_encode.specs.Codes.{encoded_of}
 use Rattle.thumb_encode.specs.declared.code.Code.{Code}
-use Rattle.thumb_encode.specs.declared.code.EncodeFault.{EncodeFault}
+use Rattle.thumb_isa.specs.declared.encode_fault.EncodeFault.{EncodeFault}
 use Rattle.thumb_core.specs.Registers.{base as core_base}
 use Rattle.thumb_core.specs.Data.{forward}
-use Rattle.asm_layout.specs.declared.place.Place.{Place}
-use Rattle.asm_layout.specs.declared.place.Section.TheVariants.{Text}
+use Rattle.relocatable_object.specs.declared.place.Place.{Place}
+use Rattle.relocatable_object.specs.declared.place.Section.TheVariants.{Text}
 use Rattle.asm_layout.specs.declared.walk.Walk.{Walk}
 use Rattle.asm_layout.specs.Functions.{entries_of, no_frame}
 use Rattle.asm_layout.specs.Labels.{Named, find, is_among, label_unless, new_labels, labels_from, labels_of, labelled, labels_in}
 use Rattle.asm_layout.specs.Sizes.{size_in, is_instruction, is_too_large}
-use Rattle.asm_layout.specs.Walks.{start, next, here, same_section, coming_pool, walk_behind, sizes_with_pool}
-use Rattle.asm_object.specs.declared.object.Object.{Object}
-use Rattle.asm_object.specs.declared.object.ObjSymbol.{ObjSymbol}
+use Rattle.asm_layout.specs.Walks.{start, next, here, coming_pool, walk_behind, sizes_with_pool}
+use Rattle.relocatable_object.specs.Sections.{same_section}
+use Rattle.relocatable_object.specs.declared.object.Object.{Object}
+use Rattle.relocatable_object.specs.declared.object.ObjSymbol.{ObjSymbol}
 use Rattle.asm_object.specs.Instructions.{in_text, text_place, branch, branch_to, between, pc, base, literal, label_literal, literal_to}
 use Rattle.asm_object.specs.Objects.{joined, symbol_of}
 use Rattle.asm_object.specs.ObjectLaw.{symbol_place}

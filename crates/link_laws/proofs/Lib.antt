@@ -1,3 +1,4 @@
+pub mod AssembledLaws
 pub mod Codes
 pub mod Leading
 pub mod Meanings

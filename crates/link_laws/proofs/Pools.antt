@@ -11,18 +11,18 @@ use Rattle.std.proofs.lemmas.List.{length-take}
 use Rattle.std.proofs.Math.Seq.{take-append_seam}
 use Rattle.byteorder.specs.Endian.{little_number}
 use Rattle.byteorder.specs.Numbers.{little_from-bytes, little_from-take, little_number-reads_back}
-use Rattle.asm_read.specs.declared.statement.Expr.{Expr}
-use Rattle.asm_read.specs.declared.statement.Stmt.{Stmt}
-use Rattle.asm_read.specs.declared.statement.StmtKind.{StmtKind}
-use Rattle.asm_read.specs.declared.statement.StmtKind.TheVariants as statement
+use Rattle.asm_statements.specs.declared.statement.Expr.{Expr}
+use Rattle.asm_statements.specs.declared.statement.Stmt.{Stmt}
+use Rattle.asm_statements.specs.declared.statement.StmtKind.{StmtKind}
+use Rattle.asm_statements.specs.declared.statement.StmtKind.TheVariants as statement
 use Rattle.asm_unwind.specs.declared.entry.EntryWords.{EntryWords}
 use Rattle.thumb_isa.specs.declared.instr.Instr.TheVariants.{LdrLit}
 use Rattle.thumb_encode.specs.Codes.{encoded_of}
 use Rattle.thumb_encode.specs.declared.code.Code.{Code}
 use Rattle.thumb_encode.specs.declared.code.Code.TheVariants as code
-use Rattle.thumb_encode.specs.declared.code.EncodeFault.{EncodeFault}
+use Rattle.thumb_isa.specs.declared.encode_fault.EncodeFault.{EncodeFault}
 use Rattle.eh_list.specs.Bytes.{gap}
-use Rattle.asm_layout.specs.declared.place.Section.TheVariants.{Text}
+use Rattle.relocatable_object.specs.declared.place.Section.TheVariants.{Text}
 use Rattle.asm_layout.specs.declared.walk.Sizes.{Sizes}
 use Rattle.asm_layout.specs.declared.walk.Walk.{Walk}
 use Rattle.asm_layout.specs.declared.word.Word.{Word}
@@ -30,14 +30,15 @@ use Rattle.asm_layout.specs.Functions.{entries_of, no_frame}
 use Rattle.asm_layout.specs.Labels.{Named, labels_of}
 use Rattle.asm_layout.specs.SameWords.{same_word}
 use Rattle.asm_layout.specs.Sizes.{sum_64, times, size_in, is_too_large}
-use Rattle.asm_layout.specs.Walks.{start, next, here, same_section, is_empty, is_in_text, ends_pool, pool_place, pool_with, coming_pool, sizes_with_pool, walk_behind}
+use Rattle.asm_layout.specs.Walks.{start, next, here, is_empty, is_in_text, ends_pool, pool_place, pool_with, coming_pool, sizes_with_pool, walk_behind}
+use Rattle.relocatable_object.specs.Sections.{same_section}
 use Rattle.asm_layout.specs.Words.{word_of}
-use Rattle.asm_object.specs.declared.object.Object.{Object}
-use Rattle.asm_object.specs.declared.object.Reloc.{Reloc}
+use Rattle.relocatable_object.specs.declared.object.Object.{Object}
+use Rattle.relocatable_object.specs.declared.object.Reloc.{Reloc}
 use Rattle.asm_object.specs.Bytes.{word_bytes, half_bytes, code_bytes}
 use Rattle.asm_object.specs.Instructions.{base, literal, literal_to}
 use Rattle.asm_object.specs.Objects.{joined}
-use Rattle.asm_object.specs.ObjectLaw.{StandInOrder, bytes_at}
+use Rattle.relocatable_object.specs.Fields.{StandInOrder, bytes_at}
 use Rattle.asm_object.specs.Pieces.{Piece, place_at, bytes_of_code, word_relocs, filling_piece, words_piece, pool_pieces, own_piece, bytes_in, relocs_in, put_pieces, pieces_of}
 use Rattle.asm_object.specs.Refusals.{instruction_fault, refusal}
 use Rattle.asm_object.specs.declared.value.Link.{Link}

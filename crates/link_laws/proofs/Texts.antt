@@ -5,16 +5,17 @@ use Rattle.std.proofs.lemmas.List.{drop-drop}
 use Rattle.std.proofs.Math.Seq.{drop-append_seam}
 use Rattle.byteorder.specs.Endian.{little_number}
 use Rattle.eh_list.specs.Bytes.{zeros, length-zeros}
-use Rattle.asm_read.specs.declared.statement.Stmt.{Stmt}
-use Rattle.asm_read.specs.declared.statement.StmtKind.{StmtKind}
-use Rattle.asm_read.specs.declared.statement.StmtKind.TheVariants as statement
-use Rattle.asm_layout.specs.declared.place.Section.TheVariants.{Bss}
+use Rattle.asm_statements.specs.declared.statement.Stmt.{Stmt}
+use Rattle.asm_statements.specs.declared.statement.StmtKind.{StmtKind}
+use Rattle.asm_statements.specs.declared.statement.StmtKind.TheVariants as statement
+use Rattle.relocatable_object.specs.declared.place.Section.TheVariants.{Bss}
 use Rattle.asm_layout.specs.Functions.{entries_of}
 use Rattle.asm_layout.specs.Labels.{labels_of}
-use Rattle.asm_layout.specs.Walks.{here, same_section}
-use Rattle.asm_object.specs.declared.object.Object.{Object}
-use Rattle.asm_object.specs.declared.object.Reloc.{Reloc}
-use Rattle.asm_object.specs.ObjectLaw.{bytes_at}
+use Rattle.asm_layout.specs.Walks.{here}
+use Rattle.relocatable_object.specs.Sections.{same_section}
+use Rattle.relocatable_object.specs.declared.object.Object.{Object}
+use Rattle.relocatable_object.specs.declared.object.Reloc.{Reloc}
+use Rattle.relocatable_object.specs.Fields.{bytes_at}
 use Rattle.asm_object.specs.Pieces.{own_piece}
 use Rattle.asm_object.proofs.ObjectLaws.{taken}
 use Rattle.elf_write.specs.declared.parts.ImageParts.{ImageParts}

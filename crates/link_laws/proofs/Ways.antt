@@ -8,9 +8,9 @@ use Rattle.std.proofs.lemmas.Bool.Decides.{nat_tests}
 use Rattle.std.proofs.lemmas.Int.{ints}
 use Rattle.eh_word.specs.Names.{same_bytes}
 use Rattle.eh_word.specs.Words.{number_at}
-use Rattle.asm_read.specs.declared.statement.Stmt.{Stmt}
-use Rattle.asm_read.specs.declared.statement.StmtKind.{StmtKind}
-use Rattle.asm_read.specs.declared.statement.StmtKind.TheVariants as statement
+use Rattle.asm_statements.specs.declared.statement.Stmt.{Stmt}
+use Rattle.asm_statements.specs.declared.statement.StmtKind.{StmtKind}
+use Rattle.asm_statements.specs.declared.statement.StmtKind.TheVariants as statement
 use Rattle.asm_unwind.specs.declared.entry.EntryWords.{EntryWords}
 use Rattle.thumb_isa.specs.Fields.{field}
 use Rattle.thumb_isa.specs.declared.instr.Instr.{Instr}
@@ -18,29 +18,30 @@ use Rattle.thumb_isa.specs.declared.instr.Instr.TheVariants as instr
 use Rattle.thumb_encode.specs.Codes.{encoded_of, refused_if, with_field, target_field}
 use Rattle.thumb_encode.specs.declared.code.Code.{Code}
 use Rattle.thumb_encode.specs.declared.code.Code.TheVariants as code
-use Rattle.thumb_encode.specs.declared.code.EncodeFault.{EncodeFault}
-use Rattle.thumb_encode.specs.declared.code.EncodeFault.TheVariants.{RegisterRange}
+use Rattle.thumb_isa.specs.declared.encode_fault.EncodeFault.{EncodeFault}
+use Rattle.thumb_isa.specs.declared.encode_fault.EncodeFault.TheVariants.{RegisterRange}
 use Rattle.thumb_core.specs.declared.regs.Regs.{Regs}
 use Rattle.thumb_core.specs.Data.{forward}
-use Rattle.asm_layout.specs.declared.place.Place.{Place}
-use Rattle.asm_layout.specs.declared.place.Section.{Section}
-use Rattle.asm_layout.specs.declared.place.Section.TheVariants.{Text, Rodata, Extab, Init, Bss}
+use Rattle.relocatable_object.specs.declared.place.Place.{Place}
+use Rattle.relocatable_object.specs.declared.place.Section.{Section}
+use Rattle.relocatable_object.specs.declared.place.Section.TheVariants.{Text, Rodata, Extab, Init, Bss}
 use Rattle.asm_layout.specs.Functions.{entries_of, no_frame}
 use Rattle.asm_layout.specs.Labels.{Named, find as find_label, labels_of, labelled}
-use Rattle.asm_layout.specs.Walks.{start, here, same_section}
-use Rattle.asm_object.specs.declared.object.Object.{Object}
-use Rattle.asm_object.specs.declared.object.ObjSymbol.{ObjSymbol}
-use Rattle.asm_object.specs.declared.object.Reloc.{Reloc}
-use Rattle.asm_object.specs.declared.relocation.FieldKind.{FieldKind}
-use Rattle.asm_object.specs.declared.relocation.FieldKind.TheVariants.{Call, Jump, CondJump}
-use Rattle.asm_object.specs.declared.relocation.TheConstants.{R_ARM_THM_CALL, R_ARM_THM_JUMP11, R_ARM_THM_JUMP8}
+use Rattle.asm_layout.specs.Walks.{start, here}
+use Rattle.relocatable_object.specs.Sections.{same_section}
+use Rattle.relocatable_object.specs.declared.object.Object.{Object}
+use Rattle.relocatable_object.specs.declared.object.ObjSymbol.{ObjSymbol}
+use Rattle.relocatable_object.specs.declared.object.Reloc.{Reloc}
+use Rattle.relocatable_object.specs.declared.relocation.FieldKind.{FieldKind}
+use Rattle.relocatable_object.specs.declared.relocation.FieldKind.TheVariants.{Call, Jump, CondJump}
+use Rattle.relocatable_object.specs.declared.relocation.TheConstants.{R_ARM_THM_CALL, R_ARM_THM_JUMP11, R_ARM_THM_JUMP8}
 use Rattle.asm_object.specs.Bytes.{code_bytes}
 use Rattle.asm_object.specs.Instructions.{in_text, text_place, between, pc, branch, branch_to as branch_offset, literal, literal_to, linked_unless}
 use Rattle.asm_object.specs.Objects.{symbol_of, object_of}
-use Rattle.asm_object.specs.ObjectLaw.{bytes_at}
+use Rattle.relocatable_object.specs.Fields.{bytes_at}
 use Rattle.asm_object.specs.Pieces.{own_piece, bytes_of_code, relocs_of}
 use Rattle.asm_object.specs.Refusals.{is_misplaced}
-use Rattle.asm_object.specs.Relocations.{kind_of}
+use Rattle.relocatable_object.specs.Relocations.{kind_of}
 use Rattle.asm_object.proofs.ObjectLaws.{IsTaken, taken, ends_small, entries_count, same_is}
 use Rattle.asm_object.proofs.PlaceLaws.{not_false, text_here}
 use Rattle.asm_object.proofs.Statements.{walk_sets}

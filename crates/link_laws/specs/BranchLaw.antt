@@ -8,11 +8,11 @@ use Rattle.thumb_core.specs.declared.regs.Regs.{Regs}
 use Rattle.thumb_core.specs.Registers.{base}
 use Rattle.thumb_core.specs.Data.{forward}
 use Rattle.thumb_core.specs.Branch.{target_of}
-use Rattle.asm_read.specs.declared.statement.Stmt.{Stmt}
-use Rattle.asm_read.specs.declared.statement.StmtKind.{StmtKind}
-use Rattle.asm_read.specs.declared.statement.StmtKind.TheVariants as statement
-use Rattle.asm_layout.specs.declared.place.Section.TheVariants.{Text}
-use Rattle.asm_object.specs.declared.object.Object.{Object}
+use Rattle.asm_statements.specs.declared.statement.Stmt.{Stmt}
+use Rattle.asm_statements.specs.declared.statement.StmtKind.{StmtKind}
+use Rattle.asm_statements.specs.declared.statement.StmtKind.TheVariants as statement
+use Rattle.relocatable_object.specs.declared.place.Section.TheVariants.{Text}
+use Rattle.relocatable_object.specs.declared.object.Object.{Object}
 use Rattle.asm_object.specs.Objects.{object_of}
 use Rattle.asm_object.specs.ObjectLaw.{symbol_place}
 use Rattle.asm_object.specs.Pieces.{place_at}

@@ -2,10 +2,10 @@
 -- symbols").
 use Rattle.std.specs.Prelude.{◌≡◌, ℕ, ◌+◌, ◌-◌, ◌%◌, ◌^◌, true, if◌then◌else◌, List, Ok, codes}
 use Rattle.eh_word.specs.Names.{same_bytes}
-use Rattle.asm_layout.specs.declared.place.Section.TheVariants.{Text}
-use Rattle.asm_object.specs.declared.object.Mark.{Mark}
-use Rattle.asm_object.specs.declared.object.Object.{Object}
-use Rattle.asm_object.specs.declared.object.ObjSymbol.{ObjSymbol}
+use Rattle.relocatable_object.specs.declared.place.Section.TheVariants.{Text}
+use Rattle.relocatable_object.specs.declared.object.Mark.{Mark}
+use Rattle.relocatable_object.specs.declared.object.Object.{Object}
+use Rattle.relocatable_object.specs.declared.object.ObjSymbol.{ObjSymbol}
 use Rattle.elf_write.specs.declared.parts.ImageParts.{ImageParts}
 use Rattle.elf_write.specs.declared.parts.OwnSymbol.{OwnSymbol}
 use Rattle.elf_write.specs.declared.parts.SymbolKind.TheVariants as kind

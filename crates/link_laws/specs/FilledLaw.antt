@@ -8,14 +8,14 @@ use Rattle.thumb_isa.specs.declared.instr.Instr.TheVariants.{BCond, B, Bl}
 use Rattle.thumb_encode.specs.Codes.{IsCodeOf}
 use Rattle.thumb_encode.specs.declared.code.Code.{Code}
 use Rattle.thumb_encode.specs.declared.code.Code.TheVariants as code
-use Rattle.asm_read.specs.declared.statement.Stmt.{Stmt}
-use Rattle.asm_object.specs.declared.object.Object.{Object}
-use Rattle.asm_object.specs.declared.object.Reloc.{Reloc}
-use Rattle.asm_object.specs.declared.relocation.FieldKind.{FieldKind}
-use Rattle.asm_object.specs.declared.relocation.FieldKind.TheVariants.{Absolute, Relative, Prel31, Call, Jump, CondJump}
+use Rattle.asm_statements.specs.declared.statement.Stmt.{Stmt}
+use Rattle.relocatable_object.specs.declared.object.Object.{Object}
+use Rattle.relocatable_object.specs.declared.object.Reloc.{Reloc}
+use Rattle.relocatable_object.specs.declared.relocation.FieldKind.{FieldKind}
+use Rattle.relocatable_object.specs.declared.relocation.FieldKind.TheVariants.{Absolute, Relative, Prel31, Call, Jump, CondJump}
 use Rattle.asm_object.specs.Objects.{object_of}
-use Rattle.asm_object.specs.ObjectLaw.{bytes_at}
-use Rattle.asm_object.specs.Relocations.{kind_of}
+use Rattle.relocatable_object.specs.Fields.{bytes_at}
+use Rattle.relocatable_object.specs.Relocations.{kind_of}
 use Rattle.elf_write.specs.declared.parts.ImageParts.{ImageParts}
 use Rattle.eh_link.specs.declared.names.Meaning.{Meaning}
 use Rattle.eh_link.specs.Placed.{Placed}

@@ -2,13 +2,13 @@
 -- R_ARM_ABS32 says it (IHI 0044, "Relocation types"; docs/linking.md).
 use Rattle.std.specs.Prelude.{◌≡◌, ℕ, ℤ, ◌+◌, ◌*◌, ◌^◌, ◌<◌, List, ◌∷◌, ◌++◌, length, Some, Ok}
 use Rattle.eh_word.specs.Words.{number_at}
-use Rattle.asm_read.specs.declared.statement.Expr.{Expr}
-use Rattle.asm_read.specs.declared.statement.Expr.TheVariants as expr
-use Rattle.asm_read.specs.declared.statement.Stmt.{Stmt}
-use Rattle.asm_read.specs.declared.statement.StmtKind.TheVariants as statement
+use Rattle.asm_statements.specs.declared.statement.Expr.{Expr}
+use Rattle.asm_statements.specs.declared.statement.Expr.TheVariants as expr
+use Rattle.asm_statements.specs.declared.statement.Stmt.{Stmt}
+use Rattle.asm_statements.specs.declared.statement.StmtKind.TheVariants as statement
 use Rattle.asm_layout.specs.Walks.{here}
 use Rattle.asm_layout.specs.Words.{low_word}
-use Rattle.asm_object.specs.declared.object.Object.{Object}
+use Rattle.relocatable_object.specs.declared.object.Object.{Object}
 use Rattle.asm_object.specs.Objects.{object_of}
 use Rattle.asm_object.specs.Values.{signed}
 use Rattle.elf_write.specs.declared.parts.ImageParts.{ImageParts}

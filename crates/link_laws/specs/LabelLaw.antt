@@ -2,11 +2,11 @@
 -- its start, in each section, the zeroed data too (docs/linking.md, "Names").
 use Rattle.std.specs.Prelude.{◌≡◌, ℕ, ◌+◌, ◌%◌, ◌^◌, ◌≤◌, ◌⊎◌, true, false, if◌then◌else◌, List, ◌∷◌, ◌++◌, length, All, Some, Ok}
 use Rattle.eh_word.specs.Names.{same_bytes}
-use Rattle.asm_layout.specs.declared.place.Section.{Section}
-use Rattle.asm_layout.specs.declared.place.Section.TheVariants.{Text, Rodata, Extab, Init, Bss}
-use Rattle.asm_layout.specs.Words.{is_local}
-use Rattle.asm_object.specs.declared.object.Object.{Object}
-use Rattle.asm_object.specs.declared.object.ObjSymbol.{ObjSymbol}
+use Rattle.relocatable_object.specs.declared.place.Section.{Section}
+use Rattle.relocatable_object.specs.declared.place.Section.TheVariants.{Text, Rodata, Extab, Init, Bss}
+use Rattle.relocatable_object.specs.Names.{is_local}
+use Rattle.relocatable_object.specs.declared.object.Object.{Object}
+use Rattle.relocatable_object.specs.declared.object.ObjSymbol.{ObjSymbol}
 use Rattle.elf_write.specs.declared.parts.ImageParts.{ImageParts}
 use Rattle.elf_write.specs.declared.parts.OwnSymbol.{OwnSymbol}
 use Rattle.elf_write.specs.declared.parts.SymbolKind.TheVariants as kind

@@ -1,3 +1,4 @@
+pub mod AssembledLaw
 pub mod BranchLaw
 pub mod MeaningLaw
 pub mod LabelLaw

@@ -2,11 +2,11 @@
 -- says (docs/objects.md, "Pools"; docs/linking.md, "Relocations").
 use Rattle.std.specs.Prelude.{◌≡◌, ℕ, ◌+◌, ◌^◌, ◌<◌, List, ◌∷◌, ◌++◌, length, Ok}
 use Rattle.thumb_isa.specs.declared.instr.Instr.TheVariants.{LdrLit}
-use Rattle.asm_read.specs.declared.statement.Expr.{Expr}
-use Rattle.asm_read.specs.declared.statement.Stmt.{Stmt}
-use Rattle.asm_read.specs.declared.statement.StmtKind.TheVariants.{LdrPool}
-use Rattle.asm_layout.specs.declared.place.Section.TheVariants.{Text}
-use Rattle.asm_object.specs.declared.object.Object.{Object}
+use Rattle.asm_statements.specs.declared.statement.Expr.{Expr}
+use Rattle.asm_statements.specs.declared.statement.Stmt.{Stmt}
+use Rattle.asm_statements.specs.declared.statement.StmtKind.TheVariants.{LdrPool}
+use Rattle.relocatable_object.specs.declared.place.Section.TheVariants.{Text}
+use Rattle.relocatable_object.specs.declared.object.Object.{Object}
 use Rattle.asm_object.specs.Objects.{object_of}
 use Rattle.elf_write.specs.declared.parts.ImageParts.{ImageParts}
 use Rattle.eh_link.specs.Placed.{Placed}

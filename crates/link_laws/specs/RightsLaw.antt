@@ -1,7 +1,7 @@
 -- What may be done with the segments of an image: the one with the texts is run and not written, any other is written and not run
 -- (docs/linking.md, "Layout").
 use Rattle.std.specs.Prelude.{◌≡◌, ℕ, Bool, true, false, List, ◌∷◌, All, Ok}
-use Rattle.asm_object.specs.declared.object.Object.{Object}
+use Rattle.relocatable_object.specs.declared.object.Object.{Object}
 use Rattle.elf_write.specs.declared.parts.ImageParts.{ImageParts}
 use Rattle.elf_write.specs.declared.parts.OwnSegment.{OwnSegment}
 use Rattle.eh_link.specs.declared.places.TheConstants.{CODE_START}

@@ -1,16 +1,17 @@
 -- What the image that sources link to has for what they give: at the address of each expression of a `.word`, `.half` or `.byte` the value
 -- that it says, and of a text its bytes (docs/objects.md, "Names"; docs/linking.md, "Relocations").
 use Rattle.std.specs.Prelude.{◌≡◌, ℕ, ℤ, pos, ◌+◌, ◌*◌, ◌%◌, ◌^◌, ◌<◌, ◌+ℤ◌, ◌-ℤ◌, false, List, [], ◌∷◌, ◌++◌, length, Some, Ok}
-use Rattle.asm_read.specs.declared.statement.Expr.{Expr}
-use Rattle.asm_read.specs.declared.statement.Expr.TheVariants as expr
-use Rattle.asm_read.specs.declared.statement.Stmt.{Stmt}
-use Rattle.asm_read.specs.declared.statement.StmtKind.{StmtKind}
-use Rattle.asm_read.specs.declared.statement.StmtKind.TheVariants as statement
-use Rattle.asm_layout.specs.declared.place.Place.{Place}
-use Rattle.asm_layout.specs.declared.place.Section.TheVariants.{Bss}
-use Rattle.asm_layout.specs.Walks.{here, same_section}
+use Rattle.asm_statements.specs.declared.statement.Expr.{Expr}
+use Rattle.asm_statements.specs.declared.statement.Expr.TheVariants as expr
+use Rattle.asm_statements.specs.declared.statement.Stmt.{Stmt}
+use Rattle.asm_statements.specs.declared.statement.StmtKind.{StmtKind}
+use Rattle.asm_statements.specs.declared.statement.StmtKind.TheVariants as statement
+use Rattle.relocatable_object.specs.declared.place.Place.{Place}
+use Rattle.relocatable_object.specs.declared.place.Section.TheVariants.{Bss}
+use Rattle.asm_layout.specs.Walks.{here}
+use Rattle.relocatable_object.specs.Sections.{same_section}
 use Rattle.asm_layout.specs.Words.{low_word}
-use Rattle.asm_object.specs.declared.object.Object.{Object}
+use Rattle.relocatable_object.specs.declared.object.Object.{Object}
 use Rattle.asm_object.specs.Objects.{object_of}
 use Rattle.asm_object.specs.ObjectLaw.{symbol_place}
 use Rattle.asm_object.specs.Values.{signed}

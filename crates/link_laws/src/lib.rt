@@ -2,6 +2,7 @@
 //! docs/linking.md).
 #![tactic(auto)]
 
+ghost use Rattle.link_laws.specs.AssembledLaw.{AssembledFieldsStandAlone};
 ghost use Rattle.link_laws.specs.BranchLaw.{BranchesLead, CondBranchesLead, CallsLead, AddressesLead, LoadsLead};
 ghost use Rattle.link_laws.specs.MeaningLaw.{NamesHaveMeanings};
 ghost use Rattle.link_laws.specs.LabelLaw.{LabelsAreSymbols, MeaningsAreOfLabels};
@@ -40,6 +41,12 @@ pub fn labels_stand_in_their_parts()
 /// set where the name means a function.
 pub fn words_are_sums()
     ensures { WordsAreSums }
+{}
+
+/// Each field of an object that the assembler gives shares no byte with another one, and lies within its section. So what the two
+/// laws beside this one say of fields holds of every field of a source.
+pub fn assembled_fields_stand_alone()
+    ensures { AssembledFieldsStandAlone }
 {}
 
 /// In the image that sources link to, each field that the assembler left to the linker has a kind, its name means a label, and what

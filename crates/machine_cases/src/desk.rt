@@ -1,8 +1,8 @@
 //! A machine that something is put into and that goes on, with what it wrote. No function here says anything of a run in a clause.
 use crate::code::Code;
+use bus_memories::paged::PagedBus;
 use case_rows::Unanswered;
 use eh_bus::bus::Bus;
-use eh_bus::paged::PagedBus;
 use eh_cxa::layout::{SLOT_WORDS, SLOTS};
 use eh_cxa::pool;
 use eh_machine::{Core, Machine, Turned, start_parts, turn};

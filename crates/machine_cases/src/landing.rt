@@ -2,15 +2,15 @@
 use crate::answers;
 use crate::code::Code;
 use crate::desk::Desk;
+use bus_memories::paged::PagedBus;
 use case_rows::{Unanswered, number_at};
-use eh_bus::paged::PagedBus;
 use eh_bytecode::Vrs;
 use eh_cxa::pool::slot_of_block;
 use eh_machine::{Checked, Machine, Turned, throw_to};
 use eh_match::Match;
+use eh_phase::joined::{First, first_landing};
 use eh_phase::{Barrier, Entered, Found, Thrown};
 use std::alloc::{AllocError, Global};
-use throw_laws::{First, first_landing};
 use thumb_core::regs::Regs;
 
 /// The control block of the first slot, and its object.

@@ -1,7 +1,7 @@
 -- The checker of frames (docs/checking.md).
 use Rattle.std.specs.Prelude.{◌≡◌}
 use Rattle.frame_facts.specs.declared.facts.TheConstants as frame_facts-facts
-use Rattle.frame_facts.specs.declared.branches.TheConstants as frame_facts-branches
+use Rattle.thumb_core.specs.declared.calls.TheConstants as thumb_core-calls
 use Rattle.frame_facts.specs.declared.saves.TheConstants as frame_facts-saves
 use Rattle.frame_scene.specs.declared.places.TheConstants as frame_scene-places
 use Rattle.frame_reach.specs.declared.marks.TheConstants as frame_reach-marks
@@ -9,8 +9,8 @@ use Rattle.frame_reach.specs.declared.marks.TheConstants as frame_reach-marks
 -- the numbers that the definitions of frame_facts cite
 pub record FactNumbers : Type 0 where
   pub deepest : frame_facts-facts.DEEPEST ≡ 65536
-  pub call_changes : frame_facts-branches.CALL_CHANGES ≡ 0x500F
-  pub gate_changes : frame_facts-branches.GATE_CHANGES ≡ 0x100F
+  pub call_changes : thumb_core-calls.CALL_CHANGES ≡ 0x500F
+  pub gate_changes : thumb_core-calls.GATE_CHANGES ≡ 0x100F
   pub most_saves : frame_facts-saves.MOST_SAVES ≡ 16
 
 -- the numbers that the definitions of frame_scene cite

@@ -9,7 +9,7 @@ use Rattle.asm_unwind.specs.declared.code.TheConstants as asm_unwind-code
 use Rattle.asm_unwind.specs.declared.entry.TheConstants as asm_unwind-entry
 use Rattle.asm_layout.specs.declared.given.TheConstants as asm_layout-given
 use Rattle.asm_layout.specs.declared.walk.TheConstants as asm_layout-walk
-use Rattle.asm_object.specs.declared.relocation.TheConstants as asm_object-relocation
+use Rattle.relocatable_object.specs.declared.relocation.TheConstants as asm_object-relocation
 use Rattle.asm_object.specs.declared.refusal.TheConstants as asm_object-refusal
 use Rattle.asm_object.specs.declared.bytes.TheConstants as asm_object-bytes
 

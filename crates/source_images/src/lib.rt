@@ -3,7 +3,8 @@
 //! definition of sources.
 #![tactic(auto)]
 
-use asm_object::{Object, assemble};
+use asm_object::assemble;
+use relocatable_object::Object;
 use asm_read::read_source;
 use eh_kit::stubs;
 use eh_link::link;

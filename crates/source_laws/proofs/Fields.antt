@@ -1,23 +1,24 @@
 -- The fields of the exception tables stand before a function's table or behind its words.
 use Rattle.std.proofs.Common.{◌≡◌, ℕ, ◌+◌, ◌*◌, ◌^◌, ◌≤◌, ◌<◌, false, cond, List, [], ◌∷◌, ◌++◌, length, Option, Some, Result, Ok, refl, sym, ap, ◌∙◌, arith, subst}
 use Rattle.std.proofs.lemmas.Grind.{flat_map-append}
-use Rattle.asm_read.specs.declared.statement.Stmt.{Stmt}
-use Rattle.asm_read.specs.declared.statement.StmtKind.TheVariants as statement
+use Rattle.asm_statements.specs.declared.statement.Stmt.{Stmt}
+use Rattle.asm_statements.specs.declared.statement.StmtKind.TheVariants as statement
 use Rattle.asm_unwind.specs.declared.entry.EntryWords.{EntryWords}
 use Rattle.asm_unwind.specs.declared.entry.EntryWords.TheVariants as entry
 use Rattle.asm_unwind.specs.declared.directive.UnwindFault.{UnwindFault}
 use Rattle.asm_unwind.specs.Entries.{entry_words_of}
-use Rattle.asm_layout.specs.declared.place.Section.TheVariants.{Extab}
+use Rattle.relocatable_object.specs.declared.place.Section.TheVariants.{Extab}
 use Rattle.asm_layout.specs.declared.walk.Walk.{Walk}
 use Rattle.asm_layout.specs.Functions.{entries_of, no_frame}
 use Rattle.asm_layout.specs.Labels.{Named, labels_of}
 use Rattle.asm_layout.specs.Sizes.{size_in, is_too_large}
-use Rattle.asm_layout.specs.Walks.{start, next, here, same_section, coming_pool, walk_behind, sizes_with_pool}
+use Rattle.asm_layout.specs.Walks.{start, next, here, coming_pool, walk_behind, sizes_with_pool}
+use Rattle.relocatable_object.specs.Sections.{same_section}
 use Rattle.eh_list.specs.Bytes.{next_multiple}
-use Rattle.asm_object.specs.declared.object.Object.{Object}
-use Rattle.asm_object.specs.declared.object.Reloc.{Reloc}
-use Rattle.asm_object.specs.ObjectLaw.{StandInOrder, relocs_at}
-use Rattle.asm_object.specs.Relocations.{field_size}
+use Rattle.relocatable_object.specs.declared.object.Object.{Object}
+use Rattle.relocatable_object.specs.declared.object.Reloc.{Reloc}
+use Rattle.relocatable_object.specs.Fields.{StandInOrder, relocs_at}
+use Rattle.relocatable_object.specs.Relocations.{field_size}
 use Rattle.asm_object.specs.Objects.{object_of}
 use Rattle.asm_object.specs.Pieces.{own_piece, relocs_in, pieces_of}
 use Rattle.asm_object.proofs.PlaceLaws.{earlier, split, none_behind, walks_on}

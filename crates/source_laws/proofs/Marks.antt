@@ -5,20 +5,21 @@ use Rattle.std.proofs.lemmas.Bool.{true≢false}
 use Rattle.std.proofs.lemmas.Bool.Decides.{nat_tests}
 use Rattle.std.proofs.lemmas.Grind.{flat_map-append}
 use Rattle.std.proofs.lemmas.List.Elements.{All-nil, All-cons, All-head, All-tail, All-append, All-weaker}
-use Rattle.asm_read.specs.declared.statement.Stmt.{Stmt}
-use Rattle.asm_read.specs.declared.statement.StmtKind.{StmtKind}
-use Rattle.asm_read.specs.declared.statement.StmtKind.TheVariants as statement
+use Rattle.asm_statements.specs.declared.statement.Stmt.{Stmt}
+use Rattle.asm_statements.specs.declared.statement.StmtKind.{StmtKind}
+use Rattle.asm_statements.specs.declared.statement.StmtKind.TheVariants as statement
 use Rattle.asm_unwind.specs.declared.entry.EntryWords.{EntryWords}
 use Rattle.asm_unwind.specs.declared.entry.EntryWords.TheVariants as entry
-use Rattle.asm_layout.specs.declared.place.Section.TheVariants.{Text}
+use Rattle.relocatable_object.specs.declared.place.Section.TheVariants.{Text}
 use Rattle.asm_layout.specs.declared.walk.Walk.{Walk}
 use Rattle.asm_layout.specs.Functions.{entries_of, no_frame}
 use Rattle.asm_layout.specs.Labels.{Named, labels_of}
 use Rattle.asm_layout.specs.Sizes.{multiple, size_in, is_too_large}
-use Rattle.asm_layout.specs.Walks.{start, next, here, entry_at, is_empty, is_in_text, pool_place, same_section, coming_pool, walk_behind, sizes_with_pool}
+use Rattle.asm_layout.specs.Walks.{start, next, here, entry_at, is_empty, is_in_text, pool_place, coming_pool, walk_behind, sizes_with_pool}
+use Rattle.relocatable_object.specs.Sections.{same_section}
 use Rattle.eh_list.specs.Bytes.{gap, next_multiple}
-use Rattle.asm_object.specs.declared.object.Mark.{Mark}
-use Rattle.asm_object.specs.declared.object.Object.{Object}
+use Rattle.relocatable_object.specs.declared.object.Mark.{Mark}
+use Rattle.relocatable_object.specs.declared.object.Object.{Object}
 use Rattle.asm_object.specs.Bytes.{filling_bytes}
 use Rattle.asm_object.specs.Objects.{joined}
 use Rattle.asm_object.specs.Pieces.{Piece, shows, changes_to, mark_of, marks_from, place_at, filling_piece, words_piece, pool_pieces, table_pieces, own_piece, bytes_in, put_pieces, pieces_of}

@@ -5,17 +5,18 @@ use Rattle.std.specs.Int.{from_bool}
 use Rattle.std.proofs.lemmas.Bool.{true≢false}
 use Rattle.std.proofs.lemmas.Bool.Decides.{nat_tests}
 use Rattle.std.proofs.lemmas.List.Sums.{sum_by-cons}
-use Rattle.asm_read.specs.declared.statement.Stmt.{Stmt}
-use Rattle.asm_read.specs.declared.statement.StmtKind.{StmtKind}
-use Rattle.asm_read.specs.declared.statement.StmtKind.TheVariants as statement
+use Rattle.asm_statements.specs.declared.statement.Stmt.{Stmt}
+use Rattle.asm_statements.specs.declared.statement.StmtKind.{StmtKind}
+use Rattle.asm_statements.specs.declared.statement.StmtKind.TheVariants as statement
 use Rattle.asm_unwind.specs.declared.directive.UnwindDirective.TheVariants as unwind
 use Rattle.asm_unwind.specs.declared.entry.EntryWords.{EntryWords}
-use Rattle.asm_layout.specs.declared.place.Section.TheVariants.{Extab}
+use Rattle.relocatable_object.specs.declared.place.Section.TheVariants.{Extab}
 use Rattle.asm_layout.specs.declared.walk.Cursor.{Cursor}
 use Rattle.asm_layout.specs.declared.walk.Walk.{Walk}
 use Rattle.asm_layout.specs.Functions.{Frame, no_frame, entries_from, entries_of, unwind_faults_from}
 use Rattle.asm_layout.specs.Sizes.{table_size, sizes_grown}
-use Rattle.asm_layout.specs.Walks.{start, next, entry_at, same_section, is_in_text, sizes_with_pool, walk_behind}
+use Rattle.asm_layout.specs.Walks.{start, next, entry_at, is_in_text, sizes_with_pool, walk_behind}
+use Rattle.relocatable_object.specs.Sections.{same_section}
 use Rattle.asm_object.specs.Pieces.{row_of, put_rows}
 use Rattle.source_laws.specs.Functions.{starts_function, bounds_function, functions_in, start_at, end_at}
 use Rattle.source_laws.proofs.Frames.{Shape, which, goes_on, ended_with, closes, no_second, no_end, begun, plain_outside, taken_none}

@@ -4,17 +4,18 @@ use Rattle.std.proofs.Common.{◌≡◌, ℕ, ◌-◌, ◌%◌, ◌^◌, ◌≤�
 use Rattle.std.specs.List.{list_any}
 use Rattle.std.proofs.lemmas.Bool.{or_parts}
 use Rattle.std.proofs.lemmas.Cmp.{nat_list_eq_equiv}
-use Rattle.asm_read.specs.declared.statement.Stmt.{Stmt}
-use Rattle.asm_read.specs.declared.statement.StmtKind.{StmtKind}
-use Rattle.asm_read.specs.declared.statement.StmtKind.TheVariants.{Size}
+use Rattle.asm_statements.specs.declared.statement.Stmt.{Stmt}
+use Rattle.asm_statements.specs.declared.statement.StmtKind.{StmtKind}
+use Rattle.asm_statements.specs.declared.statement.StmtKind.TheVariants.{Size}
 use Rattle.asm_unwind.specs.declared.entry.EntryWords.{EntryWords}
-use Rattle.asm_layout.specs.declared.place.Place.{Place}
-use Rattle.asm_layout.specs.declared.place.Section.{Section}
-use Rattle.asm_layout.specs.declared.place.Section.TheVariants.{Text, Rodata, Extab, Init, Bss}
+use Rattle.relocatable_object.specs.declared.place.Place.{Place}
+use Rattle.relocatable_object.specs.declared.place.Section.{Section}
+use Rattle.relocatable_object.specs.declared.place.Section.TheVariants.{Text, Rodata, Extab, Init, Bss}
 use Rattle.asm_layout.specs.declared.walk.Walk.{Walk}
 use Rattle.asm_layout.specs.Functions.{entries_of, no_frame}
 use Rattle.asm_layout.specs.Labels.{Named, find, new_labels, labels_from, labels_of, duplicates_from, size_between, size_by, size_from, labels_in, size_said}
-use Rattle.asm_layout.specs.Walks.{start, next, here, same_section, walk_behind}
+use Rattle.asm_layout.specs.Walks.{start, next, here, walk_behind}
+use Rattle.relocatable_object.specs.Sections.{same_section}
 use Rattle.asm_object.proofs.ObjectLaws.{taken, ends_small, entries_count}
 use Rattle.asm_object.proofs.LabelLaws.{new_there, label_there, small_behind}
 use Rattle.source_laws.specs.RowLaw.{behind}

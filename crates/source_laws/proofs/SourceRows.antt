@@ -7,9 +7,9 @@ use Rattle.std.proofs.lemmas.Bool.Decides.{nat_tests}
 use Rattle.std.proofs.lemmas.Grind.{flat_map-append}
 use Rattle.std.proofs.lemmas.List.Elements.{All-nil, All-cons, All-head, All-tail, All-from_get_or}
 use Rattle.std.proofs.lemmas.Option.{get_or_from_slice_get, slice_get_within}
-use Rattle.asm_read.specs.declared.statement.Stmt.{Stmt}
-use Rattle.asm_read.specs.declared.statement.StmtKind.{StmtKind}
-use Rattle.asm_read.specs.declared.statement.StmtKind.TheVariants as statement
+use Rattle.asm_statements.specs.declared.statement.Stmt.{Stmt}
+use Rattle.asm_statements.specs.declared.statement.StmtKind.{StmtKind}
+use Rattle.asm_statements.specs.declared.statement.StmtKind.TheVariants as statement
 use Rattle.unwind_codes.specs.declared.words.TheConstants.{COMPACT_MARK, COMPACT_TOP}
 use Rattle.asm_unwind.specs.declared.directive.UnwindDirective.{UnwindDirective}
 use Rattle.asm_unwind.specs.declared.directive.UnwindDirective.TheVariants as unwind
@@ -25,18 +25,19 @@ use Rattle.asm_unwind.specs.EntryLaw.{HoldsCode}
 use Rattle.asm_unwind.specs.Kept.{IsKept}
 use Rattle.asm_unwind.proofs.ByteLaws.{law_of_function_entries}
 use Rattle.asm_unwind.proofs.KeptLemmas.{or_no, clear, kept_none, kept_more, seen_more}
-use Rattle.asm_layout.specs.declared.place.Place.{Place}
-use Rattle.asm_layout.specs.declared.place.Section.{Section}
-use Rattle.asm_layout.specs.declared.place.Section.TheVariants.{Text}
+use Rattle.relocatable_object.specs.declared.place.Place.{Place}
+use Rattle.relocatable_object.specs.declared.place.Section.{Section}
+use Rattle.relocatable_object.specs.declared.place.Section.TheVariants.{Text}
 use Rattle.asm_layout.specs.declared.walk.Walk.{Walk}
 use Rattle.asm_layout.specs.Functions.{Frame, no_frame, directive_of, entries_of, unwind_faults_from}
 use Rattle.asm_layout.specs.Labels.{labels_of}
 use Rattle.asm_layout.specs.Sizes.{size_in, is_too_large}
-use Rattle.asm_layout.specs.Walks.{start, here, same_section, walk_behind, sizes_with_pool}
+use Rattle.asm_layout.specs.Walks.{start, here, walk_behind, sizes_with_pool}
+use Rattle.relocatable_object.specs.Sections.{same_section}
 use Rattle.eh_list.specs.Bytes.{next_multiple}
-use Rattle.asm_object.specs.declared.object.IndexRow.{IndexRow}
-use Rattle.asm_object.specs.declared.object.Object.{Object}
-use Rattle.asm_object.specs.declared.object.RowEntry.TheVariants as row
+use Rattle.relocatable_object.specs.declared.object.IndexRow.{IndexRow}
+use Rattle.relocatable_object.specs.declared.object.Object.{Object}
+use Rattle.relocatable_object.specs.declared.object.RowEntry.TheVariants as row
 use Rattle.asm_object.specs.Bytes.{word_bytes}
 use Rattle.asm_object.specs.Objects.{joined, object_of}
 use Rattle.asm_object.specs.Pieces.{Piece, place_at, bytes_in}

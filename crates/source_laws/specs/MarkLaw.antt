@@ -2,11 +2,11 @@
 -- whether code or data stands there (docs/objects.md, "Marks").
 use Rattle.std.specs.Prelude.{◌≡◌, ℕ, ◌^◌, ◌<◌, ◌≤◌, Bool, true, false, nat_lt, List, [], ◌∷◌, ◌++◌, length, All, Option, Some, None, Ok}
 use Rattle.eh_list.specs.Bytes.{next_multiple}
-use Rattle.asm_read.specs.declared.statement.Stmt.{Stmt}
-use Rattle.asm_read.specs.declared.statement.StmtKind.{StmtKind}
-use Rattle.asm_read.specs.declared.statement.StmtKind.TheVariants as statement
-use Rattle.asm_object.specs.declared.object.Mark.{Mark}
-use Rattle.asm_object.specs.declared.object.Object.{Object}
+use Rattle.asm_statements.specs.declared.statement.Stmt.{Stmt}
+use Rattle.asm_statements.specs.declared.statement.StmtKind.{StmtKind}
+use Rattle.asm_statements.specs.declared.statement.StmtKind.TheVariants as statement
+use Rattle.relocatable_object.specs.declared.object.Mark.{Mark}
+use Rattle.relocatable_object.specs.declared.object.Object.{Object}
 use Rattle.asm_object.specs.Objects.{object_of}
 use Rattle.source_laws.specs.RowLaw.{behind}
 

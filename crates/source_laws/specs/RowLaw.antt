@@ -1,18 +1,18 @@
 -- The rows of an object, as its source meant them (docs/unwind-index.md, "From the source").
 use Rattle.std.specs.Prelude.{◌≡◌, ℕ, ◌^◌, ◌<◌, List, [], ◌∷◌, ◌++◌, length, drop, flat_map, slice_get, Some, Ok}
 use Rattle.eh_list.specs.Bytes.{next_multiple}
-use Rattle.asm_read.specs.declared.statement.Stmt.{Stmt}
+use Rattle.asm_statements.specs.declared.statement.Stmt.{Stmt}
 use Rattle.asm_unwind.specs.declared.entry.EntryWords.{EntryWords}
 use Rattle.asm_unwind.specs.declared.entry.EntryWords.TheVariants as entry
 use Rattle.asm_unwind.specs.Entries.{entry_words_of}
-use Rattle.asm_layout.specs.declared.place.Section.TheVariants.{Text, Extab}
+use Rattle.relocatable_object.specs.declared.place.Section.TheVariants.{Text, Extab}
 use Rattle.asm_layout.specs.declared.walk.Walk.{Walk}
 use Rattle.asm_layout.specs.Functions.{entries_of}
 use Rattle.asm_layout.specs.Labels.{labels_of}
 use Rattle.asm_layout.specs.Walks.{start, here, walk_behind}
-use Rattle.asm_object.specs.declared.object.Object.{Object}
-use Rattle.asm_object.specs.declared.object.RowEntry.{RowEntry}
-use Rattle.asm_object.specs.declared.object.RowEntry.TheVariants as row
+use Rattle.relocatable_object.specs.declared.object.Object.{Object}
+use Rattle.relocatable_object.specs.declared.object.RowEntry.{RowEntry}
+use Rattle.relocatable_object.specs.declared.object.RowEntry.TheVariants as row
 use Rattle.asm_object.specs.Bytes.{word_bytes}
 use Rattle.asm_object.specs.Objects.{object_of}
 use Rattle.asm_object.specs.Pieces.{place_at, bytes_in}

@@ -1,11 +1,11 @@
 -- What `.size name, .-name` says of an object's symbols (docs/objects.md, "Symbols"): the bytes from the label to the directive.
 use Rattle.std.specs.Prelude.{◌≡◌, ℕ, ◌-◌, ◌^◌, ◌<◌, Bool, false, List, ◌∷◌, ◌++◌, length, Ok}
 use Rattle.eh_word.specs.Names.{same_bytes}
-use Rattle.asm_read.specs.declared.statement.Stmt.{Stmt}
-use Rattle.asm_read.specs.declared.statement.StmtKind.{StmtKind}
-use Rattle.asm_read.specs.declared.statement.StmtKind.TheVariants as statement
+use Rattle.asm_statements.specs.declared.statement.Stmt.{Stmt}
+use Rattle.asm_statements.specs.declared.statement.StmtKind.{StmtKind}
+use Rattle.asm_statements.specs.declared.statement.StmtKind.TheVariants as statement
 use Rattle.asm_layout.specs.Walks.{here}
-use Rattle.asm_object.specs.declared.object.Object.{Object}
+use Rattle.relocatable_object.specs.declared.object.Object.{Object}
 use Rattle.asm_object.specs.Objects.{object_of}
 use Rattle.source_laws.specs.RowLaw.{behind}
 use Rattle.source_laws.specs.SymbolLaw.{HasNone, EachNamed, WithoutOne}

@@ -1,13 +1,13 @@
 -- Each row of an object is that of a function of its source, and where the rows lie (docs/unwind-index.md, "From the source").
 use Rattle.std.specs.Prelude.{◌≡◌, ℕ, ◌+◌, ◌%◌, ◌^◌, ◌<◌, ◌≤◌, List, ◌∷◌, ◌++◌, length, All, slice_get, Some, Ok}
-use Rattle.asm_read.specs.declared.statement.Stmt.{Stmt}
-use Rattle.asm_read.specs.declared.statement.StmtKind.{StmtKind}
-use Rattle.asm_read.specs.declared.statement.StmtKind.TheVariants as statement
+use Rattle.asm_statements.specs.declared.statement.Stmt.{Stmt}
+use Rattle.asm_statements.specs.declared.statement.StmtKind.{StmtKind}
+use Rattle.asm_statements.specs.declared.statement.StmtKind.TheVariants as statement
 use Rattle.unwind_codes.specs.declared.words.TheConstants.{COMPACT_MARK}
-use Rattle.asm_object.specs.declared.object.IndexRow.{IndexRow}
-use Rattle.asm_object.specs.declared.object.Object.{Object}
-use Rattle.asm_object.specs.declared.object.RowEntry.{RowEntry}
-use Rattle.asm_object.specs.declared.object.RowEntry.TheVariants as row
+use Rattle.relocatable_object.specs.declared.object.IndexRow.{IndexRow}
+use Rattle.relocatable_object.specs.declared.object.Object.{Object}
+use Rattle.relocatable_object.specs.declared.object.RowEntry.{RowEntry}
+use Rattle.relocatable_object.specs.declared.object.RowEntry.TheVariants as row
 use Rattle.asm_object.specs.Objects.{object_of}
 use Rattle.source_laws.specs.Functions.{HasNoBound, Function, functions_in, source_of, start_at}
 use Rattle.source_laws.specs.RowLaw.{behind, HasItsRow}

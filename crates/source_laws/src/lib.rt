@@ -10,7 +10,7 @@ ghost use Rattle.source_laws.specs.SymbolLaw.{FunctionsAreTyped, ObjectsAreTyped
 ghost use Rattle.source_laws.specs.SizeLaw.{SizesCountBytes, OthersHaveNoSize};
 ghost use Rattle.source_laws.specs.RoomLaw.{AlignsReachMultiples, ZeroedDataIsCounted};
 
-use asm_read::{Stmt, StmtKind};
+use asm_statements::{Stmt, StmtKind};
 
 /// Each `.fnstart` of an accepted source has its `.fnend`, before another function begins.
 pub fn functions_are_closed()

@@ -4,7 +4,8 @@ use crate::texts::text_of;
 use UnwindDirective::{
     CantUnwind, FnEnd, FnStart, HandlerData, Pad, PersonalityIndex, Save, SetFp,
 };
-use asm_read::{Stmt, StmtKind, read_source};
+use asm_read::read_source;
+use asm_statements::{Stmt, StmtKind};
 use asm_unwind::{EntryWords, FrameText, UnwindDirective, UnwindFault, new_frame};
 use case_rows::{Asked, Unanswered};
 use std::alloc::{AllocError, Global};

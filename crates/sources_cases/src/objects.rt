@@ -1,8 +1,10 @@
 //! What a source is assembled to (docs/objects.md).
 use crate::statements::push_place;
 use crate::texts::{push_bytes, push_text, text_of};
-use asm_object::{AsmFault, IndexRow, ObjSymbol, Object, Reloc, RowEntry, assemble};
-use asm_read::{Stmt, read_source};
+use asm_object::{AsmFault, assemble};
+use relocatable_object::{IndexRow, ObjSymbol, Object, Reloc, RowEntry};
+use asm_read::read_source;
+use asm_statements::Stmt;
 use case_rows::{Asked, Unanswered, first_word};
 use std::alloc::{AllocError, Global};
 use std::fs;

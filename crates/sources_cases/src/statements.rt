@@ -1,6 +1,7 @@
 //! What a source is read as (docs/source-language.md).
 use crate::texts::{push_shown, text_of};
-use asm_read::{SourceFault, Stmt, read_source};
+use asm_read::{SourceFault, read_source};
+use asm_statements::Stmt;
 use case_rows::{Asked, Unanswered};
 use std::alloc::{AllocError, Global};
 

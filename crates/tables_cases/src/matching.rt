@@ -1,7 +1,7 @@
 //! What is caught of thrown objects and pointers (docs/matching.md).
 use crate::object::{OBJECT, address, lay_object, lay_word};
+use bus_memories::flat::FlatBus;
 use case_rows::{Asked, Unanswered, first_word, number, number_at, numbers, want_of_memory};
-use eh_bus::flat::FlatBus;
 use eh_match::{Match, type_match};
 use eh_types::TypeGraph;
 use std::alloc::{AllocError, Global};

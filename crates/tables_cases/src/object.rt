@@ -6,10 +6,10 @@
 //!
 //! A line of objects is a type's name and ` ; `-separated places in bytes where its objects name a vtable, each with that
 //! vtable's words from 12 bytes below its point downwards.
+use bus_memories::flat::FlatBus;
 use case_images::{Draft, first_word_of, opened, put_vtables};
 use case_rows::{Unanswered, decimal, first_word, number, want_of_memory};
 use eh_bus::bus::Bus;
-use eh_bus::flat::FlatBus;
 use eh_types::{TypeFault, TypeGraph};
 use elf_write::parts::SymbolKind;
 use std::alloc::Global;

@@ -1,9 +1,9 @@
 //! The two phases, row by row of the rules in docs/phases.md. Types aren't read, so that each is equal to itself alone.
 use crate::starts::{Start, file_of, flooded, stack, start_of};
 use crate::unwinding::push_changed;
+use bus_memories::flat::FlatBus;
 use case_images::opened;
 use case_rows::{Asked, Unanswered, first_word, number, want_of_memory};
-use eh_bus::flat::FlatBus;
 use eh_bytecode::Vrs;
 use eh_index::Index;
 use eh_match::Match;

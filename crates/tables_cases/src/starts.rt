@@ -3,10 +3,10 @@
 //! The functions: main at 8000 with a table at 9000; f at 801C, which saves r4 and lr; the stub of a throw at 8040, which saves
 //! nothing; the start at 8050, as f; one at 8060 whose codes lower the stack pointer; one at 8070 that saves lr alone; one at
 //! 8080 that is 100 bytes high; and no function from 8090 on.
+use bus_memories::flat::FlatBus;
 use case_images::image_of;
 use case_rows::{Unanswered, first_word, number, want_of_memory};
 use eh_bus::bus::Bus;
-use eh_bus::flat::FlatBus;
 use eh_bytecode::Vrs;
 use std::alloc::Global;
 

@@ -1,7 +1,7 @@
 //! Type information in images: each kind, and each refusal with its type (Itanium C++ ABI, "Run-Time Type Information").
+use bus_memories::flat::FlatBus;
 use case_images::{image_of, opened};
 use case_rows::{Asked, Unanswered, decimal, first_word, number, numbers, want_of_memory};
-use eh_bus::flat::FlatBus;
 use eh_match::{Match, type_match};
 use eh_types::{Base, TypeFault, TypeGraph, TypeKind};
 use std::alloc::{AllocError, Global};

@@ -1,7 +1,7 @@
 //! Unwinding by the codes of an inline entry over a stack of known words.
+use bus_memories::flat::FlatBus;
 use case_rows::{Asked, Unanswered, first_word, number_at, numbers, want_of_memory};
 use eh_bus::bus::Bus;
-use eh_bus::flat::FlatBus;
 use eh_bytecode::{Codes, CodesFault, UnwindEnd, Vrs, unwind};
 use std::alloc::{AllocError, Global};
 

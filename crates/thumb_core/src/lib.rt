@@ -5,6 +5,7 @@ pub mod access;
 pub mod alu;
 pub mod arith;
 pub mod branch;
+pub mod calls;
 pub mod data;
 pub mod ends;
 pub mod lists;

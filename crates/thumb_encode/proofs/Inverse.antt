@@ -14,7 +14,7 @@ use Rattle.thumb_isa.proofs.Search.{kept, near, decoded_near}
 use Rattle.thumb_isa.proofs.Table.{none_f800, none_f000_0000, none_f000_8000, none_f380_8000, msr, none_f380_8900, none_f390_8000, none_f3bf_8000, dsb, dmb, isb, none_f3bf_8f70, none_f3c0_8000, mrs, none_f3f0_8000, none_f000_9000, bl_13, none_f000_e000, bl_15}
 use Rattle.thumb_encode.specs.declared.code.Code.{Code}
 use Rattle.thumb_encode.specs.declared.code.Code.TheVariants.{Half, Pair}
-use Rattle.thumb_encode.specs.declared.code.EncodeFault.{EncodeFault}
+use Rattle.thumb_isa.specs.declared.encode_fault.EncodeFault.{EncodeFault}
 use Rattle.thumb_encode.specs.Codes.{encoded_of, target_field, with_field, bl_code, code_at}
 
 -- the result is this code

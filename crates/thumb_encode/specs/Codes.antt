@@ -8,8 +8,8 @@ use Rattle.thumb_isa.specs.Fields.{field}
 use Rattle.thumb_isa.specs.Rows.{decoded_of}
 use Rattle.thumb_encode.specs.declared.code.Code.{Code}
 use Rattle.thumb_encode.specs.declared.code.Code.TheVariants.{Half, Pair}
-use Rattle.thumb_encode.specs.declared.code.EncodeFault.{EncodeFault}
-use Rattle.thumb_encode.specs.declared.code.EncodeFault.TheVariants.{RegisterRange, ListEmpty, ImmediateRange, ImmediateAlign, TargetRange}
+use Rattle.thumb_isa.specs.declared.encode_fault.EncodeFault.{EncodeFault}
+use Rattle.thumb_isa.specs.declared.encode_fault.EncodeFault.TheVariants.{RegisterRange, ListEmpty, ImmediateRange, ImmediateAlign, TargetRange}
 
 -- the code decodes to the instruction; a halfword does, whatever follows it
 abbrev pub IsCodeOf : Code → Instr → Type 0

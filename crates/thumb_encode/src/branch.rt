@@ -6,8 +6,9 @@ ghost use Rattle.thumb_isa.specs.declared.instr.Decoded.TheVariants.{Is};
 ghost use Rattle.thumb_isa.specs.declared.instr.Instr.TheVariants.{Bx, Blx, BCond, Svc, B, Bl, Barrier};
 ghost use Rattle.thumb_encode.specs.Codes.{IsCodeOf, encoded_of, bl_code};
 
-use crate::code::{Code, EncodeFault};
+use crate::code::Code;
 use crate::operand::target_field;
+use thumb_isa::encode_fault::EncodeFault;
 
 /// BX.
 #[tactic(auto, using(thumb_isa::proofs::Table::table))]

@@ -2,8 +2,9 @@
 ghost use Rattle.std.specs.Prelude.{◌≡◌, IfOk, OnErr};
 ghost use Rattle.thumb_encode.specs.Codes.{IsCodeOf, HasNoCode, GivesBack, encoded_of};
 
-use crate::code::{Code, EncodeFault};
+use crate::code::Code;
 use crate::{branch, lists, memory, registers};
+use thumb_isa::encode_fault::EncodeFault;
 use thumb_isa::instr::Instr;
 
 /// The code of an instruction: Ok exactly where some code decodes to it, and else the first of the faults in their

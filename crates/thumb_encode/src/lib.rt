@@ -9,4 +9,5 @@ mod memory;
 mod operand;
 mod registers;
 
-pub use code::{Code, EncodeFault};
+pub use code::Code;
+pub use thumb_isa::encode_fault::EncodeFault;

@@ -5,7 +5,8 @@ ghost use Rattle.thumb_isa.specs.declared.instr.Decoded.TheVariants.{Is};
 ghost use Rattle.thumb_isa.specs.declared.instr.Instr.TheVariants.{Push, Pop, Stm, Ldm};
 ghost use Rattle.thumb_encode.specs.Codes.{IsCodeOf, encoded_of};
 
-use crate::code::{Code, EncodeFault};
+use crate::code::Code;
+use thumb_isa::encode_fault::EncodeFault;
 use thumb_isa::fields::field;
 
 /// PUSH.

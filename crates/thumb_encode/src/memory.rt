@@ -5,8 +5,9 @@ ghost use Rattle.thumb_isa.specs.declared.instr.Decoded.TheVariants.{Is};
 ghost use Rattle.thumb_isa.specs.declared.instr.Instr.TheVariants.{LdrLit, MemReg, MemImm, MemSp, Adr, AddRdSp, AddSp, SubSp};
 ghost use Rattle.thumb_encode.specs.Codes.{IsCodeOf, encoded_of};
 
-use crate::code::{Code, EncodeFault};
+use crate::code::Code;
 use crate::operand::{byte_field, half_field, low_fields, word_field};
+use thumb_isa::encode_fault::EncodeFault;
 
 /// LDR (literal).
 #[tactic(auto, using(thumb_isa::proofs::Table::table))]

@@ -3,7 +3,7 @@ ghost use Rattle.std.specs.Prelude.{◌≡◌, ◌+◌, ◌*◌, ◌/◌, ◌%�
 ghost use Rattle.thumb_isa.specs.Fields.{signed_half};
 ghost use Rattle.thumb_encode.specs.Codes.{target_field, offset_field};
 
-use crate::code::EncodeFault;
+use thumb_isa::encode_fault::EncodeFault;
 
 /// The fields of three low registers, from the highest bits down.
 pub fn low_fields(high: u8, middle: u8, low: u8) -> u16

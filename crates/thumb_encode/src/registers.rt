@@ -5,8 +5,9 @@ ghost use Rattle.thumb_isa.specs.declared.instr.Decoded.TheVariants.{Is};
 ghost use Rattle.thumb_isa.specs.declared.instr.Instr.TheVariants.{ShiftImm, AddSubReg, AddSubImm3, Imm8, Alu, AddHigh, CmpHigh, MovHigh, Extend, Rev, Hint};
 ghost use Rattle.thumb_encode.specs.Codes.{IsCodeOf, encoded_of};
 
-use crate::code::{Code, EncodeFault};
+use crate::code::Code;
 use crate::operand::{high_fields, low_fields};
+use thumb_isa::encode_fault::EncodeFault;
 
 /// LSL, LSR, ASR (immediate).
 #[tactic(auto, using(thumb_isa::proofs::Table::table))]

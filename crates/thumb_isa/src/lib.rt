@@ -3,5 +3,6 @@
 #![tactic(auto)]
 
 pub mod decode;
+pub mod encode_fault;
 pub mod fields;
 pub mod instr;

@@ -3,10 +3,10 @@ ghost use Rattle.eh_bus.specs.Built.{CanBuild};
 
 use crate::accesses::{push_answer, push_answers};
 use crate::numbers::number;
+use bus_memories::flat::FlatBus;
+use bus_memories::paged::PagedBus;
 use case_rows::{Asked, Unanswered, first_word};
 use eh_bus::fault::BusMemory;
-use eh_bus::flat::FlatBus;
-use eh_bus::paged::PagedBus;
 use eh_bus::segment::SegmentSpec;
 use std::alloc::Global;
 

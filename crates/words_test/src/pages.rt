@@ -2,10 +2,10 @@
 ghost use Rattle.std.specs.Prelude.{◌≡◌, ◌≤◌, length, IfOk};
 ghost use Rattle.eh_bus.specs.Built.{CanBuild};
 
+use bus_memories::flat::FlatBus;
+use bus_memories::paged::PagedBus;
 use eh_bus::bus::Bus;
 use eh_bus::fault::BusFault;
-use eh_bus::flat::FlatBus;
-use eh_bus::paged::PagedBus;
 use eh_bus::segment::SegmentSpec;
 use std::alloc::{AllocError, Global};
 use std::test::Fail;

@@ -1,5 +1,5 @@
 use Rattle.std.proofs.Common.{All, take}
-use Rattle.asm_read.specs.declared.statement.Stmt.{Stmt}
+use Rattle.asm_statements.specs.declared.statement.Stmt.{Stmt}
 use Rattle.source_laws.specs.SourceRowLaw.{HasShortList}
 use Rattle.source_laws.proofs.types_bound_sources.Given as goal
 

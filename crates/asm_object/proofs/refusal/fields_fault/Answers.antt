@@ -2,7 +2,7 @@ use Rattle.std.proofs.Common.{◌≡◌, rules, tests, ◌∙◌, ap, sym}
 use Rattle.std.specs.List.{list_all}
 use Rattle.std.proofs.lemmas.Iterator.{YieldsList-from_slice}
 use Rattle.std.proofs.lemmas.Iterator.Search.{all_from_yields_List}
-use Rattle.thumb_encode.specs.declared.code.EncodeFault.TheVariants.{ImmediateRange}
+use Rattle.thumb_isa.specs.declared.encode_fault.EncodeFault.TheVariants.{ImmediateRange}
 use Rattle.asm_layout.specs.Labels.{named_in}
 use Rattle.asm_object.specs.Values.{number}
 use Rattle.asm_object.specs.Refusals.{fits, fault_unless, fields_fault}

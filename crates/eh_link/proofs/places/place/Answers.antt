@@ -1,5 +1,5 @@
 use Rattle.std.proofs.Common.{drop, arith}
-use Rattle.asm_layout.specs.declared.place.Section.TheVariants.{Text, Rodata, Extab, Init, Bss}
+use Rattle.relocatable_object.specs.declared.place.Section.TheVariants.{Text, Rodata, Extab, Init, Bss}
 use Rattle.eh_link.proofs.Layouts.{end_ge, fits_first, fits_next, parts_fit, placed_step, placed_first}
 use Rattle.eh_link.proofs.places.place.Goals as goal
 

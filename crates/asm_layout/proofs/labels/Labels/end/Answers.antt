@@ -1,6 +1,6 @@
 use Rattle.std.proofs.Common.{ap, sym, ◌∙◌, map, option_map, Bool, cond, refl}
 use Rattle.std.specs.Map.{set_value}
-use Rattle.asm_read.specs.declared.statement.StmtKind.TheVariants.{Size}
+use Rattle.asm_statements.specs.declared.statement.StmtKind.TheVariants.{Size}
 use Rattle.eh_word.specs.Names.{same_bytes}
 use Rattle.asm_layout.specs.Labels.{find, named_in, size_between}
 use Rattle.asm_layout.specs.LabelSteps.{entry_behind}

@@ -1,6 +1,6 @@
 use Rattle.std.proofs.Common.{◌≡◌, ◌++◌}
 use Rattle.std.specs.Vec.Iter.{into_iter_items}
-use Rattle.asm_layout.specs.declared.place.Section.TheVariants.{Text}
+use Rattle.relocatable_object.specs.declared.place.Section.TheVariants.{Text}
 use Rattle.asm_layout.specs.Labels.{named_in}
 use Rattle.asm_object.specs.Pieces.{words_bytes, word_relocs}
 use Rattle.asm_object.proofs.part.Part.push_pool.Given as goal

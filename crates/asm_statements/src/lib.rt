@@ -1,0 +1,6 @@
+//! The statements of a source, as types: the reader makes them, the assembler takes them (docs/source-language.md).
+#![tactic(auto)]
+
+pub mod statement;
+
+pub use statement::{Expr, Exprs, PoolValue, Stmt, StmtKind};

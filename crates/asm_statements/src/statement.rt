@@ -1,0 +1,204 @@
+//! Statements, as docs/source-language.md has them.
+ghost use Rattle.std.specs.Prelude.{◌≡◌, IfOk};
+
+use eh_list::Seq;
+use eh_word::Name;
+use std::alloc::{AllocError, Global};
+use std::marker::Model;
+
+/// A statement of a source, with its line, which counts from 1.
+#[derive(Debug, Drop)]
+pub struct Stmt {
+    pub line: u32,
+    pub kind: StmtKind,
+}
+
+/// An expression. Names stand for addresses that the assembler or the linker knows.
+#[derive(Debug, Drop)]
+pub enum Expr {
+    /// A number.
+    Num(i64),
+    /// `name` or `name+n`.
+    Of(Name, i64),
+    /// `a-b` or `a-b+n`.
+    Diff(Name, Name, i64),
+    /// `name(prel31)`.
+    Prel31(Name),
+    /// `name(prel31ref)`: as `prel31` with bit 31 set.
+    Prel31Ref(Name),
+    /// `name(target2)`.
+    Target2(Name),
+    /// `name(rel)`.
+    Rel(Name),
+}
+
+/// Expressions, which contracts see as their list.
+pub type Exprs = Seq<Expr>;
+
+/// The value of a word of the pool, in a box: an expression is the longest of what a statement has, and few have one.
+/// Contracts see the expression.
+#[derive(Debug, Drop)]
+pub struct PoolValue {
+    expr: Box<Expr>,
+}
+
+impl Model for PoolValue {
+    ghost use Rattle.asm_statements.specs.declared.statement.Expr.{Expr};
+
+    ghost Value = { Expr };
+
+    ghost view = { λ v. v.expr.value };
+}
+
+impl PoolValue {
+    /// An expression, boxed.
+    pub fn of(alloc: Global, expr: Expr) -> Result<PoolValue, AllocError>
+        ensures { IfOk result (λ v. v ≡ expr) }
+    {
+        Ok(PoolValue {
+            expr: Box::new(alloc, expr)?,
+        })
+    }
+
+    /// The expression.
+    pub fn expr(&self) -> &Expr
+        ensures { result.now ≡ self.now }
+    {
+        &self.expr
+    }
+}
+
+/// A statement's form, with its fields in the order of the text.
+///
+/// Registers are 0 to 15 (13 is sp, 14 lr, 15 pc); whether an instruction takes them is not looked at here. A `list` has
+/// bit k set where register k is in it. Numbers are within -2,147,483,648 to 4,294,967,295. `op` and `cond` are the
+/// fields of the instruction's encoding (Armv6-M Architecture Reference Manual, DDI 0419).
+#[derive(Debug, Drop)]
+pub enum StmtKind {
+    /// `name:`
+    Label(Name),
+    /// `movs rd, #imm`
+    MovsImm { d: u8, imm: i64 },
+    /// `movs rd, rm`
+    MovsReg { d: u8, m: u8 },
+    /// `mov rd, rm`
+    Mov { d: u8, m: u8 },
+    /// `cmp rn, #imm`
+    CmpImm { n: u8, imm: i64 },
+    /// `cmp rn, rm`, of low or high registers
+    CmpReg { n: u8, m: u8 },
+    /// `adds rd, #imm`, `subs rd, #imm`
+    AddSubTwo { sub: bool, d: u8, imm: i64 },
+    /// `adds rd, rn, rm`, `subs rd, rn, rm`
+    AddSubReg { sub: bool, d: u8, n: u8, m: u8 },
+    /// `adds rd, rn, #imm`, `subs rd, rn, #imm`
+    AddSubThree { sub: bool, d: u8, n: u8, imm: i64 },
+    /// `add rd, rm`
+    AddReg { d: u8, m: u8 },
+    /// `add rd, sp, #off`
+    AddRdSp { d: u8, off: i64 },
+    /// `add sp, #off`
+    AddSp { off: i64 },
+    /// `sub sp, #off`
+    SubSp { off: i64 },
+    /// `lsls`, `lsrs`, `asrs rd, rm, #n`: `op` 0 to 2
+    ShiftImm { op: u8, d: u8, m: u8, n: i64 },
+    /// The two-operand forms of `ands` (0), `eors` (1), `lsls` (2), `lsrs` (3), `asrs` (4), `adcs` (5), `sbcs` (6),
+    /// `rors` (7), `tst` (8), `cmn` (11), `orrs` (12), `muls` (13), `bics` (14) and `mvns` (15)
+    Alu { op: u8, d: u8, m: u8 },
+    /// `rsbs rd, rm, #0`
+    Rsbs { d: u8, m: u8 },
+    /// `adr rd, name`
+    Adr { d: u8, name: Name },
+    /// `ldr rt, name`
+    LdrLabel { t: u8, name: Name },
+    /// `ldr rt, =value`
+    LdrPool { t: u8, value: PoolValue },
+    /// `str` (0), `ldr` (1), `strb` (2), `ldrb` (3), `strh` (4), `ldrh` (5) `rt, [rn, #off]`; without `#off` it is 0.
+    /// For `str` and `ldr` the base is not sp.
+    MemImm { op: u8, t: u8, n: u8, off: i64 },
+    /// `str` (0), `strh` (1), `strb` (2), `ldrsb` (3), `ldr` (4), `ldrh` (5), `ldrb` (6), `ldrsh` (7) `rt, [rn, rm]`
+    MemReg { op: u8, t: u8, n: u8, m: u8 },
+    /// `str rt, [sp, #off]`, `ldr rt, [sp, #off]`; without `#off` it is 0
+    MemSp { load: bool, t: u8, off: i64 },
+    /// `push {list}`
+    Push { list: u16 },
+    /// `pop {list}`
+    Pop { list: u16 },
+    /// `stm rn!, {list}`
+    Stm { n: u8, list: u16 },
+    /// `ldm rn!, {list}`
+    LdmBack { n: u8, list: u16 },
+    /// `ldm rn, {list}`, where rn is in the list
+    Ldm { n: u8, list: u16 },
+    /// `sxth`, `sxtb`, `uxth`, `uxtb rd, rm`: `op` 0 to 3
+    Extend { op: u8, d: u8, m: u8 },
+    /// `rev` (0), `rev16` (1), `revsh` (3) `rd, rm`
+    Rev { op: u8, d: u8, m: u8 },
+    /// `b name`
+    B(Name),
+    /// `beq name` and the other conditions, 0 to 13
+    BCond { cond: u8, name: Name },
+    /// `bl name`
+    Bl(Name),
+    /// `bx rm`
+    Bx { m: u8 },
+    /// `blx rm`
+    Blx { m: u8 },
+    /// `svc #imm`
+    Svc { imm: i64 },
+    /// `udf #imm`
+    Udf { imm: i64 },
+    /// `nop` (0), `yield` (1), `wfe` (2), `wfi` (3), `sev` (4)
+    Hint { n: u8 },
+    /// `dsb` (0), `dmb` (1), `isb` (2), with option 15
+    Barrier { op: u8 },
+    /// `.text`
+    Text,
+    /// `.data`
+    Data,
+    /// `.bss`
+    Bss,
+    /// `.section .rodata`
+    Rodata,
+    /// `.global name`, `.globl name`
+    Global(Name),
+    /// `.type name, %function`
+    TypeFunction(Name),
+    /// `.type name, %object`
+    TypeObject(Name),
+    /// `.size name, .-name`
+    Size(Name),
+    /// `.word`, `.long`, `.4byte` and a list
+    Words(Exprs),
+    /// `.half`, `.short`, `.2byte` and a list
+    Halves(Exprs),
+    /// `.byte` and a list
+    Bytes(Exprs),
+    /// `.ascii "text"`, the bytes that its escapes stand for
+    Ascii(Name),
+    /// `.asciz "text"`, without the zero byte that closes it
+    Asciz(Name),
+    /// `.space n`, `.zero n`
+    Space(i64),
+    /// `.align n`, `.p2align n`, 0 to 3
+    Align(i64),
+    /// `.pool`, `.ltorg`
+    Pool,
+    /// `.fnstart`
+    FnStart,
+    /// `.fnend`
+    FnEnd,
+    /// `.save {list}`
+    Save { list: u16 },
+    /// `.pad #n`
+    Pad(i64),
+    /// `.setfp r, sp, #off`
+    SetFp { r: u8, off: i64 },
+    /// `.cantunwind`
+    CantUnwind,
+    /// `.personalityindex n`
+    PersonalityIndex(i64),
+    /// `.handlerdata`
+    HandlerData,
+}

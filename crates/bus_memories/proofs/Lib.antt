@@ -1,0 +1,5 @@
+mod Places
+mod FlagLemmas
+mod CallLaws
+mod PageLaws
+mod PageBuild

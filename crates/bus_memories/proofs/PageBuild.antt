@@ -1,0 +1,404 @@
+-- Pages as they are made: a page is added, a byte claimed, a run of bytes filled, a segment laid.
+use Rattle.std.proofs.Common.{◌≡◌, ◌≢◌, ℕ, zero, suc, ◌+◌, ◌-◌, ◌*◌, ◌/◌, ◌%◌, ◌<◌, ◌≤◌, ◌⊎◌, inl, inr, Bool, true, false, ◌==◌, nat_lt, List, [], ◌∷◌, ◌++◌, length, get_or, map, take, drop, set, Option, Some, None, Result, Ok, Err, append_assoc, drop-cons, refl, sym, ap, ◌∙◌, arith, le-leb}
+use Rattle.std.proofs.lemmas.List.{get_or-set_same, get_or-set_other, length-set, length-append, get_or_append_left, get_or-append-add, get_or_push, get_or_past, same_lists, length-map, map-append, length-replicate, take-append-drop, take_more}
+use Rattle.std.proofs.lemmas.Grind.{same_number_lists}
+use Rattle.std.proofs.lemmas.Bool.{ltb-true, ltb-false, eqb-true, eqb-false}
+use Rattle.std.specs.Prelude.{IsTrue, OnOk, IfOk}
+use Rattle.eh_list.specs.Bytes.{zeros, length-zeros}
+use Rattle.eh_bus.specs.Segment.{Segment, holds}
+use Rattle.bus_memories.specs.Pages.{Pages, ArePages, AreUsed, Ready, Claimed, Filled, Lays, with_page, no_pages, no_places, spot_in, spot_of, byte_at_spot, owner_at_spot, byte_of, owner_of, segment_at, segments_at, covers, bytes_from}
+use Rattle.bus_memories.specs.declared.part.Part.{Part}
+use Rattle.eh_bus.specs.declared.segment.SegmentSpec.{SegmentSpec}
+use Rattle.eh_bus.specs.Map.{AreApart}
+use Rattle.eh_bus.specs.Built.{CanBuild, built, zeros_at, segment_of}
+use Rattle.eh_bus.specs.declared.map.TheConstants.{PAGE_COUNT, PAGE_SIZE, STACK_START, STACK_SIZE, POOL_START, POOL_SIZE}
+use Rattle.eh_bus.proofs.BuiltLemmas.{length-segment_of, apart_all, image_ends}
+use Rattle.eh_bus.proofs.PartLaws.{get_or-zeros}
+use Rattle.std.proofs.Math.Seq.{take-length}
+use Rattle.eh_bus.proofs.MapLaws.{one_apart}
+use Rattle.bus_memories.proofs.PageLaws.{no_part, spot_back, spot_owned, at_part, holds_covers, covered, covering, length-from, from_at, part_same}
+
+length-no_places : (n : ℕ) → length (no_places n) ≡ n
+unfolding no_places
+length-no_places n = length-replicate n None
+
+get_or-no_places : (n k : ℕ) → get_or (no_places n) k None ≡ None
+unfolding no_places
+get_or-no_places zero k = refl
+get_or-no_places (suc n) zero = refl
+get_or-no_places (suc n) (suc k) = get_or-no_places n k
+
+-- ---- a page is added
+
+page_sound : (p : Pages) (a : ℕ) → ArePages p → a / PAGE_SIZE < length p.places → get_or p.places (a / PAGE_SIZE) None ≡ None → ArePages (with_page p a)
+page_sound p a x room absent = record {
+  number = λ n q e. number n q e (n == a / PAGE_SIZE) refl;
+  place = λ q h. place q (omega (arith, length-append p.firsts (a ∷ []))) (nat_lt q (length p.firsts)) refl;
+  bytes = omega (arith, length-append p.bytes (zeros PAGE_SIZE), length-zeros PAGE_SIZE, length-append p.firsts (a ∷ []), x.bytes);
+  owners = omega (arith, length-append p.bytes (zeros PAGE_SIZE), length-zeros PAGE_SIZE, length-append p.owners (no_places PAGE_SIZE), length-no_places PAGE_SIZE, x.owners);
+}
+  where
+    number : (n q : ℕ) → get_or (set p.places (a / PAGE_SIZE) (Some (length p.firsts))) n None ≡ Some q → (t : Bool) → (n == a / PAGE_SIZE) ≡ t
+        → (q < length (p.firsts ++ a ∷ [])) × (get_or (p.firsts ++ a ∷ []) q 0 / PAGE_SIZE ≡ n)
+    number n q e true t =
+        let same : n ≡ a / PAGE_SIZE = eqb-true n (a / PAGE_SIZE) t in
+        let f : Some (length p.firsts) ≡ Some q = sym (get_or-set_same p.places (a / PAGE_SIZE) (Some (length p.firsts)) None room) ∙ ap (λ (m : ℕ). get_or (set p.places (a / PAGE_SIZE) (Some (length p.firsts))) m None) (sym same) ∙ e in
+        let g : length p.firsts ≡ q = cc in
+        (omega (arith, length-append p.firsts (a ∷ [])), ap (λ (y : ℕ). y / PAGE_SIZE) (get_or_push p.firsts a 0 q g) ∙ sym same)
+    number n q e false t =
+        let f = sym (get_or-set_other p.places (a / PAGE_SIZE) n (Some (length p.firsts)) None (eqb-false n (a / PAGE_SIZE) t)) ∙ e in
+        let o = x.number n q f in
+        (omega (arith, length-append p.firsts (a ∷ []), o.0), ap (λ (y : ℕ). y / PAGE_SIZE) (get_or_append_left p.firsts (a ∷ []) 0 q o.0) ∙ o.1)
+
+    place : (q : ℕ) → q < length p.firsts + 1 → (t : Bool) → nat_lt q (length p.firsts) ≡ t
+        → get_or (set p.places (a / PAGE_SIZE) (Some (length p.firsts))) (get_or (p.firsts ++ a ∷ []) q 0 / PAGE_SIZE) None ≡ Some q
+    place q h true t =
+        let l = ltb-true q (length p.firsts) t in
+        let first = get_or_append_left p.firsts (a ∷ []) 0 q l in
+        rw first (old l (get_or p.firsts q 0 / PAGE_SIZE == a / PAGE_SIZE) refl)
+      where
+        old : q < length p.firsts → (u : Bool) → (get_or p.firsts q 0 / PAGE_SIZE == a / PAGE_SIZE) ≡ u
+            → get_or (set p.places (a / PAGE_SIZE) (Some (length p.firsts))) (get_or p.firsts q 0 / PAGE_SIZE) None ≡ Some q
+        old l true u =
+            let same = eqb-true _ _ u in
+            absurd (let g : None ≡ Some q = sym absent ∙ ap (λ (m : ℕ). get_or p.places m None) (sym same) ∙ x.place q l in cc)
+        old l false u = get_or-set_other p.places (a / PAGE_SIZE) (get_or p.firsts q 0 / PAGE_SIZE) (Some (length p.firsts)) None (eqb-false _ _ u) ∙ x.place q l
+    place q h false t =
+        let l = ltb-false q (length p.firsts) t in
+        let last : length p.firsts ≡ q = omega arith in
+        rw (get_or_push p.firsts a 0 q last, get_or-set_same p.places (a / PAGE_SIZE) (Some (length p.firsts)) None room) (ap Some last)
+
+-- the spot of an address elsewhere stays, and what is added is blank
+page_spot_of : (p : Pages) (a b : ℕ) → a / PAGE_SIZE < length p.places → get_or p.places (a / PAGE_SIZE) None ≡ None
+    → ((spot_of (with_page p a) b ≡ spot_of p b) ⊎ ((spot_of p b ≡ None) × (spot_of (with_page p a) b ≡ Some (length p.firsts * PAGE_SIZE + b % PAGE_SIZE))))
+page_spot_of p a b room absent = go (b / PAGE_SIZE == a / PAGE_SIZE) refl
+  where
+    go : (t : Bool) → (b / PAGE_SIZE == a / PAGE_SIZE) ≡ t
+        → ((spot_of (with_page p a) b ≡ spot_of p b) ⊎ ((spot_of p b ≡ None) × (spot_of (with_page p a) b ≡ Some (length p.firsts * PAGE_SIZE + b % PAGE_SIZE))))
+    go false t = inl (ap (λ (o : Option ℕ). spot_in o b) (get_or-set_other p.places (a / PAGE_SIZE) (b / PAGE_SIZE) (Some (length p.firsts)) None (eqb-false _ _ t)))
+    go true t =
+        let same : b / PAGE_SIZE ≡ a / PAGE_SIZE = eqb-true _ _ t in
+        inr (both same)
+      where
+        both : b / PAGE_SIZE ≡ a / PAGE_SIZE → (spot_of p b ≡ None) × (spot_of (with_page p a) b ≡ Some (length p.firsts * PAGE_SIZE + b % PAGE_SIZE))
+        both same = (
+          ap (λ (o : Option ℕ). spot_in o b) (ap (λ (m : ℕ). get_or p.places m None) same ∙ absent),
+          ap (λ (o : Option ℕ). spot_in o b) (ap (λ (m : ℕ). get_or (set p.places (a / PAGE_SIZE) (Some (length p.firsts))) m None) same ∙ get_or-set_same p.places (a / PAGE_SIZE) (Some (length p.firsts)) None room),
+        )
+
+page_byte_of : (p : Pages) (a b : ℕ) → ArePages p → a / PAGE_SIZE < length p.places → get_or p.places (a / PAGE_SIZE) None ≡ None → byte_of (with_page p a) b ≡ byte_of p b
+page_byte_of p a b x room absent = go (page_spot_of p a b room absent)
+  where
+    old : (o : Option ℕ) → spot_of p b ≡ o → byte_at_spot (p.bytes ++ zeros PAGE_SIZE) o ≡ byte_at_spot p.bytes o
+    old None e = refl
+    old (Some s) e = get_or_append_left p.bytes (zeros PAGE_SIZE) 0 s (let q = spot_owned p b s x e in omega (arith, x.owners))
+
+    go : ((spot_of (with_page p a) b ≡ spot_of p b) ⊎ ((spot_of p b ≡ None) × (spot_of (with_page p a) b ≡ Some (length p.firsts * PAGE_SIZE + b % PAGE_SIZE)))) → byte_of (with_page p a) b ≡ byte_of p b
+    go (inl e) = ap (byte_at_spot (p.bytes ++ zeros PAGE_SIZE)) e ∙ old (spot_of p b) refl
+    go (inr e) =
+        let at : length p.firsts * PAGE_SIZE + b % PAGE_SIZE ≡ length p.bytes + b % PAGE_SIZE = omega (arith, x.bytes) in
+        ap (byte_at_spot (p.bytes ++ zeros PAGE_SIZE)) e.1 ∙ ap (λ (j : ℕ). get_or (p.bytes ++ zeros PAGE_SIZE) j 0) at ∙ get_or-append-add p.bytes (zeros PAGE_SIZE) (b % PAGE_SIZE) 0 ∙ get_or-zeros PAGE_SIZE (b % PAGE_SIZE) ∙ sym (ap (byte_at_spot p.bytes) e.0)
+
+page_owner_of : (p : Pages) (a b : ℕ) → ArePages p → a / PAGE_SIZE < length p.places → get_or p.places (a / PAGE_SIZE) None ≡ None → owner_of (with_page p a) b ≡ owner_of p b
+page_owner_of p a b x room absent = go (page_spot_of p a b room absent)
+  where
+    old : (o : Option ℕ) → spot_of p b ≡ o → owner_at_spot (p.owners ++ no_places PAGE_SIZE) o ≡ owner_at_spot p.owners o
+    old None e = refl
+    old (Some s) e = get_or_append_left p.owners (no_places PAGE_SIZE) None s (spot_owned p b s x e)
+
+    go : ((spot_of (with_page p a) b ≡ spot_of p b) ⊎ ((spot_of p b ≡ None) × (spot_of (with_page p a) b ≡ Some (length p.firsts * PAGE_SIZE + b % PAGE_SIZE)))) → owner_of (with_page p a) b ≡ owner_of p b
+    go (inl e) = ap (owner_at_spot (p.owners ++ no_places PAGE_SIZE)) e ∙ old (spot_of p b) refl
+    go (inr e) =
+        let at : length p.firsts * PAGE_SIZE + b % PAGE_SIZE ≡ length p.owners + b % PAGE_SIZE = omega (arith, x.bytes, x.owners) in
+        ap (owner_at_spot (p.owners ++ no_places PAGE_SIZE)) e.1 ∙ ap (λ (j : ℕ). get_or (p.owners ++ no_places PAGE_SIZE) j None) at ∙ get_or-append-add p.owners (no_places PAGE_SIZE) (b % PAGE_SIZE) None ∙ get_or-no_places PAGE_SIZE (b % PAGE_SIZE) ∙ sym (ap (owner_at_spot p.owners) e.0)
+
+pub page_ready : (p new : Pages) (a at : ℕ) → ArePages p → a / PAGE_SIZE < length p.places → spot_of p a ≡ None → new ≡ with_page p a → at ≡ length p.firsts * PAGE_SIZE + a % PAGE_SIZE → Ready p new a at
+page_ready p new a at x room e n s = rw (n, s) (made (absent (get_or p.places (a / PAGE_SIZE) None) refl e))
+  where
+    absent : (o : Option ℕ) → get_or p.places (a / PAGE_SIZE) None ≡ o → spot_in o a ≡ None → get_or p.places (a / PAGE_SIZE) None ≡ None
+    absent None o e = o
+    absent (Some q) o e = absurd (cc)
+
+    made : get_or p.places (a / PAGE_SIZE) None ≡ None → Ready p (with_page p a) a (length p.firsts * PAGE_SIZE + a % PAGE_SIZE)
+    made absent = record {
+      sound = page_sound p a x room absent;
+      spot = ap (λ (o : Option ℕ). spot_in o a) (get_or-set_same p.places (a / PAGE_SIZE) (Some (length p.firsts)) None room);
+      places = length-set p.places (a / PAGE_SIZE) (Some (length p.firsts));
+      byte = λ b. page_byte_of p a b x room absent;
+      owner = λ b. page_owner_of p a b x room absent;
+      firsts = λ q h. firsts q (omega (arith, length-append p.firsts (a ∷ []))) (nat_lt q (length p.firsts)) refl;
+    }
+      where
+        firsts : (q : ℕ) → q < length p.firsts + 1 → (t : Bool) → nat_lt q (length p.firsts) ≡ t
+            → ((q < length p.firsts) × (get_or (p.firsts ++ a ∷ []) q 0 ≡ get_or p.firsts q 0)) ⊎ (get_or (p.firsts ++ a ∷ []) q 0 ≡ a)
+        firsts q h true t = let l = ltb-true q (length p.firsts) t in inl ((l, get_or_append_left p.firsts (a ∷ []) 0 q l))
+        firsts q h false t = let l = ltb-false q (length p.firsts) t in inr (get_or_push p.firsts a 0 q (omega arith))
+
+pub spot_ready : (p : Pages) (a at : ℕ) → ArePages p → spot_of p a ≡ Some at → Ready p p a at
+spot_ready p a at x e = record { sound = x; spot = e; places = refl; byte = λ b. refl; owner = λ b. refl; firsts = λ q h. inl ((h, refl)) }
+
+-- ---- a byte is claimed
+
+pub claimed : (old mid new : Pages) (a at byte i : ℕ) → AreUsed old → Ready old mid a at → new ≡ record mid { bytes = set mid.bytes at byte; owners = set mid.owners at (Some i) } → Claimed old new a byte i
+claimed old mid new a at byte i used r n = rw n made
+  where
+    other : (b : ℕ) → b ≢ a → (o : Option ℕ) → spot_of mid b ≡ o
+        → (byte_at_spot (set mid.bytes at byte) o ≡ byte_at_spot mid.bytes o) × (owner_at_spot (set mid.owners at (Some i)) o ≡ owner_at_spot mid.owners o)
+    other b ne None e = (refl, refl)
+    other b ne (Some s) e =
+        let apart : s ≢ at = λ f. let g : Some s ≡ Some (at + 0) = ap Some (omega arith) in absurd (ne (let h = spot_back mid a at b 0 r.sound r.spot (omega arith) (e ∙ g) in omega arith)) in
+        (get_or-set_other mid.bytes at s byte 0 apart, get_or-set_other mid.owners at s (Some i) None apart)
+
+    byte_there : (b : ℕ) → b ≢ a → byte_at_spot (set mid.bytes at byte) (spot_of mid b) ≡ byte_of old b
+    byte_there b ne = (other b ne (spot_of mid b) refl).0 ∙ r.byte b
+
+    owner_there : (b : ℕ) → b ≢ a → owner_at_spot (set mid.owners at (Some i)) (spot_of mid b) ≡ owner_of old b
+    owner_there b ne = (other b ne (spot_of mid b) refl).1 ∙ r.owner b
+
+    owner_here : owner_at_spot (set mid.owners at (Some i)) (spot_of mid a) ≡ Some i
+    owner_here = ap (owner_at_spot (set mid.owners at (Some i))) r.spot ∙ get_or-set_same mid.owners at (Some i) None (spot_owned mid a at r.sound r.spot)
+
+    byte_here : byte_at_spot (set mid.bytes at byte) (spot_of mid a) ≡ byte
+    byte_here = ap (byte_at_spot (set mid.bytes at byte)) r.spot ∙ get_or-set_same mid.bytes at byte 0 (let q = spot_owned mid a at r.sound r.spot in omega (arith, (r.sound).owners))
+
+    has : (b : ℕ) → (owner_of old b ≡ None → ⊥) → (t : Bool) → (b == a) ≡ t → owner_at_spot (set mid.owners at (Some i)) (spot_of mid b) ≡ None → ⊥
+    has b own true t e = let same = eqb-true b a t in absurd (let g : Some i ≡ None = sym owner_here ∙ ap (λ (c : ℕ). owner_at_spot (set mid.owners at (Some i)) (spot_of mid c)) (sym same) ∙ e in cc)
+    has b own false t e = own (sym (owner_there b (eqb-false b a t)) ∙ e)
+
+    first : (q : ℕ) → ((q < length old.firsts) × (get_or mid.firsts q 0 ≡ get_or old.firsts q 0)) ⊎ (get_or mid.firsts q 0 ≡ a)
+        → owner_at_spot (set mid.owners at (Some i)) (spot_of mid (get_or mid.firsts q 0)) ≡ None → ⊥
+    first q (inl p) e = has (get_or old.firsts q 0) (used.used q p.0) (get_or old.firsts q 0 == a) refl (ap (λ (c : ℕ). owner_at_spot (set mid.owners at (Some i)) (spot_of mid c)) (sym p.1) ∙ e)
+    first q (inr p) e = absurd (let g : Some i ≡ None = sym owner_here ∙ ap (λ (c : ℕ). owner_at_spot (set mid.owners at (Some i)) (spot_of mid c)) (sym p) ∙ e in cc)
+
+    blank : (b : ℕ) → owner_at_spot (set mid.owners at (Some i)) (spot_of mid b) ≡ None → (t : Bool) → (b == a) ≡ t → byte_at_spot (set mid.bytes at byte) (spot_of mid b) ≡ 0
+    blank b e true t = let same = eqb-true b a t in absurd (let g : Some i ≡ None = sym owner_here ∙ ap (λ (c : ℕ). owner_at_spot (set mid.owners at (Some i)) (spot_of mid c)) (sym same) ∙ e in cc)
+    blank b e false t = let ne = eqb-false b a t in byte_there b ne ∙ used.blank b (sym (owner_there b ne) ∙ e)
+
+    made : Claimed old (record mid { bytes = set mid.bytes at byte; owners = set mid.owners at (Some i) }) a byte i
+    made = record {
+      sound = record {
+        number = (r.sound).number;
+        place = (r.sound).place;
+        bytes = length-set mid.bytes at byte ∙ (r.sound).bytes;
+        owners = length-set mid.owners at (Some i) ∙ (r.sound).owners ∙ sym (length-set mid.bytes at byte);
+      };
+      used = record { used = λ q h e. first q (r.firsts q h) e; blank = λ b e. blank b e (b == a) refl };
+      places = r.places;
+      byte_here = byte_here;
+      owner_here = owner_here;
+      byte_there = byte_there;
+      owner_there = owner_there;
+    }
+
+-- ---- a run of bytes is filled
+
+pub filled_none : (p : Pages) (start : ℕ) (given : List ℕ) (i : ℕ) → ArePages p → AreUsed p → Filled p p start 0 given i
+filled_none p start given i x u = record {
+  sound = x;
+  used = u;
+  places = refl;
+  byte_inside = λ k h. absurd (omega arith);
+  owner_inside = λ k h. absurd (omega arith);
+  byte_outside = λ b o. refl;
+  owner_outside = λ b o. refl;
+}
+
+pub filled_more : (old mid new : Pages) (start k : ℕ) (given : List ℕ) (i : ℕ) → Filled old mid start k given i → Claimed mid new (start + k) (get_or given k 0) i → Filled old new start (k + 1) given i
+filled_more old mid new start k given i f c = record {
+  sound = c.sound;
+  used = c.used;
+  places = c.places ∙ f.places;
+  byte_inside = λ j h. byte_inside j h (j == k) refl;
+  owner_inside = λ j h. owner_inside j h (j == k) refl;
+  byte_outside = λ b o. c.byte_there b (away b o) ∙ f.byte_outside b (less b o);
+  owner_outside = λ b o. c.owner_there b (away b o) ∙ f.owner_outside b (less b o);
+}
+  where
+    away : (b : ℕ) → ((b < start) ⊎ (start + (k + 1) ≤ b)) → b ≢ start + k
+    away b (inl o) = omega arith
+    away b (inr o) = omega arith
+
+    less : (b : ℕ) → ((b < start) ⊎ (start + (k + 1) ≤ b)) → ((b < start) ⊎ (start + k ≤ b))
+    less b (inl o) = inl o
+    less b (inr o) = inr (omega arith)
+
+    byte_inside : (j : ℕ) → j < k + 1 → (t : Bool) → (j == k) ≡ t → byte_of new (start + j) ≡ get_or given j 0
+    byte_inside j h true t = let same = eqb-true j k t in rw same c.byte_here
+    byte_inside j h false t = let ne = eqb-false j k t in c.byte_there (start + j) (λ e. ne (omega arith)) ∙ f.byte_inside j (omega (arith, ne))
+
+    owner_inside : (j : ℕ) → j < k + 1 → (t : Bool) → (j == k) ≡ t → owner_of new (start + j) ≡ Some i
+    owner_inside j h true t = let same = eqb-true j k t in rw same c.owner_here
+    owner_inside j h false t = let ne = eqb-false j k t in c.owner_there (start + j) (λ e. ne (omega arith)) ∙ f.owner_inside j (omega (arith, ne))
+
+-- ---- a segment is laid
+
+outside : (p : Pages) (parts : List Part) (spec : SegmentSpec) (d : Part) (a i : ℕ) → length spec.bytes.now ≤ spec.size → AreApart (segments_at (byte_of p) parts ++ segment_of spec ∷ [])
+    → i < length parts → covers (get_or parts i d) a 1 ≡ true → ((a < spec.start) ⊎ (spec.start + spec.size ≤ a))
+outside p parts spec d a i fits apart l c = go (nat_lt a spec.start) refl (nat_lt a (spec.start + spec.size)) refl
+  where
+    one : holds (get_or (segments_at (byte_of p) parts ++ segment_of spec ∷ []) i (segment_of spec)) a 1 ≡ true
+    one =
+        rw (
+          get_or_append_left (segments_at (byte_of p) parts) (segment_of spec ∷ []) (segment_of spec) i (omega (arith, length-map parts (segment_at (byte_of p)))),
+          at_part (byte_of p) parts i (segment_of spec) d l,
+          holds_covers (byte_of p) (get_or parts i d) a 1,
+        )
+        c
+
+    two : spec.start ≤ a → a < spec.start + spec.size → holds (get_or (segments_at (byte_of p) parts ++ segment_of spec ∷ []) (length parts) (segment_of spec)) a 1 ≡ true
+    two low high =
+        let size = length-segment_of spec fits in
+        rw (get_or_push (segments_at (byte_of p) parts) (segment_of spec) (segment_of spec) (length parts) (length-map parts (segment_at (byte_of p))), size, le-leb spec.start a low, le-leb (a - spec.start + 1) spec.size (omega arith)) refl
+
+    go : (t : Bool) → nat_lt a spec.start ≡ t → (u : Bool) → nat_lt a (spec.start + spec.size) ≡ u → ((a < spec.start) ⊎ (spec.start + spec.size ≤ a))
+    go true t u v = inl (ltb-true _ _ t)
+    go false t false u = inr (ltb-false _ _ u)
+    go false t true u =
+        let low = ltb-false _ _ t in
+        let high = ltb-true _ _ u in
+        let k = length-append (segments_at (byte_of p) parts) (segment_of spec ∷ []) in
+        let m = length-map parts (segment_at (byte_of p)) in
+        absurd (let e : i ≡ length parts = apart a i (length parts) (segment_of spec) (omega (arith, k, m)) (omega (arith, k, m)) one (two low high) in omega arith)
+
+laid_bytes : (new : Pages) (spec : SegmentSpec) → length spec.bytes.now ≤ spec.size → ((k : ℕ) → k < spec.size → byte_of new (spec.start + k) ≡ get_or spec.bytes.now k 0)
+    → bytes_from (byte_of new) spec.start spec.size ≡ spec.bytes.now ++ zeros (spec.size - length spec.bytes.now)
+laid_bytes new spec fits inside =
+    let n = length-from (byte_of new) spec.start spec.size in
+    let m : length (spec.bytes.now ++ zeros (spec.size - length spec.bytes.now)) ≡ spec.size = omega (arith, length-append spec.bytes.now (zeros (spec.size - length spec.bytes.now)), length-zeros (spec.size - length spec.bytes.now)) in
+    same_number_lists _ _ (n ∙ sym m) (λ k h. let l : k < spec.size = omega (arith, n) in from_at (byte_of new) spec.start spec.size k l ∙ inside k l ∙ each k (nat_lt k (length spec.bytes.now)) refl)
+  where
+    each : (k : ℕ) → (t : Bool) → nat_lt k (length spec.bytes.now) ≡ t → get_or spec.bytes.now k 0 ≡ get_or (spec.bytes.now ++ zeros (spec.size - length spec.bytes.now)) k 0
+    each k true t = sym (get_or_append_left spec.bytes.now (zeros (spec.size - length spec.bytes.now)) 0 k (ltb-true _ _ t))
+    each k false t =
+        let l = ltb-false k (length spec.bytes.now) t in
+        let to : k ≡ length spec.bytes.now + (k - length spec.bytes.now) = omega arith in
+        get_or_past spec.bytes.now k 0 l
+        ∙ sym (ap (λ (j : ℕ). get_or (spec.bytes.now ++ zeros (spec.size - length spec.bytes.now)) j 0) to ∙ get_or-append-add spec.bytes.now (zeros (spec.size - length spec.bytes.now)) (k - length spec.bytes.now) 0 ∙ get_or-zeros (spec.size - length spec.bytes.now) (k - length spec.bytes.now))
+
+abbrev pub part_of : SegmentSpec → Part
+part_of spec = record { start = spec.start; size = spec.size; write = spec.write; exec = spec.exec }
+
+pub lays_more : (p new : Pages) (parts : List Part) (spec : SegmentSpec) (ss : List Segment) → Lays p parts ss → Filled p new spec.start spec.size spec.bytes.now (length parts) → length spec.bytes.now ≤ spec.size
+    → AreApart (segments_at (byte_of p) parts ++ segment_of spec ∷ []) → Lays new (parts ++ part_of spec ∷ []) (segments_at (byte_of p) parts ++ segment_of spec ∷ [])
+lays_more p new parts spec ss lays f fits apart = record {
+  sound = f.sound;
+  used = f.used;
+  owned = record { part = λ a i d e. part a i d e (nat_lt a spec.start) refl (nat_lt a (spec.start + spec.size)) refl; owner = λ a i d l c. owner a i d (omega (arith, length-append parts (part_of spec ∷ []))) c (nat_lt i (length parts)) refl };
+  places = f.places ∙ lays.places;
+  made = map-append (segment_at (byte_of new)) parts (part_of spec ∷ []) ∙ join olds (ap (λ (bs : List ℕ). record { start = spec.start; bytes = bs; write = spec.write; exec = spec.exec }) (laid_bytes new spec fits f.byte_inside));
+}
+  where
+    join : segments_at (byte_of new) parts ≡ segments_at (byte_of p) parts → segment_at (byte_of new) (part_of spec) ≡ segment_of spec
+        → segments_at (byte_of new) parts ++ segment_at (byte_of new) (part_of spec) ∷ [] ≡ segments_at (byte_of p) parts ++ segment_of spec ∷ []
+    join e g = rw (e, g) refl
+
+    olds : segments_at (byte_of new) parts ≡ segments_at (byte_of p) parts
+    olds =
+        same_lists _ _ (length-map parts (segment_at (byte_of new)) ∙ sym (length-map parts (segment_at (byte_of p))))
+        (λ j t h. let l : j < length parts = omega (arith, length-map parts (segment_at (byte_of new))) in at_part (byte_of new) parts j t no_part l ∙ same j l ∙ sym (at_part (byte_of p) parts j t no_part l))
+      where
+        same : (j : ℕ) → j < length parts → segment_at (byte_of new) (get_or parts j no_part) ≡ segment_at (byte_of p) (get_or parts j no_part)
+        same j l = part_same (byte_of p) (byte_of new) (get_or parts j no_part) (λ k z. let part = get_or parts j no_part in f.byte_outside (part.start + k) (outside p parts spec no_part (part.start + k) j fits apart l (covering part (part.start + k) 1 (omega arith) (omega arith))))
+
+    part : (a i : ℕ) (d : Part) → owner_of new a ≡ Some i → (t : Bool) → nat_lt a spec.start ≡ t → (u : Bool) → nat_lt a (spec.start + spec.size) ≡ u
+        → (i < length (parts ++ part_of spec ∷ [])) × IsTrue (covers (get_or (parts ++ part_of spec ∷ []) i d) a 1)
+    part a i d e true t u v = old (f.owner_outside a (inl (ltb-true _ _ t)))
+      where
+        old : owner_of new a ≡ owner_of p a → (i < length (parts ++ part_of spec ∷ [])) × IsTrue (covers (get_or (parts ++ part_of spec ∷ []) i d) a 1)
+        old s = let q = (lays.owned).part a i d (sym s ∙ e) in (omega (arith, length-append parts (part_of spec ∷ []), q.0), rw (get_or_append_left parts (part_of spec ∷ []) d i q.0) q.1)
+    part a i d e false t false u = old (f.owner_outside a (inr (ltb-false _ _ u)))
+      where
+        old : owner_of new a ≡ owner_of p a → (i < length (parts ++ part_of spec ∷ [])) × IsTrue (covers (get_or (parts ++ part_of spec ∷ []) i d) a 1)
+        old s = let q = (lays.owned).part a i d (sym s ∙ e) in (omega (arith, length-append parts (part_of spec ∷ []), q.0), rw (get_or_append_left parts (part_of spec ∷ []) d i q.0) q.1)
+    part a i d e false t true u =
+        let low = ltb-false _ _ t in
+        let high = ltb-true _ _ u in
+        let to : spec.start + (a - spec.start) ≡ a = omega arith in
+        let mine = rw to at (f.owner_inside (a - spec.start) (omega arith)) in
+        let g : Some (length parts) ≡ Some i = sym mine ∙ e in
+        let last : length parts ≡ i = cc in
+        (omega (arith, length-append parts (part_of spec ∷ [])), rw (get_or_push parts (part_of spec) d i last) (covering (part_of spec) a 1 low (omega arith)))
+
+    owner : (a i : ℕ) (d : Part) → i < length parts + 1 → IsTrue (covers (get_or (parts ++ part_of spec ∷ []) i d) a 1) → (t : Bool) → nat_lt i (length parts) ≡ t → owner_of new a ≡ Some i
+    owner a i d l c true t =
+        let m = ltb-true _ _ t in
+        let k = rw (get_or_append_left parts (part_of spec ∷ []) d i m) at c in
+        f.owner_outside a (outside p parts spec d a i fits apart m k) ∙ (lays.owned).owner a i d m k
+    owner a i d l c false t =
+        let m = ltb-false _ _ t in
+        let last : length parts ≡ i = omega arith in
+        let k = covered (part_of spec) a 1 (rw (get_or_push parts (part_of spec) d i last) at c) in
+        let to : spec.start + (a - spec.start) ≡ a = omega (arith, k.low) in
+        rw to at (f.owner_inside (a - spec.start) (omega (arith, k.high))) ∙ ap Some last
+
+-- nothing is laid at first
+pub lays_none : Lays no_pages [] []
+lays_none = record {
+  sound = record {
+    number = λ n q e. absurd (let g : None ≡ Some q = sym (get_or-no_places PAGE_COUNT n) ∙ e in cc);
+    place = λ q h. absurd (omega arith);
+    bytes = refl;
+    owners = refl;
+  };
+  used = record { used = λ q h e. absurd (omega arith); blank = λ a e. ap (byte_at_spot []) (ap (λ (o : Option ℕ). spot_in o a) (get_or-no_places PAGE_COUNT (a / PAGE_SIZE))) };
+  owned = record {
+    part = λ a i d e. absurd (let g : None ≡ Some i = sym (ap (owner_at_spot []) (ap (λ (o : Option ℕ). spot_in o a) (get_or-no_places PAGE_COUNT (a / PAGE_SIZE)))) ∙ e in cc);
+    owner = λ a i d l c. absurd (omega arith);
+  };
+  places = length-no_places PAGE_COUNT;
+  made = refl;
+}
+
+pub if_ready : (p new : Pages) (a : ℕ) (E : Type 0) (r : Result ℕ E) → ArePages p → a / PAGE_SIZE < length p.places → spot_of p a ≡ None → OnOk r (new ≡ with_page p a)
+    → IfOk r (λ at. at ≡ length p.firsts * PAGE_SIZE + a % PAGE_SIZE) → IfOk r (λ at. Ready p new a at)
+if_ready p new a E (Ok at) x room e n s = page_ready p new a at x room e n s
+if_ready p new a E (Err f) x room e n s = tt
+
+-- ---- the segments of a bus are apart as they are laid one after the other
+
+prefix_apart : (xs ys : List Segment) → AreApart (xs ++ ys) → AreApart xs
+prefix_apart xs ys p a i j d h k x y =
+    let n = length-append xs ys in
+    p a i j d (omega arith) (omega arith) (rw (get_or_append_left xs ys d i h) x) (rw (get_or_append_left xs ys d j k) y)
+
+pub next_apart : (xs : List Segment) (y : Segment) (ys all : List Segment) → all ≡ xs ++ (y ∷ ys) → AreApart all → AreApart (xs ++ y ∷ [])
+next_apart xs y ys all e p = prefix_apart (xs ++ y ∷ []) ys (rw (append_assoc xs (y ∷ []) ys) (rw e at p))
+
+pub rest_of : (specs : List SegmentSpec) (i : ℕ) (d : SegmentSpec) → i < length specs
+    → map segment_of specs ≡ map segment_of (take i specs) ++ (segment_of (get_or specs i d) ∷ map segment_of (drop (suc i) specs))
+rest_of specs i d h =
+    ap (map segment_of) (sym (take-append-drop i specs)) ∙ map-append segment_of (take i specs) (drop i specs)
+    ∙ ap (λ (rest : List SegmentSpec). map segment_of (take i specs) ++ map segment_of rest) (drop-cons specs i d h)
+
+pub relay : (p : Pages) (parts : List Part) (ss : List Segment) → Lays p parts ss → Lays p parts (segments_at (byte_of p) parts)
+relay p parts ss l = record { sound = l.sound; used = l.used; owned = l.owned; places = l.places; made = refl }
+
+whole_apart : (specs : List SegmentSpec) → CanBuild specs → AreApart (built specs).segments
+whole_apart specs c = apart_all (map segment_of specs) (image_ends specs c.fit) c.apart
+
+pub stack_apart : (p : Pages) (parts : List Part) → parts ≡ [] → AreApart (segments_at (byte_of p) parts ++ zeros_at STACK_START STACK_SIZE ∷ [])
+stack_apart p parts e = rw e (one_apart (zeros_at STACK_START STACK_SIZE))
+
+pub pool_apart : (p : Pages) (parts : List Part) (specs : List SegmentSpec) → CanBuild specs → Lays p parts (zeros_at STACK_START STACK_SIZE ∷ []) → AreApart (segments_at (byte_of p) parts ++ zeros_at POOL_START POOL_SIZE ∷ [])
+pool_apart p parts specs c l =
+    rw l.made (next_apart (zeros_at STACK_START STACK_SIZE ∷ []) (zeros_at POOL_START POOL_SIZE) (map segment_of specs) (built specs).segments refl (whole_apart specs c))
+
+pub image_apart : (p : Pages) (parts : List Part) (specs : List SegmentSpec) (i : ℕ) (d : SegmentSpec) → CanBuild specs → i < length specs → Lays p parts (built (take i specs)).segments
+    → AreApart (segments_at (byte_of p) parts ++ segment_of (get_or specs i d) ∷ [])
+image_apart p parts specs i d c h l =
+    rw l.made (
+    next_apart (built (take i specs)).segments (segment_of (get_or specs i d)) (map segment_of (drop (suc i) specs)) (built specs).segments
+    (ap (λ (r : List Segment). zeros_at STACK_START STACK_SIZE ∷ zeros_at POOL_START POOL_SIZE ∷ r) (rest_of specs i d h)) (whole_apart specs c)
+    )
+
+pub laid_as : (p new : Pages) (parts more : List Part) (ss : List Segment) (s : Segment) → Lays p parts ss → Lays new more (segments_at (byte_of p) parts ++ s ∷ []) → Lays new more (ss ++ s ∷ [])
+laid_as p new parts more ss s l m = rw l.made at m
+
+pub laid_more : (p new : Pages) (parts more : List Part) (specs : List SegmentSpec) (i : ℕ) (d : SegmentSpec) → i < length specs → Lays p parts (built (take i specs)).segments
+    → Lays new more (segments_at (byte_of p) parts ++ segment_of (get_or specs i d) ∷ []) → Lays new more (built (take (i + 1) specs)).segments
+laid_more p new parts more specs i d h l m =
+    let e : map segment_of (take (i + 1) specs) ≡ map segment_of (take i specs) ++ segment_of (get_or specs i d) ∷ [] = ap (map segment_of) (take_more specs i d h) ∙ map-append segment_of (take i specs) (get_or specs i d ∷ []) in
+    rw e (laid_as p new parts more (built (take i specs)).segments (segment_of (get_or specs i d)) l m)
+
+pub laid_segments : (p : Pages) (parts : List Part) (specs : List SegmentSpec) → Lays p parts (built (take (length specs) specs)).segments → Lays p parts (built specs).segments
+laid_segments p parts specs l = rw (take-length specs) at l

@@ -1,0 +1,4 @@
+pub mod Flags
+pub mod Flat
+pub mod Pages
+pub mod Paged

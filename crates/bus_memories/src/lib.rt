@@ -1,0 +1,12 @@
+//! The two memories that meet the trait of eh_bus: one of segments, which raw code runs in, and one of pages, which images run in
+//! (docs/memory-map.md).
+#![tactic(auto)]
+
+mod access;
+pub mod flat;
+mod guards;
+pub mod paged;
+mod pages;
+mod part;
+mod segment;
+mod segments;

@@ -1,0 +1,229 @@
+//! Pages of 4,096 bytes, found by their number. Each byte knows the segment that has it.
+ghost use Rattle.std.specs.Prelude.{◌≡◌, ℕ, ◌+◌, ◌-◌, ◌*◌, ◌/◌, ◌%◌, ◌<◌, ◌≤◌, ◌∷◌, [], length, take, drop, ◌++◌, Some, None, IfOk, OnOk, cond, ◌==◌, ◌&&◌, nat_le, nat_lt, slice_index_or, slice_index, slice_set, replicate};
+ghost use Rattle.byteorder.specs.Endian.{little_number, little_bytes};
+ghost use Rattle.eh_bus.specs.Segment.{AreBytes};
+ghost use Rattle.bus_memories.specs.Pages.{Pages as Lists, ArePages, AreUsed, Ready, Claimed, Filled, with_page, no_pages, no_places, spot_of, byte_of, owner_of};
+
+use crate::segment::{put8, put16, put32};
+use byteorder::{ByteOrder, LittleEndian};
+use eh_bus::map::{PAGE_COUNT, PAGE_SIZE, STACK_END};
+use eh_list::bytes::push_zeros;
+use std::alloc::{AllocError, Global};
+use std::marker::Model;
+
+/// The pages that hold a byte of some segment.
+#[derive(Drop)]
+pub(crate) struct Pages {
+    places: Vec<Option<u32>>,
+    firsts: Vec<u32>,
+    bytes: Vec<u8>,
+    owners: Vec<Option<u32>>,
+}
+
+impl Model for Pages {
+    ghost use Rattle.bus_memories.specs.Pages.{Pages as Lists};
+
+    ghost Value = { Lists };
+
+    ghost view = { λ p. record { places = p.places.items; firsts = p.firsts.items; bytes = p.bytes.items; owners = p.owners.items } };
+}
+
+impl Pages {
+    /// No pages, and room for the places of all.
+    pub(crate) fn new(alloc: Global) -> Result<Self, AllocError>
+        ensures { IfOk result (λ p. p ≡ no_pages) }
+    {
+        let places = no_places(alloc, PAGE_COUNT as usize)?;
+        Ok(Pages {
+            places,
+            firsts: Vec::new(alloc),
+            bytes: Vec::new(alloc),
+            owners: Vec::new(alloc),
+        })
+    }
+
+    /// How many pages there are.
+    pub(crate) fn count(&self) -> usize
+        ensures { result ≡ length self.now.firsts }
+    {
+        self.firsts.len()
+    }
+
+    /// The place of a page.
+    pub(crate) fn place(&self, number: usize) -> Option<u32>
+        ensures { result ≡ slice_index_or self.now.places number None }
+    {
+        if number < self.places.len() {
+            self.places[number]
+        } else {
+            None
+        }
+    }
+
+    /// Where the byte at `a` stands.
+    pub(crate) fn spot(&self, a: u32) -> Option<usize>
+        ensures { result ≡ spot_of self.now a }
+    {
+        match self.place((a / PAGE_SIZE) as usize) {
+            Some(place) => Some(place as usize * PAGE_SIZE as usize + (a % PAGE_SIZE) as usize),
+            None => None,
+        }
+    }
+
+    /// The segment that has the byte at a spot.
+    pub(crate) fn owner(&self, at: usize) -> Option<u32>
+        requires { at < length self.now.owners }
+        ensures { result ≡ slice_index_or self.now.owners at None }
+    {
+        self.owners[at]
+    }
+
+    /// The bytes of a page, by its place.
+    pub(crate) fn page(&self, place: u32) -> &[u8]
+        requires { place * PAGE_SIZE + PAGE_SIZE ≤ length self.now.bytes }
+        ensures sized { length result.now ≡ PAGE_SIZE }
+        ensures byte { (k : ℕ) → k < PAGE_SIZE → slice_index result.now k ≡ slice_index self.now.bytes (place * PAGE_SIZE + k) }
+    {
+        let start = place as usize * PAGE_SIZE as usize;
+        &self.bytes[start..start + PAGE_SIZE as usize]
+    }
+
+    pub(crate) fn load8(&self, at: usize) -> u8
+        requires { at + 1 ≤ length self.now.bytes }
+        ensures { result ≡ little_number 1 (drop at self.now.bytes) }
+    {
+        self.bytes[at]
+    }
+
+    pub(crate) fn load16(&self, at: usize) -> u16
+        requires { at + 2 ≤ length self.now.bytes }
+        ensures { result ≡ little_number 2 (drop at self.now.bytes) }
+    {
+        LittleEndian::read_u16(&self.bytes[at..])
+    }
+
+    pub(crate) fn load32(&self, at: usize) -> u32
+        requires { at + 4 ≤ length self.now.bytes }
+        ensures { result ≡ little_number 4 (drop at self.now.bytes) }
+    {
+        LittleEndian::read_u32(&self.bytes[at..])
+    }
+
+    pub(crate) fn store8(&mut self, at: usize, v: u8)
+        requires { at + 1 ≤ length self.old.bytes }
+        ensures { self.new ≡ record self.old { bytes = take at self.old.bytes ++ (little_bytes 1 v ++ drop (at + 1) self.old.bytes) } }
+    {
+        put8(&mut self.bytes, at, v);
+    }
+
+    pub(crate) fn store16(&mut self, at: usize, v: u16)
+        requires { at + 2 ≤ length self.old.bytes }
+        ensures { self.new ≡ record self.old { bytes = take at self.old.bytes ++ (little_bytes 2 v ++ drop (at + 2) self.old.bytes) } }
+    {
+        put16(&mut self.bytes, at, v);
+    }
+
+    pub(crate) fn store32(&mut self, at: usize, v: u32)
+        requires { at + 4 ≤ length self.old.bytes }
+        ensures { self.new ≡ record self.old { bytes = take at self.old.bytes ++ (little_bytes 4 v ++ drop (at + 4) self.old.bytes) } }
+    {
+        put32(&mut self.bytes, at, v);
+    }
+
+    /// Adds the page of `a`, which is not there yet, all zeros and with no owner. Answers the spot of `a`.
+    fn add_page(&mut self, a: u32) -> Result<usize, AllocError>
+        requires { a / PAGE_SIZE < length self.old.places }
+        ensures page { OnOk result (self.new ≡ with_page self.old a) }
+        ensures spot { IfOk result (λ at. at ≡ length self.old.firsts * PAGE_SIZE + a % PAGE_SIZE) }
+    {
+        let Ok(place) = u32::try_from(self.firsts.len()) else {
+            return Err(AllocError);
+        };
+        self.firsts.push(a)?;
+        push_zeros(&mut self.bytes, PAGE_SIZE as usize)?;
+        push_unowned(&mut self.owners, PAGE_SIZE as usize)?;
+        self.places[(a / PAGE_SIZE) as usize] = Some(place);
+        Ok(place as usize * PAGE_SIZE as usize + (a % PAGE_SIZE) as usize)
+    }
+
+    /// The spot of `a`, whose page is added where it is not there.
+    fn ready(&mut self, a: u32) -> Result<usize, AllocError>
+        requires room { a / PAGE_SIZE < length self.old.places }
+        requires sound { ArePages self.old }
+        ensures { IfOk result (λ at. Ready self.old self.new a at) }
+    {
+        match self.spot(a) {
+            Some(at) => Ok(at),
+            None => self.add_page(a),
+        }
+    }
+
+    /// Gives the byte at a spot a value and an owner.
+    fn set(&mut self, at: usize, byte: u8, owner: u32)
+        requires bytes { at < length self.old.bytes }
+        requires owners { at < length self.old.owners }
+        ensures { self.new ≡ record self.old { bytes = slice_set self.old.bytes at byte; owners = slice_set self.old.owners at (Some owner) } }
+    {
+        self.bytes[at] = byte;
+        self.owners[at] = Some(owner);
+    }
+
+    /// Gives the byte at `a` a value and an owner.
+    fn claim(&mut self, a: u32, byte: u8, owner: u32) -> Result<(), AllocError>
+        requires room { a / PAGE_SIZE < length self.old.places }
+        requires sound { ArePages self.old }
+        requires used { AreUsed self.old }
+        ensures { OnOk result (Claimed self.old self.new a byte owner) }
+    {
+        let at = self.ready(a)?;
+        self.set(at, byte, owner);
+        Ok(())
+    }
+
+    /// Gives the bytes from `start` on these values, then zeros, and an owner.
+    pub(crate) fn fill(
+        &mut self,
+        start: u32,
+        size: u32,
+        given: &[u8],
+        owner: u32,
+    ) -> Result<(), AllocError>
+        requires ends { start + size ≤ STACK_END }
+        requires room { length self.old.places ≡ PAGE_COUNT }
+        requires sound { ArePages self.old }
+        requires used { AreUsed self.old }
+        ensures filled { OnOk result (Filled self.old self.new start size given.now owner) }
+        ensures bytes { AreBytes given.now }
+    {
+        for k in 0..size {
+            let byte = byte_or_zero(given, k as usize);
+            self.claim(start + k, byte, owner)?;
+        }
+        Ok(())
+    }
+}
+
+/// The byte at a place, or 0 behind the last.
+fn byte_or_zero(given: &[u8], k: usize) -> u8
+    ensures { result ≡ slice_index given.now k }
+{
+    if k < given.len() { given[k] } else { 0 }
+}
+
+/// Adds bytes that no segment has. Without memory nothing is added.
+#[tactic(auto, unfolding(crate::specs::Pages::no_places))]
+fn push_unowned(owners: &mut Vec<Option<u32>>, count: usize) -> Result<(), AllocError>
+    ensures { OnOk result (owners.new.items ≡ owners.old.items ++ no_places count) }
+{
+    match owners.len().checked_add(count) {
+        Some(len) => owners.resize(len, None),
+        None => Err(AllocError),
+    }
+}
+
+#[tactic(auto, unfolding(crate::specs::Pages::no_places))]
+fn no_places(alloc: Global, n: usize) -> Result<Vec<Option<u32>>, AllocError>
+    ensures { IfOk result (λ places. places.items ≡ no_places n) }
+{
+    vec![in alloc; None; n]
+}

@@ -1,0 +1,124 @@
+//! The segments of a bus in one vector, searched from the front.
+ghost use Rattle.std.specs.Prelude.{◌≡◌, ℕ, ◌+◌, ◌-◌, ◌%◌, ◌^◌, ◌<◌, ◌≤◌, ◌∷◌, [], length, take, map, ◌++◌, slice_index_or, Option, Some, IfSome, IfNone, IfOk, All};
+ghost use Rattle.std.specs.List.{position_from};
+ghost use Rattle.eh_bus.specs.Segment.{Segment as Bytes, AreBytes, holds};
+ghost use Rattle.eh_bus.specs.Memory.{fault_in, written};
+ghost use Rattle.eh_bus.specs.Built.{CanBuild, built};
+ghost use Rattle.eh_bus.specs.Map.{AreApart, AreSegments};
+ghost use Rattle.eh_bus.specs.declared.segment.SegmentSpec.{SegmentSpec as Spec};
+ghost use Rattle.eh_bus.specs.Place.{IsPlace};
+ghost use Rattle.eh_bus.specs.declared.fault.BusFault.{BusFault};
+ghost use Rattle.eh_bus.specs.declared.fault.BusFault.TheVariants.{Unmapped};
+
+use crate::segment::Segment;
+use eh_bus::map::{POOL_SIZE, POOL_START, STACK_SIZE, STACK_START};
+use eh_bus::segment::SegmentSpec;
+use std::alloc::{AllocError, Global};
+use std::marker::Model;
+
+/// The segments of a bus: the stack, the pool, and those of the image.
+#[derive(Drop)]
+pub(crate) struct Segments {
+    all: Vec<Segment>,
+}
+
+impl Model for Segments {
+    ghost use Rattle.std.specs.Prelude.{List};
+    ghost use Rattle.eh_bus.specs.Segment.{Segment as Bytes};
+
+    ghost Value = { List Bytes };
+
+    ghost view = { λ s. s.all.items };
+}
+
+impl Segments {
+    /// The stack and the pool, zeros both, and the segments that are asked for.
+    pub(crate) fn build(alloc: Global, specs: &[SegmentSpec]) -> Result<Self, AllocError>
+        requires { CanBuild specs.now }
+        ensures built { IfOk result (λ segments. segments ≡ (built specs.now).segments) }
+        ensures bytes { IfOk result (λ segments. All (λ (spec : Spec). AreBytes spec.bytes.now) specs.now) }
+    {
+        let mut all = Vec::new(alloc);
+        all.push(Segment::zeros(alloc, STACK_START, STACK_SIZE)?)?;
+        all.push(Segment::zeros(alloc, POOL_START, POOL_SIZE)?)?;
+        for spec in specs {
+            all.push(Segment::of(alloc, spec)?)?;
+        }
+        Ok(Segments { all })
+    }
+
+    pub(crate) fn get(&self, i: usize) -> &Segment
+        requires { i < length self.now }
+        ensures { result.now ≡ slice_index_or self.now i result.now }
+    {
+        &self.all[i]
+    }
+
+    /// The first segment that holds the `n` bytes from `a` on.
+    #[tactic(auto, using(crate::proofs::Places::unmapped))]
+    pub(crate) fn place_of(&self, a: u32, n: u32) -> Option<usize>
+        ensures place { IfSome result (IsPlace n self.now a) }
+        ensures unmapped { IfNone result ((f : Bytes → Option BusFault) → fault_in f n self.now a ≡ Some (Unmapped a)) }
+    {
+        self.position(a, n)
+    }
+
+    /// The segment that holds the halfword at `a`, where code is looked for: in the image's segments first.
+    #[tactic(auto, using(crate::proofs::Places::by_holding, crate::proofs::Places::unmapped))]
+    pub(crate) fn place_of_code(&self, a: u32) -> Option<usize>
+        requires { AreApart self.now }
+        ensures place { IfSome result (IsPlace 2 self.now a) }
+        ensures unmapped { IfNone result ((f : Bytes → Option BusFault) → fault_in f 2 self.now a ≡ Some (Unmapped a)) }
+    {
+        for i in 2..self.all.len() {
+            if self.all[i].holds(a, 2) {
+                return Some(i);
+            }
+        }
+        self.place_of(a, 2)
+    }
+
+    fn position(&self, a: u32, n: u32) -> Option<usize>
+        ensures { result ≡ position_from (λ s. holds s a n) 0 self.now }
+    {
+        for (i, s) in self.all.iter().enumerate() {
+            if s.holds(a, n) {
+                return Some(i);
+            }
+        }
+        None
+    }
+
+    /// Stores a byte at its place.
+    #[tactic(auto, using(eh_bus::proofs::Kept::kept))]
+    pub(crate) fn write8(&mut self, i: usize, a: u32, v: u8)
+        requires { IsPlace 1 self.old a i }
+        ensures written { self.new ≡ written 1 self.old a v }
+        ensures kept { AreSegments self.old → AreSegments self.new }
+    {
+        let segment = &mut self.all[i];
+        segment.store8(a, v);
+    }
+
+    /// Stores a halfword at its place.
+    #[tactic(auto, using(eh_bus::proofs::Kept::kept))]
+    pub(crate) fn write16(&mut self, i: usize, a: u32, v: u16)
+        requires { IsPlace 2 self.old a i }
+        ensures written { self.new ≡ written 2 self.old a v }
+        ensures kept { AreSegments self.old → AreSegments self.new }
+    {
+        let segment = &mut self.all[i];
+        segment.store16(a, v);
+    }
+
+    /// Stores a word at its place.
+    #[tactic(auto, using(eh_bus::proofs::Kept::kept))]
+    pub(crate) fn write32(&mut self, i: usize, a: u32, v: u32)
+        requires { IsPlace 4 self.old a i }
+        ensures written { self.new ≡ written 4 self.old a v }
+        ensures kept { AreSegments self.old → AreSegments self.new }
+    {
+        let segment = &mut self.all[i];
+        segment.store32(a, v);
+    }
+}

@@ -1,5 +1,0 @@
-use Rattle.eh_bus.proofs.FlagLemmas.{set_flags}
-use Rattle.eh_bus.proofs.guards.set_bit.Goals as goal
-
-pub returns-clause-flags : goal.returns-clause-flags
-returns-clause-flags c = set_flags c.args.numbers.now c.args.i c.requires

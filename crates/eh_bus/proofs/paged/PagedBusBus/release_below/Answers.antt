@@ -1,9 +1,0 @@
-use Rattle.eh_bus.proofs.FlagLemmas.{filter_rises}
-use Rattle.eh_bus.proofs.CallLaws.{guards_keep_map}
-use Rattle.eh_bus.proofs.paged.PagedBusBus.release_below.Goals as goal
-
-pub invariant_of-self-clause-rising : goal.invariant_of-self-clause-rising
-invariant_of-self-clause-rising c = rw c.release_below.ensures (filter_rises _ _ _ c.args.self.now.rising)
-
-pub returns-clause-keeps : goal.returns-clause-keeps
-returns-clause-keeps c = guards_keep_map _ _

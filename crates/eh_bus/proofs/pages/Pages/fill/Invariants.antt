@@ -1,5 +1,0 @@
-use Rattle.eh_bus.specs.Pages.{Filled}
-use Rattle.eh_bus.proofs.pages.Pages.fill.Given as goal
-
-abbrev pub invariant-loop-k : goal.invariant-loop-k
-invariant-loop-k l = Filled l.initial.self l.self l.start l.k l.given l.owner

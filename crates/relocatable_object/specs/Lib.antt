@@ -1,0 +1,4 @@
+pub mod Sections
+pub mod Names
+pub mod Relocations
+pub mod Fields
