@@ -32,7 +32,7 @@ use Rattle.steps_keep.specs.frame_check.Roots.{scene_of}
 use Rattle.steps_keep.specs.frame_check.Spots.{look}
 use Rattle.steps_keep.proofs.frame_check.Wells.{placed_at}
 use Rattle.steps_keep.specs.two_machines.Machine.{sp_end, leaves_cleanup}
-use Rattle.steps_keep.specs.two_machines.Activations.{Caller, Activation, Recorded, reg_in, memory_of, guarded_of, heads}
+use Rattle.steps_keep.specs.two_machines.Activations.{Caller, Activation, Recorded, reg_in, memory_of, guarded_of, heads, lists_of, cleanups_in, InProgress}
 use Rattle.steps_keep.specs.two_machines.ActivationMachine.{settled_in, returned}
 use Rattle.steps_keep.specs.two_machines.RecordedSlots.{FindsCaller}
 use Rattle.steps_keep.specs.two_machines.Checked.{program_of}
@@ -48,7 +48,7 @@ use Rattle.accesses_keep.proofs.Left.{stands_behind}
 use Rattle.steps_keep.proofs.stands_for.Slots.{first_slots, none_or}
 use Rattle.steps_keep.proofs.stands_for.Onward.{settled_is, map_left}
 use Rattle.accesses_keep.proofs.Returns.{caller_same}
-use Rattle.steps_keep.proofs.stands_for.Written.{SameClosed, AreSmall, with_gs, same_word, same_goal, linked_small}
+use Rattle.steps_keep.proofs.stands_for.Written.{SameClosed, AreSmall, with_gs, same_word, same_goal, linked_small, landings_rise}
 
 none_there : (gs : List ℕ) → ((g : ℕ) → Has gs g → ⊥) → gs ≡ []
 none_there [] h = refl
@@ -123,34 +123,26 @@ module _ (x : Accepted) (is : IsProgram x) (s : Recorded) (k : Keeps x s) (at : 
     held g n c low (inl here) = absurd (let below = here.1.below in omega (arith, below, low, sp_is))
     held g n c low (inr outside) = subst (IsHeld x s.segments g n c) out outside.1
 
-    in_progress : (low up : ℕ) (places : List ℕ) (cleanups : List Cleanup) → AreSmall cleanups → new ≤ up → IsWithin up cleanups → AreInProgress x s low places cleanups → AreInProgress x t up places cleanups
-    in_progress low up [] [] small h w p = tt
-    in_progress low up [] (c ∷ later) small h w p = p
-    in_progress low up (n ∷ places) [] small h w p = p
-    in_progress low up (n ∷ places) (c ∷ later) small h w p =
+    in_progress : (low up : ℕ) (cleanups : List InProgress) → AreSmall (cleanups_in cleanups) → new ≤ up → IsWithin up (cleanups_in cleanups) → AreInProgress x s low cleanups → AreInProgress x t up cleanups
+    in_progress low up [] small h w p = tt
+    in_progress low up (d ∷ later) small h w p =
+        let c = d.cleanup in
         let goal = same_goal s t c.slot closed small.0 in
         let above : new ≤ c.sp = omega (arith, h, w) in (
           w,
-          subst (λ (g : Goal). IsHeld x s.segments g n c (a ∷ more)) goal (held (goal_at s c.slot) n c above p.1),
-          subst (λ (g : Goal). IsWithin g.sp later) goal p.2,
-          in_progress c.sp c.sp places later small.1 above (next places later p.3) p.3,
+          subst (λ (g : Goal). IsHeld x s.segments g d.place c (a ∷ more)) goal (held (goal_at s c.slot) d.place c above p.1),
+          subst (λ (g : Goal). IsWithin g.sp (cleanups_in later)) goal p.2,
+          in_progress c.sp c.sp later small.1 above (landings_rise x s c.sp later p.3) p.3,
         )
-      where
-        next : (places : List ℕ) (later : List Cleanup) → AreInProgress x s c.sp places later → IsWithin c.sp later
-        next [] [] q = tt
-        next [] (d ∷ rest) q = absurd q
-        next (n ∷ places) [] q = tt
-        next (n ∷ places) (d ∷ rest) q = q.0
 
-    at_landing : (cs : List Cleanup) (places : List ℕ) → AreInProgress x s (reg_in s SP) places cs → leaves_cleanup (innermost_in cs) (reg_in s SP) new ≡ false → IsWithin new cs
-    at_landing [] places h l = tt
-    at_landing (c ∷ rest) [] h l = absurd h
-    at_landing (c ∷ rest) (n ∷ later) h l = go (nat_lt (reg_in s SP) new) refl (nat_lt c.sp new) refl l
+    at_landing : (cs : List InProgress) → AreInProgress x s (reg_in s SP) cs → leaves_cleanup (innermost_in (cleanups_in cs)) (reg_in s SP) new ≡ false → IsWithin new (cleanups_in cs)
+    at_landing [] h l = tt
+    at_landing (d ∷ later) h l = go (nat_lt (reg_in s SP) new) refl (nat_lt d.cleanup.sp new) refl l
       where
-        go : (p : Bool) → nat_lt (reg_in s SP) new ≡ p → (q : Bool) → nat_lt c.sp new ≡ q → (p && q) ≡ false → new ≤ c.sp
-        go true d true f z = absurd cc
-        go true d false f z = elim (cases_lt c.sp new) [ inl w ↦ absurd (let t = lt-ltb c.sp new w in cc) | inr w ↦ w ]
-        go false d b f z = elim (cases_lt (reg_in s SP) new) [ inl w ↦ absurd (let t = lt-ltb (reg_in s SP) new w in cc) | inr w ↦ omega (arith, w, h.0) ]
+        go : (p : Bool) → nat_lt (reg_in s SP) new ≡ p → (q : Bool) → nat_lt d.cleanup.sp new ≡ q → (p && q) ≡ false → new ≤ d.cleanup.sp
+        go true e true f z = absurd cc
+        go true e false f z = elim (cases_lt d.cleanup.sp new) [ inl w ↦ absurd (let t = lt-ltb d.cleanup.sp new w in cc) | inr w ↦ w ]
+        go false e b f z = elim (cases_lt (reg_in s SP) new) [ inl w ↦ absurd (let t = lt-ltb (reg_in s SP) new w in cc) | inr w ↦ omega (arith, w, h.0) ]
 
     pc : regs.pc ≡ address_of (scene_of x.image links.0.function) links.0.place + links.0.size
     pc =
@@ -158,12 +150,11 @@ module _ (x : Accepted) (is : IsProgram x) (s : Recorded) (k : Keeps x s) (at : 
         let inside = stands_inside (scene_of x.image links.0.function) links.0.place links.0.instr links.0.size links.0.stands in
         omega (arith, pc_is, links.0.back, placed.low, inside, k.whole.odd)
 
-    left_keeps : leaves_cleanup (innermost_in s.lists.cleanups) (reg_in s SP) new ≡ false → begins_function x.image.functions regs.pc ≡ false → Keeps x t
+    left_keeps : leaves_cleanup (innermost_in (cleanups_in s.cleanups)) (reg_in s SP) new ≡ false → begins_function x.image.functions regs.pc ≡ false → Keeps x t
     left_keeps landing fresh = record {
       corresponds = record {
         map = subst IsMap same_memory (map_left x is s k at i size stands regs (memory_of s) keeps_map k.corresponds.map high);
-        stands = still_stands (memory_of s) (memory_of t) (heads s.lists) s.lists (same_word (memory_of s) (memory_of t) closed) k.corresponds.stands;
-        placed = k.corresponds.placed;
+        stands = still_stands (memory_of s) (memory_of t) (heads (lists_of s)) (lists_of s) (same_word (memory_of s) (memory_of t) closed) k.corresponds.stands;
       };
       counted = k.counted;
       image = k.image;
@@ -175,8 +166,8 @@ module _ (x : Accepted) (is : IsProgram x) (s : Recorded) (k : Keeps x s) (at : 
       first = λ reached. stands_behind x is s.segments caller a links.0 regs k.whole.count sound.words.count saved_is sp_is pc reached fresh;
       beyond = k.beyond;
       chain = links.1;
-      cleanups = in_progress (reg_in s SP) new s.places s.lists.cleanups (linked_small _ _ s.lists.cleanups k.corresponds.stands.shows.cleanups) (omega arith)
-          (at_landing s.lists.cleanups s.places k.cleanups landing) k.cleanups;
+      cleanups = in_progress (reg_in s SP) new s.cleanups (linked_small _ _ (cleanups_in s.cleanups) k.corresponds.stands.shows.cleanups) (omega arith)
+          (at_landing s.cleanups k.cleanups landing) k.cleanups;
     }
 
   -- ---- the event
@@ -187,7 +178,7 @@ module _ (x : Accepted) (is : IsProgram x) (s : Recorded) (k : Keeps x s) (at : 
   abbrev moved : Recorded
   moved = acts.activations_behind (Return caller.back) (acts.settled_at (program_of x) s regs base)
 
-  moved_keeps : (outer : List Activation) → s.outer ≡ outer → leaves_cleanup (innermost_in s.lists.cleanups) (reg_in s SP) new ≡ false → acts.return_end (program_of x) s.regs.pc outer regs ≡ None → Keeps x moved
+  moved_keeps : (outer : List Activation) → s.outer ≡ outer → leaves_cleanup (innermost_in (cleanups_in s.cleanups)) (reg_in s SP) new ≡ false → acts.return_end (program_of x) s.regs.pc outer regs ≡ None → Keeps x moved
   moved_keeps [] e l h = absurd cc
   moved_keeps (a ∷ more) e l h =
       let fell : begins_function x.image.functions regs.pc ≡ false = go (begins_function x.image.functions regs.pc) h in
@@ -200,9 +191,9 @@ module _ (x : Accepted) (is : IsProgram x) (s : Recorded) (k : Keeps x s) (at : 
       go false h = refl
 
   module _ (input : List ℕ) where
-    no_landing : (b : Bool) → leaves_cleanup (innermost_in s.lists.cleanups) (reg_in s SP) new ≡ b
+    no_landing : (b : Bool) → leaves_cleanup (innermost_in (cleanups_in s.cleanups)) (reg_in s SP) new ≡ b
         → cond b (Some (the_end.Trap kind.SpInCleanup new s.regs.pc)) (cond (nat_lt new s.home.0) (Some (the_end.Trap kind.StackLimit new s.regs.pc)) None) ≡ None
-        → leaves_cleanup (innermost_in s.lists.cleanups) (reg_in s SP) new ≡ false
+        → leaves_cleanup (innermost_in (cleanups_in s.cleanups)) (reg_in s SP) new ≡ false
     no_landing true l h = absurd cc
     no_landing false l h = l
 
@@ -210,8 +201,8 @@ module _ (x : Accepted) (is : IsProgram x) (s : Recorded) (k : Keeps x s) (at : 
         → OnEvent x (acts.onward (program_of x) s (acts.tested (program_of x) s (Return caller.back) regs (memory_of s) o) input)
     tested (Some end) e = k
     tested None e =
-        let two = none_or (sp_end (innermost_in s.lists.cleanups) s.home.0 s.regs.pc (reg_in s SP) new) (acts.return_end (program_of x) s.regs.pc s.outer regs) e in
-        moved_keeps s.outer refl (no_landing (leaves_cleanup (innermost_in s.lists.cleanups) (reg_in s SP) new) refl two.0) two.1
+        let two = none_or (sp_end (innermost_in (cleanups_in s.cleanups)) s.home.0 s.regs.pc (reg_in s SP) new) (acts.return_end (program_of x) s.regs.pc s.outer regs) e in
+        moved_keeps s.outer refl (no_landing (leaves_cleanup (innermost_in (cleanups_in s.cleanups)) (reg_in s SP) new) refl two.0) two.1
 
     checked : OnEvent x (acts.onward (program_of x) s (acts.stepped (program_of x) s (step_of s.regs (memory_of s))) input)
     checked =

@@ -19,7 +19,7 @@ use Rattle.steps_keep.specs.frame_check.Judged.{IsPlaced}
 use Rattle.steps_keep.specs.frame_check.Roots.{scene_of}
 use Rattle.steps_keep.specs.frame_check.Spots.{look}
 use Rattle.steps_keep.proofs.frame_check.Wells.{placed_at}
-use Rattle.steps_keep.specs.two_machines.Activations.{Caller, Activation, Recorded, reg_in, memory_of, guarded_of, heads}
+use Rattle.steps_keep.specs.two_machines.Activations.{Caller, Activation, Recorded, reg_in, memory_of, guarded_of, heads, lists_of, cleanups_in, InProgress}
 use Rattle.steps_keep.specs.eh_bus.Lists.{Has}
 use Rattle.steps_keep.specs.eh_bus.Guards.{insert_all}
 use Rattle.steps_keep.specs.eh_bus.Memory.{Memory}
@@ -131,16 +131,15 @@ module _ (x : Accepted) (is : IsProgram x) (s : Recorded) (k : Keeps x s) (at : 
     held g n c low (inl here) = absurd (omega (arith, here.1.below, low, sp_is x is s k at m size stands))
     held g n c low (inr outside) = subst (IsHeld x s.segments g n c) out outside.1
 
-    in_progress : (low : ℕ) (places : List ℕ) (cleanups : List Cleanup) → reg_in s SP ≤ low → AreInProgress x s low places cleanups → AreInProgress x t low places cleanups
-    in_progress low [] [] h p = tt
-    in_progress low [] (c ∷ later) h p = p
-    in_progress low (n ∷ places) [] h p = p
-    in_progress low (n ∷ places) (c ∷ later) h p =
+    in_progress : (low : ℕ) (cleanups : List InProgress) → reg_in s SP ≤ low → AreInProgress x s low cleanups → AreInProgress x t low cleanups
+    in_progress low [] h p = tt
+    in_progress low (d ∷ later) h p =
+        let c = d.cleanup in
         let above : reg_in s SP ≤ c.sp = omega (arith, h, p.0) in (
           p.0,
-          subst (λ g. IsHeld x s.segments g n c (a ∷ more)) (same_goal c.slot) (held (goal_at s c.slot) n c above p.1),
-          subst (λ (g : Goal). IsWithin g.sp later) (same_goal c.slot) p.2,
-          in_progress c.sp places later above p.3,
+          subst (λ g. IsHeld x s.segments g d.place c (a ∷ more)) (same_goal c.slot) (held (goal_at s c.slot) d.place c above p.1),
+          subst (λ (g : Goal). IsWithin g.sp (cleanups_in later)) (same_goal c.slot) p.2,
+          in_progress c.sp later above p.3,
         )
 
     sound : AreSound regs.r regs.pc
@@ -156,8 +155,7 @@ module _ (x : Accepted) (is : IsProgram x) (s : Recorded) (k : Keeps x s) (at : 
     left_keeps fresh = record {
       corresponds = record {
         map = subst IsMap same_memory k.corresponds.map;
-        stands = subst (λ (n : Memory). Stands (word n) (heads s.lists) s.lists) same_memory k.corresponds.stands;
-        placed = k.corresponds.placed;
+        stands = subst (λ (n : Memory). Stands (word n) (heads (lists_of s)) (lists_of s)) same_memory k.corresponds.stands;
       };
       counted = k.counted;
       image = k.image;
@@ -169,7 +167,7 @@ module _ (x : Accepted) (is : IsProgram x) (s : Recorded) (k : Keeps x s) (at : 
       first = λ reached. stands_behind x is s.segments caller a links.0 regs k.whole.count k.sound.words.count (saved_is x is s k at m size stands) (sym (sp_is x is s k at m size stands)) pc reached fresh;
       beyond = k.beyond;
       chain = links.1;
-      cleanups = in_progress (reg_in s SP) s.places s.lists.cleanups (omega arith) k.cleanups;
+      cleanups = in_progress (reg_in s SP) s.cleanups (omega arith) k.cleanups;
     }
 
   -- ---- the event
@@ -202,7 +200,7 @@ module _ (x : Accepted) (is : IsProgram x) (s : Recorded) (k : Keeps x s) (at : 
     tested (Some end) e = k
     tested None e =
         moved_keeps s.outer refl
-        (none_or (sp_end (innermost_in s.lists.cleanups) s.home.0 s.regs.pc (reg_in s SP) (slice_index regs.r SP)) (acts.return_end (program_of x) s.regs.pc s.outer regs) e)
+        (none_or (sp_end (innermost_in (cleanups_in s.cleanups)) s.home.0 s.regs.pc (reg_in s SP) (slice_index regs.r SP)) (acts.return_end (program_of x) s.regs.pc s.outer regs) e)
 
     checked : OnEvent x (acts.onward (program_of x) s (acts.stepped (program_of x) s (step_of s.regs (memory_of s))) input)
     checked =

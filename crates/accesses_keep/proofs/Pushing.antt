@@ -10,7 +10,6 @@ use Rattle.steps_keep.specs.eh_bus.Map.{IsMap}
 use Rattle.steps_keep.specs.eh_bus.Memory.{Memory, store_run, guard_all, stays_guarded, released}
 use Rattle.steps_keep.specs.eh_bus.declared.fault.BusFault.{BusFault}
 use Rattle.steps_keep.proofs.eh_bus.MapLaws.{map_trans, run_is_map}
-use Rattle.steps_keep.specs.eh_cxa.Lists.{Cleanup}
 use Rattle.steps_keep.specs.eh_cxa.ListCalls.{innermost_in}
 use Rattle.steps_keep.proofs.eh_cxa.Kept.{still_stands}
 use Rattle.steps_keep.specs.image_memory.Start.{begins_function, image_start}
@@ -40,7 +39,7 @@ use Rattle.steps_keep.specs.frame_check.Accepts.{Accepted}
 use Rattle.steps_keep.specs.frame_check.Roots.{scene_of}
 use Rattle.steps_keep.specs.frame_check.Spots.{look}
 use Rattle.steps_keep.specs.two_machines.Machine.{fell_off, sp_end, leaves_cleanup, settled, saved_words}
-use Rattle.steps_keep.specs.two_machines.Activations.{Activation, Recorded, reg_in, memory_of, freed_in, staying, guarded_of, heads}
+use Rattle.steps_keep.specs.two_machines.Activations.{Activation, Recorded, reg_in, memory_of, freed_in, staying, guarded_of, heads, lists_of, cleanups_in, InProgress}
 use Rattle.steps_keep.specs.two_machines.ActivationLaws.{IsPlain}
 use Rattle.steps_keep.specs.two_machines.ActivationMachine.{settled_in}
 use Rattle.steps_keep.specs.two_machines.Checked.{program_of}
@@ -209,8 +208,7 @@ module _ (x : Accepted) (is : IsProgram x) (s : Recorded) (k : Keeps x s) (list 
     push_keeps g e low holds fresh = record {
       corresponds = record {
         map = map_left low;
-        stands = still_stands (memory_of s) (memory_of u) (heads s.lists) s.lists (same_word (memory_of s) (memory_of u) closed) k.corresponds.stands;
-        placed = k.corresponds.placed;
+        stands = still_stands (memory_of s) (memory_of u) (heads (lists_of s)) (lists_of s) (same_word (memory_of s) (memory_of u) closed) k.corresponds.stands;
       };
       counted = k.counted;
       image = map_trans (image_start x.image).memory.segments s.segments m.segments k.image keeps.map;
@@ -222,14 +220,13 @@ module _ (x : Accepted) (is : IsProgram x) (s : Recorded) (k : Keeps x s) (list 
       first = λ reached. next_stands x is s k at (Push list) does.size does.stands g regs m.segments (with_gs s.first gs) refl refl e (pc_behind x is s k at (Push list) does.size does.stands) holds reached fresh;
       beyond = k.beyond;
       chain = chain_moves s.segments m.segments x s.home s.first.caller s.outer words.1 k.chain;
-      cleanups = in_progress x s u gs new refl refl closed (moves new) words.1 old new s.places s.lists.cleanups
-          (linked_small _ _ s.lists.cleanups k.corresponds.stands.shows.cleanups) (omega arith) (at_landing s.lists.cleanups s.places k.cleanups) k.cleanups;
+      cleanups = in_progress x s u gs new refl refl closed (moves new) words.1 old new s.cleanups
+          (linked_small _ _ (cleanups_in s.cleanups) k.corresponds.stands.shows.cleanups) (omega arith) (at_landing s.cleanups k.cleanups) k.cleanups;
     }
       where
-        at_landing : (cs : List Cleanup) (places : List ℕ) → AreInProgress x s old places cs → IsWithin new cs
-        at_landing [] places h = tt
-        at_landing (c ∷ more) [] h = absurd h
-        at_landing (c ∷ more) (j ∷ later) h = let q = falls in omega (arith, h.0, q.0)
+        at_landing : (cs : List InProgress) → AreInProgress x s old cs → IsWithin new (cleanups_in cs)
+        at_landing [] h = tt
+        at_landing (c ∷ more) h = let q = falls in omega (arith, h.0, q.0)
 
     module _ (holds : (g : Fact) → after_of P false place (Push list) f ≡ Ok g → Holds P g (with_gs s.first gs) m.segments regs) (input : List ℕ) where
       by_tests : (o : Option End) → acts.tests (program_of x) s Done regs ≡ o → OnEvent x (acts.onward (program_of x) s (acts.tested (program_of x) s Done regs m o) input)
@@ -237,10 +234,10 @@ module _ (x : Accepted) (is : IsProgram x) (s : Recorded) (k : Keeps x s) (list 
       by_tests None t =
           let fetched = fetch x is s k at (Push list) does.size does.stands in
           let count : pushes_some (instr_at (memory_of s) s.regs.pc) ≡ n = ap pushes_some fetched.stands in
-          let two = none_or (sp_end (innermost_in s.lists.cleanups) s.home.0 s.regs.pc old new) (acts.way_end_of (program_of x) s (branches_some (instr_at (memory_of s) s.regs.pc) s.regs) Done regs) t in
+          let two = none_or (sp_end (innermost_in (cleanups_in s.cleanups)) s.home.0 s.regs.pc old new) (acts.way_end_of (program_of x) s (branches_some (instr_at (memory_of s) s.regs.pc) s.regs) Done regs) t in
           let straight : branches_some (instr_at (memory_of s) s.regs.pc) s.regs ≡ false = ap (λ (o : Option (Instr × ℕ)). branches_some o s.regs) fetched.stands in
           let fell : fell_off (program_of x) s.regs.pc regs.pc ≡ None = subst (λ (b : Bool). cond b None (fell_off (program_of x) s.regs.pc regs.pc) ≡ None) straight two.1 in
-          let low = sp_tests (leaves_cleanup (innermost_in s.lists.cleanups) old new) two.0 in
+          let low = sp_tests (leaves_cleanup (innermost_in (cleanups_in s.cleanups)) old new) two.0 in
           let l = left x is s k at (Push list) does.size does.stands in
           subst (Keeps x) (sym (ap (λ (c : ℕ). settled_in saves c old new (record s { regs = regs; segments = m.segments })) count ∙ settled_is))
           (push_keeps l.0 l.1 low (holds l.0 l.1) (not_start (begins_function x.image.functions regs.pc) fell))

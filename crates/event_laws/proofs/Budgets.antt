@@ -38,7 +38,7 @@ use Rattle.eh_gates.specs.declared.state.Turned.TheVariants.{Went, Ended}
 use Rattle.eh_gates.specs.declared.gates.TheConstants.{ALLOCATE_GATE, FREE_GATE, THROW_GATE, BEGIN_CATCH_GATE, END_CATCH_GATE, RETHROW_GATE, END_CLEANUP_GATE, UNEXPECTED_GATE, TERMINATE_GATE, UNCAUGHT_GATE}
 use Rattle.eh_gates.specs.State.{State, Guide}
 use Rattle.two_machines.specs.Program.{Program, guide}
-use Rattle.two_machines.specs.Activations.{Activation, Recorded, reg_in, memory_of, words_in, heads, with_lists}
+use Rattle.two_machines.specs.Activations.{Activation, Recorded, reg_in, memory_of, words_in, heads, with_lists, lists_of, cleanups_in, InProgress}
 use Rattle.two_machines.specs.Machine.{leaves_cleanup, sp_end, way_end, fell_off}
 use Rattle.two_machines.specs.Machine as bytes
 use Rattle.two_machines.specs.ActivationMachine as acts
@@ -152,30 +152,29 @@ throws_is g s (Ok block) =
 rethrows_is : (g : Guide) (s : Recorded) (r : Result ℕ CxaFault) → GateEnds (acts.rethrows g s r)
 rethrows_is g s (Err why) = rethrow_is why _ s.regs.pc
 rethrows_is g s (Ok block) =
-    from_is (λ b t. acts.throw_to g s.regs.pc block b (acts.flies_again t)) (acts.sought g s event.Rethrow (acts.thrown_of_slot s.lists (block_slot block)))
-    (sought_is g s event.Rethrow (acts.thrown_of_slot s.lists (block_slot block))) (λ b t. flies g s.regs.pc block b (acts.flies_again t))
+    from_is (λ b t. acts.throw_to g s.regs.pc block b (acts.flies_again t)) (acts.sought g s event.Rethrow (acts.thrown_of_slot (lists_of s) (block_slot block)))
+    (sought_is g s event.Rethrow (acts.thrown_of_slot (lists_of s) (block_slot block))) (λ b t. flies g s.regs.pc block b (acts.flies_again t))
 
-resumes_in_is : (g : Guide) (s : Recorded) (c : Cleanup) (more : List Cleanup) (outer : List Activation) (o : Option ℕ) → GateEnds (acts.resumes_in g s c more outer o)
-resumes_in_is g s c more [] o = refl
-resumes_in_is g s c more (a ∷ outer) None = refl
-resumes_in_is g s c more (a ∷ outer) (Some outside) =
-    either GateEnds ((s.first.caller.sp == c.sp) && (length outer == outside)) _ _ (advances _ _ _ _ _ _ _) refl
+resumes_in_is : (g : Guide) (s : Recorded) (c : InProgress) (more : List InProgress) (outer : List Activation) → GateEnds (acts.resumes_in g s c more outer)
+resumes_in_is g s c more [] = refl
+resumes_in_is g s c more (a ∷ outer) =
+    either GateEnds ((s.first.caller.sp == c.cleanup.sp) && (length outer == c.place)) _ _ (advances _ _ _ _ _ _ _) refl
 
-resumes_is : (g : Guide) (s : Recorded) (cleanups : List Cleanup) → GateEnds (acts.resumes g s cleanups)
+resumes_is : (g : Guide) (s : Recorded) (cleanups : List InProgress) → GateEnds (acts.resumes g s cleanups)
 resumes_is g s [] = refl
-resumes_is g s (c ∷ more) = either GateEnds (acts.can_unwind (covered_at g.image s.regs.pc)) _ _ (resumes_in_is g s c more s.outer _) refl
+resumes_is g s (c ∷ more) = either GateEnds (acts.can_unwind (covered_at g.image s.regs.pc)) _ _ (resumes_in_is g s c more s.outer) refl
 
 gate_is : (g : Guide) (number next : ℕ) (s : Recorded) → GateEnds (acts.gate_of g number next s)
 unfolding acts.gate_of
 gate_is g number next s =
     let P : acts.Outcome → Type 0 = λ o. GateEnds o in
-    either P (number == ALLOCATE_GATE) _ _ (allocates next s (with_lists (allocate_list s.lists (reg_in s 0)).lists (allocate_of (words_in s.lists) (reg_in s 0)).writes s) _) (
-    either P (number == FREE_GATE) _ _ (frees next s (with_lists (free_list s.lists (object_slot (reg_in s 0))).lists (free_of (words_in s.lists) (object_slot (reg_in s 0))).writes s) _) (
+    either P (number == ALLOCATE_GATE) _ _ (allocates next s (with_lists (allocate_list (lists_of s) (reg_in s 0)).lists (allocate_of (words_in (lists_of s)) (reg_in s 0)).writes s) _) (
+    either P (number == FREE_GATE) _ _ (frees next s (with_lists (free_list (lists_of s) (object_slot (reg_in s 0))).lists (free_of (words_in (lists_of s)) (object_slot (reg_in s 0))).writes s) _) (
     either P (number == THROW_GATE) _ _ (throws_is g s (acts.first_flight s).answer) (
-    either P (number == BEGIN_CATCH_GATE) _ _ (catches next s (with_lists (acts.begin_catch s).lists (begin_catch_of (words_in s.lists) (heads s.lists) (reg_in s 0)).writes s) _) (
-    either P (number == END_CATCH_GATE) _ _ (drops next s (with_lists (end_list s.lists).lists (end_catch_of (words_in s.lists) (heads s.lists)).writes s) _) (
+    either P (number == BEGIN_CATCH_GATE) _ _ (catches next s (with_lists (acts.begin_catch s).lists (begin_catch_of (words_in (lists_of s)) (heads (lists_of s)) (reg_in s 0)).writes s) _) (
+    either P (number == END_CATCH_GATE) _ _ (drops next s (with_lists (end_list (lists_of s)).lists (end_catch_of (words_in (lists_of s)) (heads (lists_of s))).writes s) _) (
     either P (number == RETHROW_GATE) _ _ (rethrows_is g s _) (
-    either P (number == END_CLEANUP_GATE) _ _ (resumes_is g s s.lists.cleanups) (
+    either P (number == END_CLEANUP_GATE) _ _ (resumes_is g s s.cleanups) (
     either P (number == UNEXPECTED_GATE) _ _ refl (either P (number == TERMINATE_GATE) _ _ refl (either P (number == UNCAUGHT_GATE) _ _ tt refl)))))))))
 
 module _ (p : Program) (s : Recorded) (input : List ℕ) where
@@ -209,9 +208,9 @@ module _ (p : Program) (s : Recorded) (input : List ℕ) where
 
   tests_are : (what : Stepped) (regs : Regs) → Fine (acts.tests p s what regs)
   tests_are what regs =
-      one_of (sp_end (innermost_in s.lists.cleanups) s.home.0 s.regs.pc (reg_in s SP) (slice_index regs.r SP))
+      one_of (sp_end (innermost_in (cleanups_in s.cleanups)) s.home.0 s.regs.pc (reg_in s SP) (slice_index regs.r SP))
       (acts.way_end_of p s (branches_some (instr_at (memory_of s) s.regs.pc) s.regs) what regs)
-      (sps (innermost_in s.lists.cleanups) s.home.0 s.regs.pc (reg_in s SP) (slice_index regs.r SP)) (way_of (branches_some (instr_at (memory_of s) s.regs.pc) s.regs) what regs)
+      (sps (innermost_in (cleanups_in s.cleanups)) s.home.0 s.regs.pc (reg_in s SP) (slice_index regs.r SP)) (way_of (branches_some (instr_at (memory_of s) s.regs.pc) s.regs) what regs)
 
   tested_recorded : (what : Stepped) (regs : Regs) (m : Memory) (o : Option End) → Fine o → OfRecorded (acts.onward p s (acts.tested p s what regs m o) input)
   tested_recorded what regs m (Some end) h = h

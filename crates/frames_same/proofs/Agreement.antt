@@ -11,7 +11,7 @@ use Rattle.accesses_keep.specs.eh_phase.Frames.{site_of, Stack, frames_of}
 use Rattle.accesses_keep.specs.frame_scene.Sites.{site_at}
 use Rattle.accesses_keep.specs.frame_check.Accepts.{Accepted}
 use Rattle.accesses_keep.specs.frame_check.Roots.{scene_of}
-use Rattle.accesses_keep.specs.two_machines.Activations.{Caller, Activation, registers_of, frames_at, Recorded, first_place, reg_in, memory_of, heads}
+use Rattle.accesses_keep.specs.two_machines.Activations.{Caller, Activation, registers_of, frames_at, Recorded, first_place, reg_in, memory_of, heads, lists_of, cleanups_in, InProgress}
 use Rattle.accesses_keep.specs.eh_bus.declared.map.TheConstants.{STACK_START, STACK_END, POOL_START, SLOT_SIZE}
 use Rattle.accesses_keep.specs.eh_phase.Phases.{Frames}
 use Rattle.accesses_keep.proofs.eh_phase.Whole.{frames_are_whole}
@@ -96,12 +96,10 @@ held_stop x segments g n c a (b ∷ more) (inr later) =
     let low = later.0 in
     (le-ltb c.sp a.caller.sp low ∙ sym (let t : (n == length (b ∷ more)) ≡ false = grind (arith, nat_tests) in t), λ f. held_stop x segments g n c b more later.1)
 
-pub innermost_stops : (x : Accepted) (s : Recorded) (low : ℕ) (places : List ℕ) (cleanups : List Cleanup) → AreInProgress x s low places cleanups
-    → StopAlike (innermost_in cleanups) (first_place places) s.first.caller s.outer
-innermost_stops x s low [] [] h = none_stop s.first.caller s.outer
-innermost_stops x s low [] (c ∷ more) h = absurd h
-innermost_stops x s low (n ∷ later) [] h = absurd h
-innermost_stops x s low (n ∷ later) (c ∷ more) h = held_stop x s.segments (goal_at s c.slot) n c s.first s.outer h.1
+pub innermost_stops : (x : Accepted) (s : Recorded) (low : ℕ) (cleanups : List InProgress) → AreInProgress x s low cleanups
+    → StopAlike (innermost_in (cleanups_in cleanups)) (first_place cleanups) s.first.caller s.outer
+innermost_stops x s low [] h = none_stop s.first.caller s.outer
+innermost_stops x s low (c ∷ more) h = held_stop x s.segments (goal_at s c.cleanup.slot) c.place c.cleanup s.first s.outer h.1
 
 -- ---- other segments that give the stack's words alike
 
@@ -226,10 +224,10 @@ module _ (x : Accepted) (is : IsProgram x) (recipes : CodesAreRecipes x) (s : Re
 
   -- The frames of a site agree with those of the recorded activations, with the limit of the innermost cleanup in progress and without it.
   pub frames_same :
-      Agree (frames_of x.image (stack_of (memory_of s)) (innermost_in s.lists.cleanups) site (all_of s.regs)) (frames_at x.image (first_place s.places) site (all_of s.regs) s.first s.outer)
+      Agree (frames_of x.image (stack_of (memory_of s)) (innermost_in (cleanups_in s.cleanups)) site (all_of s.regs)) (frames_at x.image (first_place s.cleanups) site (all_of s.regs) s.first s.outer)
       × Agree (frames_of x.image (stack_of (memory_of s)) None site (all_of s.regs)) (frames_at x.image None site (all_of s.regs) s.first s.outer)
   frames_same = (
-    agree s.segments k.corresponds.map.segments (λ g l h. refl) (innermost_in s.lists.cleanups) (first_place s.places) (innermost_stops x s (reg_in s SP) s.places s.lists.cleanups k.cleanups),
+    agree s.segments k.corresponds.map.segments (λ g l h. refl) (innermost_in (cleanups_in s.cleanups)) (first_place s.cleanups) (innermost_stops x s (reg_in s SP) s.cleanups k.cleanups),
     agree s.segments k.corresponds.map.segments (λ g l h. refl) None None (none_stop s.first.caller s.outer),
   )
 
@@ -241,14 +239,14 @@ module _ (x : Accepted) (is : IsProgram x) (recipes : CodesAreRecipes x) (s : Re
       (agree (put_all ws (memory_of s)).segments (all_is_map ws (memory_of s) k.corresponds.map).segments (λ g l t. pool_stack ws (memory_of s) h g l) None None (none_stop s.first.caller s.outer))
 
 abbrev frames_limit : Guide → Recorded → Option ℕ
-frames_limit g s = innermost_of (word (memory_of s)) (heads s.lists)
+frames_limit g s = innermost_of (word (memory_of s)) (heads (lists_of s))
 
 -- At a gate throws and rethrows see alike.
 pub sees_alike : (x : Accepted) → IsProgram x → CodesAreRecipes x → (g : Guide) → g.image ≡ x.image → (s : Recorded) → Keeps x s → IsSiteOf x s s.regs.pc → SeesAlike g s
 sees_alike x is recipes g same s k here = record {
   search =
-      subst (λ i. Agree (frames_of i (stack_of (memory_of s)) (frames_limit g s) s.regs.pc (all_of s.regs)) (frames_at i (first_place s.places) s.regs.pc (all_of s.regs) s.first s.outer)) (sym same)
-      (subst (λ (l : Option ℕ). Agree (frames_of x.image (stack_of (memory_of s)) l s.regs.pc (all_of s.regs)) (frames_at x.image (first_place s.places) s.regs.pc (all_of s.regs) s.first s.outer))
+      subst (λ i. Agree (frames_of i (stack_of (memory_of s)) (frames_limit g s) s.regs.pc (all_of s.regs)) (frames_at i (first_place s.cleanups) s.regs.pc (all_of s.regs) s.first s.outer)) (sym same)
+      (subst (λ (l : Option ℕ). Agree (frames_of x.image (stack_of (memory_of s)) l s.regs.pc (all_of s.regs)) (frames_at x.image (first_place s.cleanups) s.regs.pc (all_of s.regs) s.first s.outer))
       (sym (knows s k.corresponds)) (frames_same x is recipes s k s.regs.pc here).0);
   advance = λ ws h.
       subst (λ i. Agree (frames_of i (stack_of (put_all ws (memory_of s))) None s.regs.pc (all_of s.regs)) (frames_at i None s.regs.pc (all_of s.regs) s.first s.outer)) (sym same)

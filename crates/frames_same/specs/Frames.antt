@@ -2,7 +2,7 @@
 use Rattle.std.specs.Prelude.{◌≡◌, ◌⊎◌, ℕ, ◌+◌, ℤ, None, ◌^◌, ◌<◌, Some}
 use Rattle.accesses_keep.specs.thumb_isa.declared.instr.Instr.TheVariants.{Svc, Bl, Blx}
 use Rattle.accesses_keep.specs.frame_check.Accepts.{Accepted}
-use Rattle.accesses_keep.specs.two_machines.Activations.{Recorded, memory_of, first_place, frames_at}
+use Rattle.accesses_keep.specs.two_machines.Activations.{Recorded, memory_of, first_place, frames_at, cleanups_in}
 use Rattle.accesses_keep.specs.eh_cxa.ListCalls.{innermost_in}
 use Rattle.accesses_keep.specs.eh_phase.Calls.{stack_of}
 use Rattle.accesses_keep.specs.eh_phase.Frames.{frames_of}
@@ -27,7 +27,7 @@ ThrowsAt x s site =
 -- and a landing read: with the limit of the innermost cleanup in progress, and without it.
 pub record FramesAre (x : Accepted) (s : Recorded) (site : ℕ) : Type 0 where
   pub limited :
-      Agree (frames_of x.image (stack_of (memory_of s)) (innermost_in s.lists.cleanups) site (all_of s.regs)) (frames_at x.image (first_place s.places) site (all_of s.regs) s.first s.outer)
+      Agree (frames_of x.image (stack_of (memory_of s)) (innermost_in (cleanups_in s.cleanups)) site (all_of s.regs)) (frames_at x.image (first_place s.cleanups) site (all_of s.regs) s.first s.outer)
   pub all : Agree (frames_of x.image (stack_of (memory_of s)) None site (all_of s.regs)) (frames_at x.image None site (all_of s.regs) s.first s.outer)
 
 abbrev pub FramesSame : Type 0

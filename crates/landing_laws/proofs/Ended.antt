@@ -25,7 +25,7 @@ use Rattle.thumb_core.specs.declared.ends.End.TheVariants as the_end
 use Rattle.thumb_core.specs.declared.ends.TrapKind.TheVariants as kind
 use Rattle.thumb_core.specs.declared.regs.TheConstants.{SP}
 use Rattle.frame_check.specs.Accepts.{Accepted}
-use Rattle.two_machines.specs.Activations.{Activation, Recorded, reg_in, memory_of, heads, registers_of, first_place, frames_at}
+use Rattle.two_machines.specs.Activations.{Activation, Recorded, reg_in, memory_of, heads, registers_of, frames_at, lists_of, cleanups_in, InProgress}
 use Rattle.two_machines.specs.ActivationMachine as machine
 use Rattle.stands_for.specs.Chain.{StandsAtCall, Chain}
 use Rattle.stands_for.specs.Cleanups.{goal_at, by_sp, IsHeld, IsEntered, AreInProgress}
@@ -46,18 +46,15 @@ use Rattle.landing_laws.proofs.Walked.{IsTrap}
 
 -- the innermost cleanup ends in the activation that its own one called, and phase 2 goes on
 pub record GoesOnFrom (g : Guide) (s : Recorded) (o : machine.Outcome) : Type 0 where
-  pub cleanup : Cleanup
-  pub others : List Cleanup
-  pub cleanups : s.lists.cleanups ≡ cleanup ∷ others
-  pub place : ℕ
-  pub later : List ℕ
-  pub places : s.places ≡ place ∷ later
+  pub ends : InProgress
+  pub others : List InProgress
+  pub cleanups : s.cleanups ≡ ends ∷ others
   pub first : Activation
   pub more : List Activation
   pub outer : s.outer ≡ first ∷ more
-  pub sp : s.first.caller.sp ≡ cleanup.sp
-  pub many : length more ≡ place
-  pub goes : machine.goes_on g (machine.without_cleanup s others) cleanup s.first.caller first more (barrier_of (word (memory_of s)) (Some cleanup.slot)) ≡ o
+  pub sp : s.first.caller.sp ≡ ends.cleanup.sp
+  pub many : length more ≡ ends.place
+  pub goes : machine.goes_on g (record s { cleanups = others }) ends.cleanup s.first.caller first more (barrier_of (word (memory_of s)) (Some ends.cleanup.slot)) ≡ o
 
 -- or the gate traps
 abbrev pub EndsSo : Guide → Recorded → machine.Outcome → Type 0
@@ -67,64 +64,63 @@ module _ (g : Guide) (s : Recorded) where
   elsewhere : (value : ℕ) → EndsSo g s (Ended (the_end.Trap kind.CleanupElsewhere value s.regs.pc), s)
   elsewhere value = inr (the_end.Trap kind.CleanupElsewhere value s.regs.pc, refl, λ why e. (let w = e in absurd cc))
 
-  module _ (c : Cleanup) (others : List Cleanup) (cleanups : s.lists.cleanups ≡ c ∷ others) where
-    by_place : (a : Activation) (outer : List Activation) → s.outer ≡ a ∷ outer → (ps : List ℕ) → s.places ≡ ps → EndsSo g s (machine.resumes_in g s c others (a ∷ outer) (first_place ps))
-    by_place a outer is [] at = elsewhere s.first.caller.sp
-    by_place a outer is (n ∷ later) at = go (s.first.caller.sp == c.sp) refl (length outer == n) refl
+  module _ (c : InProgress) (others : List InProgress) (cleanups : s.cleanups ≡ c ∷ others) where
+    by_place : (a : Activation) (outer : List Activation) → s.outer ≡ a ∷ outer → EndsSo g s (machine.resumes_in g s c others (a ∷ outer))
+    by_place a outer is = go (s.first.caller.sp == c.cleanup.sp) refl (length outer == c.place) refl
       where
-        go : (p : Bool) → (s.first.caller.sp == c.sp) ≡ p → (q : Bool) → (length outer == n) ≡ q
-            → EndsSo g s (cond (p && q) (machine.goes_on g (machine.without_cleanup s others) c s.first.caller a outer (barrier_of (word (memory_of s)) (Some c.slot))) (Ended (the_end.Trap kind.CleanupElsewhere s.first.caller.sp s.regs.pc), s))
+        go : (p : Bool) → (s.first.caller.sp == c.cleanup.sp) ≡ p → (q : Bool) → (length outer == c.place) ≡ q
+            → EndsSo g s (cond (p && q) (machine.goes_on g (record s { cleanups = others }) c.cleanup s.first.caller a outer (barrier_of (word (memory_of s)) (Some c.cleanup.slot)))
+            (Ended (the_end.Trap kind.CleanupElsewhere s.first.caller.sp s.regs.pc), s))
         go true e true f = inl (record {
-          cleanup = c;
+          ends = c;
           others = others;
           cleanups = cleanups;
-          place = n;
-          later = later;
-          places = at;
           first = a;
           more = outer;
           outer = is;
-          sp = eqb-true s.first.caller.sp c.sp e;
-          many = eqb-true (length outer) n f;
+          sp = eqb-true s.first.caller.sp c.cleanup.sp e;
+          many = eqb-true (length outer) c.place f;
           goes = refl;
         })
         go true e false f = elsewhere s.first.caller.sp
         go false e q f = elsewhere s.first.caller.sp
 
-    by_acts : (acts : List Activation) → s.outer ≡ acts → EndsSo g s (machine.resumes_in g s c others acts (first_place s.places))
+    by_acts : (acts : List Activation) → s.outer ≡ acts → EndsSo g s (machine.resumes_in g s c others acts)
     by_acts [] is = elsewhere s.first.caller.sp
-    by_acts (a ∷ outer) is = by_place a outer is s.places refl
+    by_acts (a ∷ outer) is = by_place a outer is
 
-    by_unwind : (b : Bool) → EndsSo g s (cond b (machine.resumes_in g s c others s.outer (first_place s.places)) (Ended (the_end.Trap kind.CleanupElsewhere 0 s.regs.pc), s))
+    by_unwind : (b : Bool) → EndsSo g s (cond b (machine.resumes_in g s c others s.outer) (Ended (the_end.Trap kind.CleanupElsewhere 0 s.regs.pc), s))
     by_unwind true = by_acts s.outer refl
     by_unwind false = elsewhere 0
 
-  by_cleanups : (cs : List Cleanup) → s.lists.cleanups ≡ cs → EndsSo g s (machine.resumes g s cs)
+  by_cleanups : (cs : List InProgress) → s.cleanups ≡ cs → EndsSo g s (machine.resumes g s cs)
   by_cleanups [] e = inr (the_end.Trap kind.NoCleanup 0 s.regs.pc, refl, λ why e. (let w = e in absurd cc))
   by_cleanups (c ∷ others) e = by_unwind c others e (machine.can_unwind (covered_at g.image s.regs.pc))
 
   pub ends_so : EndsSo g s (machine.end_cleanup_gate g s)
-  ends_so = by_cleanups s.lists.cleanups refl
+  ends_so = by_cleanups s.cleanups refl
 
 -- ---- phase 2 goes on
 
 module _ (x : Accepted) (is : IsProgram x) (s : Recorded) (k : Keeps x s) (g : Guide) (image : g.image ≡ x.image) (o : machine.Outcome) (r : GoesOnFrom g s o) where
   abbrev c : Cleanup
-  c = r.cleanup
+  c = r.ends.cleanup
 
-  in_progress : AreInProgress x s (reg_in s SP) (r.place ∷ r.later) (r.cleanup ∷ r.others)
-  in_progress =
-      subst (λ (ps : List ℕ). AreInProgress x s (reg_in s SP) ps (r.cleanup ∷ r.others)) r.places (subst (λ (cs : List Cleanup). AreInProgress x s (reg_in s SP) s.places cs) r.cleanups k.cleanups)
+  in_progress : AreInProgress x s (reg_in s SP) (r.ends ∷ r.others)
+  in_progress = subst (AreInProgress x s (reg_in s SP)) r.cleanups k.cleanups
+
+  listed : cleanups_in s.cleanups ≡ r.ends.cleanup ∷ cleanups_in r.others
+  listed = ap cleanups_in r.cleanups
 
   -- it is the cleanup's own
-  entered : IsEntered x s.segments (goal_at s r.cleanup.slot) r.cleanup r.first r.more
-  entered = go (subst (λ (xs : List Activation). IsHeld x s.segments (goal_at s r.cleanup.slot) r.place r.cleanup (s.first ∷ xs)) r.outer in_progress.1)
+  entered : IsEntered x s.segments (goal_at s r.ends.cleanup.slot) r.ends.cleanup r.first r.more
+  entered = go (subst (λ (xs : List Activation). IsHeld x s.segments (goal_at s r.ends.cleanup.slot) r.ends.place r.ends.cleanup (s.first ∷ xs)) r.outer in_progress.1)
     where
-      at : IsHeld x s.segments (goal_at s r.cleanup.slot) r.place r.cleanup (r.first ∷ r.more) → IsEntered x s.segments (goal_at s r.cleanup.slot) r.cleanup r.first r.more
+      at : IsHeld x s.segments (goal_at s r.ends.cleanup.slot) r.ends.place r.ends.cleanup (r.first ∷ r.more) → IsEntered x s.segments (goal_at s r.ends.cleanup.slot) r.ends.cleanup r.first r.more
       at (inl here) = here.1
-      at (inr beyond) = absurd (let e = r.many in let w = held_length x s.segments (goal_at s r.cleanup.slot) r.place r.cleanup r.more beyond.1 in omega (arith, e, w))
+      at (inr beyond) = absurd (let e = r.many in let w = held_length x s.segments (goal_at s r.ends.cleanup.slot) r.ends.place r.ends.cleanup r.more beyond.1 in omega (arith, e, w))
 
-      go : IsHeld x s.segments (goal_at s r.cleanup.slot) r.place r.cleanup (s.first ∷ (r.first ∷ r.more)) → IsEntered x s.segments (goal_at s r.cleanup.slot) r.cleanup r.first r.more
+      go : IsHeld x s.segments (goal_at s r.ends.cleanup.slot) r.ends.place r.ends.cleanup (s.first ∷ (r.first ∷ r.more)) → IsEntered x s.segments (goal_at s r.ends.cleanup.slot) r.ends.cleanup r.first r.more
       go (inl here) = absurd (let e = r.many in let w = here.0 in omega (arith, e, w))
       go (inr beyond) = at beyond.1
 
@@ -132,79 +128,77 @@ module _ (x : Accepted) (is : IsProgram x) (s : Recorded) (k : Keeps x s) (g : G
   links = let ch = subst (Chain x s.segments s.home s.first.caller) r.outer k.chain in (ch.0, ch.1)
 
   abbrev fs : Frames
-  fs = frames_at x.image None r.cleanup.site (registers_of s.first.caller) r.first r.more
+  fs = frames_at x.image None r.ends.cleanup.site (registers_of s.first.caller) r.first r.more
 
-  sp_is : slice_index (registers_of s.first.caller) SP ≡ r.cleanup.sp
+  sp_is : slice_index (registers_of s.first.caller) SP ≡ r.ends.cleanup.sp
   sp_is = at_sp s.first.caller k.whole.count ∙ r.sp
 
-  fit : Fit (slice_index (registers_of s.first.caller) SP) (frames_at x.image None r.cleanup.site (registers_of s.first.caller) r.first r.more).frames (r.first ∷ r.more)
-  fit = fit_frames x s.segments s.home None r.cleanup.site (registers_of s.first.caller) r.first r.more links.0.whole links.1
+  fit : Fit (slice_index (registers_of s.first.caller) SP) (frames_at x.image None r.ends.cleanup.site (registers_of s.first.caller) r.first r.more).frames (r.first ∷ r.more)
+  fit = fit_frames x s.segments s.home None r.ends.cleanup.site (registers_of s.first.caller) r.first r.more links.0.whole links.1
 
-  reached : is_reached (goal_at s r.cleanup.slot) r.cleanup.next (frames_at x.image None r.cleanup.site (registers_of s.first.caller) r.first r.more).frames ≡ true
-  reached = reached_by_sp (goal_at s r.cleanup.slot) r.cleanup.next x.image r.cleanup.site (registers_of s.first.caller) r.cleanup.sp r.first r.more sp_is ∙ entered.reach
+  reached : is_reached (goal_at s r.ends.cleanup.slot) r.ends.cleanup.next (frames_at x.image None r.ends.cleanup.site (registers_of s.first.caller) r.first r.more).frames ≡ true
+  reached = reached_by_sp (goal_at s r.ends.cleanup.slot) r.ends.cleanup.next x.image r.ends.cleanup.site (registers_of s.first.caller) r.ends.cleanup.sp r.first r.more sp_is ∙ entered.reach
 
-  small : r.cleanup.slot < SLOTS
+  small : r.ends.cleanup.slot < SLOTS
   small =
-      let chain = subst (λ (cs : List Cleanup). cxa.Chain (λ t. word (memory_of s) t NEXT_CLEANUP) (heads s.lists).cleanup (slots cs)) r.cleanups k.corresponds.stands.shows.cleanups in
-      slot_small (heads s.lists).cleanup r.cleanup.slot chain.0
+      let chain = subst (λ (cs : List Cleanup). cxa.Chain (λ t. word (memory_of s) t NEXT_CLEANUP) (heads (lists_of s)).cleanup (slots cs)) listed k.corresponds.stands.shows.cleanups in
+      slot_small (heads (lists_of s)).cleanup r.ends.cleanup.slot chain.0
 
-  idle : Has (slots r.others) r.cleanup.slot → ⊥
-  idle = (subst (λ (cs : List Cleanup). Once (slots cs)) r.cleanups k.corresponds.stands.valid.cleanups_once).0
+  idle : Has (slots (cleanups_in r.others)) r.ends.cleanup.slot → ⊥
+  idle = (subst (λ (cs : List Cleanup). Once (slots cs)) listed k.corresponds.stands.valid.cleanups_once).0
 
   abbrev ended : Recorded
-  ended = machine.without_cleanup s r.others
+  ended = record s { cleanups = r.others }
 
   suffix : r.first ∷ r.more ≡ drop 1 (ended.first ∷ ended.outer)
   suffix = sym r.outer
 
   abbrev object : ℕ
-  object = (barrier_of (word (memory_of s)) (Some r.cleanup.slot)).object
+  object = (barrier_of (word (memory_of s)) (Some r.ends.cleanup.slot)).object
 
-  went : machine.advances (machine.without_cleanup s r.others) (r.first ∷ r.more) (block r.cleanup.slot) (barrier_of (word (memory_of s)) (Some r.cleanup.slot)).object (goal_at s r.cleanup.slot) r.cleanup.next
-      (frames_at x.image None r.cleanup.site (registers_of s.first.caller) r.first r.more) ≡ o
+  went : machine.advances (record s { cleanups = r.others }) (r.first ∷ r.more) (block r.ends.cleanup.slot) (barrier_of (word (memory_of s)) (Some r.ends.cleanup.slot)).object (goal_at s r.ends.cleanup.slot) r.ends.cleanup.next
+      (frames_at x.image None r.ends.cleanup.site (registers_of s.first.caller) r.first r.more) ≡ o
   went =
-      ap (λ (i : _). machine.advances (machine.without_cleanup s r.others) (r.first ∷ r.more) (block r.cleanup.slot) (barrier_of (word (memory_of s)) (Some r.cleanup.slot)).object (goal_at s r.cleanup.slot) r.cleanup.next
-      (frames_at i None r.cleanup.site (registers_of s.first.caller) r.first r.more)) (sym image)
+      ap (λ (i : _). machine.advances (record s { cleanups = r.others }) (r.first ∷ r.more) (block r.ends.cleanup.slot) (barrier_of (word (memory_of s)) (Some r.ends.cleanup.slot)).object (goal_at s r.ends.cleanup.slot) r.ends.cleanup.next
+      (frames_at i None r.ends.cleanup.site (registers_of s.first.caller) r.first r.more)) (sym image)
       ∙ r.goes
 
-  pub ends_enter : Lands (phase2 (goal_at s r.cleanup.slot) r.cleanup.next (frames_at x.image None r.cleanup.site (registers_of s.first.caller) r.first r.more))
-  ends_enter = reached_lands (goal_at s r.cleanup.slot) r.cleanup.next (frames_at x.image None r.cleanup.site (registers_of s.first.caller) r.first r.more) reached
+  pub ends_enter : Lands (phase2 (goal_at s r.ends.cleanup.slot) r.ends.cleanup.next (frames_at x.image None r.ends.cleanup.site (registers_of s.first.caller) r.first r.more))
+  ends_enter = reached_lands (goal_at s r.ends.cleanup.slot) r.ends.cleanup.next (frames_at x.image None r.ends.cleanup.site (registers_of s.first.caller) r.first r.more) reached
 
   -- what was due is what the frames from there on have
-  due_was : left_due x.image s r.cleanup.slot ≡ pads (due (goal_at s r.cleanup.slot) r.cleanup.next (frames_at x.image None r.cleanup.site (registers_of s.first.caller) r.first r.more).frames)
+  due_was : left_due x.image s r.ends.cleanup.slot ≡ pads (due (goal_at s r.ends.cleanup.slot) r.ends.cleanup.next (frames_at x.image None r.ends.cleanup.site (registers_of s.first.caller) r.first r.more).frames)
   due_was =
-      let same : (r.cleanup.slot == r.cleanup.slot) ≡ true = grind (arith, nat_tests) in
-      let long : r.place < length (r.first ∷ r.more) = let e = r.many in omega (arith, e) in
-      let kept : kept_frames x.image r.place r.cleanup (s.first ∷ s.outer) ≡ (frames_at x.image None r.cleanup.site (by_sp r.cleanup.sp) r.first r.more).frames =
-      ap (λ (xs : List Activation). kept_frames x.image r.place r.cleanup (s.first ∷ xs)) r.outer ∙ kept_longer x.image r.place r.cleanup s.first (r.first ∷ r.more) long ∙ kept_here x.image r.place r.cleanup r.first r.more r.many in
-      ap (λ (ps : List ℕ). due_among x.image s r.cleanup.slot ps s.lists.cleanups) r.places ∙ ap (due_among x.image s r.cleanup.slot (r.place ∷ r.later)) r.cleanups
-      ∙ ap (λ (b : Bool). cond b (due_of x.image s r.place r.cleanup) (due_among x.image s r.cleanup.slot r.later r.others)) same
-      ∙ ap (λ (xs : List Frame). pads (due (goal_at s r.cleanup.slot) r.cleanup.next xs)) kept
-      ∙ sym (pads_by_sp (goal_at s r.cleanup.slot) r.cleanup.next x.image r.cleanup.site (registers_of s.first.caller) r.cleanup.sp r.first r.more sp_is)
+      let same : (r.ends.cleanup.slot == r.ends.cleanup.slot) ≡ true = grind (arith, nat_tests) in
+      let long : r.ends.place < length (r.first ∷ r.more) = let e = r.many in omega (arith, e) in
+      let kept : kept_frames x.image r.ends.place r.ends.cleanup (s.first ∷ s.outer) ≡ (frames_at x.image None r.ends.cleanup.site (by_sp r.ends.cleanup.sp) r.first r.more).frames =
+      ap (λ (xs : List Activation). kept_frames x.image r.ends.place r.ends.cleanup (s.first ∷ xs)) r.outer ∙ kept_longer x.image r.ends.place r.ends.cleanup s.first (r.first ∷ r.more) long ∙ kept_here x.image r.ends.place r.ends.cleanup r.first r.more r.many in
+      ap (due_among x.image s r.ends.cleanup.slot) r.cleanups
+      ∙ ap (λ (b : Bool). cond b (due_of x.image s r.ends.place r.ends.cleanup) (due_among x.image s r.ends.cleanup.slot r.others)) same
+      ∙ ap (λ (xs : List Frame). pads (due (goal_at s r.ends.cleanup.slot) r.ends.cleanup.next xs)) kept
+      ∙ sym (pads_by_sp (goal_at s r.ends.cleanup.slot) r.ends.cleanup.next x.image r.ends.cleanup.site (registers_of s.first.caller) r.ends.cleanup.sp r.first r.more sp_is)
 
   module _ (t : Recorded) (goes : o ≡ (Went, t)) where
-    landing : IsLanded ended (drop (machine.passed_by (goal_at s r.cleanup.slot) r.cleanup.next fs.frames) (r.first ∷ r.more)) r.cleanup.slot (phase2 (goal_at s r.cleanup.slot) r.cleanup.next (frames_at x.image None r.cleanup.site (registers_of s.first.caller) r.first r.more)) t
+    landing : IsLanded ended (drop (machine.passed_by (goal_at s r.ends.cleanup.slot) r.ends.cleanup.next fs.frames) (r.first ∷ r.more)) r.ends.cleanup.slot (phase2 (goal_at s r.ends.cleanup.slot) r.ends.cleanup.next (frames_at x.image None r.ends.cleanup.site (registers_of s.first.caller) r.first r.more)) t
     landing =
-        is_landed x.image is.image ended t 1 r.first r.more suffix r.cleanup.slot object small idle (goal_at s r.cleanup.slot) refl r.cleanup.next r.cleanup.site (registers_of s.first.caller) _ fit reached (went ∙ goes)
+        is_landed x.image is.image ended t 1 r.first r.more suffix r.ends.cleanup.slot object small idle (goal_at s r.ends.cleanup.slot) refl r.ends.cleanup.next r.ends.cleanup.site (registers_of s.first.caller) _ fit reached (went ∙ goes)
 
-    pub ends_land : AreFirst (stands_at t ∷ left_due x.image t r.cleanup.slot) (left_due x.image s r.cleanup.slot)
+    pub ends_land : AreFirst (stands_at t ∷ left_due x.image t r.ends.cleanup.slot) (left_due x.image s r.ends.cleanup.slot)
     ends_land =
-        subst (AreFirst (stands_at t ∷ left_due x.image t r.cleanup.slot)) (sym due_was)
-        (flight_due x.image is.image ended t 1 r.first r.more suffix r.cleanup.slot object small idle (goal_at s r.cleanup.slot) refl r.cleanup.next r.cleanup.site (registers_of s.first.caller) _ fit reached (went ∙ goes))
+        subst (AreFirst (stands_at t ∷ left_due x.image t r.ends.cleanup.slot)) (sym due_was)
+        (flight_due x.image is.image ended t 1 r.first r.more suffix r.ends.cleanup.slot object small idle (goal_at s r.ends.cleanup.slot) refl r.ends.cleanup.next r.ends.cleanup.site (registers_of s.first.caller) _ fit reached (went ∙ goes))
 
-    pub ends_leave : Keeps x t → (u : ℕ) → (r.cleanup.slot ≡ u → ⊥) → left_due x.image t u ≡ left_due x.image s u
+    pub ends_leave : Keeps x t → (u : ℕ) → (r.ends.cleanup.slot ≡ u → ⊥) → left_due x.image t u ≡ left_due x.image s u
     ends_leave kt u differ =
-        let there : AreInProgress x s r.cleanup.sp ended.places ended.lists.cleanups = subst (λ (ps : List ℕ). AreInProgress x s r.cleanup.sp (drop 1 ps) r.others) (sym r.places) in_progress.3 in
-        others_kept x s t ended landing.moved (drop (machine.passed_by (goal_at s r.cleanup.slot) r.cleanup.next fs.frames) (r.first ∷ r.more)) r.cleanup.slot u r.cleanup.sp (reg_in t SP) differ there kt.cleanups (λ h. same_goal s t u (landing.same u)) (phase2 (goal_at s r.cleanup.slot) r.cleanup.next fs) landing.listed
-        ∙ ap (λ (ps : List ℕ). due_among x.image s u (drop 1 ps) r.others) r.places ∙ sym (behind_other x.image s u r.place r.later r.cleanup r.others differ)
-        ∙ sym (ap (λ (ps : List ℕ). due_among x.image s u ps s.lists.cleanups) r.places ∙ ap (due_among x.image s u (r.place ∷ r.later)) r.cleanups)
+        others_kept x s t ended landing.moved (drop (machine.passed_by (goal_at s r.ends.cleanup.slot) r.ends.cleanup.next fs.frames) (r.first ∷ r.more)) r.ends.cleanup.slot u r.ends.cleanup.sp (reg_in t SP) differ in_progress.3 kt.cleanups (λ h. same_goal s t u (landing.same u)) (phase2 (goal_at s r.ends.cleanup.slot) r.ends.cleanup.next fs) landing.listed
+        ∙ sym (behind_other x.image s u r.ends r.others differ) ∙ sym (ap (due_among x.image s u) r.cleanups)
 
   abbrev Enters : Entered → machine.Outcome
-  Enters q = machine.entered ended (drop (machine.passed_by (goal_at s r.cleanup.slot) r.cleanup.next fs.frames) (r.first ∷ r.more)) (block r.cleanup.slot) object q
+  Enters q = machine.entered ended (drop (machine.passed_by (goal_at s r.ends.cleanup.slot) r.ends.cleanup.next fs.frames) (r.first ∷ r.more)) (block r.ends.cleanup.slot) object q
 
   -- it terminates by nothing but a specification without a pad
   pub ends_by : (why : Cause) (t : Recorded) → o ≡ (Ended (the_end.Terminate why), t) → why ≡ cause.Unexpected
-  ends_by why t e = go (phase2 (goal_at s r.cleanup.slot) r.cleanup.next fs) ends_enter (went ∙ e)
+  ends_by why t e = go (phase2 (goal_at s r.ends.cleanup.slot) r.ends.cleanup.next fs) ends_enter (went ∙ e)
     where
       go : (q : Entered) → Lands q → Enters q ≡ (Ended (the_end.Terminate why), t) → why ≡ cause.Unexpected
       go (enters.Cleanup vrs pad next site) l w = absurd (not_went (the_end.Terminate why) t _ (sym w))

@@ -24,21 +24,21 @@ use Rattle.eh_trace.specs.declared.event.EventKind.TheVariants as event
 use Rattle.eh_types.specs.Graph.{row_of}
 use Rattle.thumb_core.specs.declared.ends.End.TheVariants as the_end
 use Rattle.thumb_core.specs.declared.ends.TrapKind.TheVariants as trap
-use Rattle.two_machines.specs.Activations.{Recorded, reg_in, memory_of, words_in, heads, with_lists, first_place}
+use Rattle.two_machines.specs.Activations.{Recorded, reg_in, memory_of, words_in, heads, with_lists, lists_of}
 use Rattle.two_machines.specs.ActivationMachine as machine
+use Rattle.landing_laws.specs.Landings.{top_of}
 use Rattle.landing_laws.proofs.Beside.{AreBeside}
 use Rattle.landing_laws.proofs.FlightDue.{not_went}
 
--- The exception of a slot, which is in no cleanup, flies: lists with the same cleanups, and words beside those of barriers.
+-- The exception of a slot, which is in no cleanup, flies: other lists, and words beside those of barriers.
 pub record FliesTo (g : Guide) (s t : Recorded) (slot : ℕ) (thrown : Thrown) : Type 0 where
   pub barrier : Barrier
   pub found : machine.searched g s thrown ≡ found.Barrier barrier
   pub lists : Lists
-  pub cleanups : lists.cleanups ≡ s.lists.cleanups
   pub writes : List Write
   pub beside : AreBeside writes
   pub told : Event
-  pub idle : state_in (entry s.lists slot) ≡ Some Flying → ⊥
+  pub idle : state_in (entry (lists_of s) slot) ≡ Some Flying → ⊥
   pub goes : machine.throw_to g s.regs.pc (block slot) barrier (with_lists lists writes (machine.logged s told)) ≡ (Went, t)
 
 module _ (g : Guide) (s t : Recorded) where
@@ -48,7 +48,7 @@ module _ (g : Guide) (s t : Recorded) where
   -- behind the search
   sought_so : (what : EventKind) (thrown : Thrown) (further : Barrier → Recorded → machine.Outcome) → machine.from_barrier further (machine.sought g s what thrown) ≡ (Went, t) → Sought thrown further
   unfolding machine.sought
-  sought_so what thrown further e = go (throw_event what (memory_of s) thrown (machine.size_of s.lists (object_slot thrown.object))) (is_some (row_of g.types thrown.ty)) e
+  sought_so what thrown further e = go (throw_event what (memory_of s) thrown (machine.size_of (lists_of s) (object_slot thrown.object))) (is_some (row_of g.types thrown.ty)) e
     where
       by : (told : Event) (f : Found) → machine.searched g s thrown ≡ f → machine.from_barrier further (barrier_in s.regs.pc f, machine.logged s told) ≡ (Went, t) → Sought thrown further
       by told (found.Barrier b) is e = (b, is, told, e)
@@ -69,19 +69,6 @@ throw_beside w h (Some slot) words = go (is_fresh (named (w slot STATE)))
     go : (b : Bool) → AreBeside (throw_by b h slot words).writes
     go true = (inl (omega arith), omega arith, (inl (omega arith), omega arith, (inl (omega arith), omega arith, (inl (omega arith), omega arith, (inl (omega arith), omega arith, tt)))))
     go false = tt
-
-throw_keeps : (l : Lists) (o : Option ℕ) (words : Throw) → (throw_list l o words).lists.cleanups ≡ l.cleanups
-throw_keeps l None words = refl
-throw_keeps l (Some slot) words = by (entry l slot)
-  where
-    fresh : (b : Bool) (r : Record) → (throw_by_list b l slot r words).lists.cleanups ≡ l.cleanups
-    fresh true r = refl
-    fresh false r = refl
-
-    by : (e : Entry) → (throw_entry l slot e words).lists.cleanups ≡ l.cleanups
-    by Free = refl
-    by OutOfUse = refl
-    by (Live r) = fresh (is_fresh (Some r.state)) r
 
 -- what a throw answers is the control block of a slot whose exception doesn't fly
 record IsThrown (l : Lists) (slot control : ℕ) : Type 0 where
@@ -114,15 +101,14 @@ throw_flies g s t slot at e = by (machine.first_flight s).answer refl e
     by : (r : Result ℕ CxaFault) → (machine.first_flight s).answer ≡ r → machine.throws g s r ≡ (Went, t) → FliesTo g s t slot (machine.thrown_first s)
     by (Err why) is q = absurd (not_went _ s t q)
     by (Ok control) is q =
-        let thrown = thrown_is s.lists slot control (machine.thrown_words s) (sym (ap (λ (o : Option ℕ). (throw_list s.lists o (machine.thrown_words s)).answer) at) ∙ is) in
+        let thrown = thrown_is (lists_of s) slot control (machine.thrown_words s) (sym (ap (λ (o : Option ℕ). (throw_list (lists_of s) o (machine.thrown_words s)).answer) at) ∙ is) in
         let w = sought_so g s t event.Throw (machine.thrown_first s) (λ b u. machine.throw_to g s.regs.pc control b (machine.flies_first u)) q in
         record {
           barrier = w.0;
           found = w.1;
           lists = (machine.first_flight s).lists;
-          cleanups = throw_keeps s.lists (object_slot (reg_in s 0)) (machine.thrown_words s);
-          writes = (start_throw_of (words_in s.lists) (heads s.lists) (object_slot (reg_in s 0)) (machine.thrown_words s)).writes;
-          beside = throw_beside (words_in s.lists) (heads s.lists) (object_slot (reg_in s 0)) (machine.thrown_words s);
+          writes = (start_throw_of (words_in (lists_of s)) (heads (lists_of s)) (object_slot (reg_in s 0)) (machine.thrown_words s)).writes;
+          beside = throw_beside (words_in (lists_of s)) (heads (lists_of s)) (object_slot (reg_in s 0)) (machine.thrown_words s);
           told = w.2;
           idle = thrown.idle;
           goes = subst (λ (n : ℕ). machine.throw_to g s.regs.pc n w.0 (machine.flies_first (machine.logged s w.2)) ≡ (Went, t)) thrown.is w.3;
@@ -138,20 +124,7 @@ again_beside w h (Some slot) = go (is_caught (named (w slot STATE)))
     go true = (inl (omega arith), omega arith, (inl (omega arith), omega arith, tt))
     go false = tt
 
-again_keeps : (l : Lists) (caught : List ℕ) → (rethrow_from l caught).lists.cleanups ≡ l.cleanups
-again_keeps l [] = refl
-again_keeps l (slot ∷ more) = by (entry l slot)
-  where
-    caught : (b : Bool) (r : Record) → (rethrow_by_list b l slot r).lists.cleanups ≡ l.cleanups
-    caught true r = refl
-    caught false r = refl
-
-    by : (e : Entry) → (rethrow_entry l slot e).lists.cleanups ≡ l.cleanups
-    by Free = refl
-    by OutOfUse = refl
-    by (Live r) = caught (is_caught (Some r.state)) r
-
-again_is : (l : Lists) (caught : List ℕ) (slot control : ℕ) → first_place caught ≡ Some slot → (rethrow_from l caught).answer ≡ Ok control → IsThrown l slot control
+again_is : (l : Lists) (caught : List ℕ) (slot control : ℕ) → top_of caught ≡ Some slot → (rethrow_from l caught).answer ≡ Ok control → IsThrown l slot control
 again_is l [] slot control at e = absurd cc
 again_is l (top ∷ more) slot control at e = subst (λ (n : ℕ). IsThrown l n control) (let same : top ≡ slot = cc in same) (by (entry l top) refl e)
   where
@@ -172,23 +145,22 @@ again_is l (top ∷ more) slot control at e = subst (λ (n : ℕ). IsThrown l n 
     by OutOfUse there q = absurd (refused _ q)
     by (Live r) there q = caught (is_caught (Some r.state)) r refl there q
 
-pub rethrow_flies : (g : Guide) (s t : Recorded) (slot : ℕ) → block_slot (block slot) ≡ Some slot → first_place s.lists.caught ≡ Some slot → machine.rethrow_gate g s ≡ (Went, t)
-    → FliesTo g s t slot (machine.thrown_of_slot s.lists (Some slot))
-rethrow_flies g s t slot own at e = by (rethrow_list s.lists).answer refl e
+pub rethrow_flies : (g : Guide) (s t : Recorded) (slot : ℕ) → block_slot (block slot) ≡ Some slot → top_of s.caught ≡ Some slot → machine.rethrow_gate g s ≡ (Went, t)
+    → FliesTo g s t slot (machine.thrown_of_slot (lists_of s) (Some slot))
+rethrow_flies g s t slot own at e = by (rethrow_list (lists_of s)).answer refl e
   where
-    by : (r : Result ℕ CxaFault) → (rethrow_list s.lists).answer ≡ r → machine.rethrows g s r ≡ (Went, t) → FliesTo g s t slot (machine.thrown_of_slot s.lists (Some slot))
+    by : (r : Result ℕ CxaFault) → (rethrow_list (lists_of s)).answer ≡ r → machine.rethrows g s r ≡ (Went, t) → FliesTo g s t slot (machine.thrown_of_slot (lists_of s) (Some slot))
     by (Err why) is q = absurd (not_went _ s t q)
     by (Ok control) is q =
-        let thrown = again_is s.lists s.lists.caught slot control at is in
+        let thrown = again_is (lists_of s) s.caught slot control at is in
         let here : block_slot control ≡ Some slot = ap block_slot thrown.is ∙ own in
-        let w = sought_so g s t event.Rethrow (machine.thrown_of_slot s.lists (block_slot control)) (λ b u. machine.throw_to g s.regs.pc control b (machine.flies_again u)) q in
+        let w = sought_so g s t event.Rethrow (machine.thrown_of_slot (lists_of s) (block_slot control)) (λ b u. machine.throw_to g s.regs.pc control b (machine.flies_again u)) q in
         record {
           barrier = w.0;
-          found = sym (ap (λ (o : Option ℕ). machine.searched g s (machine.thrown_of_slot s.lists o)) here) ∙ w.1;
-          lists = (rethrow_list s.lists).lists;
-          cleanups = again_keeps s.lists s.lists.caught;
-          writes = (rethrow_of (words_in s.lists) (heads s.lists)).writes;
-          beside = again_beside (words_in s.lists) (heads s.lists) (block_slot (heads s.lists).caught);
+          found = sym (ap (λ (o : Option ℕ). machine.searched g s (machine.thrown_of_slot (lists_of s) o)) here) ∙ w.1;
+          lists = (rethrow_list (lists_of s)).lists;
+          writes = (rethrow_of (words_in (lists_of s)) (heads (lists_of s))).writes;
+          beside = again_beside (words_in (lists_of s)) (heads (lists_of s)) (block_slot (heads (lists_of s)).caught);
           told = w.2;
           idle = thrown.idle;
           goes = subst (λ (n : ℕ). machine.throw_to g s.regs.pc n w.0 (machine.flies_again (machine.logged s w.2)) ≡ (Went, t)) thrown.is w.3;

@@ -20,7 +20,7 @@ use Rattle.eh_phase.proofs.Reached.{Heads, heads}
 use Rattle.eh_gates.specs.declared.state.Turned.{Turned}
 use Rattle.eh_gates.specs.declared.state.Turned.TheVariants.{Went, Ended}
 use Rattle.thumb_core.specs.declared.regs.TheConstants.{SP}
-use Rattle.two_machines.specs.Activations.{Activation, Recorded, frames_at}
+use Rattle.two_machines.specs.Activations.{Activation, Recorded, frames_at, cleanups_in, InProgress}
 use Rattle.two_machines.specs.ActivationMachine as machine
 use Rattle.stands_for.specs.Cleanups.{goal_at, by_sp}
 use Rattle.frames_same.specs.Landings.{Fit}
@@ -39,11 +39,10 @@ none_more [] = refl
 none_more (x ∷ xs) = ap (λ ys. x ∷ ys) (none_more xs)
 
 -- the first cleanup is the slot's
-own_due : (image : Image) (t : Recorded) (n : ℕ) (places : List ℕ) (c : Cleanup) (cleanups : List Cleanup) → t.places ≡ n ∷ places → t.lists.cleanups ≡ c ∷ cleanups → left_due image t c.slot ≡ due_of image t n c
-own_due image t n places c cleanups p l =
-    let same : (c.slot == c.slot) ≡ true = grind (arith, nat_tests) in
-    ap (λ (ps : List ℕ). due_among image t c.slot ps t.lists.cleanups) p ∙ ap (due_among image t c.slot (n ∷ places)) l
-    ∙ ap (λ (b : Bool). cond b (due_of image t n c) (due_among image t c.slot places cleanups)) same
+own_due : (image : Image) (t : Recorded) (c : InProgress) (cleanups : List InProgress) → t.cleanups ≡ c ∷ cleanups → left_due image t c.cleanup.slot ≡ due_of image t c.place c.cleanup
+own_due image t c cleanups l =
+    let same : (c.cleanup.slot == c.cleanup.slot) ≡ true = grind (arith, nat_tests) in
+    ap (due_among image t c.cleanup.slot) l ∙ ap (λ (b : Bool). cond b (due_of image t c.place c.cleanup) (due_among image t c.cleanup.slot cleanups)) same
 
 pub not_went : (end : _) (s t : Recorded) → ◌≡◌ {A = machine.Outcome} (Ended end, s) (Went, t) → ⊥
 not_went end s t e = let f : ◌≡◌ {A = Turned} (Ended end) Went = ap (λ (o : machine.Outcome). o.0) e in cc
@@ -56,7 +55,7 @@ reached_lands g from fs reached =
     subst Lands (sym (ap (λ (o : Option Entered). unwrap_or o (enters.Terminate fs.last)) first.first)) first.lands
 
 module _ (image : Image) (sound : IsSound image) (u t : Recorded) (i : ℕ) (a : Activation) (outer : List Activation) (suffix : a ∷ outer ≡ drop i (u.first ∷ u.outer)) (slot object : ℕ) (small : slot < SLOTS)
-    (idle : Has (slots u.lists.cleanups) slot → ⊥) (g : Goal) (goal : goal_at u slot ≡ g) (from site : ℕ) (r : List ℕ) (sp : ℕ)
+    (idle : Has (slots (cleanups_in u.cleanups)) slot → ⊥) (g : Goal) (goal : goal_at u slot ≡ g) (from site : ℕ) (r : List ℕ) (sp : ℕ)
     (fit : Fit sp (frames_at image None site r a outer).frames (a ∷ outer)) (reached : is_reached g from (frames_at image None site r a outer).frames ≡ true) where
   abbrev fs : Frames
   fs = frames_at image None site r a outer
@@ -113,20 +112,21 @@ module _ (image : Image) (sound : IsSound image) (u t : Recorded) (i : ℕ) (a :
         let behind : (frames_at image None l.frame.site l.frame.r l.first l.more).frames ≡ l.frame ∷ l.outer = frames_behind image site r a outer l.inner l.frame l.outer l.cut l.first l.more l.frames l.all l.beside in
         let at_site : (frames_at image None at vrs.r l.first l.more).frames ≡ l.frame ∷ l.outer =
         ap (λ (n : ℕ). (frames_at image None n vrs.r l.first l.more).frames) (sym l.stands) ∙ ap (λ (v : Vrs). (frames_at image None l.frame.site v.r l.first l.more).frames) (sym l.registers) ∙ behind in
-        let places_are : t.places ≡ length l.more ∷ u.places = listed.1 ∙ ap (λ (xs : List Activation). machine.outside_of xs ∷ u.places) l.passed in
+        let listed_there : t.cleanups ≡ record { cleanup = c; place = length l.more } ∷ u.cleanups =
+        listed ∙ ap (λ (xs : List Activation). let all : List InProgress = record { cleanup = c; place = machine.outside_of xs } ∷ u.cleanups in all) l.passed in
         let kept : kept_frames image (length l.more) c (t.first ∷ t.outer) ≡ (frames_at image None at (by_sp (slice_index vrs.r SP)) l.first l.more).frames =
         kept_same image (length l.more) c (t.first ∷ t.outer) (l.first ∷ l.more) stands ∙ kept_here image (length l.more) c l.first l.more refl in
         let left : left_due image t slot ≡ pads (due g next (l.frame ∷ l.outer)) =
-        own_due image t (length l.more) u.places c u.lists.cleanups places_are listed.0
+        own_due image t (record { cleanup = c; place = length l.more }) u.cleanups listed_there
         ∙ ap (λ (h : Goal). pads (due h next (kept_frames image (length l.more) c (t.first ∷ t.outer)))) same ∙ ap (λ (xs : List Frame). pads (due g next xs)) kept
         ∙ sym (pads_by_sp g next image at vrs.r (slice_index vrs.r SP) l.first l.more refl) ∙ ap (λ (xs : List Frame). pads (due g next xs)) at_site in
         let head : pad_in (enters.Cleanup vrs pad next at) ≡ Some (stands_at t) = ap pad_in (sym is) ∙ is_landed.at in
         let all : pads (due g from fs.frames) ≡ stands_at t ∷ pads (due g next (l.frame ∷ l.outer)) = ap pads l.due ∙ ap (λ (o : Option Pad). cons_option o (pads (due g next (l.frame ∷ l.outer)))) head in
         record { rest = []; is = all ∙ ap (λ (ps : List Pad). stands_at t ∷ ps) (sym left ∙ none_more (left_due image t slot)) }
 
-    in_handler : t.lists.cleanups ≡ u.lists.cleanups → AreFirst (stands_at t ∷ left_due image t slot) (pads (due g from fs.frames))
+    in_handler : t.cleanups ≡ u.cleanups → AreFirst (stands_at t ∷ left_due image t slot) (pads (due g from fs.frames))
     in_handler cleanups =
-        let none : left_due image t slot ≡ [] = none_due image t slot t.places t.lists.cleanups (λ h. idle (subst (λ (cs : List Cleanup). Has (slots cs) slot) cleanups h)) in
+        let none : left_due image t slot ≡ [] = none_due image t slot t.cleanups (λ h. idle (subst (λ (cs : List InProgress). Has (slots (cleanups_in cs)) slot) cleanups h)) in
         record { rest = pads first.later; is = pads_are ∙ ap (λ (ps : List Pad). stands_at t ∷ (ps ++ pads first.later)) (sym none) }
 
     pub flight_due : AreFirst (stands_at t ∷ left_due image t slot) (pads (due g from fs.frames))
@@ -134,7 +134,7 @@ module _ (image : Image) (sound : IsSound image) (u t : Recorded) (i : ℕ) (a :
       where
         go : (d : Entered) → e ≡ d → Listed u acts slot d t → AreFirst (stands_at t ∷ left_due image t slot) (pads (due g from fs.frames))
         go (enters.Cleanup vrs pad next at) is l = in_cleanup vrs pad next at is
-        go (enters.Catch vrs pad) is l = in_handler l.0
-        go (enters.Spec vrs pad) is l = in_handler l.0
+        go (enters.Catch vrs pad) is l = in_handler l
+        go (enters.Spec vrs pad) is l = in_handler l
         go enters.Unexpected is l = absurd l
         go (enters.Terminate why) is l = absurd l

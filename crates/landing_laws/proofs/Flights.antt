@@ -24,5 +24,5 @@ flights_land_in_order x s site slot b t m input is k can bytes e =
     let went = ap (λ (o : Option ℕ). machine.advances (with_words (set_barrier_of o (barrier_words (block slot) b)) s) (s.first ∷ s.outer) (block slot) (handed (block slot) b.hit) (goal_of b) 0 (all_frames x s site))
     (sym (slot_of_block_is slot can.flight.small)) ∙ e in
     let lands =
-    flight_lands x is s k s t site slot b can.flight.small refl refl refl refl refl k.corresponds.map (λ u j low high. refl) can.flight.idle can.sp can.desc can.reached went in
+    flight_lands x is s k s t site slot b can.flight.small refl refl refl refl k.corresponds.map (λ u j low high. refl) can.flight.idle can.sp can.desc can.reached went in
     one_more x is slot (stands_at t) (resumes_of slot (landings (program_of x) m t input)) (left_due x.image t slot) (pads (due (goal_of b) 0 (all_frames x s site).frames)) lands (resumes_first x is slot m t input kt bytes)

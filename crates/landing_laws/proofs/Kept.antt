@@ -12,7 +12,7 @@ use Rattle.eh_phase.specs.Frames.{covered_at, site_of}
 use Rattle.eh_phase.specs.Phases.{Frame, Frames}
 use Rattle.eh_phase.specs.declared.phase2.Goal.{Goal}
 use Rattle.frame_check.specs.Accepts.{Accepted}
-use Rattle.two_machines.specs.Activations.{Activation, Caller, Recorded, registers_of, framed_at, outside, frames_at}
+use Rattle.two_machines.specs.Activations.{Activation, Caller, Recorded, registers_of, framed_at, outside, frames_at, InProgress, cleanups_in}
 use Rattle.two_machines.specs.ActivationLaws.{callers}
 use Rattle.stands_for.specs.Cleanups.{goal_at, by_sp, IsHeld, AreInProgress}
 use Rattle.landing_laws.specs.Landings.{pads}
@@ -97,29 +97,27 @@ held_length x segments g n c (a ∷ more) (inr later) = let w = held_length x se
 -- ---- what is due
 
 module _ (x : Accepted) (image : Image) (s t : Recorded) (slot : ℕ) (moved : Moved (s.first ∷ s.outer) (t.first ∷ t.outer)) where
-  pub among_kept : (low high : ℕ) (places : List ℕ) (cleanups : List Cleanup) → (Has (slots cleanups) slot → goal_at t slot ≡ goal_at s slot) → AreInProgress x s low places cleanups
-      → AreInProgress x t high places cleanups → due_among image t slot places cleanups ≡ due_among image s slot places cleanups
-  among_kept low high [] cleanups goal p q = refl
-  among_kept low high (n ∷ later) [] goal p q = refl
-  among_kept low high (n ∷ later) (c ∷ more) goal p q = go (c.slot == slot) refl (among_kept c.sp c.sp later more (λ h. goal (inr h)) p.3 q.3)
+  pub among_kept : (low high : ℕ) (cleanups : List InProgress) → (Has (slots (cleanups_in cleanups)) slot → goal_at t slot ≡ goal_at s slot) → AreInProgress x s low cleanups
+      → AreInProgress x t high cleanups → due_among image t slot cleanups ≡ due_among image s slot cleanups
+  among_kept low high [] goal p q = refl
+  among_kept low high (d ∷ more) goal p q = go (d.cleanup.slot == slot) refl (among_kept d.cleanup.sp d.cleanup.sp more (λ h. goal (inr h)) p.3 q.3)
     where
-      own : c.slot ≡ slot → due_of image t n c ≡ due_of image s n c
+      own : d.cleanup.slot ≡ slot → due_of image t d.place d.cleanup ≡ due_of image s d.place d.cleanup
       own e =
-          let same : goal_at t c.slot ≡ goal_at s c.slot = subst (λ (k : ℕ). goal_at t k ≡ goal_at s k) (sym e) (goal (inl e)) in
-          ap (λ (g : Goal). pads (due g c.next (kept_frames image n c (t.first ∷ t.outer)))) same
-          ∙ ap (λ (fs : List Frame). pads (due (goal_at s c.slot) c.next fs))
-          (moved_kept image n c (s.first ∷ s.outer) (t.first ∷ t.outer) moved (held_length x s.segments (goal_at s c.slot) n c (s.first ∷ s.outer) p.1) (held_length x t.segments (goal_at t c.slot) n c (t.first ∷ t.outer) q.1))
+          let same : goal_at t d.cleanup.slot ≡ goal_at s d.cleanup.slot = subst (λ (k : ℕ). goal_at t k ≡ goal_at s k) (sym e) (goal (inl e)) in
+          ap (λ (g : Goal). pads (due g d.cleanup.next (kept_frames image d.place d.cleanup (t.first ∷ t.outer)))) same
+          ∙ ap (λ (fs : List Frame). pads (due (goal_at s d.cleanup.slot) d.cleanup.next fs))
+          (moved_kept image d.place d.cleanup (s.first ∷ s.outer) (t.first ∷ t.outer) moved (held_length x s.segments (goal_at s d.cleanup.slot) d.place d.cleanup (s.first ∷ s.outer) p.1) (held_length x t.segments (goal_at t d.cleanup.slot) d.place d.cleanup (t.first ∷ t.outer) q.1))
 
-      go : (b : Bool) → (c.slot == slot) ≡ b → due_among image t slot later more ≡ due_among image s slot later more → cond b (due_of image t n c) (due_among image t slot later more) ≡ cond b (due_of image s n c) (due_among image s slot later more)
-      go true e w = own (eqb-true c.slot slot e)
+      go : (b : Bool) → (d.cleanup.slot == slot) ≡ b → due_among image t slot more ≡ due_among image s slot more → cond b (due_of image t d.place d.cleanup) (due_among image t slot more) ≡ cond b (due_of image s d.place d.cleanup) (due_among image s slot more)
+      go true e w = own (eqb-true d.cleanup.slot slot e)
       go false e w = w
 
 -- none is due of an exception without a cleanup in progress
-pub none_due : (image : Image) (s : Recorded) (slot : ℕ) (places : List ℕ) (cleanups : List Cleanup) → (Has (slots cleanups) slot → ⊥) → due_among image s slot places cleanups ≡ []
-none_due image s slot [] cleanups h = refl
-none_due image s slot (n ∷ later) [] h = refl
-none_due image s slot (n ∷ later) (c ∷ more) h = go (c.slot == slot) refl (none_due image s slot later more (λ k. h (inr k)))
+pub none_due : (image : Image) (s : Recorded) (slot : ℕ) (cleanups : List InProgress) → (Has (slots (cleanups_in cleanups)) slot → ⊥) → due_among image s slot cleanups ≡ []
+none_due image s slot [] h = refl
+none_due image s slot (c ∷ more) h = go (c.cleanup.slot == slot) refl (none_due image s slot more (λ k. h (inr k)))
   where
-    go : (b : Bool) → (c.slot == slot) ≡ b → due_among image s slot later more ≡ [] → cond b (due_of image s n c) (due_among image s slot later more) ≡ []
-    go true e w = absurd (h (inl (eqb-true c.slot slot e)))
+    go : (b : Bool) → (c.cleanup.slot == slot) ≡ b → due_among image s slot more ≡ [] → cond b (due_of image s c.place c.cleanup) (due_among image s slot more) ≡ []
+    go true e w = absurd (h (inl (eqb-true c.cleanup.slot slot e)))
     go false e w = w

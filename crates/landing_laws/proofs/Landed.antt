@@ -18,10 +18,10 @@ use Rattle.eh_phase.specs.declared.phase2.Entered.TheVariants as enters
 use Rattle.eh_trace.specs.declared.event.Event.{Event}
 use Rattle.eh_trace.specs.declared.event.EventKind.TheVariants as event
 use Rattle.thumb_core.specs.declared.regs.TheConstants.{SP}
-use Rattle.two_machines.specs.Activations.{Activation, Caller, Recorded, words_in, heads}
+use Rattle.two_machines.specs.Activations.{Activation, Caller, Recorded, words_in, heads, lists_of, InProgress}
 use Rattle.two_machines.specs.ActivationLaws.{callers}
 use Rattle.two_machines.specs.ActivationMachine as machine
-use Rattle.two_machines.proofs.RecordedGates.{callers_left, land_keeps}
+use Rattle.two_machines.proofs.RecordedGates.{callers_left}
 use Rattle.landing_laws.specs.Landings.{Pad, stands_at, pad_in}
 use Rattle.landing_laws.proofs.Beside.{AreBeside, SameBarrier, beside_same}
 use Rattle.landing_laws.proofs.Kept.{Moved}
@@ -55,9 +55,9 @@ moved_by u j (a ∷ more) r pad answer e = inl (j, acts_left u a more r pad answ
 -- a cleanup that is entered is the innermost in progress, and names its activation by how many stand outside it
 abbrev pub Listed : Recorded → List Activation → ℕ → Entered → Recorded → Type 0
 Listed u acts slot (enters.Cleanup vrs pad next site) t =
-    (t.lists.cleanups ≡ record { slot = slot; next = next; sp = slice_index vrs.r SP; site = site } ∷ u.lists.cleanups) × (t.places ≡ machine.outside_of acts ∷ u.places)
-Listed u acts slot (enters.Catch vrs pad) t = (t.lists.cleanups ≡ u.lists.cleanups) × (t.places ≡ u.places)
-Listed u acts slot (enters.Spec vrs pad) t = (t.lists.cleanups ≡ u.lists.cleanups) × (t.places ≡ u.places)
+    t.cleanups ≡ record { cleanup = record { slot = slot; next = next; sp = slice_index vrs.r SP; site = site }; place = machine.outside_of acts } ∷ u.cleanups
+Listed u acts slot (enters.Catch vrs pad) t = t.cleanups ≡ u.cleanups
+Listed u acts slot (enters.Spec vrs pad) t = t.cleanups ≡ u.cleanups
 Listed u acts slot enters.Unexpected t = ⊥
 Listed u acts slot (enters.Terminate why) t = ⊥
 
@@ -88,47 +88,48 @@ module _ (u : Recorded) (j : ℕ) (acts : List Activation) (is : acts ≡ drop j
   abbrev LeftAt : List ℕ → ℕ → Event → Option ℕ → List Activation → Recorded
   LeftAt r pad e o xs = machine.logged (machine.at_pad (machine.flown u o) xs r pad (block slot)) e
 
+  abbrev listed_of : ℕ → List ℕ → ℕ → ℕ → List InProgress
+  listed_of n r next site = record { cleanup = record { slot = n; next = next; sp = slice_index r SP; site = site }; place = machine.outside_of acts } ∷ u.cleanups
+
   cleanup_landed : (r : List ℕ) (pad next site : ℕ) (e : Event) (o : Option ℕ) → o ≡ Some slot → (xs : List Activation) → acts ≡ xs
       → IsLanded u acts slot (enters.Cleanup (record { r = r }) pad next site)
       (Cleaned r pad next site e o xs)
   cleanup_landed r pad next site e None q xs same = absurd cc
   cleanup_landed r pad next site e (Some k) q [] same = record {
-    same = λ v. beside_same (begin_cleanup_of (heads u.lists) (block slot) (words_of r next site)).writes u (Cleaned r pad next site e (Some k) []) v (begins_beside (heads u.lists) (block slot) (words_of r next site) (block_slot (block slot))) refl;
+    same = λ v. beside_same (begin_cleanup_of (heads (lists_of u)) (block slot) (words_of r next site)).writes u (Cleaned r pad next site e (Some k) []) v (begins_beside (heads (lists_of u)) (block slot) (words_of r next site) (block_slot (block slot))) refl;
     at = refl;
     moved = inl (0, refl);
     stands = λ a more f. absurd (let g : [] ≡ a ∷ more = sym same ∙ f in cc);
-    listed = (ap (λ (n : ℕ). let c : Cleanup = record { slot = n; next = next; sp = slice_index r SP; site = site } in c ∷ u.lists.cleanups) (let h : k ≡ slot = cc in h), refl);
+    listed = ap (λ (n : ℕ). listed_of n r next site) (let h : k ≡ slot = cc in h);
   }
   cleanup_landed r pad next site e (Some k) q (a ∷ more) same = record {
-    same = λ v. beside_same (begin_cleanup_of (heads u.lists) (block slot) (words_of r next site)).writes u (Cleaned r pad next site e (Some k) (a ∷ more)) v (begins_beside (heads u.lists) (block slot) (words_of r next site) (block_slot (block slot))) refl;
+    same = λ v. beside_same (begin_cleanup_of (heads (lists_of u)) (block slot) (words_of r next site)).writes u (Cleaned r pad next site e (Some k) (a ∷ more)) v (begins_beside (heads (lists_of u)) (block slot) (words_of r next site) (block_slot (block slot))) refl;
     at = refl;
     moved = moved_by u j (a ∷ more) r pad 0 (sym same ∙ is);
     stands = λ b rest f. at_acts u r pad 0 (a ∷ more) b rest (sym same ∙ f);
-    listed = (ap (λ (n : ℕ). let c : Cleanup = record { slot = n; next = next; sp = slice_index r SP; site = site } in c ∷ u.lists.cleanups) (let h : k ≡ slot = cc in h), refl);
+    listed = ap (λ (n : ℕ). listed_of n r next site) (let h : k ≡ slot = cc in h);
   }
 
   abbrev Handled : List ℕ → ℕ → Recorded → Type 0
   Handled r pad t =
       ((v : ℕ) → SameBarrier u t v) × (stands_at t ≡ stands_at (machine.at_pad u [] r pad (block slot))) × Moved (u.first ∷ u.outer) (t.first ∷ t.outer)
-      × ((a : Activation) (more : List Activation) → acts ≡ a ∷ more → callers (t.first ∷ t.outer) ≡ callers (a ∷ more)) × (t.lists.cleanups ≡ u.lists.cleanups) × (t.places ≡ u.places)
+      × ((a : Activation) (more : List Activation) → acts ≡ a ∷ more → callers (t.first ∷ t.outer) ≡ callers (a ∷ more)) × (t.cleanups ≡ u.cleanups)
 
   handled : (r : List ℕ) (pad : ℕ) (e : Event) (o : Option ℕ) (xs : List Activation) → acts ≡ xs → Handled r pad (LeftAt r pad e o xs)
-  handled r pad e None [] same = (λ v. beside_same [] u (LeftAt r pad e None []) v tt refl, refl, inl (0, refl), λ a more f. absurd (let g : [] ≡ a ∷ more = sym same ∙ f in cc), refl, refl)
-  handled r pad e None (a ∷ more) same = (λ v. beside_same [] u (LeftAt r pad e None (a ∷ more)) v tt refl, refl, moved_by u j (a ∷ more) r pad (block slot) (sym same ∙ is), λ b rest f. at_acts u r pad (block slot) (a ∷ more) b rest (sym same ∙ f), refl, refl)
+  handled r pad e None [] same = (λ v. beside_same [] u (LeftAt r pad e None []) v tt refl, refl, inl (0, refl), λ a more f. absurd (let g : [] ≡ a ∷ more = sym same ∙ f in cc), refl)
+  handled r pad e None (a ∷ more) same = (λ v. beside_same [] u (LeftAt r pad e None (a ∷ more)) v tt refl, refl, moved_by u j (a ∷ more) r pad (block slot) (sym same ∙ is), λ b rest f. at_acts u r pad (block slot) (a ∷ more) b rest (sym same ∙ f), refl)
   handled r pad e (Some k) [] same = (
-    λ v. beside_same (land_of (words_in u.lists) (Some k)) u (LeftAt r pad e (Some k) []) v (lands_beside (words_in u.lists) (Some k)) refl,
+    λ v. beside_same (land_of (words_in (lists_of u)) (Some k)) u (LeftAt r pad e (Some k) []) v (lands_beside (words_in (lists_of u)) (Some k)) refl,
     refl,
     inl (0, refl),
     λ a more f. absurd (let g : [] ≡ a ∷ more = sym same ∙ f in cc),
-    land_keeps u.lists k,
     refl,
   )
   handled r pad e (Some k) (a ∷ more) same = (
-    λ v. beside_same (land_of (words_in u.lists) (Some k)) u (LeftAt r pad e (Some k) (a ∷ more)) v (lands_beside (words_in u.lists) (Some k)) refl,
+    λ v. beside_same (land_of (words_in (lists_of u)) (Some k)) u (LeftAt r pad e (Some k) (a ∷ more)) v (lands_beside (words_in (lists_of u)) (Some k)) refl,
     refl,
     moved_by u j (a ∷ more) r pad (block slot) (sym same ∙ is),
     λ b rest f. at_acts u r pad (block slot) (a ∷ more) b rest (sym same ∙ f),
-    land_keeps u.lists k,
     refl,
   )
 
@@ -136,9 +137,9 @@ module _ (u : Recorded) (j : ℕ) (acts : List Activation) (is : acts ≡ drop j
   landed (enters.Cleanup vrs pad next site) = cleanup_landed vrs.r pad next site (pad_event event.Cleanup pad (slice_index vrs.r SP) 0) (block_slot (block slot)) (slot_of_block_is slot small) acts refl
   landed (enters.Catch vrs pad) =
       let h = handled vrs.r pad (pad_event event.Catch pad (slice_index vrs.r SP) object) (block_slot (block slot)) acts refl in
-      record { same = h.0; at = ap (λ (p : Pad). Some p) (sym h.1); moved = h.2; stands = h.3; listed = (h.4, h.5) }
+      record { same = h.0; at = ap (λ (p : Pad). Some p) (sym h.1); moved = h.2; stands = h.3; listed = h.4 }
   landed (enters.Spec vrs pad) =
       let h = handled vrs.r pad (pad_event event.Unexpected pad (slice_index vrs.r SP) 0) (block_slot (block slot)) acts refl in
-      record { same = h.0; at = ap (λ (p : Pad). Some p) (sym h.1); moved = h.2; stands = h.3; listed = (h.4, h.5) }
+      record { same = h.0; at = ap (λ (p : Pad). Some p) (sym h.1); moved = h.2; stands = h.3; listed = h.4 }
   landed enters.Unexpected = tt
   landed (enters.Terminate why) = tt

@@ -5,7 +5,7 @@ use Rattle.std.proofs.lemmas.Bool.Decides.{nat_tests}
 use Rattle.event_runs.specs.Runs.{Event, Goes, Ends}
 use Rattle.eh_bus.specs.Lists.{Has}
 use Rattle.eh_bus.specs.Memory.{Memory}
-use Rattle.eh_cxa.specs.Lists.{Cleanup, slots}
+use Rattle.eh_cxa.specs.Lists.{slots}
 use Rattle.eh_cxa.specs.ListCalls.{throw_list, rethrow_from, rethrow_list}
 use Rattle.eh_cxa.specs.declared.globals.CxaFault.{CxaFault}
 use Rattle.eh_cxa.specs.declared.globals.CxaFault.TheVariants.{BadObject, NoCaught}
@@ -26,7 +26,7 @@ use Rattle.thumb_core.specs.declared.ends.End.{End}
 use Rattle.frame_check.specs.Accepts.{Accepted}
 use Rattle.two_machines.specs.Checked.{program_of}
 use Rattle.two_machines.specs.Program.{guide}
-use Rattle.two_machines.specs.Activations.{Activation, Recorded, reg_in, memory_of, heads, first_place}
+use Rattle.two_machines.specs.Activations.{Activation, Recorded, reg_in, memory_of, heads, lists_of, cleanups_in, InProgress}
 use Rattle.two_machines.specs.ActivationLaws.{callers}
 use Rattle.two_machines.specs.ActivationMachine as machine
 use Rattle.two_machines.specs.Corresponds.{IsNoCall, WalksNone}
@@ -34,7 +34,7 @@ use Rattle.stands_for.specs.Cleanups.{goal_at, AreInProgress}
 use Rattle.stands_for.specs.Stands.{Keeps, IsProgram, OnEvent}
 use Rattle.machines_agree.specs.Turned.{AreBytes}
 use Rattle.machines_agree.proofs.OneEvent.{turns}
-use Rattle.landing_laws.specs.Landings.{gate_at, gate_in, thrown_by, thrown_at, innermost, resumed_by, resumed_at, Pad, landed_by, stands_at, AreFirst}
+use Rattle.landing_laws.specs.Landings.{gate_at, gate_in, thrown_by, thrown_at, innermost, resumed_by, resumed_at, Pad, landed_by, stands_at, AreFirst, top_of}
 use Rattle.landing_laws.specs.Due.{due_among, left_due, GoesOnBy, GoesOn, DueAfter}
 use Rattle.landing_laws.specs.LandingLaws.{DueGoesOn}
 use Rattle.landing_laws.proofs.Beside.{same_goal}
@@ -74,31 +74,29 @@ module _ (slot : ℕ) (old new : List Pad) (at : Pad) where
       go false e = kept (λ f. absurd (let t : (resumed == slot) ≡ true = grind (arith, nat_tests) in let clash : true ≡ false = sym t ∙ e in cc))
 
 -- an exception whose slot the machine gives: of the object in r0, or on top of the caught stack
-pub caught_small : (s : Recorded) (x : Accepted) → Keeps x s → (slot : ℕ) → first_place s.lists.caught ≡ Some slot → slot < SLOTS
-caught_small s x k slot e = go s.lists.caught k.corresponds.stands.shows.caught e
+pub caught_small : (s : Recorded) (x : Accepted) → Keeps x s → (slot : ℕ) → top_of s.caught ≡ Some slot → slot < SLOTS
+caught_small s x k slot e = go s.caught k.corresponds.stands.shows.caught e
   where
-    go : (xs : List ℕ) → cxa.Chain (λ t. word (memory_of s) t NEXT_CAUGHT) (heads s.lists).caught xs → first_place xs ≡ Some slot → slot < SLOTS
+    go : (xs : List ℕ) → cxa.Chain (λ t. word (memory_of s) t NEXT_CAUGHT) (heads (lists_of s)).caught xs → top_of xs ≡ Some slot → slot < SLOTS
     go [] h f = absurd cc
-    go (y ∷ more) h f = let same : y ≡ slot = cc in let w = slot_small (heads s.lists).caught y h.0 in omega (arith, same, w)
+    go (y ∷ more) h f = let same : y ≡ slot = cc in let w = slot_small (heads (lists_of s)).caught y h.0 in omega (arith, same, w)
 
 -- nothing lands
 module _ (x : Accepted) (s t : Recorded) (k : Keeps x s) (kt : Keeps x t) (slot : ℕ) where
-  stays : t.lists.cleanups ≡ s.lists.cleanups → t.places ≡ s.places → Moved (s.first ∷ s.outer) (t.first ∷ t.outer) → (Has (slots s.lists.cleanups) slot → goal_at t slot ≡ goal_at s slot)
+  stays : t.cleanups ≡ s.cleanups → Moved (s.first ∷ s.outer) (t.first ∷ t.outer) → (Has (slots (cleanups_in s.cleanups)) slot → goal_at t slot ≡ goal_at s slot)
       → left_due x.image t slot ≡ left_due x.image s slot
-  stays l r moved goal =
-      let there : AreInProgress x t (reg_in t SP) s.places s.lists.cleanups =
-      subst (λ (ps : List ℕ). AreInProgress x t (reg_in t SP) ps s.lists.cleanups) r (subst (λ (cs : List Cleanup). AreInProgress x t (reg_in t SP) t.places cs) l kt.cleanups) in
-      ap (due_among x.image t slot t.places) l ∙ ap (λ (ps : List ℕ). due_among x.image t slot ps s.lists.cleanups) r
-      ∙ among_kept x x.image s t slot moved (reg_in s SP) (reg_in t SP) s.places s.lists.cleanups goal k.cleanups there
+  stays l moved goal =
+      let there : AreInProgress x t (reg_in t SP) s.cleanups = subst (AreInProgress x t (reg_in t SP)) l kt.cleanups in
+      ap (due_among x.image t slot) l ∙ among_kept x x.image s t slot moved (reg_in s SP) (reg_in t SP) s.cleanups goal k.cleanups there
 
   pub quiet_stays : IsQuiet s t → left_due x.image t slot ≡ left_due x.image s slot
   quiet_stays q =
-      stays q.cleanups q.places q.moved
-      (λ has. same_goal s t slot (q.same slot (chained_small (λ u. word (memory_of s) u NEXT_CLEANUP) (heads s.lists).cleanup (slots s.lists.cleanups) slot k.corresponds.stands.shows.cleanups has)))
+      stays q.cleanups q.moved
+      (λ has. same_goal s t slot (q.same slot (chained_small (λ u. word (memory_of s) u NEXT_CLEANUP) (heads (lists_of s)).cleanup (slots (cleanups_in s.cleanups)) slot k.corresponds.stands.shows.cleanups has)))
 
   pub tamed_stays : IsTamed s t → left_due x.image t slot ≡ left_due x.image s slot
   tamed_stays q =
-      stays q.cleanups q.places (inl (0, ap (λ (a : Activation). callers (a ∷ t.outer)) q.first ∙ ap (λ (xs : List Activation). callers (s.first ∷ xs)) q.outer)) (q.same slot)
+      stays q.cleanups (inl (0, ap (λ (a : Activation). callers (a ∷ t.outer)) q.first ∙ ap (λ (xs : List Activation). callers (s.first ∷ xs)) q.outer)) (q.same slot)
 
 -- ---- by the instruction
 
@@ -109,7 +107,7 @@ module _ (x : Accepted) (is : IsProgram x) (s : Recorded) (k : Keeps x s) (t : R
   -- a throw
   by_throw : (thrown : Option ℕ) → object_slot (reg_in s 0) ≡ thrown → (resumed : Option ℕ) → machine.throw_gate (guide (program_of x)) s ≡ (Went, t)
       → GoesOn slot (left_due x.image s slot) (left_due x.image t slot) (landed_by (stands_at t) thrown resumed)
-  by_throw None at resumed e = absurd (no_object (machine.first_flight s).answer (ap (λ (o : Option ℕ). (throw_list s.lists o (machine.thrown_words s)).answer) at) e)
+  by_throw None at resumed e = absurd (no_object (machine.first_flight s).answer (ap (λ (o : Option ℕ). (throw_list (lists_of s) o (machine.thrown_words s)).answer) at) e)
     where
       no_object : (r : Result ℕ CxaFault) → r ≡ Err BadObject → machine.throws (guide (program_of x)) s r ≡ (Went, t) → ⊥
       no_object (Ok control) f q = absurd cc
@@ -118,39 +116,39 @@ module _ (x : Accepted) (is : IsProgram x) (s : Recorded) (k : Keeps x s) (t : R
       on_thrown slot (left_due x.image s slot) (left_due x.image t slot) (stands_at t) thrown resumed
       (λ differ. threw_leaves x is s k t thrown (object_small (reg_in s 0) thrown at) (machine.thrown_first s) (throw_flies (guide (program_of x)) s t thrown at e) kt slot differ)
 
-  by_rethrow : (thrown : Option ℕ) → first_place s.lists.caught ≡ thrown → (resumed : Option ℕ) → machine.rethrow_gate (guide (program_of x)) s ≡ (Went, t)
+  by_rethrow : (thrown : Option ℕ) → top_of s.caught ≡ thrown → (resumed : Option ℕ) → machine.rethrow_gate (guide (program_of x)) s ≡ (Went, t)
       → GoesOn slot (left_due x.image s slot) (left_due x.image t slot) (landed_by (stands_at t) thrown resumed)
-  by_rethrow None at resumed e = absurd (go s.lists.caught refl at (rethrow_list s.lists).answer refl e)
+  by_rethrow None at resumed e = absurd (go s.caught refl at (rethrow_list (lists_of s)).answer refl e)
     where
-      go : (xs : List ℕ) → s.lists.caught ≡ xs → first_place xs ≡ None → (r : Result ℕ CxaFault) → (rethrow_list s.lists).answer ≡ r → machine.rethrows (guide (program_of x)) s r ≡ (Went, t) → ⊥
-      go [] f g (Ok control) a q = absurd (let w : ◌≡◌ {A = Result ℕ CxaFault} (Err NoCaught) (Ok control) = sym (ap (λ ys. (rethrow_from s.lists ys).answer) f) ∙ a in cc)
+      go : (xs : List ℕ) → s.caught ≡ xs → top_of xs ≡ None → (r : Result ℕ CxaFault) → (rethrow_list (lists_of s)).answer ≡ r → machine.rethrows (guide (program_of x)) s r ≡ (Went, t) → ⊥
+      go [] f g (Ok control) a q = absurd (let w : ◌≡◌ {A = Result ℕ CxaFault} (Err NoCaught) (Ok control) = sym (ap (λ ys. (rethrow_from (lists_of s) ys).answer) f) ∙ a in cc)
       go [] f g (Err why) a q = not_went _ s t q
       go (y ∷ more) f g r a q = absurd cc
   by_rethrow (Some thrown) at resumed e =
       let small = caught_small s x k thrown at in
       on_thrown slot (left_due x.image s slot) (left_due x.image t slot) (stands_at t) thrown resumed
-      (λ differ. threw_leaves x is s k t thrown small (machine.thrown_of_slot s.lists (Some thrown)) (rethrow_flies (guide (program_of x)) s t thrown (slot_of_block_is thrown small) at e) kt slot differ)
+      (λ differ. threw_leaves x is s k t thrown small (machine.thrown_of_slot (lists_of s) (Some thrown)) (rethrow_flies (guide (program_of x)) s t thrown (slot_of_block_is thrown small) at e) kt slot differ)
 
   by_end : EndsSo (guide (program_of x)) s (machine.end_cleanup_gate (guide (program_of x)) s) → machine.end_cleanup_gate (guide (program_of x)) s ≡ (Went, t)
-      → GoesOn slot (left_due x.image s slot) (left_due x.image t slot) (landed_by (stands_at t) None (innermost s.lists.cleanups))
+      → GoesOn slot (left_due x.image s slot) (left_due x.image t slot) (landed_by (stands_at t) None (innermost s.cleanups))
   by_end (inr (end, f, trap)) e = absurd (not_went end s t (sym f ∙ e))
   by_end (inl r) e =
-      subst (λ (cs : List Cleanup). GoesOn slot (left_due x.image s slot) (left_due x.image t slot) (landed_by (stands_at t) None (innermost cs))) (sym r.cleanups)
-      (on_resumed slot (left_due x.image s slot) (left_due x.image t slot) (stands_at t) r.cleanup.slot
+      subst (λ (cs : List InProgress). GoesOn slot (left_due x.image s slot) (left_due x.image t slot) (landed_by (stands_at t) None (innermost cs))) (sym r.cleanups)
+      (on_resumed slot (left_due x.image s slot) (left_due x.image t slot) (stands_at t) r.ends.cleanup.slot
       (λ own. subst (λ (n : ℕ). AreFirst (stands_at t ∷ left_due x.image t n) (left_due x.image s n)) own (ends_land x is s k (guide (program_of x)) refl _ r t e))
       (λ differ. ends_leave x is s k (guide (program_of x)) refl _ r t e kt slot differ))
 
   abbrev AtGate : ℕ → Bool → Bool → Bool → Type 0
   AtGate number a b c =
       GoesOn slot (left_due x.image s slot) (left_due x.image t slot)
-      (landed_by (stands_at t) (cond a (object_slot (reg_in s 0)) (cond b (first_place s.lists.caught) None)) (cond c (innermost s.lists.cleanups) None))
+      (landed_by (stands_at t) (cond a (object_slot (reg_in s 0)) (cond b (top_of s.caught) None)) (cond c (innermost s.cleanups) None))
 
   at_gate : (number next : ℕ) → machine.gate_of (guide (program_of x)) number next s ≡ (Went, t) → (a b c : Bool) → (number == THROW_GATE) ≡ a → (number == RETHROW_GATE) ≡ b → (number == END_CLEANUP_GATE) ≡ c → AtGate number a b c
   unfolding machine.gate_of
   at_gate number next e true b c f g h =
-      by_throw (object_slot (reg_in s 0)) refl (cond c (innermost s.lists.cleanups) None) (subst (λ (n : ℕ). machine.gate_of (guide (program_of x)) n next s ≡ (Went, t)) (eqb-true number THROW_GATE f) e)
+      by_throw (object_slot (reg_in s 0)) refl (cond c (innermost s.cleanups) None) (subst (λ (n : ℕ). machine.gate_of (guide (program_of x)) n next s ≡ (Went, t)) (eqb-true number THROW_GATE f) e)
   at_gate number next e false true c f g h =
-      by_rethrow (first_place s.lists.caught) refl (cond c (innermost s.lists.cleanups) None) (subst (λ (n : ℕ). machine.gate_of (guide (program_of x)) n next s ≡ (Went, t)) (eqb-true number RETHROW_GATE g) e)
+      by_rethrow (top_of s.caught) refl (cond c (innermost s.cleanups) None) (subst (λ (n : ℕ). machine.gate_of (guide (program_of x)) n next s ≡ (Went, t)) (eqb-true number RETHROW_GATE g) e)
   at_gate number next e false false true f g h =
       by_end (ends_so (guide (program_of x)) s) (subst (λ (n : ℕ). machine.gate_of (guide (program_of x)) n next s ≡ (Went, t)) (eqb-true number END_CLEANUP_GATE h) e)
   at_gate number next e false false false f g h =
@@ -194,7 +192,7 @@ module _ (x : Accepted) (is : IsProgram x) (s : Recorded) (k : Keeps x s) (input
   no_gate (Gate number) h = go (number == THROW_GATE) (number == RETHROW_GATE) (number == END_CLEANUP_GATE) refl refl refl
     where
       go : (a b c : Bool) → (number == THROW_GATE) ≡ a → (number == RETHROW_GATE) ≡ b → (number == END_CLEANUP_GATE) ≡ c
-          → (cond a (object_slot (reg_in s 0)) (cond b (first_place s.lists.caught) None) ≡ None) × (cond c (innermost s.lists.cleanups) None ≡ None)
+          → (cond a (object_slot (reg_in s 0)) (cond b (top_of s.caught) None) ≡ None) × (cond c (innermost s.cleanups) None ≡ None)
       go true b c f g e = absurd (let w = eqb-true number THROW_GATE f in omega (arith, w, h))
       go false true c f g e = absurd (let w = eqb-true number RETHROW_GATE g in omega (arith, w, h))
       go false false true f g e = absurd (let w = eqb-true number END_CLEANUP_GATE e in omega (arith, w, h))

@@ -47,8 +47,7 @@ freed_callers home old new (a ∷ more) = ap (λ (cs : List Caller). a.caller �
 
 -- what such an event leaves
 pub record IsQuiet (s t : Recorded) : Type 0 where
-  pub cleanups : t.lists.cleanups ≡ s.lists.cleanups
-  pub places : t.places ≡ s.places
+  pub cleanups : t.cleanups ≡ s.cleanups
   pub same : (slot : ℕ) → slot < SLOTS → SameBarrier s t slot
   pub moved : Moved (s.first ∷ s.outer) (t.first ∷ t.outer)
 
@@ -62,7 +61,7 @@ module _ (s : Recorded) where
   QuietBy (Ends end t) = Unit {0}
 
   by_gate : (e : Event Regs End) → QuietBy (in_state s e)
-  by_gate (Goes regs text left) = record { cleanups = refl; places = refl; same = λ slot small k low high. refl; moved = inl (0, refl) }
+  by_gate (Goes regs text left) = record { cleanups = refl; same = λ slot small k low high. refl; moved = inl (0, refl) }
   by_gate (Ends end regs) = tt
 
   module _ (p : Program) (input : List ℕ) where
@@ -70,12 +69,11 @@ module _ (s : Recorded) where
         → callers ((settled_at p s regs (record s { regs = regs; segments = m.segments })).first ∷ (settled_at p s regs (record s { regs = regs; segments = m.segments })).outer) ≡ callers (s.first ∷ s.outer)
     base_moved regs m = ap (λ (cs : List Caller). s.first.caller ∷ cs) (freed_callers s.home _ _ s.outer)
 
-    by_left : (acts : List Activation) (u : Recorded) (m : Memory) → KeepsMap (memory_of s) m → u.lists ≡ s.lists → u.places ≡ s.places → u.segments ≡ m.segments → u.outer ≡ acts
+    by_left : (acts : List Activation) (u : Recorded) (m : Memory) → KeepsMap (memory_of s) m → u.cleanups ≡ s.cleanups → u.segments ≡ m.segments → u.outer ≡ acts
         → callers (u.first ∷ u.outer) ≡ callers (s.first ∷ s.outer) → IsQuiet s (left_by acts u)
-    by_left [] u m k l q e is c = record { cleanups = ap (λ ls. ls.cleanups) l; places = q; same = words_kept u m k e; moved = inl (0, c) }
-    by_left (a ∷ more) u m k l q e is c = record {
-      cleanups = ap (λ ls. ls.cleanups) l;
-      places = q;
+    by_left [] u m k l e is c = record { cleanups = l; same = words_kept u m k e; moved = inl (0, c) }
+    by_left (a ∷ more) u m k l e is c = record {
+      cleanups = l;
       same = words_kept (record u { first = a; outer = more }) m k e;
       moved = inl (1, ap callers (sym is) ∙ ap (drop 1) c);
     }
@@ -89,18 +87,17 @@ module _ (s : Recorded) where
 
     by_test : (what : Stepped) → IsNoCall what → (regs : Regs) (m : Memory) → KeepsMap (memory_of s) m → (o : Option End) → QuietBy (onward p s (tested p s what regs m o) input)
     by_test what h regs m k (Some end) = tt
-    by_test Done h regs m k None = record { cleanups = refl; places = refl; same = words_kept (moved p s Done regs m) m k refl; moved = inl (0, base_moved regs m) }
+    by_test Done h regs m k None = record { cleanups = refl; same = words_kept (moved p s Done regs m) m k refl; moved = inl (0, base_moved regs m) }
     by_test (Call target ret) h regs m k None = record {
       cleanups = refl;
-      places = refl;
       same = words_kept (moved p s (Call target ret) regs m) m k refl;
       moved = inr ((moved p s (Call target ret) regs m).first, (moved p s (Call target ret) regs m).outer, refl, base_moved regs m);
     }
     by_test (Return to) h regs m k None =
         let base = settled_at p s regs (record s { regs = regs; segments = m.segments }) in
-        by_left base.outer base m k refl refl refl refl (base_moved regs m)
+        by_left base.outer base m k refl refl refl (base_moved regs m)
     by_test (Gate number) h regs m k None = by_number number regs h
-    by_test (Trap trap) h regs m k None = record { cleanups = refl; places = refl; same = words_kept (moved p s (Trap trap) regs m) m k refl; moved = inl (0, base_moved regs m) }
+    by_test (Trap trap) h regs m k None = record { cleanups = refl; same = words_kept (moved p s (Trap trap) regs m) m k refl; moved = inl (0, base_moved regs m) }
 
     by_step : (o : Stepping) → IsNoCall o.0 → KeepsMap (memory_of s) o.2 → QuietBy (onward p s (stepped p s o) input)
     by_step (Trap trap, regs, m) h k = go (pops_back s)

@@ -158,7 +158,7 @@ module _ (x : Accepted) (is : IsProgram x) where
     threw_enters : Lands (phase2 (goal_of b) 0 (machine.frames_from (guide (program_of x)) s None s.regs.pc))
     threw_enters =
         reached_lands (goal_of b) 0 (frames_from x s s.regs.pc)
-        (found_reached (meeting x.image (guide (program_of x)).types s.segments thrown) x.image (first_place s.places) s.regs.pc (all_of s.regs) s.first s.outer b search)
+        (found_reached (meeting x.image (guide (program_of x)).types s.segments thrown) x.image (first_place s.cleanups) s.regs.pc (all_of s.regs) s.first s.outer b search)
 
     by_flight : (t : Recorded) → slot < SLOTS → FliesTo (guide (program_of x)) s t slot thrown → AreFirst (stands_at t ∷ left_due x.image t slot) (pads (due (goal_of b) 0 (frames_from x s s.regs.pc).frames))
     by_flight t small f =

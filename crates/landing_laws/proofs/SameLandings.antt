@@ -2,7 +2,7 @@
 use Rattle.std.proofs.Common.{◌≡◌, ℕ, zero, suc, ◌==◌, cond, List, [], ◌∷◌, Option, Some, None, refl, ap, subst, ◌∙◌}
 use Rattle.std.specs.List.{cons_option}
 use Rattle.event_runs.specs.Runs.{Event, Goes, Ends}
-use Rattle.eh_cxa.specs.Lists.{Cleanup, slots}
+use Rattle.eh_cxa.specs.Lists.{slots}
 use Rattle.eh_cxa.specs.Stands as cxa
 use Rattle.eh_cxa.specs.Words.{word, block_slot, object_slot}
 use Rattle.eh_cxa.specs.declared.layout.TheConstants.{NEXT_CAUGHT, NEXT_CLEANUP}
@@ -12,13 +12,13 @@ use Rattle.thumb_core.specs.declared.ends.End.{End}
 use Rattle.frame_check.specs.Accepts.{Accepted}
 use Rattle.two_machines.specs.Checked.{program_of}
 use Rattle.two_machines.specs.Machine.{machine_event}
-use Rattle.two_machines.specs.Activations.{Recorded, reg_in, memory_of, heads, head_of, bytes_of, first_place}
+use Rattle.two_machines.specs.Activations.{Recorded, reg_in, memory_of, heads, head_of, bytes_of, lists_of, cleanups_in, InProgress}
 use Rattle.two_machines.specs.ActivationMachine.{recorded_event}
 use Rattle.stands_for.specs.Stands.{Keeps, StandsFor}
 use Rattle.machines_agree.specs.Turned.{AreBytes}
 use Rattle.machines_agree.proofs.RunsOn.{AlikeOn}
 use Rattle.machines_agree.proofs.WholeRuns.{alike}
-use Rattle.landing_laws.specs.Landings.{Landing, gate_at, thrown_by, innermost, resumed_by, landed_by, stands_at, landing_by, landings, landings_from}
+use Rattle.landing_laws.specs.Landings.{Landing, gate_at, thrown_by, innermost, resumed_by, landed_by, stands_at, landing_by, landings, landings_from, top_of}
 use Rattle.landing_laws.specs.ByteLandings.{byte_thrown_by, byte_resumed_by, byte_landing_by, byte_landings, byte_landings_from}
 use Rattle.landing_laws.specs.LandingLaws.{LandingsSame}
 
@@ -27,18 +27,18 @@ unfolding block_slot
 none_at = refl
 
 module _ (x : Accepted) (s : Recorded) (k : Keeps x s) where
-  caught_same : block_slot (heads s.lists).caught ≡ first_place s.lists.caught
-  caught_same = go s.lists.caught refl k.corresponds.stands.shows.caught
+  caught_same : block_slot (heads (lists_of s)).caught ≡ top_of s.caught
+  caught_same = go s.caught refl k.corresponds.stands.shows.caught
     where
-      go : (xs : List ℕ) → s.lists.caught ≡ xs → cxa.Chain (λ t. word (memory_of s) t NEXT_CAUGHT) (heads s.lists).caught xs → block_slot (heads s.lists).caught ≡ first_place xs
+      go : (xs : List ℕ) → s.caught ≡ xs → cxa.Chain (λ t. word (memory_of s) t NEXT_CAUGHT) (heads (lists_of s)).caught xs → block_slot (heads (lists_of s)).caught ≡ top_of xs
       go [] e h = ap (λ (ys : List ℕ). block_slot (head_of ys)) e ∙ none_at
       go (y ∷ more) e h = h.0
 
-  cleanup_same : block_slot (heads s.lists).cleanup ≡ innermost s.lists.cleanups
-  cleanup_same = go s.lists.cleanups refl k.corresponds.stands.shows.cleanups
+  cleanup_same : block_slot (heads (lists_of s)).cleanup ≡ innermost s.cleanups
+  cleanup_same = go s.cleanups refl k.corresponds.stands.shows.cleanups
     where
-      go : (cs : List Cleanup) → s.lists.cleanups ≡ cs → cxa.Chain (λ t. word (memory_of s) t NEXT_CLEANUP) (heads s.lists).cleanup (slots cs) → block_slot (heads s.lists).cleanup ≡ innermost cs
-      go [] e h = ap (λ (ys : List Cleanup). block_slot (head_of (slots ys))) e ∙ none_at
+      go : (cs : List InProgress) → s.cleanups ≡ cs → cxa.Chain (λ t. word (memory_of s) t NEXT_CLEANUP) (heads (lists_of s)).cleanup (slots (cleanups_in cs)) → block_slot (heads (lists_of s)).cleanup ≡ innermost cs
+      go [] e h = ap (λ (ys : List InProgress). block_slot (head_of (slots (cleanups_in ys)))) e ∙ none_at
       go (c ∷ more) e h = h.0
 
   thrown_same : (gate : Option ℕ) → byte_thrown_by (bytes_of s) gate ≡ thrown_by s gate

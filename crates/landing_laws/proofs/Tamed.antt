@@ -13,54 +13,53 @@ use Rattle.eh_gates.specs.declared.gates.TheConstants.{ALLOCATE_GATE, FREE_GATE,
 use Rattle.eh_gates.specs.Resuming.{goal_in}
 use Rattle.eh_gates.specs.State.{Guide}
 use Rattle.thumb_core.specs.declared.regs.Regs.{Regs}
-use Rattle.two_machines.specs.Activations.{Recorded, reg_in, memory_of, words_in, heads, with_lists}
+use Rattle.two_machines.specs.Activations.{Recorded, reg_in, memory_of, words_in, heads, with_lists, lists_of, cleanups_in}
 use Rattle.two_machines.specs.Corresponds.{Corresponds, WalksNone}
 use Rattle.two_machines.specs.ActivationMachine as machine
 use Rattle.two_machines.proofs.FirstEvent.{segments_alone}
 use Rattle.stands_for.specs.Cleanups.{goal_at}
 use Rattle.stands_for.proofs.Tame.{AreTame, IsKeptByWrites, tame_keeps}
-use Rattle.steps_keep.proofs.Gated.{allocate_tame, free_tame, catch_tame, end_tame, allocate_keeps, free_keeps, catch_keeps, end_keeps}
+use Rattle.steps_keep.proofs.Gated.{allocate_tame, free_tame, catch_tame, end_tame}
 use Rattle.landing_laws.proofs.Landed.{OnWent}
 
 pub record IsTamed (s t : Recorded) : Type 0 where
-  pub cleanups : t.lists.cleanups ≡ s.lists.cleanups
-  pub places : t.places ≡ s.places
+  pub cleanups : t.cleanups ≡ s.cleanups
   pub first : t.first ≡ s.first
   pub outer : t.outer ≡ s.outer
-  pub same : (slot : ℕ) → Has (slots s.lists.cleanups) slot → goal_at t slot ≡ goal_at s slot
+  pub same : (slot : ℕ) → Has (slots (cleanups_in s.cleanups)) slot → goal_at t slot ≡ goal_at s slot
 
 module _ (s : Recorded) (c : Corresponds s) where
   abbrev l : Lists
-  l = s.lists
+  l = lists_of s
 
   abbrev ss : List ℕ
-  ss = slots s.lists.cleanups
+  ss = slots (cleanups_in s.cleanups)
 
-  tamed : (new : Lists) (ws : List Write) (regs : Regs) → new.cleanups ≡ s.lists.cleanups → AreTame ss ws → IsTamed s (record (with_lists new ws s) { regs = regs })
-  tamed new ws regs e tame =
-      let kept : IsKeptByWrites (slots s.lists.cleanups) (memory_of s) (record (memory_of s) { segments = (put_all ws (memory_of s)).segments }) =
-      subst (IsKeptByWrites (slots s.lists.cleanups) (memory_of s)) (segments_alone ws (memory_of s)) (tame_keeps (slots s.lists.cleanups) ws (memory_of s) c.map tame) in
-      record { cleanups = e; places = refl; first = refl; outer = refl; same = λ slot has. ap goal_in (kept.barriers slot has) }
+  tamed : (new : Lists) (ws : List Write) (regs : Regs) → AreTame ss ws → IsTamed s (record (with_lists new ws s) { regs = regs })
+  tamed new ws regs tame =
+      let kept : IsKeptByWrites (slots (cleanups_in s.cleanups)) (memory_of s) (record (memory_of s) { segments = (put_all ws (memory_of s)).segments }) =
+      subst (IsKeptByWrites (slots (cleanups_in s.cleanups)) (memory_of s)) (segments_alone ws (memory_of s)) (tame_keeps (slots (cleanups_in s.cleanups)) ws (memory_of s) c.map tame) in
+      record { cleanups = refl; first = refl; outer = refl; same = λ slot has. ap goal_in (kept.barriers slot has) }
 
   module _ (next : ℕ) where
     abbrev Tames : machine.Outcome → Type 0
     Tames q = OnWent (IsTamed s) q
 
-    allocated_tames : (new : Lists) (ws : List Write) → new.cleanups ≡ s.lists.cleanups → AreTame ss ws → (r : Result ℕ CxaFault) → Tames (machine.allocated next s (with_lists new ws s) r)
-    allocated_tames new ws e tame (Ok object) = tamed new ws _ e tame
-    allocated_tames new ws e tame (Err why) = tt
+    allocated_tames : (new : Lists) (ws : List Write) → AreTame ss ws → (r : Result ℕ CxaFault) → Tames (machine.allocated next s (with_lists new ws s) r)
+    allocated_tames new ws tame (Ok object) = tamed new ws _ tame
+    allocated_tames new ws tame (Err why) = tt
 
-    freed_tames : (new : Lists) (ws : List Write) → new.cleanups ≡ s.lists.cleanups → AreTame ss ws → (r : Result (Unit {0}) CxaFault) → Tames (machine.freed next s (with_lists new ws s) r)
-    freed_tames new ws e tame (Ok done) = tamed new ws _ e tame
-    freed_tames new ws e tame (Err why) = tt
+    freed_tames : (new : Lists) (ws : List Write) → AreTame ss ws → (r : Result (Unit {0}) CxaFault) → Tames (machine.freed next s (with_lists new ws s) r)
+    freed_tames new ws tame (Ok done) = tamed new ws _ tame
+    freed_tames new ws tame (Err why) = tt
 
-    caught_tames : (new : Lists) (ws : List Write) → new.cleanups ≡ s.lists.cleanups → AreTame ss ws → (r : Result ℕ CxaFault) → Tames (machine.caught next s (with_lists new ws s) r)
-    caught_tames new ws e tame (Ok object) = tamed new ws _ e tame
-    caught_tames new ws e tame (Err why) = tt
+    caught_tames : (new : Lists) (ws : List Write) → AreTame ss ws → (r : Result ℕ CxaFault) → Tames (machine.caught next s (with_lists new ws s) r)
+    caught_tames new ws tame (Ok object) = tamed new ws _ tame
+    caught_tames new ws tame (Err why) = tt
 
-    dropped_tames : (new : Lists) (ws : List Write) → new.cleanups ≡ s.lists.cleanups → AreTame ss ws → (r : Result (ℕ × ℕ) CxaFault) → Tames (machine.dropped next s (with_lists new ws s) r)
-    dropped_tames new ws e tame (Ok (object, destructor)) = tamed new ws _ e tame
-    dropped_tames new ws e tame (Err why) = tt
+    dropped_tames : (new : Lists) (ws : List Write) → AreTame ss ws → (r : Result (ℕ × ℕ) CxaFault) → Tames (machine.dropped next s (with_lists new ws s) r)
+    dropped_tames new ws tame (Ok (object, destructor)) = tamed new ws _ tame
+    dropped_tames new ws tame (Err why) = tt
 
     choose : (b : Bool) (q q' : machine.Outcome) → (b ≡ true → Tames q) → Tames q' → Tames (cond b q q')
     choose true q q' h k = h refl
@@ -69,17 +68,17 @@ module _ (s : Recorded) (c : Corresponds s) where
     pub gate_tames : (g : Guide) (number : ℕ) → WalksNone number → Tames (machine.gate_of g number next s)
     unfolding machine.gate_of
     gate_tames g number w =
-        choose (number == ALLOCATE_GATE) _ _ (λ e. allocated_tames (allocate_list l (reg_in s 0)).lists (allocate_of (words_in l) (reg_in s 0)).writes ((allocate_keeps s c) (reg_in s 0)) ((allocate_tame s c) (reg_in s 0))
+        choose (number == ALLOCATE_GATE) _ _ (λ e. allocated_tames (allocate_list l (reg_in s 0)).lists (allocate_of (words_in l) (reg_in s 0)).writes ((allocate_tame s c) (reg_in s 0))
         (allocate_list l (reg_in s 0)).answer) (
-        choose (number == FREE_GATE) _ _ (λ e. freed_tames (free_list l (object_slot (reg_in s 0))).lists (free_of (words_in l) (object_slot (reg_in s 0))).writes ((free_keeps s c) (object_slot (reg_in s 0)))
+        choose (number == FREE_GATE) _ _ (λ e. freed_tames (free_list l (object_slot (reg_in s 0))).lists (free_of (words_in l) (object_slot (reg_in s 0))).writes
         ((free_tame s c) (words_in l) (object_slot (reg_in s 0)) (λ t q. object_small (reg_in s 0) t q)) (free_list l (object_slot (reg_in s 0))).answer) (
         choose (number == THROW_GATE) _ _ (λ e. absurd (w.throw (eqb-true number THROW_GATE e))) (
-        choose (number == BEGIN_CATCH_GATE) _ _ (λ e. caught_tames (machine.begin_catch s).lists (begin_catch_of (words_in l) (heads l) (reg_in s 0)).writes ((catch_keeps s c) (block_slot (reg_in s 0)))
+        choose (number == BEGIN_CATCH_GATE) _ _ (λ e. caught_tames (machine.begin_catch s).lists (begin_catch_of (words_in l) (heads l) (reg_in s 0)).writes
         ((catch_tame s c) (words_in l) (heads l) (reg_in s 0) (block_slot (reg_in s 0)) (λ t q. slot_small (reg_in s 0) t q)) (machine.begin_catch s).answer) (
-        choose (number == END_CATCH_GATE) _ _ (λ e. dropped_tames (end_list l).lists (end_catch_of (words_in l) (heads l)).writes (end_keeps s c)
+        choose (number == END_CATCH_GATE) _ _ (λ e. dropped_tames (end_list l).lists (end_catch_of (words_in l) (heads l)).writes
         ((end_tame s c) (words_in l) (heads l) (block_slot (heads l).caught) (λ t q. slot_small (heads l).caught t q)) (end_list l).answer) (
         choose (number == RETHROW_GATE) _ _ (λ e. absurd (w.rethrow (eqb-true number RETHROW_GATE e))) (
         choose (number == END_CLEANUP_GATE) _ _ (λ e. absurd (w.cleanup (eqb-true number END_CLEANUP_GATE e))) (
         choose (number == UNEXPECTED_GATE) _ _ (λ e. tt) (
         choose (number == TERMINATE_GATE) _ _ (λ e. tt) (
-        choose (number == UNCAUGHT_GATE) _ _ (λ e. record { cleanups = refl; places = refl; first = refl; outer = refl; same = λ slot has. refl }) tt)))))))))
+        choose (number == UNCAUGHT_GATE) _ _ (λ e. record { cleanups = refl; first = refl; outer = refl; same = λ slot has. refl }) tt)))))))))

@@ -6,7 +6,7 @@ use Rattle.std.specs.Prelude.{slice_index, drop}
 use Rattle.eh_bus.specs.Lists.{Has}
 use Rattle.eh_bus.specs.Map.{IsMap}
 use Rattle.eh_bus.specs.Memory.{Memory}
-use Rattle.eh_cxa.specs.Lists.{Cleanup, slots}
+use Rattle.eh_cxa.specs.Lists.{slots}
 use Rattle.eh_cxa.specs.Throw.{set_barrier_of}
 use Rattle.eh_cxa.specs.Words.{word, block, put_all}
 use Rattle.eh_cxa.specs.declared.globals.BarrierWords.{BarrierWords}
@@ -26,7 +26,7 @@ use Rattle.thumb_core.specs.declared.regs.TheConstants.{SP}
 use Rattle.frame_check.specs.Accepts.{Accepted}
 use Rattle.two_machines.specs.Checked.{program_of}
 use Rattle.two_machines.specs.Program.{guide}
-use Rattle.two_machines.specs.Activations.{Activation, Recorded, reg_in, memory_of, with_words, with_lists, first_place, outside, frames_at}
+use Rattle.two_machines.specs.Activations.{Activation, Recorded, reg_in, memory_of, with_words, with_lists, first_place, outside, frames_at, cleanups_in, InProgress}
 use Rattle.two_machines.specs.ActivationMachine as machine
 use Rattle.stands_for.specs.Cleanups.{goal_at, AreInProgress}
 use Rattle.stands_for.specs.Stands.{Keeps, IsProgram}
@@ -79,7 +79,7 @@ module _ (x : Accepted) (is : IsProgram x) (s : Recorded) (k : Keeps x s) (site 
 
 -- An exception of a slot flies from a state with the activations, registers and cleanups of one that keeps.
 module _ (x : Accepted) (is : IsProgram x) (s : Recorded) (k : Keeps x s) (v t : Recorded) (site slot : ℕ) (b : Barrier) (small : slot < SLOTS) (regs : v.regs ≡ s.regs) (first : v.first ≡ s.first) (outer : v.outer ≡ s.outer)
-    (cleanups : v.lists.cleanups ≡ s.lists.cleanups) (places : v.places ≡ s.places) (map : IsMap (memory_of v)) (same : (u : ℕ) → SameBarrier s v u) (idle : Has (slots s.lists.cleanups) slot → ⊥)
+    (cleanups : v.cleanups ≡ s.cleanups) (map : IsMap (memory_of v)) (same : (u : ℕ) → SameBarrier s v u) (idle : Has (slots (cleanups_in s.cleanups)) slot → ⊥)
     (sp : b.sp < 2 ^ 32) (desc : b.desc < 2 ^ 32) (reached : is_reached (goal_of b) 0 (frames_from x s site).frames ≡ true) where
   abbrev words : BarrierWords
   words = barrier_words (block slot) b
@@ -104,8 +104,8 @@ module _ (x : Accepted) (is : IsProgram x) (s : Recorded) (k : Keeps x s) (v t :
   acts_same : s.first ∷ s.outer ≡ barred.first ∷ barred.outer
   acts_same = sym (ap (λ (a : Activation). a ∷ v.outer) first ∙ ap (λ (xs : List Activation). s.first ∷ xs) outer)
 
-  idle_there : Has (slots barred.lists.cleanups) slot → ⊥
-  idle_there h = idle (subst (λ (cs : List Cleanup). Has (slots cs) slot) cleanups h)
+  idle_there : Has (slots (cleanups_in barred.cleanups)) slot → ⊥
+  idle_there h = idle (subst (λ (cs : List InProgress). Has (slots (cleanups_in cs)) slot) cleanups h)
 
   module _ (went : machine.advances barred (s.first ∷ s.outer) (block slot) (handed (block slot) b.hit) (goal_of b) 0 fs ≡ (Went, t)) where
     landing : IsLanded barred (drop (machine.passed_by (goal_of b) 0 fs.frames) (s.first ∷ s.outer)) slot (phase2 (goal_of b) 0 fs) t
@@ -119,22 +119,21 @@ module _ (x : Accepted) (is : IsProgram x) (s : Recorded) (k : Keeps x s) (v t :
     pub flight_leaves : Keeps x t → (u : ℕ) → (slot ≡ u → ⊥) → left_due x.image t u ≡ left_due x.image s u
     flight_leaves kt u differ =
         let barriers : SameBarrier s t u = barrier_then s v t u (same u) (barrier_then v barred t u (other_barrier u (λ e. differ (sym e))) (landing.same u)) in
-        let there : AreInProgress x s (reg_in s SP) barred.places barred.lists.cleanups =
-        subst (λ (ps : List ℕ). AreInProgress x s (reg_in s SP) ps barred.lists.cleanups) (sym places) (subst (λ (cs : List Cleanup). AreInProgress x s (reg_in s SP) s.places cs) (sym cleanups) k.cleanups) in
+        let there : AreInProgress x s (reg_in s SP) barred.cleanups = subst (AreInProgress x s (reg_in s SP)) (sym cleanups) k.cleanups in
         others_kept x s t barred (subst (λ (xs : List Activation). Moved xs (t.first ∷ t.outer)) (sym acts_same) landing.moved) (drop (machine.passed_by (goal_of b) 0 fs.frames) (s.first ∷ s.outer)) slot u (reg_in s SP) (reg_in t SP) differ there kt.cleanups
         (λ h. same_goal s t u barriers) (phase2 (goal_of b) 0 fs) landing.listed
-        ∙ ap (λ (ps : List ℕ). due_among x.image s u ps barred.lists.cleanups) places ∙ ap (due_among x.image s u s.places) cleanups
+        ∙ ap (due_among x.image s u) cleanups
 
 -- ---- a throw or a rethrow
 
 module _ (x : Accepted) (is : IsProgram x) (s : Recorded) (k : Keeps x s) (t : Recorded) (slot : ℕ) (small : slot < SLOTS) (thrown : Thrown) (f : FliesTo (guide (program_of x)) s t slot thrown) where
   threw_reached : is_reached (goal_of f.barrier) 0 (frames_from x s s.regs.pc).frames ≡ true
-  threw_reached = found_reached (meeting (guide (program_of x)).image (guide (program_of x)).types s.segments thrown) x.image (first_place s.places) s.regs.pc (all_of s.regs) s.first s.outer f.barrier f.found
+  threw_reached = found_reached (meeting (guide (program_of x)).image (guide (program_of x)).types s.segments thrown) x.image (first_place s.cleanups) s.regs.pc (all_of s.regs) s.first s.outer f.barrier f.found
 
   same_there : (u : ℕ) → SameBarrier s (with_lists f.lists f.writes (machine.logged s f.told)) u
   same_there u = beside_same f.writes s (with_lists f.lists f.writes (machine.logged s f.told)) u f.beside refl
 
-  idle : Has (slots s.lists.cleanups) slot → ⊥
+  idle : Has (slots (cleanups_in s.cleanups)) slot → ⊥
   idle h = f.idle (k.corresponds.stands.valid.flying slot h)
 
   words_small : (f.barrier.sp < 2 ^ 32) × (f.barrier.desc < 2 ^ 32)
@@ -153,8 +152,8 @@ module _ (x : Accepted) (is : IsProgram x) (s : Recorded) (k : Keeps x s) (t : R
 
   pub threw_lands : AreFirst (stands_at t ∷ left_due x.image t slot) (pads (due (goal_of f.barrier) 0 (frames_from x s s.regs.pc).frames))
   threw_lands =
-      flight_lands x is s k (with_lists f.lists f.writes (machine.logged s f.told)) t s.regs.pc slot f.barrier small refl refl refl f.cleanups refl map_there same_there idle words_small.0 words_small.1 threw_reached went
+      flight_lands x is s k (with_lists f.lists f.writes (machine.logged s f.told)) t s.regs.pc slot f.barrier small refl refl refl refl map_there same_there idle words_small.0 words_small.1 threw_reached went
 
   pub threw_leaves : Keeps x t → (u : ℕ) → (slot ≡ u → ⊥) → left_due x.image t u ≡ left_due x.image s u
   threw_leaves =
-      flight_leaves x is s k (with_lists f.lists f.writes (machine.logged s f.told)) t s.regs.pc slot f.barrier small refl refl refl f.cleanups refl map_there same_there idle words_small.0 words_small.1 threw_reached went
+      flight_leaves x is s k (with_lists f.lists f.writes (machine.logged s f.told)) t s.regs.pc slot f.barrier small refl refl refl refl map_there same_there idle words_small.0 words_small.1 threw_reached went

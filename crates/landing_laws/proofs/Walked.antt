@@ -20,7 +20,7 @@ use Rattle.thumb_core.specs.declared.ends.End.{End}
 use Rattle.thumb_core.specs.declared.ends.End.TheVariants as the_end
 use Rattle.two_machines.specs.Machine.{leaves_cleanup, goes_behind}
 use Rattle.two_machines.specs.Program.{Program, guide}
-use Rattle.two_machines.specs.Activations.{Recorded, reg_in, memory_of}
+use Rattle.two_machines.specs.Activations.{Recorded, reg_in, memory_of, cleanups_in}
 use Rattle.two_machines.specs.ActivationMachine as machine
 
 -- an end that terminates nothing
@@ -51,7 +51,7 @@ module _ (p : Program) (s : Recorded) (input : List ℕ) (number : ℕ) (regs : 
 
   by_tests : ByGate (machine.onward p s (machine.with_tests p s (Gate number) regs m) input)
   by_tests =
-      go (leaves_cleanup (innermost_in s.lists.cleanups) (reg_in s SP) (slice_index regs.r SP)) (nat_lt (slice_index regs.r SP) s.home.0) (goes_behind number) (p.look regs.pc).is_function
+      go (leaves_cleanup (innermost_in (cleanups_in s.cleanups)) (reg_in s SP) (slice_index regs.r SP)) (nat_lt (slice_index regs.r SP) s.home.0) (goes_behind number) (p.look regs.pc).is_function
     where
       go : (a b c d : Bool)
           → ByGate (Out (option_or (cond a (Some (the_end.Trap kind.SpInCleanup (slice_index regs.r SP) s.regs.pc)) (cond b (Some (the_end.Trap kind.StackLimit (slice_index regs.r SP) s.regs.pc)) None))

@@ -6,7 +6,7 @@ use Rattle.eh_cxa.specs.Lists.{Cleanup}
 use Rattle.eh_phase.specs.Cleanups.{due}
 use Rattle.eh_phase.specs.Phases.{Frame}
 use Rattle.thumb_core.specs.declared.ends.End.{End}
-use Rattle.two_machines.specs.Activations.{Activation, Recorded, frames_at}
+use Rattle.two_machines.specs.Activations.{Activation, Recorded, frames_at, InProgress}
 use Rattle.stands_for.specs.Cleanups.{goal_at, by_sp}
 use Rattle.landing_laws.specs.Landings.{Pad, Landing, landing_by, pads, AreFirst}
 
@@ -19,15 +19,14 @@ kept_frames image n c (a ∷ more) = if length more == n then (frames_at image N
 abbrev pub due_of : Image → Recorded → ℕ → Cleanup → List Pad
 due_of image s n c = pads (due (goal_at s c.slot) c.next (kept_frames image n c (s.first ∷ s.outer)))
 
--- of the first cleanup of a slot, among some with their places
-abbrev pub due_among : Image → Recorded → ℕ → List ℕ → List Cleanup → List Pad
-due_among image s slot [] cleanups = []
-due_among image s slot (n ∷ later) [] = []
-due_among image s slot (n ∷ later) (c ∷ more) = if c.slot == slot then due_of image s n c else due_among image s slot later more
+-- of the first cleanup of a slot, among some
+abbrev pub due_among : Image → Recorded → ℕ → List InProgress → List Pad
+due_among image s slot [] = []
+due_among image s slot (c ∷ more) = if c.cleanup.slot == slot then due_of image s c.place c.cleanup else due_among image s slot more
 
 -- none where no cleanup of it is in progress
 abbrev pub left_due : Image → Recorded → ℕ → List Pad
-left_due image s slot = due_among image s slot s.places s.lists.cleanups
+left_due image s slot = due_among image s slot s.cleanups
 
 -- ---- one event
 

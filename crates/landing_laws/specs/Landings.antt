@@ -16,7 +16,7 @@ use Rattle.thumb_core.specs.declared.regs.Stepped.TheVariants.{Done, Call, Retur
 use Rattle.thumb_core.specs.declared.ends.End.{End}
 use Rattle.eh_gates.specs.declared.gates.TheConstants.{THROW_GATE, RETHROW_GATE, END_CLEANUP_GATE}
 use Rattle.two_machines.specs.Program.{Program}
-use Rattle.two_machines.specs.Activations.{Recorded, reg_in, memory_of, first_place}
+use Rattle.two_machines.specs.Activations.{Recorded, reg_in, memory_of, lists_of, InProgress}
 use Rattle.two_machines.specs.ActivationMachine.{recorded_event, thrown_first, thrown_of_slot}
 
 -- ---- what an event throws, and what it resumes
@@ -32,11 +32,15 @@ gate_in (Trap trap) = None
 abbrev pub gate_at : Recorded → Option ℕ
 gate_at s = gate_in (step_of s.regs (memory_of s)).0
 
+abbrev pub top_of : List ℕ → Option ℕ
+top_of [] = None
+top_of (slot ∷ more) = Some slot
+
 -- The exception that a gate throws, by its slot: that of the object in r0, or for a rethrow the one on top of the caught stack.
 abbrev pub thrown_by : Recorded → Option ℕ → Option ℕ
 thrown_by s None = None
 thrown_by s (Some number) =
-    if number == THROW_GATE then object_slot (reg_in s 0) else (if number == RETHROW_GATE then first_place s.lists.caught else None)
+    if number == THROW_GATE then object_slot (reg_in s 0) else (if number == RETHROW_GATE then top_of s.caught else None)
 
 abbrev pub thrown_at : Recorded → Option ℕ
 thrown_at s = thrown_by s (gate_at s)
@@ -45,17 +49,17 @@ thrown_at s = thrown_by s (gate_at s)
 abbrev pub ThrowsWhat : Recorded → ℕ → Thrown → Type 0
 ThrowsWhat s slot thrown =
     ((gate_at s ≡ Some THROW_GATE) × (object_slot (reg_in s 0) ≡ Some slot) × (thrown ≡ thrown_first s))
-    ⊎ ((gate_at s ≡ Some RETHROW_GATE) × (first_place s.lists.caught ≡ Some slot) × (thrown ≡ thrown_of_slot s.lists (Some slot)))
+    ⊎ ((gate_at s ≡ Some RETHROW_GATE) × (top_of s.caught ≡ Some slot) × (thrown ≡ thrown_of_slot (lists_of s) (Some slot)))
 
 -- the exception of the innermost cleanup in progress
-abbrev pub innermost : List Cleanup → Option ℕ
+abbrev pub innermost : List InProgress → Option ℕ
 innermost [] = None
-innermost (c ∷ more) = Some c.slot
+innermost (c ∷ more) = Some c.cleanup.slot
 
 -- the exception that goes on where a gate ends a cleanup
 abbrev pub resumed_by : Recorded → Option ℕ → Option ℕ
 resumed_by s None = None
-resumed_by s (Some number) = if number == END_CLEANUP_GATE then innermost s.lists.cleanups else None
+resumed_by s (Some number) = if number == END_CLEANUP_GATE then innermost s.cleanups else None
 
 abbrev pub resumed_at : Recorded → Option ℕ
 resumed_at s = resumed_by s (gate_at s)

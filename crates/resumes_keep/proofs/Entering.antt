@@ -4,7 +4,7 @@ use Rattle.std.specs.Prelude.{slice_index}
 use Rattle.std.proofs.lemmas.List.{get_or_past}
 use Rattle.throws_keep.specs.thumb_core.declared.regs.TheConstants.{SP}
 use Rattle.throws_keep.specs.frame_check.Accepts.{Accepted}
-use Rattle.throws_keep.specs.two_machines.Activations.{Activation, Recorded, reg_in}
+use Rattle.throws_keep.specs.two_machines.Activations.{Activation, Recorded, reg_in, InProgress}
 use Rattle.throws_keep.specs.eh_bus.Map.{SameMap}
 use Rattle.throws_keep.specs.eh_bus.Memory.{loads}
 use Rattle.throws_keep.specs.eh_bus.Segment.{Segment}
@@ -93,14 +93,26 @@ module _ (x : Accepted) (is : IsProgram x) (s : Recorded) (k : Keeps x s) (n : E
     links : IsWhole n.first.caller × Chain x s.segments s.home n.first.caller n.more
     links = chain_from x s.segments s.home s.first s.outer n.cut n.first n.more n.all k.whole k.chain
 
-    module _ (lists : Lists) (places : List ℕ) (segments : List Segment) (events : Trace) where
+    module _ (lists : Lists) (cleanups : List InProgress) (segments : List Segment) (events : Trace) where
       -- the state behind it
       abbrev pub left : Recorded
-      left = record { regs = regs; lists = lists; places = places; segments = segments; home = s.home; events = events; first = n.first; outer = n.more; beyond = s.beyond }
+      left = record {
+        regs = regs;
+        entries = lists.entries;
+        caught = lists.caught;
+        cleanups = cleanups;
+        uncaught = lists.uncaught;
+        segments = segments;
+        home = s.home;
+        events = events;
+        first = n.first;
+        outer = n.more;
+        beyond = s.beyond;
+      }
 
       pub entering_keeps : IsCounted lists → ((g : ℕ) → STACK_START ≤ g → g + 4 ≤ STACK_END → loads 4 segments g ≡ loads 4 s.segments g) → Corresponds left → SameMap s.segments segments
-          → AreInProgress x left n.sp places lists.cleanups → Keeps x left
-      entering_keeps counted stack_same corresponds same cleanups = record {
+          → AreInProgress x left n.sp cleanups → Keeps x left
+      entering_keeps counted stack_same corresponds same in_progress = record {
         corresponds = corresponds;
         counted = counted;
         beyond = k.beyond;
@@ -112,5 +124,5 @@ module _ (x : Accepted) (is : IsProgram x) (s : Recorded) (k : Keeps x s) (n : E
         slots = subst (λ (m : ℕ). AreWithin m n.first) (sym n.register) n.rest.rise.0;
         first = λ reached. stands_there s.segments segments stack_same x n.first regs regs.pc n.sp n.rest.rise.0 above (let t = n.rest.rise.2 in let r = roof in omega (arith, t, r)) stands;
         chain = chain_there s.segments segments stack_same x s.home roof n.first.caller n.more (let a = above in let u = n.rest.rise.1 in omega (arith, a, u)) links.1;
-        cleanups = subst (λ (m : ℕ). AreInProgress x left m places lists.cleanups) (sym n.register) cleanups;
+        cleanups = subst (λ (m : ℕ). AreInProgress x left m cleanups) (sym n.register) in_progress;
       }

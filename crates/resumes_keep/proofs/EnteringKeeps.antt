@@ -3,8 +3,8 @@ use Rattle.std.proofs.Common.{◌≡◌, ℕ, ◌<◌, ◌≤◌, ◌^◌, inl, 
 use Rattle.std.specs.Prelude.{slice_index}
 use Rattle.throws_keep.specs.eh_bus.Lists.{Has}
 use Rattle.throws_keep.specs.eh_cxa.Cleanup.{cleanup_at}
-use Rattle.throws_keep.specs.eh_cxa.Lists.{Cleanup, slots}
-use Rattle.throws_keep.specs.eh_cxa.ListCalls.{begin_cleanup_list, land_list}
+use Rattle.throws_keep.specs.eh_cxa.Lists.{slots}
+use Rattle.throws_keep.specs.eh_cxa.ListCalls.{land_list}
 use Rattle.throws_keep.specs.eh_cxa.States.{is_flying, named}
 use Rattle.throws_keep.specs.eh_cxa.Throw.{land_of}
 use Rattle.throws_keep.specs.eh_cxa.Words.{Write, word, block, block_slot, put_all}
@@ -17,13 +17,12 @@ use Rattle.throws_keep.specs.eh_trace.Trace.{pushed}
 use Rattle.throws_keep.specs.eh_trace.declared.event.Event.{Event}
 use Rattle.throws_keep.specs.thumb_core.declared.regs.TheConstants.{SP}
 use Rattle.throws_keep.specs.frame_check.Accepts.{Accepted}
-use Rattle.throws_keep.specs.two_machines.Activations.{Activation, Recorded, released_in, memory_of, words_in, heads, with_lists}
+use Rattle.throws_keep.specs.two_machines.Activations.{Activation, Recorded, released_in, memory_of, words_in, heads, lists_of, cleanups_in, InProgress, with_words}
 use Rattle.throws_keep.specs.two_machines.Corresponds.{Corresponds}
 use Rattle.throws_keep.specs.two_machines.Landings.{IsInFlight}
 use Rattle.throws_keep.specs.eh_bus.Memory.{stays_guarded}
 use Rattle.throws_keep.specs.two_machines.RecordedSlots.{AreOutside}
 use Rattle.throws_keep.proofs.two_machines.Beyond.{outside_stay}
-use Rattle.throws_keep.proofs.two_machines.RecordedGates.{land_keeps}
 use Rattle.throws_keep.specs.two_machines.ActivationMachine as machine
 use Rattle.throws_keep.specs.stands_for.Chain.{StandsAt}
 use Rattle.throws_keep.specs.stands_for.Cleanups.{goal_at, IsEntered, IsWithin, AreInProgress}
@@ -36,12 +35,12 @@ use Rattle.throws_keep.proofs.CleanupKeeps.{begins_of, begins_else_sp, begins_el
 use Rattle.resumes_keep.proofs.Entering.{Entering, above, roof, left, entering_keeps}
 use Rattle.throws_keep.proofs.Handler.{Wrote, wrote_one, same_goals, land_of_slot}
 
-module _ (x : Accepted) (is : IsProgram x) (s : Recorded) (k : Keeps x s) (n : Entering x s) (slot : ℕ) (flight : IsInFlight s slot) (within : IsWithin n.sp s.lists.cleanups) (pad : ℕ) (logs : Event) where
+module _ (x : Accepted) (is : IsProgram x) (s : Recorded) (k : Keeps x s) (n : Entering x s) (slot : ℕ) (flight : IsInFlight s slot) (within : IsWithin n.sp (cleanups_in s.cleanups)) (pad : ℕ) (logs : Event) where
   is_slot : block_slot (block slot) ≡ Some slot
   is_slot = slot_of_block_is slot flight.small
 
-  differs : (u : ℕ) → Has (slots s.lists.cleanups) u → u ≡ slot → ⊥
-  differs u h e = flight.idle (subst (Has (slots s.lists.cleanups)) e h)
+  differs : (u : ℕ) → Has (slots (cleanups_in s.cleanups)) u → u ≡ slot → ⊥
+  differs u h e = flight.idle (subst (Has (slots (cleanups_in s.cleanups))) e h)
 
   -- the slots of what is entered stay, and the words beyond the running stack
   stays : (t : Recorded) → slice_index n.r SP ≤ t.home.1 → AreOutside t.home t.beyond
@@ -60,10 +59,10 @@ module _ (x : Accepted) (is : IsProgram x) (s : Recorded) (k : Keeps x s) (n : E
   below = let e = n.register in let up = n.rest.rise.1 in let top = n.rest.rise.2 in omega (arith, e, up, top)
 
   -- what was in progress outside it is so still
-  others : (t : Recorded) → t.first ≡ n.first → t.outer ≡ n.more → Wrote slot s t → (low : ℕ) → low ≡ n.sp → AreInProgress x t low s.places s.lists.cleanups
+  others : (t : Recorded) → t.first ≡ n.first → t.outer ≡ n.more → Wrote slot s t → (low : ℕ) → low ≡ n.sp → AreInProgress x t low s.cleanups
   others t first outer wrote low same =
-      still_in_progress x s t n.sp n.cut n.first n.more n.all first outer n.rest (above x is s k n) (roof x is s k n) wrote.stack (slice_index s.regs.r SP) low s.places s.lists.cleanups within
-      (subst (λ (v : ℕ). IsWithin v s.lists.cleanups) (sym same) within) (λ u h. same_goals slot s t wrote u (differs u h)) k.cleanups
+      still_in_progress x s t n.sp n.cut n.first n.more n.all first outer n.rest (above x is s k n) (roof x is s k n) wrote.stack (slice_index s.regs.r SP) low s.cleanups within
+      (subst (λ (v : ℕ). IsWithin v (cleanups_in s.cleanups)) (sym same) within) (λ u h. same_goals slot s t wrote u (differs u h)) k.cleanups
 
   -- ---- a handler
 
@@ -72,67 +71,71 @@ module _ (x : Accepted) (is : IsProgram x) (s : Recorded) (k : Keeps x s) (n : E
     flies_on o = machine.logged (machine.at_pad (machine.flown s o) (n.first ∷ n.more) n.r pad (block slot)) logs
 
     abbrev land_writes : List Write
-    land_writes = land_of (words_in s.lists) (Some slot)
+    land_writes = land_of (words_in (lists_of s)) (Some slot)
 
     small_block : block slot < 2 ^ 32
     small_block = let l = flight.small in omega (arith, l)
 
     abbrev landed_there : Recorded
-    landed_there = left x is s k n pad (block slot) small_block stands (land_list s.lists slot) s.places (put_all land_writes (memory_of s)).segments (pushed s.events logs)
+    landed_there = left x is s k n pad (block slot) small_block stands (land_list (lists_of s) slot) s.cleanups (put_all land_writes (memory_of s)).segments (pushed s.events logs)
 
     landed_same : flies_on (Some slot) ≡ landed_there
     landed_same = ap (λ (t : Recorded). machine.logged t logs) (stays (record (machine.flown s (Some slot)) { regs = landed s.regs n.r pad (block slot) }) below k.beyond)
 
     wrote_landed : Wrote slot s landed_there
-    wrote_landed = wrote_one slot land_writes s landed_there flight.small (land_of_slot slot (is_flying (named (words_in s.lists slot STATE)))) k.corresponds.map refl
+    wrote_landed = wrote_one slot land_writes s landed_there flight.small (land_of_slot slot (is_flying (named (words_in (lists_of s) slot STATE)))) k.corresponds.map refl
 
     pub handler_kept : Corresponds (flies_on (block_slot (block slot))) → Keeps x (flies_on (block_slot (block slot)))
     handler_kept still =
         subst (λ (o : Option ℕ). Keeps x (flies_on o)) (sym is_slot)
         (subst (Keeps x) (sym landed_same)
-        (entering_keeps x is s k n pad (block slot) small_block stands (land_list s.lists slot) s.places (put_all land_writes (memory_of s)).segments (pushed s.events logs) (land_counts s.lists k.counted slot) wrote_landed.stack
+        (entering_keeps x is s k n pad (block slot) small_block stands (land_list (lists_of s) slot) s.cleanups (put_all land_writes (memory_of s)).segments (pushed s.events logs) (land_counts (lists_of s) k.counted slot) wrote_landed.stack
         (subst Corresponds landed_same (subst (λ (o : Option ℕ). Corresponds (flies_on o)) is_slot still)) wrote_landed.map
-        (subst (λ (cs : List Cleanup). AreInProgress x landed_there n.sp s.places cs) (sym (land_keeps s.lists slot)) (others landed_there refl refl wrote_landed n.sp refl))))
+        (others landed_there refl refl wrote_landed n.sp refl)))
 
   -- ---- a cleanup
 
   module _ (stands : StandsAt x n.first s.segments (landed s.regs n.r pad 0) (landed s.regs n.r pad 0).pc) (next site : ℕ)
-      (entered : IsEntered x s.segments (goal_at s slot) (record { slot = slot; next = next; sp = n.sp; site = site }) n.first n.more) (bound : IsWithin (goal_at s slot).sp s.lists.cleanups) where
+      (entered : IsEntered x s.segments (goal_at s slot) (record { slot = slot; next = next; sp = n.sp; site = site }) n.first n.more) (bound : IsWithin (goal_at s slot).sp (cleanups_in s.cleanups)) where
     abbrev words : CleanupWords
     words = words_of n.r next site
 
     abbrev begin_writes : Option ℕ → List Write
-    begin_writes o = (cleanup_at (heads s.lists) (block slot) words o).writes
+    begin_writes o = (cleanup_at (heads (lists_of s)) (block slot) words o).writes
+
+    -- the cleanup that is entered, at its place
+    abbrev in_there : InProgress
+    in_there = record { cleanup = record { slot = slot; next = next; sp = slice_index n.r SP; site = site }; place = length n.more }
 
     abbrev begun : Option ℕ → Recorded
-    begun o = record (with_lists (begin_cleanup_list s.lists slot words) (begin_writes o) s) { places = length n.more ∷ s.places }
+    begun o = record (with_words (begin_writes o) s) { cleanups = in_there ∷ s.cleanups }
 
     abbrev pub goes_in : Option ℕ → Recorded
     goes_in o = machine.logged (machine.at_pad (begun o) (n.first ∷ n.more) n.r pad 0) logs
 
     abbrev in_cleanup : Recorded
-    in_cleanup = left x is s k n pad 0 (omega arith) stands (begin_cleanup_list s.lists slot words) (length n.more ∷ s.places) (put_all (begin_writes (Some slot)) (memory_of s)).segments (pushed s.events logs)
+    in_cleanup = left x is s k n pad 0 (omega arith) stands (lists_of s) (in_there ∷ s.cleanups) (put_all (begin_writes (Some slot)) (memory_of s)).segments (pushed s.events logs)
 
     begun_same : goes_in (Some slot) ≡ in_cleanup
     begun_same = ap (λ (t : Recorded). machine.logged t logs) (stays (record (begun (Some slot)) { regs = landed s.regs n.r pad 0 }) below k.beyond)
 
     wrote_begun : Wrote slot s in_cleanup
-    wrote_begun = wrote_one slot (begin_writes (Some slot)) s in_cleanup flight.small (begins_of (heads s.lists) slot words) k.corresponds.map refl
+    wrote_begun = wrote_one slot (begin_writes (Some slot)) s in_cleanup flight.small (begins_of (heads (lists_of s)) slot words) k.corresponds.map refl
 
     -- the words of its barrier stay
     same_goal : goal_at in_cleanup slot ≡ goal_at s slot
     same_goal =
         let sp : word (memory_of in_cleanup) slot BARRIER_SP ≡ word (memory_of s) slot BARRIER_SP =
-        word_same (put_all (begin_writes (Some slot)) (memory_of s)) (memory_of in_cleanup) refl slot BARRIER_SP ∙ puts_else (begin_writes (Some slot)) (memory_of s) slot BARRIER_SP (begins_else_sp (heads s.lists) slot words) in
+        word_same (put_all (begin_writes (Some slot)) (memory_of s)) (memory_of in_cleanup) refl slot BARRIER_SP ∙ puts_else (begin_writes (Some slot)) (memory_of s) slot BARRIER_SP (begins_else_sp (heads (lists_of s)) slot words) in
         let desc : word (memory_of in_cleanup) slot BARRIER_DESCRIPTOR ≡ word (memory_of s) slot BARRIER_DESCRIPTOR =
         word_same (put_all (begin_writes (Some slot)) (memory_of s)) (memory_of in_cleanup) refl slot BARRIER_DESCRIPTOR
-        ∙ puts_else (begin_writes (Some slot)) (memory_of s) slot BARRIER_DESCRIPTOR (begins_else_desc (heads s.lists) slot words) in
+        ∙ puts_else (begin_writes (Some slot)) (memory_of s) slot BARRIER_DESCRIPTOR (begins_else_desc (heads (lists_of s)) slot words) in
         ap (λ (v : ℕ). let g : Goal = record { sp = v; desc = word (memory_of in_cleanup) slot BARRIER_DESCRIPTOR } in g) sp
         ∙ ap (λ (v : ℕ). let g : Goal = record { sp = word (memory_of s) slot BARRIER_SP; desc = v } in g) desc
 
-    entered_there_too : IsEntered x in_cleanup.segments (goal_at in_cleanup slot) (record { slot = slot; next = next; sp = slice_index n.r SP; site = site }) n.first n.more
+    entered_there_too : IsEntered x in_cleanup.segments (goal_at in_cleanup slot) in_there.cleanup n.first n.more
     entered_there_too =
-        subst (λ (g : Goal). IsEntered x in_cleanup.segments g (record { slot = slot; next = next; sp = slice_index n.r SP; site = site }) n.first n.more) (sym same_goal)
+        subst (λ (g : Goal). IsEntered x in_cleanup.segments g in_there.cleanup n.first n.more) (sym same_goal)
         (subst (λ (v : ℕ). IsEntered x in_cleanup.segments (goal_at s slot) (record { slot = slot; next = next; sp = v; site = site }) n.first n.more) (sym n.register)
         (entered_there s.segments in_cleanup.segments wrote_begun.stack x (goal_at s slot) (record { slot = slot; next = next; sp = n.sp; site = site }) n.first n.more n.sp n.rest.rise.0 (above x is s k n)
         (let t = n.rest.rise.2 in let r = roof x is s k n in omega (arith, t, r)) entered))
@@ -141,10 +144,10 @@ module _ (x : Accepted) (is : IsProgram x) (s : Recorded) (k : Keeps x s) (n : E
     cleanup_kept still =
         subst (λ (o : Option ℕ). Keeps x (goes_in o)) (sym is_slot)
         (subst (Keeps x) (sym begun_same)
-        (entering_keeps x is s k n pad 0 (omega arith) stands (begin_cleanup_list s.lists slot words) (length n.more ∷ s.places) (put_all (begin_writes (Some slot)) (memory_of s)).segments (pushed s.events logs)
+        (entering_keeps x is s k n pad 0 (omega arith) stands (lists_of s) (in_there ∷ s.cleanups) (put_all (begin_writes (Some slot)) (memory_of s)).segments (pushed s.events logs)
         k.counted wrote_begun.stack (subst Corresponds begun_same (subst (λ (o : Option ℕ). Corresponds (goes_in o)) is_slot still)) wrote_begun.map (
           (let e = n.register in omega (arith, e)),
           inl (refl, entered_there_too),
-          subst (λ (g : Goal). IsWithin g.sp s.lists.cleanups) (sym same_goal) bound,
+          subst (λ (g : Goal). IsWithin g.sp (cleanups_in s.cleanups)) (sym same_goal) bound,
           others in_cleanup refl refl wrote_begun (slice_index n.r SP) n.register,
         )))

@@ -23,7 +23,7 @@ use Rattle.throws_keep.specs.frame_check.Accepts.{Accepted}
 use Rattle.throws_keep.specs.eh_gates.Landing.{entered}
 use Rattle.throws_keep.specs.eh_gates.State.{State, Outcome}
 use Rattle.throws_keep.specs.eh_gates.Throwing.{handed, barrier_words, throw_to}
-use Rattle.throws_keep.specs.two_machines.Activations.{Recorded, reg_in, memory_of, heads, bytes_of, with_words}
+use Rattle.throws_keep.specs.two_machines.Activations.{Recorded, reg_in, memory_of, heads, bytes_of, with_words, lists_of, cleanups_in}
 use Rattle.throws_keep.specs.two_machines.Checked.{program_of}
 use Rattle.throws_keep.specs.two_machines.Corresponds.{Corresponds, GateMatches}
 use Rattle.throws_keep.specs.two_machines.Landings.{IsInFlight}
@@ -73,17 +73,16 @@ module _ (x : Accepted) (is : IsProgram x) (s : Recorded) (k : Keeps x s) (site 
   still : Corresponds behind
   still = record {
     map = subst (λ (m : Memory). IsMap m) memory_is (all_is_map writes (memory_of s) k.corresponds.map);
-    stands = subst (λ (m : Memory). Stands (word m) (heads s.lists) s.lists) memory_is
+    stands = subst (λ (m : Memory). Stands (word m) (heads (lists_of s)) (lists_of s)) memory_is
         (barrier_meets (memory_of s) (put_all writes (memory_of s)) (block slot) words k.corresponds.map (record { sp = can.sp; object = can.object; desc = can.desc; pointer = can.pointer })
-        (ap (λ (o : Option ℕ). put_all (set_barrier_of o words) (memory_of s)) (sym is_slot)) (heads s.lists) s.lists k.corresponds.stands);
-    placed = k.corresponds.placed;
+        (ap (λ (o : Option ℕ). put_all (set_barrier_of o words) (memory_of s)) (sym is_slot)) (heads (lists_of s)) (lists_of s) k.corresponds.stands);
   }
 
   wrote : Wrote slot s behind
   wrote = wrote_one slot writes s behind can.flight.small (barred_of slot words) k.corresponds.map refl
 
   behind_keeps : Keeps x behind
-  behind_keeps = poured_keeps x s k s.lists behind.segments s.events k.counted slot wrote refl can.flight.idle still
+  behind_keeps = poured_keeps x s k (lists_of s) behind.segments s.events k.counted slot wrote can.flight.idle still
 
   -- it stands at the site as before
   does_there : (i : Instr) → DoesAt x s i → DoesAt x behind i
@@ -127,8 +126,8 @@ module _ (x : Accepted) (is : IsProgram x) (s : Recorded) (k : Keeps x s) (site 
   reached_there : is_reached (goal_at behind slot) 0 (all_frames x behind site).frames ≡ true
   reached_there = subst (λ (g : Goal). is_reached g 0 (all_frames x s site).frames ≡ true) (sym same_goal) can.reached
 
-  within_there : IsWithin (goal_at behind slot).sp s.lists.cleanups
-  within_there = subst (λ (g : Goal). IsWithin g.sp s.lists.cleanups) (sym same_goal) can.within
+  within_there : IsWithin (goal_at behind slot).sp (cleanups_in s.cleanups)
+  within_there = subst (λ (g : Goal). IsWithin g.sp (cleanups_in s.cleanups)) (sym same_goal) can.within
 
   abbrev flight : IsInFlight behind slot
   flight = record { small = can.flight.small; flies = can.flight.flies; idle = can.flight.idle }
@@ -143,7 +142,7 @@ module _ (x : Accepted) (is : IsProgram x) (s : Recorded) (k : Keeps x s) (site 
   bytes_fly : throw_to (guide (program_of x)) (bytes_of s) site (block slot) b ≡ on_bytes (goal_of b)
   unfolding throw_to
   bytes_fly =
-      let after : Memory → State = λ m. record { regs = s.regs; globals = heads s.lists; memory = m; events = s.events } in
+      let after : Memory → State = λ m. record { regs = s.regs; globals = heads (lists_of s); memory = m; events = s.events } in
       let one : Memory → Outcome = λ m. entered (after m) (block slot) (handed (block slot) b.hit) (phase2 (goal_of b) 0 (frames_of x.image (stack_of m) None site (all_of s.regs))) in
       ap (λ (o : Option ℕ). one (put_all (set_barrier_of o words) (memory_of s))) is_slot ∙ ap one memory_is
 

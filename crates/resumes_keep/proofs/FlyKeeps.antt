@@ -17,7 +17,7 @@ use Rattle.throws_keep.specs.thumb_core.Registers.{all_of}
 use Rattle.throws_keep.specs.thumb_core.declared.regs.TheConstants.{SP}
 use Rattle.throws_keep.specs.frame_flow.Causes.{is_call}
 use Rattle.throws_keep.specs.frame_check.Accepts.{Accepted}
-use Rattle.throws_keep.specs.two_machines.Activations.{Activation, Recorded, memory_of, bytes_of, frames_at}
+use Rattle.throws_keep.specs.two_machines.Activations.{Activation, Recorded, memory_of, bytes_of, frames_at, cleanups_in}
 use Rattle.throws_keep.specs.two_machines.Corresponds.{Corresponds, GateMatches}
 use Rattle.throws_keep.specs.two_machines.Landings.{IsInFlight}
 use Rattle.throws_keep.proofs.two_machines.Agreeing.{are_one}
@@ -48,7 +48,7 @@ use Rattle.throws_keep.proofs.frames_same.WithinReach.{reached_above}
 use Rattle.resumes_keep.proofs.FlyLands as fly
 
 module _ (x : Accepted) (is : IsProgram x) (s : Recorded) (k : Keeps x s) (site : ℕ) (throws : ThrowsAt x s site) (slot object : ℕ) (flight : IsInFlight s slot)
-    (reached : is_reached (goal_at s slot) 0 (all_frames x s site).frames ≡ true) (within : IsWithin (goal_at s slot).sp s.lists.cleanups) where
+    (reached : is_reached (goal_at s slot) 0 (all_frames x s site).frames ≡ true) (within : IsWithin (goal_at s slot).sp (cleanups_in s.cleanups)) where
   abbrev goal : Goal
   goal = goal_at s slot
 
@@ -110,7 +110,7 @@ module _ (x : Accepted) (is : IsProgram x) (s : Recorded) (k : Keeps x s) (site 
   in_handler v pad e h still =
       let at = h.2 in
       subst (λ (w : Vrs). Keeps x (machine.enter_handler s (first ∷ more) (block slot) w.r pad e)) (sym h.0)
-      (handler_kept x is s k entering slot flight (within_below frame.sp goal.sp s.lists.cleanups (omega (arith, at)) within) pad e (pad_there pad (block slot) h.1)
+      (handler_kept x is s k entering slot flight (within_below frame.sp goal.sp (cleanups_in s.cleanups) (omega (arith, at)) within) pad e (pad_there pad (block slot) h.1)
       (subst (λ (w : Vrs). Corresponds (machine.enter_handler s (first ∷ more) (block slot) w.r pad e)) h.0 still))
 
   -- a call has room on the stack
@@ -136,7 +136,7 @@ module _ (x : Accepted) (is : IsProgram x) (s : Recorded) (k : Keeps x s) (site 
       ap (λ (o : Option ℕ). cleans o v pad next at) (slot_of_block_is slot flight.small) ∙ ap (λ (w : Vrs). cleans (Some slot) w pad next at) h.0
       ∙ ap (λ (here_at : ℕ). cleans (Some slot) (vrs_of frame) pad next here_at) h.1 in
       subst (Keeps x) (sym whole)
-      (cleanup_kept x is s k entering slot flight (within_below frame.sp goal.sp s.lists.cleanups high within) pad (pad_event event.Cleanup pad (slice_index frame.r SP) 0)
+      (cleanup_kept x is s k entering slot flight (within_below frame.sp goal.sp (cleanups_in s.cleanups) high within) pad (pad_event event.Cleanup pad (slice_index frame.r SP) 0)
       (pad_there pad 0 (offers_of x is s k site here n pad next h.2)) next frame.site (cleanup_entered x is s k site here deep n slot pad next h.2 goal reach) within (subst Corresponds whole still))
 
   by_entered : (e : Entered) → OfFrame goal frame e → ReachesOn goal frame (fly.there x is s k site throws goal reached).outer e → Corresponds (left_by e) → Keeps x (left_by e)

@@ -2,11 +2,11 @@
 -- phase 2 enters over the recorded frames.
 use Rattle.std.proofs.Common.{◌≡◌, ℕ, List, [], ◌∷◌, ap, ◌∙◌, ◌==◌, true, arith, ◌&&◌, ◌⊎◌, inl, inr, Bool, false, cond, length, Option, Some, None, refl, sym, subst}
 use Rattle.std.proofs.lemmas.Bool.Decides.{nat_tests}
-use Rattle.std.specs.Prelude.{Result, slice_index, drop}
+use Rattle.std.specs.Prelude.{Result, slice_index}
 use Rattle.std.proofs.lemmas.Bool.{eqb-true}
 use Rattle.throws_keep.specs.eh_cxa.Words.{chained, linked, Done, word, block, block_slot, with_all}
 use Rattle.throws_keep.proofs.eh_cxa.Pools.{slot_block, slot_of_block_is}
-use Rattle.throws_keep.specs.two_machines.Activations.{head_of, Activation, Recorded, memory_of, heads, bytes_of, first_place}
+use Rattle.throws_keep.specs.two_machines.Activations.{head_of, Activation, Recorded, memory_of, heads, bytes_of, lists_of, cleanups_in, InProgress}
 use Rattle.throws_keep.specs.thumb_core.declared.ends.Cause.{Cause}
 use Rattle.throws_keep.specs.thumb_core.declared.ends.TrapKind.{TrapKind}
 use Rattle.throws_keep.specs.eh_bytecode.declared.frame.Vrs.{Vrs}
@@ -70,50 +70,47 @@ module _ (x : Accepted) (is : IsProgram x) (s : Recorded) (k : Keeps x s) (g : G
 
   module _ (r : Resumes x s) where
     abbrev slot : ℕ
-    slot = r.cleanup.slot
+    slot = r.ends.cleanup.slot
 
     abbrev pub ended : Recorded
-    ended = machine.without_cleanup s r.others
+    ended = record s { cleanups = r.others }
 
     abbrev barrier : BarrierWords
-    barrier = barrier_of (word (memory_of s)) (Some r.cleanup.slot)
+    barrier = barrier_of (word (memory_of s)) (Some r.ends.cleanup.slot)
 
     abbrev pub enters : Entered
-    enters = phase2 (goal_in barrier) r.cleanup.next (resume.frames x is s k r)
+    enters = phase2 (goal_in barrier) r.ends.cleanup.next (resume.frames x is s k r)
 
-    next_is : chained (word (memory_of s) slot NEXT_CLEANUP) ≡ head_of (slots r.others)
+    next_is : chained (word (memory_of s) slot NEXT_CLEANUP) ≡ head_of (slots (cleanups_in r.others))
     next_is =
-        let chain = subst (λ (cs : List Cleanup). cxa.Chain (λ t. word (memory_of s) t NEXT_CLEANUP) (heads s.lists).cleanup (slots cs)) r.cleanups k.corresponds.stands.shows.cleanups in
-        chained_is (λ t. word (memory_of s) t NEXT_CLEANUP) (word (memory_of s) slot NEXT_CLEANUP) (slots r.others) chain.1
+        let chain = subst (λ (cs : List Cleanup). cxa.Chain (λ t. word (memory_of s) t NEXT_CLEANUP) (heads (lists_of s)).cleanup (slots cs)) (resume.listed x is s k r) k.corresponds.stands.shows.cleanups in
+        chained_is (λ t. word (memory_of s) t NEXT_CLEANUP) (word (memory_of s) slot NEXT_CLEANUP) (slots (cleanups_in r.others)) chain.1
 
     abbrev with_head : ℕ → Globals
-    with_head n = record { caught = (heads s.lists).caught; cleanup = n; uncaught = (heads s.lists).uncaught }
+    with_head n = record { caught = (heads (lists_of s)).caught; cleanup = n; uncaught = (heads (lists_of s)).uncaught }
 
-    stands : Stands (word (memory_of s)) (heads ended.lists) ended.lists
+    stands : Stands (word (memory_of s)) (heads (lists_of ended)) (lists_of ended)
     stands =
         let w = word (memory_of s) in
-        let low : r.cleanup.sp ≡ w slot CLEANUP_SP = ap (λ (d : Cleanup). d.sp) (resume.words x is s k r) in
-        let on_words : end_cleanup_of w (heads s.lists) r.cleanup.sp ≡ end_cleanup_by true w (heads s.lists) slot =
-        ap (end_cleanup_at w (heads s.lists) r.cleanup.sp) (resume.head x is s k r)
-        ∙ ap (λ (b : Bool). end_cleanup_by b w (heads s.lists) slot) (same_number (w slot CLEANUP_SP) r.cleanup.sp (sym low)) in
-        let on_lists : end_cleanup_list s.lists r.cleanup.sp ≡ end_cleanup_by_list true s.lists r.cleanup r.others =
-        ap (end_cleanup_from s.lists r.cleanup.sp) r.cleanups ∙ ap (λ (b : Bool). end_cleanup_by_list b s.lists r.cleanup r.others) (same_number r.cleanup.sp r.cleanup.sp refl) in
-        let f = end_cleanup_follows w (heads s.lists) s.lists r.cleanup.sp k.corresponds.stands in
-        let f1 = subst (λ (d : Done (Result (ℕ × CleanupWords) CxaFault)). Stands (with_all d.writes w) d.globals (end_cleanup_list s.lists r.cleanup.sp).lists) on_words f.stands in
+        let low : r.ends.cleanup.sp ≡ w slot CLEANUP_SP = ap (λ (d : Cleanup). d.sp) (resume.words x is s k r) in
+        let on_words : end_cleanup_of w (heads (lists_of s)) r.ends.cleanup.sp ≡ end_cleanup_by true w (heads (lists_of s)) slot =
+        ap (end_cleanup_at w (heads (lists_of s)) r.ends.cleanup.sp) (resume.head x is s k r)
+        ∙ ap (λ (b : Bool). end_cleanup_by b w (heads (lists_of s)) slot) (same_number (w slot CLEANUP_SP) r.ends.cleanup.sp (sym low)) in
+        let on_lists : end_cleanup_list (lists_of s) r.ends.cleanup.sp ≡ end_cleanup_by_list true (lists_of s) r.ends.cleanup (cleanups_in r.others) =
+        ap (end_cleanup_from (lists_of s) r.ends.cleanup.sp) (resume.listed x is s k r) ∙ ap (λ (b : Bool). end_cleanup_by_list b (lists_of s) r.ends.cleanup (cleanups_in r.others)) (same_number r.ends.cleanup.sp r.ends.cleanup.sp refl) in
+        let f = end_cleanup_follows w (heads (lists_of s)) (lists_of s) r.ends.cleanup.sp k.corresponds.stands in
+        let f1 = subst (λ (d : Done (Result (ℕ × CleanupWords) CxaFault)). Stands (with_all d.writes w) d.globals (end_cleanup_list (lists_of s) r.ends.cleanup.sp).lists) on_words f.stands in
         let f2 = subst (λ (o : Call (Result (ℕ × CleanupWords) CxaFault)). Stands w (with_head (chained (w slot NEXT_CLEANUP))) o.lists) on_lists f1 in
-        subst (λ (n : ℕ). Stands w (with_head n) ended.lists) next_is f2
+        subst (λ (n : ℕ). Stands w (with_head n) (lists_of ended)) next_is f2
 
     pub still : Corresponds ended
     still = record {
       map = k.corresponds.map;
       stands = stands;
-      placed =
-          let all : length (r.place ∷ r.later) ≡ length (r.cleanup ∷ r.others) = sym (ap (λ (ps : List ℕ). length ps) r.places) ∙ k.corresponds.placed ∙ ap (λ (cs : List Cleanup). length cs) r.cleanups in
-          ap (λ (ps : List ℕ). length (drop 1 ps)) r.places ∙ (let n : length r.later ≡ length r.others = omega (arith, all) in n);
     }
 
     -- over bytes
-    bytes_go : bytes.ends_cleanup ours (bytes_of s) (record { r = r.new }) (end_cleanup_by true (word (memory_of s)) (heads s.lists) slot) ≡ entered (bytes_of ended) (block slot) barrier.object enters
+    bytes_go : bytes.ends_cleanup ours (bytes_of s) (record { r = r.new }) (end_cleanup_by true (word (memory_of s)) (heads (lists_of s)) slot) ≡ entered (bytes_of ended) (block slot) barrier.object enters
     bytes_go =
         let m = memory_of s in
         let v : Vrs = record { r = r.new } in
@@ -122,20 +119,19 @@ module _ (x : Accepted) (is : IsProgram x) (s : Recorded) (k : Keeps x s) (g : G
         let two : Option ℕ → Outcome = λ o. bytes.goes_on_to ours (bytes_of ended) v w (block slot) (barrier_of (word m) o) in
         let three : Cleanup → Outcome = λ d. entered (bytes_of ended) (block slot) barrier.object (phase2 (goal_in barrier) d.next (frames_of x.image (stack_of m) None d.site r.new)) in
         ap one (ap with_head next_is) ∙ ap two (slot_of_block_is slot (resume.small x is s k r)) ∙ ap three (sym (resume.words x is s k r))
-        ∙ (are_one (frames_of x.image (stack_of m) None r.cleanup.site r.new) (resume.frames x is s k r) (resume.kept x is s k r)).bytes (goal_in barrier) r.cleanup.next (bytes_of ended) (block slot) barrier.object
+        ∙ (are_one (frames_of x.image (stack_of m) None r.ends.cleanup.site r.new) (resume.frames x is s k r) (resume.kept x is s k r)).bytes (goal_in barrier) r.ends.cleanup.next (bytes_of ended) (block slot) barrier.object
 
     -- with recorded activations
-    recorded_go : machine.resumes_in ours s r.cleanup r.others s.outer (first_place s.places)
+    recorded_go : machine.resumes_in ours s r.ends r.others s.outer
         ≡ machine.entered ended ((resume.there x is s k r).first ∷ (resume.there x is s k r).more) (block slot) barrier.object enters
     recorded_go =
         let a = r.holder.first in
         let outer = r.holder.more in
-        let yes : machine.Outcome = machine.goes_on ours ended r.cleanup s.first.caller a outer barrier in
+        let yes : machine.Outcome = machine.goes_on ours ended r.ends.cleanup s.first.caller a outer barrier in
         let no : machine.Outcome = machine.refused Rattle.throws_keep.specs.eh_cxa.declared.globals.CxaFault.TheVariants.CleanupElsewhere s.first.caller.sp s in
-        ap (λ (acts : List Activation). machine.resumes_in ours s r.cleanup r.others acts (first_place s.places)) r.holder.is
-        ∙ ap (λ (ps : List ℕ). machine.resumes_in ours s r.cleanup r.others (a ∷ outer) (first_place ps)) r.places
-        ∙ ap (λ (b : Bool). cond (b && (length outer == r.place)) yes no) (same_number s.first.caller.sp r.cleanup.sp r.called)
-        ∙ ap (λ (b : Bool). cond b yes no) (same_number (length outer) r.place r.holder.place)
+        ap (λ (acts : List Activation). machine.resumes_in ours s r.ends r.others acts) r.holder.is
+        ∙ ap (λ (b : Bool). cond (b && (length outer == r.ends.place)) yes no) (same_number s.first.caller.sp r.ends.cleanup.sp r.called)
+        ∙ ap (λ (b : Bool). cond b yes no) (same_number (length outer) r.ends.place r.holder.place)
         ∙ ap (λ (acts : List Activation). machine.entered ended acts (block slot) barrier.object enters) (resume.there x is s k r).passed
 
   -- ---- both
@@ -144,77 +140,78 @@ module _ (x : Accepted) (is : IsProgram x) (s : Recorded) (k : Keeps x s) (g : G
   abbrev pub Alike : Outcome → machine.Outcome → Type 0
   Alike o q =
       ((end : End) × (o ≡ (Ended end, bytes_of s)) × (q ≡ (Ended end, s)) × ((why : Cause) → end ≡ the_end.Terminate why → ⊥))
-      ⊎ ((r : Resumes x s) × (o ≡ entered (bytes_of (machine.without_cleanup s r.others)) (block r.cleanup.slot) (barrier_of (word (memory_of s)) (Some r.cleanup.slot)).object (enters r))
-      × (q ≡ machine.entered (machine.without_cleanup s r.others) ((resume.there x is s k r).first ∷ (resume.there x is s k r).more) (block r.cleanup.slot) (barrier_of (word (memory_of s)) (Some r.cleanup.slot)).object (enters r)))
+      ⊎ ((r : Resumes x s) × (o ≡ entered (bytes_of (record s { cleanups = r.others })) (block r.ends.cleanup.slot) (barrier_of (word (memory_of s)) (Some r.ends.cleanup.slot)).object (enters r))
+      × (q ≡ machine.entered (record s { cleanups = r.others }) ((resume.there x is s k r).first ∷ (resume.there x is s k r).more) (block r.ends.cleanup.slot) (barrier_of (word (memory_of s)) (Some r.ends.cleanup.slot)).object (enters r)))
 
-  module _ (c : Cleanup) (others : List Cleanup) (cleanups : s.lists.cleanups ≡ c ∷ others) where
-    head_there : block_slot (heads s.lists).cleanup ≡ Some c.slot
+  module _ (one : InProgress) (others : List InProgress) (cleanups : s.cleanups ≡ one ∷ others) where
+    abbrev c : Cleanup
+    c = one.cleanup
+
+    listed : cleanups_in s.cleanups ≡ c ∷ cleanups_in others
+    listed = ap cleanups_in cleanups
+
+    head_there : block_slot (heads (lists_of s)).cleanup ≡ Some c.slot
     head_there =
-        (subst (λ (cs : List Cleanup). cxa.Chain (λ t. word (memory_of s) t NEXT_CLEANUP) (heads s.lists).cleanup (slots cs)) cleanups k.corresponds.stands.shows.cleanups).0
+        (subst (λ (cs : List Cleanup). cxa.Chain (λ t. word (memory_of s) t NEXT_CLEANUP) (heads (lists_of s)).cleanup (slots cs)) listed k.corresponds.stands.shows.cleanups).0
 
     words_there : c ≡ cleanup_of (word (memory_of s)) c.slot
-    words_there = (subst (λ (cs : List Cleanup). cxa.Frames (word (memory_of s)) cs) cleanups k.corresponds.stands.shows.frames).0
+    words_there = (subst (λ (cs : List Cleanup). cxa.Frames (word (memory_of s)) cs) listed k.corresponds.stands.shows.frames).0
 
-    by_words : (sp : ℕ) → end_cleanup_of (word (memory_of s)) (heads s.lists) sp ≡ end_cleanup_by (c.sp == sp) (word (memory_of s)) (heads s.lists) c.slot
+    by_words : (sp : ℕ) → end_cleanup_of (word (memory_of s)) (heads (lists_of s)) sp ≡ end_cleanup_by (c.sp == sp) (word (memory_of s)) (heads (lists_of s)) c.slot
     by_words sp =
-        ap (end_cleanup_at (word (memory_of s)) (heads s.lists) sp) head_there
-        ∙ ap (λ (n : ℕ). end_cleanup_by (n == sp) (word (memory_of s)) (heads s.lists) c.slot) (sym (ap (λ (d : Cleanup). d.sp) words_there))
+        ap (end_cleanup_at (word (memory_of s)) (heads (lists_of s)) sp) head_there
+        ∙ ap (λ (n : ℕ). end_cleanup_by (n == sp) (word (memory_of s)) (heads (lists_of s)) c.slot) (sym (ap (λ (d : Cleanup). d.sp) words_there))
 
     abbrev elsewhere : End
     elsewhere = the_end.Trap kind.CleanupElsewhere s.first.caller.sp s.regs.pc
 
-    not_there : (acts : List Activation) (place : Option ℕ) → (s.first.caller.sp == c.sp) ≡ false → ◌≡◌ {A = machine.Outcome} (machine.resumes_in ours s c others acts place) (Ended elsewhere, s)
-    not_there [] place e = refl
-    not_there (a ∷ outer) None e = refl
-    not_there (a ∷ outer) (Some n) e =
-        let yes : machine.Outcome = machine.goes_on ours (machine.without_cleanup s others) c s.first.caller a outer (barrier_of (word (memory_of s)) (Some c.slot)) in
+    not_there : (acts : List Activation) → (s.first.caller.sp == c.sp) ≡ false → ◌≡◌ {A = machine.Outcome} (machine.resumes_in ours s one others acts) (Ended elsewhere, s)
+    not_there [] e = refl
+    not_there (a ∷ outer) e =
+        let yes : machine.Outcome = machine.goes_on ours (record s { cleanups = others }) c s.first.caller a outer (barrier_of (word (memory_of s)) (Some c.slot)) in
         let no : machine.Outcome = (Ended elsewhere, s) in
-        ap (λ (b : Bool). cond (b && (length outer == n)) yes no) e
+        ap (λ (b : Bool). cond (b && (length outer == one.place)) yes no) e
 
-    by_places : (new : List ℕ) → IsNew s.first.caller new → s.first.caller.sp ≡ c.sp → (ps : List ℕ) → s.places ≡ ps → AreInProgress x s (slice_index s.regs.r SP) ps (c ∷ others)
-        → Alike (bytes.ends_cleanup ours (bytes_of s) (record { r = new }) (end_cleanup_by true (word (memory_of s)) (heads s.lists) c.slot)) (machine.resumes_in ours s c others s.outer (first_place s.places))
-    by_places new n e [] at h = absurd h
-    by_places new n e (place ∷ later) at h =
+    by_place : (new : List ℕ) → IsNew s.first.caller new → s.first.caller.sp ≡ c.sp
+        → Alike (bytes.ends_cleanup ours (bytes_of s) (record { r = new }) (end_cleanup_by true (word (memory_of s)) (heads (lists_of s)) c.slot)) (machine.resumes_in ours s one others s.outer)
+    by_place new n e =
         let r : Resumes x s = record {
-          cleanup = c;
+          ends = one;
           others = others;
           cleanups = cleanups;
-          place = place;
-          later = later;
-          places = at;
-          holder = innermost_outside x s (slice_index s.regs.r SP) place later c others k.chain h e;
+          holder = innermost_outside x s (slice_index s.regs.r SP) one others k.chain (subst (AreInProgress x s (slice_index s.regs.r SP)) cleanups k.cleanups) e;
           called = e;
           new = new;
           is_new = n;
         } in inr (r, bytes_go r, recorded_go r)
 
     by_sp : (new : List ℕ) → IsNew s.first.caller new → (b : Bool) → (c.sp == slice_index new SP) ≡ b
-        → Alike (bytes.ends_cleanup ours (bytes_of s) (record { r = new }) (end_cleanup_by b (word (memory_of s)) (heads s.lists) c.slot)) (machine.resumes_in ours s c others s.outer (first_place s.places))
+        → Alike (bytes.ends_cleanup ours (bytes_of s) (record { r = new }) (end_cleanup_by b (word (memory_of s)) (heads (lists_of s)) c.slot)) (machine.resumes_in ours s one others s.outer)
     by_sp new n true e =
         let same : c.sp ≡ slice_index new SP = eqb-true c.sp (slice_index new SP) e in
-        by_places new n (sym n.sp ∙ sym same) s.places refl (subst (λ (cs : List Cleanup). AreInProgress x s (slice_index s.regs.r SP) s.places cs) cleanups k.cleanups)
+        by_place new n (sym n.sp ∙ sym same)
     by_sp new n false e =
         let sp = n.sp in
         let other : (s.first.caller.sp == c.sp) ≡ false = grind (arith, nat_tests) in
-        inl (elsewhere, ap (λ (v : ℕ). let o : Outcome = (Ended (the_end.Trap kind.CleanupElsewhere v s.regs.pc), bytes_of s) in o) n.sp, not_there s.outer (first_place s.places) other, no_trap kind.CleanupElsewhere s.first.caller.sp s.regs.pc)
+        inl (elsewhere, ap (λ (v : ℕ). let o : Outcome = (Ended (the_end.Trap kind.CleanupElsewhere v s.regs.pc), bytes_of s) in o) n.sp, not_there s.outer other, no_trap kind.CleanupElsewhere s.first.caller.sp s.regs.pc)
 
     by_caller : HasCaller x.image s.segments s.regs.pc (all_of s.regs) s.first.caller
-        → Alike (bytes.resumes_in ours (bytes_of s) (caller_at x.image s.segments s.regs.pc (all_of s.regs))) (machine.resumes ours s (c ∷ others))
+        → Alike (bytes.resumes_in ours (bytes_of s) (caller_at x.image s.segments s.regs.pc (all_of s.regs))) (machine.resumes ours s (one ∷ others))
     by_caller (inl none) =
-        let yes : machine.Outcome = machine.resumes_in ours s c others s.outer (first_place s.places) in
+        let yes : machine.Outcome = machine.resumes_in ours s one others s.outer in
         let no : machine.Outcome = (Ended (the_end.Trap kind.CleanupElsewhere 0 s.regs.pc), s) in
         inl (the_end.Trap kind.CleanupElsewhere 0 s.regs.pc, ap (bytes.resumes_in ours (bytes_of s)) none.0, ap (λ (b : Bool). cond b yes no) none.1, no_trap kind.CleanupElsewhere 0 s.regs.pc)
     by_caller (inr (new, found, can, n)) =
-        let yes : machine.Outcome = machine.resumes_in ours s c others s.outer (first_place s.places) in
+        let yes : machine.Outcome = machine.resumes_in ours s one others s.outer in
         let no : machine.Outcome = (Ended (the_end.Trap kind.CleanupElsewhere 0 s.regs.pc), s) in
-        subst (λ (o : Option Vrs). Alike (bytes.resumes_in ours (bytes_of s) o) (machine.resumes ours s (c ∷ others))) (sym found)
+        subst (λ (o : Option Vrs). Alike (bytes.resumes_in ours (bytes_of s) o) (machine.resumes ours s (one ∷ others))) (sym found)
         (subst (λ (b : Bool). Alike (bytes.resumes_in ours (bytes_of s) (Some (record { r = new }))) (cond b yes no)) (sym can)
         (subst (λ (d : Done (Result (ℕ × CleanupWords) CxaFault)). Alike (bytes.ends_cleanup ours (bytes_of s) (record { r = new }) d) yes) (sym (by_words (slice_index new SP)))
         (by_sp new n (c.sp == slice_index new SP) refl)))
 
   pub end_alike : IsSiteOf x s s.regs.pc → Alike (bytes.end_cleanup_gate ours (bytes_of s)) (machine.end_cleanup_gate ours s)
-  end_alike here = subst (λ (o : Option ℕ). Alike (bytes.resumes ours (bytes_of s) o) (machine.end_cleanup_gate ours s)) (sym (knows s k.corresponds)) (by_cleanups s.lists.cleanups refl)
+  end_alike here = subst (λ (o : Option ℕ). Alike (bytes.resumes ours (bytes_of s) o) (machine.end_cleanup_gate ours s)) (sym (knows s k.corresponds)) (by_cleanups s.cleanups refl)
     where
-      by_cleanups : (cs : List Cleanup) → s.lists.cleanups ≡ cs → Alike (bytes.resumes ours (bytes_of s) (innermost_in cs)) (machine.resumes ours s cs)
+      by_cleanups : (cs : List InProgress) → s.cleanups ≡ cs → Alike (bytes.resumes ours (bytes_of s) (innermost_in (cleanups_in cs))) (machine.resumes ours s cs)
       by_cleanups [] e = inl (the_end.Trap kind.NoCleanup 0 s.regs.pc, refl, refl, no_trap kind.NoCleanup 0 s.regs.pc)
       by_cleanups (c ∷ others) e = by_caller c others e (first_caller x is s k s.regs.pc here)

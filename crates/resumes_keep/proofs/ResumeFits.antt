@@ -89,7 +89,7 @@ module _ (x : Accepted) (is : IsProgram x) (s : Recorded) (k : Keeps x s) (imm :
   abbrev caller : Caller
   caller = s.first.caller
 
-  abbrev there : LandsIn (resume.goal x is s k r) r.cleanup.next s.home.1 s.first.caller.sp (resume.frames x is s k r).frames (r.holder.first ∷ r.holder.more) (phase2 (resume.goal x is s k r) r.cleanup.next (resume.frames x is s k r))
+  abbrev there : LandsIn (resume.goal x is s k r) r.ends.cleanup.next s.home.1 s.first.caller.sp (resume.frames x is s k r).frames (r.holder.first ∷ r.holder.more) (phase2 (resume.goal x is s k r) r.ends.cleanup.next (resume.frames x is s k r))
   there = resume.there x is s k r
 
   -- ---- what lies outside it
@@ -101,7 +101,7 @@ module _ (x : Accepted) (is : IsProgram x) (s : Recorded) (k : Keeps x s) (imm :
       (subst (λ (acts : List Activation). Fit s.first.caller.sp (there.inner ++ there.frame ∷ there.outer) acts) there.all
       (subst (λ (fs : List Frame). Fit s.first.caller.sp fs (r.holder.first ∷ r.holder.more)) there.frames
       (subst (λ (n : ℕ). Fit n (resume.frames x is s k r).frames (r.holder.first ∷ r.holder.more)) (resume.sp_is x is s k r)
-      (fit_frames x s.segments s.home None r.cleanup.site (registers_of s.first.caller) r.holder.first r.holder.more l.0.whole l.1))))
+      (fit_frames x s.segments s.home None r.ends.cleanup.site (registers_of s.first.caller) r.holder.first r.holder.more l.0.whole l.1))))
       (subst (Rise s.home.1 s.first.caller.sp) there.all (rise_outside x s.segments s.home s.first.caller (r.holder.first ∷ r.holder.more) (l.0, l.1)))
 
   pub rest : Rest s.home.1 there.frame.sp (s.first ∷ there.cut) there.first there.more
@@ -110,10 +110,10 @@ module _ (x : Accepted) (is : IsProgram x) (s : Recorded) (k : Keeps x s) (imm :
   pub low : reg_in s SP ≤ there.frame.sp
   low = let h = k.high in let w = within.0 in omega (arith, h, w)
 
-  nature : ((length there.cut ≡ 0) × IsHead x s.segments s.home r.cleanup.site (registers_of s.first.caller) r.holder.first r.holder.more (resume.links x is s k r).0.whole (resume.links x is s k r).1 there.frame there.first there.more)
+  nature : ((length there.cut ≡ 0) × IsHead x s.segments s.home r.ends.cleanup.site (registers_of s.first.caller) r.holder.first r.holder.more (resume.links x is s k r).0.whole (resume.links x is s k r).1 there.frame there.first there.more)
       ⊎ Called x s.segments s.home there.frame there.first
   nature =
-      head_or_caller x s.segments s.home r.cleanup.site (registers_of s.first.caller) r.holder.first r.holder.more (resume.links x is s k r).0.whole (resume.links x is s k r).1
+      head_or_caller x s.segments s.home r.ends.cleanup.site (registers_of s.first.caller) r.holder.first r.holder.more (resume.links x is s k r).0.whole (resume.links x is s k r).1
       there.inner there.frame there.outer there.cut there.first there.more there.frames there.all there.beside
 
   pub words : AreWordsAt there.frame.r
@@ -124,7 +124,7 @@ module _ (x : Accepted) (is : IsProgram x) (s : Recorded) (k : Keeps x s) (imm :
 
   -- ---- in a caller
 
-  in_caller : Called x s.segments s.home there.frame there.first → (e : Entered) → OfFrame goal there.frame e → Fits x s r.cleanup.slot goal there.frame there.first there.more e
+  in_caller : Called x s.segments s.home there.frame there.first → (e : Entered) → OfFrame goal there.frame e → Fits x s r.ends.cleanup.slot goal there.frame there.first there.more e
   in_caller h (enters.Cleanup vrs pad next site) of =
       let c = of.2 in
       let offers : Offers there.frame pad = record { before = c.before; desc = c.desc; after = c.after; items = c.items; scope = c.scope; kind = ap pad_of c.kind } in
@@ -142,43 +142,43 @@ module _ (x : Accepted) (is : IsProgram x) (s : Recorded) (k : Keeps x s) (imm :
         of.0,
         of.1,
         pad_stands x is s k s.regs.pc here there.frame there.first pad 0 (h.0, inr h.1) offers,
-        λ reach. cleanup_entered x is s k s.regs.pc here (gate_deep x s is imm does) n r.cleanup.slot pad next c goal reach,
+        λ reach. cleanup_entered x is s k s.regs.pc here (gate_deep x s is imm does) n r.ends.cleanup.slot pad next c goal reach,
       )
-  in_caller h (enters.Catch vrs pad) of = (of.0, of.2, pad_stands x is s k s.regs.pc here there.frame there.first pad (block r.cleanup.slot) (h.0, inr h.1) of.1)
-  in_caller h (enters.Spec vrs pad) of = (of.0, of.2, pad_stands x is s k s.regs.pc here there.frame there.first pad (block r.cleanup.slot) (h.0, inr h.1) of.1)
+  in_caller h (enters.Catch vrs pad) of = (of.0, of.2, pad_stands x is s k s.regs.pc here there.frame there.first pad (block r.ends.cleanup.slot) (h.0, inr h.1) of.1)
+  in_caller h (enters.Spec vrs pad) of = (of.0, of.2, pad_stands x is s k s.regs.pc here there.frame there.first pad (block r.ends.cleanup.slot) (h.0, inr h.1) of.1)
   in_caller h enters.Unexpected of = tt
   in_caller h (enters.Terminate why) of = tt
 
   -- ---- in the cleanup's own activation, behind the cleanup
 
-  module _ (v : Covered) (covers : covered_at x.image r.cleanup.site ≡ Some v) where
+  module _ (v : Covered) (covers : covered_at x.image r.ends.cleanup.site ≡ Some v) where
     abbrev there_again : Frame
-    there_again = frame_of r.cleanup.site (registers_of s.first.caller) v
+    there_again = frame_of r.ends.cleanup.site (registers_of s.first.caller) v
 
     abbrev behind_it : Frame
     behind_it = record there_again { items = r.holder.entered.after }
 
     its_items : v.descs ≡ r.holder.entered.before ++ Ok r.holder.entered.cleanup ∷ r.holder.entered.after
-    its_items = sym (covered_items (scene_of x.image r.holder.entered.function) r.cleanup.site v covers) ∙ r.holder.entered.items
+    its_items = sym (covered_items (scene_of x.image r.holder.entered.function) r.ends.cleanup.site v covers) ∙ r.holder.entered.items
 
     -- those behind it, in the list of all
     all_items : (before : List Item) (d : Desc) (after : List Item) → r.holder.entered.after ≡ before ++ Ok d ∷ after
-        → items_at (scene_of x.image r.holder.entered.function) r.cleanup.site ≡ (r.holder.entered.before ++ Ok r.holder.entered.cleanup ∷ before) ++ Ok d ∷ after
+        → items_at (scene_of x.image r.holder.entered.function) r.ends.cleanup.site ≡ (r.holder.entered.before ++ Ok r.holder.entered.cleanup ∷ before) ++ Ok d ∷ after
     all_items before d after e =
         r.holder.entered.items ∙ ap (λ (l : List Item). r.holder.entered.before ++ Ok r.holder.entered.cleanup ∷ l) e
         ∙ sym (append_assoc r.holder.entered.before (Ok r.holder.entered.cleanup ∷ before) (Ok d ∷ after))
 
     stands_again : (pad answer : ℕ) → Offers behind_it pad → StandsAt x r.holder.first s.segments (landed s.regs (registers_of s.first.caller) pad answer) (landed s.regs (registers_of s.first.caller) pad answer).pc
     stands_again pad answer o =
-        resumed_stands x is s.segments k.corresponds.map.segments goal r.cleanup r.holder.first r.holder.more r.holder.entered s.first.caller (resume.links x is s k r).0 k.whole r.called
+        resumed_stands x is s.segments k.corresponds.map.segments goal r.ends.cleanup r.holder.first r.holder.more r.holder.entered s.first.caller (resume.links x is s k r).0 k.whole r.called
         (r.holder.entered.before ++ Ok r.holder.entered.cleanup ∷ o.before) o.desc o.after (all_items o.before o.desc o.after o.items) o.scope pad o.kind
-        (any_there (is_one (cleans r.cleanup.site)) r.holder.entered.before (Ok r.holder.entered.cleanup) o.before r.holder.entered.cleans) s.regs answer
+        (any_there (is_one (cleans r.ends.cleanup.site)) r.holder.entered.before (Ok r.holder.entered.cleanup) o.before r.holder.entered.cleans) s.regs answer
 
-    entered_again : (pad next : ℕ) → IsCleanupOf behind_it pad next → is_reached goal next (frames_at x.image None r.cleanup.site (by_sp there_again.sp) r.holder.first r.holder.more).frames ≡ true
-        → IsEntered x s.segments goal (record { slot = r.cleanup.slot; next = next; sp = there_again.sp; site = r.cleanup.site }) r.holder.first r.holder.more
+    entered_again : (pad next : ℕ) → IsCleanupOf behind_it pad next → is_reached goal next (frames_at x.image None r.ends.cleanup.site (by_sp there_again.sp) r.holder.first r.holder.more).frames ≡ true
+        → IsEntered x s.segments goal (record { slot = r.ends.cleanup.slot; next = next; sp = there_again.sp; site = r.ends.cleanup.site }) r.holder.first r.holder.more
     entered_again pad next c reach =
         let old = r.holder.entered in
-        let sp : there_again.sp ≡ r.cleanup.sp = resume.sp_is x is s k r ∙ r.called in
+        let sp : there_again.sp ≡ r.ends.cleanup.sp = resume.sp_is x is s k r ∙ r.called in
         record {
           function = old.function;
           marks = old.marks;
@@ -200,35 +200,35 @@ module _ (x : Accepted) (is : IsProgram x) (s : Recorded) (k : Keeps x s) (imm :
           reach = reach;
         }
 
-    again : (e : Entered) → OfFrame goal behind_it e → Fits x s r.cleanup.slot goal there_again r.holder.first r.holder.more e
+    again : (e : Entered) → OfFrame goal behind_it e → Fits x s r.ends.cleanup.slot goal there_again r.holder.first r.holder.more e
     again (enters.Cleanup vrs pad next site) of =
         let c = of.2 in
         (of.0, of.1, stands_again pad 0 (record { before = c.before; desc = c.desc; after = c.after; items = c.items; scope = c.scope; kind = ap pad_of c.kind }), entered_again pad next c)
-    again (enters.Catch vrs pad) of = (of.0, of.2, stands_again pad (block r.cleanup.slot) of.1)
-    again (enters.Spec vrs pad) of = (of.0, of.2, stands_again pad (block r.cleanup.slot) of.1)
+    again (enters.Catch vrs pad) of = (of.0, of.2, stands_again pad (block r.ends.cleanup.slot) of.1)
+    again (enters.Spec vrs pad) of = (of.0, of.2, stands_again pad (block r.ends.cleanup.slot) of.1)
     again enters.Unexpected of = tt
     again (enters.Terminate why) of = tt
 
-    behind_cleanup : IsInOrder there_again → (e : Entered) → first_some (entered_item goal there_again) (from_address r.cleanup.next there_again.items) ≡ Some e → OfFrame goal behind_it e
+    behind_cleanup : IsInOrder there_again → (e : Entered) → first_some (entered_item goal there_again) (from_address r.ends.cleanup.next there_again.items) ≡ Some e → OfFrame goal behind_it e
     behind_cleanup order e own =
         let old = r.holder.entered in
-        let left : from_address r.cleanup.next there_again.items ≡ old.after =
+        let left : from_address r.ends.cleanup.next there_again.items ≡ old.after =
         ap (λ (n : ℕ). from_address n there_again.items) old.next ∙ left_behind there_again 0 old.before old.cleanup old.after order its_items in
         of_items goal behind_it [] old.after e refl (subst (λ (is : List (Result Desc DescFault)). first_some (entered_item goal there_again) is ≡ Some e) left own)
 
   in_head : length there.cut ≡ 0
-      → IsHead x s.segments s.home r.cleanup.site (registers_of s.first.caller) r.holder.first r.holder.more (resume.links x is s k r).0.whole (resume.links x is s k r).1 there.frame there.first there.more
-      → (e : Entered) → phase2 goal r.cleanup.next (resume.frames x is s k r) ≡ e → Fits x s r.cleanup.slot goal there.frame there.first there.more e
+      → IsHead x s.segments s.home r.ends.cleanup.site (registers_of s.first.caller) r.holder.first r.holder.more (resume.links x is s k r).0.whole (resume.links x is s k r).1 there.frame there.first there.more
+      → (e : Entered) → phase2 goal r.ends.cleanup.next (resume.frames x is s k r) ≡ e → Fits x s r.ends.cleanup.slot goal there.frame there.first there.more e
   in_head none h e enters_it =
       let order : IsInOrder there.frame = all_there IsInOrder there.inner there.frame there.outer (subst (All IsInOrder) there.frames (resume.in_order x is s k r)) in
-      let own : first_some (entered_item goal there.frame) (from_address r.cleanup.next there.frame.items) ≡ Some e = there.in_first none ∙ ap Some enters_it in
+      let own : first_some (entered_item goal there.frame) (from_address r.ends.cleanup.next there.frame.items) ≡ Some e = there.in_first none ∙ ap Some enters_it in
       let whole = again h.covered h.covers e
-      (behind_cleanup h.covered h.covers (subst IsInOrder h.frame order) e (subst (λ (f : Frame). first_some (entered_item goal f) (from_address r.cleanup.next f.items) ≡ Some e) h.frame own)) in
-      subst (λ (f : Frame). Fits x s r.cleanup.slot goal f there.first there.more e) (sym h.frame)
-      (subst (λ (b : Activation). Fits x s r.cleanup.slot goal (frame_of r.cleanup.site (registers_of s.first.caller) h.covered) b there.more e) (sym h.first)
-      (subst (λ (bs : List Activation). Fits x s r.cleanup.slot goal (frame_of r.cleanup.site (registers_of s.first.caller) h.covered) r.holder.first bs e) (sym h.rest) whole))
+      (behind_cleanup h.covered h.covers (subst IsInOrder h.frame order) e (subst (λ (f : Frame). first_some (entered_item goal f) (from_address r.ends.cleanup.next f.items) ≡ Some e) h.frame own)) in
+      subst (λ (f : Frame). Fits x s r.ends.cleanup.slot goal f there.first there.more e) (sym h.frame)
+      (subst (λ (b : Activation). Fits x s r.ends.cleanup.slot goal (frame_of r.ends.cleanup.site (registers_of s.first.caller) h.covered) b there.more e) (sym h.first)
+      (subst (λ (bs : List Activation). Fits x s r.ends.cleanup.slot goal (frame_of r.ends.cleanup.site (registers_of s.first.caller) h.covered) r.holder.first bs e) (sym h.rest) whole))
 
-  pub resume_fits : (e : Entered) → phase2 goal r.cleanup.next (resume.frames x is s k r) ≡ e → Fits x s r.cleanup.slot goal there.frame there.first there.more e
+  pub resume_fits : (e : Entered) → phase2 goal r.ends.cleanup.next (resume.frames x is s k r) ≡ e → Fits x s r.ends.cleanup.slot goal there.frame there.first there.more e
   resume_fits e enters_it = elim nature [
     | inl head ↦ in_head head.0 head.1 e enters_it
     | inr called ↦ in_caller called e (subst (OfFrame goal there.frame) enters_it there.of)

@@ -1,9 +1,9 @@
 -- What the end of a cleanup leaves is kept.
 use Rattle.std.proofs.Common.{ℕ, ◌≤◌, List, [], ◌∷◌, arith, ◌≡◌, inl, inr, true, length, Option, Some, None, refl, sym, ap, subst, ◌∙◌}
-use Rattle.std.specs.Prelude.{slice_index, drop}
+use Rattle.std.specs.Prelude.{slice_index}
 use Rattle.throws_keep.specs.eh_cxa.Lists.{Cleanup}
 use Rattle.throws_keep.specs.frame_check.Accepts.{Accepted}
-use Rattle.throws_keep.specs.two_machines.Activations.{Recorded, reg_in, memory_of, frames_at, registers_of}
+use Rattle.throws_keep.specs.two_machines.Activations.{Recorded, reg_in, memory_of, frames_at, registers_of, InProgress, cleanups_in}
 use Rattle.throws_keep.specs.eh_bytecode.declared.frame.Vrs.{Vrs}
 use Rattle.throws_keep.specs.eh_cxa.Throw.{barrier_of}
 use Rattle.throws_keep.specs.eh_cxa.Words.{word, block, block_slot}
@@ -40,11 +40,9 @@ use Rattle.resumes_keep.proofs.ResumeFits as fitting
 use Rattle.resumes_keep.proofs.ResumeLands as resume
 
 -- landing sps that lie above one lie above a lower one
-lowered : (x : Accepted) (s : Recorded) (low high : ℕ) (places : List ℕ) (cleanups : List Cleanup) → low ≤ high → AreInProgress x s high places cleanups → AreInProgress x s low places cleanups
-lowered x s low high [] [] l h = tt
-lowered x s low high [] (c ∷ more) l h = absurd h
-lowered x s low high (n ∷ later) [] l h = absurd h
-lowered x s low high (n ∷ later) (c ∷ more) l h = (let m = h.0 in omega (arith, l, m), h.1, h.2, h.3)
+lowered : (x : Accepted) (s : Recorded) (low high : ℕ) (cleanups : List InProgress) → low ≤ high → AreInProgress x s high cleanups → AreInProgress x s low cleanups
+lowered x s low high [] l h = tt
+lowered x s low high (c ∷ more) l h = (let m = h.0 in omega (arith, l, m), h.1, h.2, h.3)
 
 pub within_below : (low high : ℕ) (cleanups : List Cleanup) → low ≤ high → IsWithin high cleanups → IsWithin low cleanups
 within_below low high [] l w = tt
@@ -53,17 +51,16 @@ within_below low high (c ∷ more) l w = omega (arith, l, w)
 module _ (x : Accepted) (is : IsProgram x) (s : Recorded) (k : Keeps x s) (imm : ℕ) (does : DoesAt x s (Svc imm)) (g : Guide) where
   module _ (r : Resumes x s) where
     abbrev ended : Recorded
-    ended = machine.without_cleanup s r.others
+    ended = record s { cleanups = r.others }
 
     abbrev goal : Goal
     goal = resume.goal x is s k r
 
-    abbrev there : LandsIn (resume.goal x is s k r) r.cleanup.next s.home.1 s.first.caller.sp (resume.frames x is s k r).frames (r.holder.first ∷ r.holder.more) (phase2 (resume.goal x is s k r) r.cleanup.next (resume.frames x is s k r))
+    abbrev there : LandsIn (resume.goal x is s k r) r.ends.cleanup.next s.home.1 s.first.caller.sp (resume.frames x is s k r).frames (r.holder.first ∷ r.holder.more) (phase2 (resume.goal x is s k r) r.ends.cleanup.next (resume.frames x is s k r))
     there = resume.there x is s k r
 
-    in_progress : AreInProgress x s (reg_in s SP) (r.place ∷ r.later) (r.cleanup ∷ r.others)
-    in_progress =
-        subst (λ (ps : List ℕ). AreInProgress x s (reg_in s SP) ps (r.cleanup ∷ r.others)) r.places (subst (λ (cs : List Cleanup). AreInProgress x s (reg_in s SP) s.places cs) r.cleanups k.cleanups)
+    in_progress : AreInProgress x s (reg_in s SP) (r.ends ∷ r.others)
+    in_progress = subst (AreInProgress x s (reg_in s SP)) r.cleanups k.cleanups
 
     -- the state without the cleanup is kept
     ended_keeps : Keeps x ended
@@ -79,9 +76,7 @@ module _ (x : Accepted) (is : IsProgram x) (s : Recorded) (k : Keeps x s) (imm :
       slots = k.slots;
       first = k.first;
       chain = k.chain;
-      cleanups =
-          subst (λ (ps : List ℕ). AreInProgress x ended (reg_in s SP) (drop 1 ps) r.others) (sym r.places)
-          (lowered x ended (reg_in s SP) r.cleanup.sp r.later r.others in_progress.0 in_progress.3);
+      cleanups = lowered x ended (reg_in s SP) r.ends.cleanup.sp r.others in_progress.0 in_progress.3;
     }
 
     entering : Entering x ended
@@ -100,65 +95,65 @@ module _ (x : Accepted) (is : IsProgram x) (s : Recorded) (k : Keeps x s) (imm :
     }
 
     abbrev left_by : Entered → Recorded
-    left_by e = (machine.entered ended (there.first ∷ there.more) (block r.cleanup.slot) (barrier_of (word (memory_of s)) (Some r.cleanup.slot)).object e).1
+    left_by e = (machine.entered ended (there.first ∷ there.more) (block r.ends.cleanup.slot) (barrier_of (word (memory_of s)) (Some r.ends.cleanup.slot)).object e).1
 
     -- ---- a handler
 
     abbrev handles : Vrs → ℕ → Event → Recorded
-    handles v pad e = machine.enter_handler ended (there.first ∷ there.more) (block r.cleanup.slot) v.r pad e
+    handles v pad e = machine.enter_handler ended (there.first ∷ there.more) (block r.ends.cleanup.slot) v.r pad e
 
     in_handler : (v : Vrs) (pad : ℕ) (e : Event) → (v ≡ vrs_of there.frame) → (there.frame.sp ≡ goal.sp)
-        → StandsAt x there.first s.segments (landed s.regs there.frame.r pad (block r.cleanup.slot))
-        (landed s.regs there.frame.r pad (block r.cleanup.slot)).pc
+        → StandsAt x there.first s.segments (landed s.regs there.frame.r pad (block r.ends.cleanup.slot))
+        (landed s.regs there.frame.r pad (block r.ends.cleanup.slot)).pc
         → Corresponds (handles v pad e) → Keeps x (handles v pad e)
     unfolding entering
     in_handler v pad e same at stands is_still =
         subst (λ (w : Vrs). Keeps x (handles w pad e)) (sym same)
-        (handler_kept x is ended ended_keeps entering r.cleanup.slot (resume.in_flight x is s k r) (within_below there.frame.sp goal.sp r.others (omega (arith, at)) in_progress.2) pad e stands
+        (handler_kept x is ended ended_keeps entering r.ends.cleanup.slot (resume.in_flight x is s k r) (within_below there.frame.sp goal.sp (cleanups_in r.others) (omega (arith, at)) in_progress.2) pad e stands
         (subst (λ (w : Vrs). Corresponds (handles w pad e)) same is_still))
 
     -- ---- a cleanup
 
     abbrev cleans : Option ℕ → Vrs → ℕ → ℕ → ℕ → Recorded
     cleans o v pad next at =
-        machine.logged (machine.at_pad (machine.in_progress ended (length there.more) (block r.cleanup.slot) (words_of v.r next at) o) (there.first ∷ there.more) v.r pad 0) (pad_event event.Cleanup pad (slice_index v.r SP) 0)
+        machine.logged (machine.at_pad (machine.in_progress ended (length there.more) (block r.ends.cleanup.slot) (words_of v.r next at) o) (there.first ∷ there.more) v.r pad 0) (pad_event event.Cleanup pad (slice_index v.r SP) 0)
 
-    reaches : (v : Vrs) (pad next at : ℕ) → phase2 goal r.cleanup.next (resume.frames x is s k r) ≡ enters.Cleanup v pad next at → ReachesOn goal there.frame there.outer (enters.Cleanup v pad next at)
+    reaches : (v : Vrs) (pad next at : ℕ) → phase2 goal r.ends.cleanup.next (resume.frames x is s k r) ≡ enters.Cleanup v pad next at → ReachesOn goal there.frame there.outer (enters.Cleanup v pad next at)
     reaches v pad next at e = subst (ReachesOn goal there.frame there.outer) e (there.reach (resume.in_order x is s k r) (resume.reached x is s k r))
 
-    reach_by_sp : (v : Vrs) (pad next at : ℕ) → phase2 goal r.cleanup.next (resume.frames x is s k r) ≡ enters.Cleanup v pad next at
+    reach_by_sp : (v : Vrs) (pad next at : ℕ) → phase2 goal r.ends.cleanup.next (resume.frames x is s k r) ≡ enters.Cleanup v pad next at
         → is_reached goal next (frames_at x.image None there.frame.site (by_sp there.frame.sp) there.first there.more).frames ≡ true
     reach_by_sp v pad next at e =
         sym (reached_by_sp goal next x.image there.frame.site there.frame.r there.frame.sp there.first there.more there.fit.1)
         ∙ ap (is_reached goal next)
-        (frames_behind x.image r.cleanup.site (registers_of s.first.caller) r.holder.first r.holder.more there.inner there.frame there.outer there.cut there.first there.more there.frames there.all there.beside)
+        (frames_behind x.image r.ends.cleanup.site (registers_of s.first.caller) r.holder.first r.holder.more there.inner there.frame there.outer there.cut there.first there.more there.frames there.all there.beside)
         ∙ reaches v pad next at e
 
-    in_cleanup : (v : Vrs) (pad next at : ℕ) → phase2 goal r.cleanup.next (resume.frames x is s k r) ≡ enters.Cleanup v pad next at
-        → Fits x s r.cleanup.slot goal there.frame there.first there.more (enters.Cleanup v pad next at) → Corresponds (left_by (enters.Cleanup v pad next at)) → Keeps x (left_by (enters.Cleanup v pad next at))
+    in_cleanup : (v : Vrs) (pad next at : ℕ) → phase2 goal r.ends.cleanup.next (resume.frames x is s k r) ≡ enters.Cleanup v pad next at
+        → Fits x s r.ends.cleanup.slot goal there.frame there.first there.more (enters.Cleanup v pad next at) → Corresponds (left_by (enters.Cleanup v pad next at)) → Keeps x (left_by (enters.Cleanup v pad next at))
     unfolding entering
     in_cleanup v pad next at e h is_still =
         let high : there.frame.sp ≤ goal.sp =
         reached_above goal there.frame.sp next s.home.1 there.frame.sp (there.frame ∷ there.outer) (there.first ∷ there.more) (omega arith) there.fit (fitting.rest x is s k imm does r).rise (reaches v pad next at e) in
-        let whole : cleans (block_slot (block r.cleanup.slot)) v pad next at ≡ cleans (Some r.cleanup.slot) (vrs_of there.frame) pad next there.frame.site =
-        ap (λ (o : Option ℕ). cleans o v pad next at) (slot_of_block_is r.cleanup.slot (resume.small x is s k r)) ∙ ap (λ (w : Vrs). cleans (Some r.cleanup.slot) w pad next at) h.0
-        ∙ ap (λ (site : ℕ). cleans (Some r.cleanup.slot) (vrs_of there.frame) pad next site) h.1 in
+        let whole : cleans (block_slot (block r.ends.cleanup.slot)) v pad next at ≡ cleans (Some r.ends.cleanup.slot) (vrs_of there.frame) pad next there.frame.site =
+        ap (λ (o : Option ℕ). cleans o v pad next at) (slot_of_block_is r.ends.cleanup.slot (resume.small x is s k r)) ∙ ap (λ (w : Vrs). cleans (Some r.ends.cleanup.slot) w pad next at) h.0
+        ∙ ap (λ (site : ℕ). cleans (Some r.ends.cleanup.slot) (vrs_of there.frame) pad next site) h.1 in
         subst (Keeps x) (sym whole)
-        (cleanup_kept x is ended ended_keeps entering r.cleanup.slot (resume.in_flight x is s k r) (within_below there.frame.sp goal.sp r.others high in_progress.2) pad
+        (cleanup_kept x is ended ended_keeps entering r.ends.cleanup.slot (resume.in_flight x is s k r) (within_below there.frame.sp goal.sp (cleanups_in r.others) high in_progress.2) pad
         (pad_event event.Cleanup pad (slice_index there.frame.r SP) 0) h.2 next there.frame.site (h.3 (reach_by_sp v pad next at e)) in_progress.2 (subst Corresponds whole is_still))
 
     -- ---- whatever it enters
 
-    by_entered : (e : Entered) → phase2 goal r.cleanup.next (resume.frames x is s k r) ≡ e → Fits x s r.cleanup.slot goal there.frame there.first there.more e → Corresponds (left_by e) → Keeps x (left_by e)
+    by_entered : (e : Entered) → phase2 goal r.ends.cleanup.next (resume.frames x is s k r) ≡ e → Fits x s r.ends.cleanup.slot goal there.frame there.first there.more e → Corresponds (left_by e) → Keeps x (left_by e)
     by_entered (enters.Cleanup v pad next at) e h is_still = in_cleanup v pad next at e h is_still
-    by_entered (enters.Catch v pad) e h is_still = in_handler v pad (pad_event event.Catch pad (slice_index v.r SP) (barrier_of (word (memory_of s)) (Some r.cleanup.slot)).object) h.0 h.1 h.2 is_still
+    by_entered (enters.Catch v pad) e h is_still = in_handler v pad (pad_event event.Catch pad (slice_index v.r SP) (barrier_of (word (memory_of s)) (Some r.ends.cleanup.slot)).object) h.0 h.1 h.2 is_still
     by_entered (enters.Spec v pad) e h is_still = in_handler v pad (pad_event event.Unexpected pad (slice_index v.r SP) 0) h.0 h.1 h.2 is_still
     by_entered enters.Unexpected e h is_still = ended_keeps
     by_entered (enters.Terminate why) e h is_still = ended_keeps
 
-    goes_keeps : Keeps x (left_by (phase2 goal r.cleanup.next (resume.frames x is s k r)))
+    goes_keeps : Keeps x (left_by (phase2 goal r.ends.cleanup.next (resume.frames x is s k r)))
     goes_keeps =
-        by_entered (phase2 goal r.cleanup.next (resume.frames x is s k r)) refl (fitting.resume_fits x is s k imm does r (phase2 goal r.cleanup.next (resume.frames x is s k r)) refl) (entered_match x is s k g r).still
+        by_entered (phase2 goal r.ends.cleanup.next (resume.frames x is s k r)) refl (fitting.resume_fits x is s k imm does r (phase2 goal r.ends.cleanup.next (resume.frames x is s k r)) refl) (entered_match x is s k g r).still
 
   pub resume_keeps : (next : ℕ) → Keeps x (machine.gate_of (ours x is s k g) END_CLEANUP_GATE next s).1
   unfolding machine.gate_of

@@ -3,7 +3,7 @@ use Rattle.std.proofs.Common.{◌≡◌, ℕ, List, ◌∷◌, ◌<◌, ◌^◌,
 use Rattle.std.specs.Prelude.{All, slice_index, unwrap_or}
 use Rattle.throws_keep.specs.eh_cxa.Lists.{Cleanup, Once, slots}
 use Rattle.throws_keep.specs.frame_check.Accepts.{Accepted}
-use Rattle.throws_keep.specs.two_machines.Activations.{Recorded, Activation, slots_of, registers_of, memory_of, heads as list_heads, outside, frames_at}
+use Rattle.throws_keep.specs.two_machines.Activations.{Recorded, Activation, slots_of, registers_of, memory_of, heads as list_heads, outside, frames_at, lists_of, cleanups_in, InProgress}
 use Rattle.throws_keep.specs.eh_bus.Lists.{Has}
 use Rattle.throws_keep.specs.eh_cxa.Stands.{cleanup_of}
 use Rattle.throws_keep.specs.eh_cxa.Words.{word, block_slot}
@@ -42,20 +42,17 @@ use Rattle.throws_keep.proofs.ThrowReached.{order_alike}
 -- The innermost cleanup in progress ends in the activation that its own one called at the landing sp. The new registers are those that unwinding
 -- gives of the gate's frame.
 pub record Resumes (x : Accepted) (s : Recorded) : Type 0 where
-  pub cleanup : Cleanup
-  pub others : List Cleanup
-  pub cleanups : s.lists.cleanups ≡ cleanup ∷ others
-  pub place : ℕ
-  pub later : List ℕ
-  pub places : s.places ≡ place ∷ later
-  pub holder : IsOutside x s.segments (goal_at s cleanup.slot) place cleanup s.outer
-  pub called : s.first.caller.sp ≡ cleanup.sp
+  pub ends : InProgress
+  pub others : List InProgress
+  pub cleanups : s.cleanups ≡ ends ∷ others
+  pub holder : IsOutside x s.segments (goal_at s ends.cleanup.slot) ends.place ends.cleanup s.outer
+  pub called : s.first.caller.sp ≡ ends.cleanup.sp
   pub new : List ℕ
   pub is_new : IsNew s.first.caller new
 
 module _ (x : Accepted) (is : IsProgram x) (s : Recorded) (k : Keeps x s) (r : Resumes x s) where
   abbrev pub c : Cleanup
-  c = r.cleanup
+  c = r.ends.cleanup
 
   abbrev pub a : Activation
   a = r.holder.first
@@ -64,15 +61,15 @@ module _ (x : Accepted) (is : IsProgram x) (s : Recorded) (k : Keeps x s) (r : R
   outer = r.holder.more
 
   abbrev pub goal : Goal
-  goal = goal_at s r.cleanup.slot
+  goal = goal_at s r.ends.cleanup.slot
 
   -- phase 2 goes over these
   abbrev pub frames : Frames
-  frames = frames_at x.image None r.cleanup.site (registers_of s.first.caller) r.holder.first r.holder.more
+  frames = frames_at x.image None r.ends.cleanup.site (registers_of s.first.caller) r.holder.first r.holder.more
 
   -- the state without the cleanup
   abbrev pub ended : Recorded
-  ended = machine.without_cleanup s r.others
+  ended = record s { cleanups = r.others }
 
   pub links : StandsAtCall x s.segments s.first.caller a × Chain x s.segments s.home a.caller outer
   links = let ch = subst (Chain x s.segments s.home s.first.caller) r.holder.is k.chain in (ch.0, ch.1)
@@ -82,63 +79,66 @@ module _ (x : Accepted) (is : IsProgram x) (s : Recorded) (k : Keeps x s) (r : R
 
   -- ---- the words of the cleanup
 
-  chain : cxa.Chain (λ t. word (memory_of s) t NEXT_CLEANUP) (list_heads s.lists).cleanup (slots (r.cleanup ∷ r.others))
-  chain = subst (λ (cs : List Cleanup). cxa.Chain (λ t. word (memory_of s) t NEXT_CLEANUP) (list_heads s.lists).cleanup (slots cs)) r.cleanups k.corresponds.stands.shows.cleanups
+  pub listed : cleanups_in s.cleanups ≡ r.ends.cleanup ∷ cleanups_in r.others
+  listed = ap cleanups_in r.cleanups
 
-  pub head : block_slot (list_heads s.lists).cleanup ≡ Some r.cleanup.slot
+  chain : cxa.Chain (λ t. word (memory_of s) t NEXT_CLEANUP) (list_heads (lists_of s)).cleanup (slots (r.ends.cleanup ∷ cleanups_in r.others))
+  chain = subst (λ (cs : List Cleanup). cxa.Chain (λ t. word (memory_of s) t NEXT_CLEANUP) (list_heads (lists_of s)).cleanup (slots cs)) listed k.corresponds.stands.shows.cleanups
+
+  pub head : block_slot (list_heads (lists_of s)).cleanup ≡ Some r.ends.cleanup.slot
   head = chain.0
 
-  pub small : r.cleanup.slot < SLOTS
-  small = slot_small (list_heads s.lists).cleanup r.cleanup.slot head
+  pub small : r.ends.cleanup.slot < SLOTS
+  small = slot_small (list_heads (lists_of s)).cleanup r.ends.cleanup.slot head
 
-  pub words : r.cleanup ≡ cleanup_of (word (memory_of s)) r.cleanup.slot
-  words = (subst (λ (cs : List Cleanup). cxa.Frames (word (memory_of s)) cs) r.cleanups k.corresponds.stands.shows.frames).0
+  pub words : r.ends.cleanup ≡ cleanup_of (word (memory_of s)) r.ends.cleanup.slot
+  words = (subst (λ (cs : List Cleanup). cxa.Frames (word (memory_of s)) cs) listed k.corresponds.stands.shows.frames).0
 
-  small_site : r.cleanup.site < 2 ^ 32
+  small_site : r.ends.cleanup.site < 2 ^ 32
   small_site =
-      let e : r.cleanup.site ≡ word (memory_of s) r.cleanup.slot CLEANUP_SITE = ap (λ (d : Cleanup). d.site) words in
-      let h = k.corresponds.stands.shows.small r.cleanup.slot CLEANUP_SITE small (omega arith) in
+      let e : r.ends.cleanup.site ≡ word (memory_of s) r.ends.cleanup.slot CLEANUP_SITE = ap (λ (d : Cleanup). d.site) words in
+      let h = k.corresponds.stands.shows.small r.ends.cleanup.slot CLEANUP_SITE small (omega arith) in
       omega (arith, e, h)
 
-  pub in_flight : IsInFlight ended r.cleanup.slot
+  pub in_flight : IsInFlight ended r.ends.cleanup.slot
   in_flight = record {
     small = small;
-    flies = k.corresponds.stands.valid.flying r.cleanup.slot (subst (λ (cs : List Cleanup). Has (slots cs) r.cleanup.slot) (sym r.cleanups) (inl refl));
-    idle = (subst (λ (cs : List Cleanup). Once (slots cs)) r.cleanups k.corresponds.stands.valid.cleanups_once).0;
+    flies = k.corresponds.stands.valid.flying r.ends.cleanup.slot (subst (λ (cs : List Cleanup). Has (slots cs) r.ends.cleanup.slot) (sym listed) (inl refl));
+    idle = (subst (λ (cs : List Cleanup). Once (slots cs)) listed k.corresponds.stands.valid.cleanups_once).0;
   }
 
   -- ---- phase 2
 
-  pub reached : is_reached goal r.cleanup.next frames.frames ≡ true
-  reached = reached_by_sp goal r.cleanup.next x.image r.cleanup.site (registers_of s.first.caller) r.cleanup.sp a outer (sp_is ∙ r.called) ∙ r.holder.entered.reach
+  pub reached : is_reached goal r.ends.cleanup.next frames.frames ≡ true
+  reached = reached_by_sp goal r.ends.cleanup.next x.image r.ends.cleanup.site (registers_of s.first.caller) r.ends.cleanup.sp a outer (sp_is ∙ r.called) ∙ r.holder.entered.reach
 
-  first : Heads goal (places r.cleanup.next frames.frames)
-  first = heads goal (places r.cleanup.next frames.frames) reached
+  first : Heads goal (places r.ends.cleanup.next frames.frames)
+  first = heads goal (places r.ends.cleanup.next frames.frames) reached
 
-  entered_is : first_some (entered_at goal) (places r.cleanup.next frames.frames) ≡ Some (phase2 goal r.cleanup.next frames)
+  entered_is : first_some (entered_at goal) (places r.ends.cleanup.next frames.frames) ≡ Some (phase2 goal r.ends.cleanup.next frames)
   unfolding phase2
   entered_is = first.first ∙ ap Some (sym (ap (λ (o : Option Entered). unwrap_or o (enters.Terminate frames.last)) first.first))
 
   -- it never ends without
-  pub resume_enters : phase_law.Lands (phase2 goal r.cleanup.next frames)
+  pub resume_enters : phase_law.Lands (phase2 goal r.ends.cleanup.next frames)
   unfolding phase2
   resume_enters = subst (λ (e : Entered). phase_law.Lands e) (sym (ap (λ (o : Option Entered). unwrap_or o (enters.Terminate frames.last)) first.first)) first.lands
 
   -- what it enters
-  pub there : LandsIn goal r.cleanup.next s.home.1 s.first.caller.sp frames.frames (a ∷ outer) (phase2 goal r.cleanup.next frames)
+  pub there : LandsIn goal r.ends.cleanup.next s.home.1 s.first.caller.sp frames.frames (a ∷ outer) (phase2 goal r.ends.cleanup.next frames)
   there =
-      lands_in goal r.cleanup.next s.home.1 s.first.caller.sp frames.frames (a ∷ outer) (phase2 goal r.cleanup.next frames) (chain_top x s.segments s.home s.first.caller s.outer k.chain)
-      (subst (λ (n : ℕ). Fit n frames.frames (a ∷ outer)) sp_is (fit_frames x s.segments s.home None r.cleanup.site (registers_of s.first.caller) a outer links.0.whole links.1))
+      lands_in goal r.ends.cleanup.next s.home.1 s.first.caller.sp frames.frames (a ∷ outer) (phase2 goal r.ends.cleanup.next frames) (chain_top x s.segments s.home s.first.caller s.outer k.chain)
+      (subst (λ (n : ℕ). Fit n frames.frames (a ∷ outer)) sp_is (fit_frames x s.segments s.home None r.ends.cleanup.site (registers_of s.first.caller) a outer links.0.whole links.1))
       (rise_outside x s.segments s.home s.first.caller (a ∷ outer) (links.0, links.1)) entered_is
 
   -- the frames over the bytes are these
-  pub kept : Agree (frames_of x.image (stack_of (memory_of s)) None r.cleanup.site r.new) frames
-  kept = kept_frames x is s k a outer r.holder.is s.segments k.corresponds.map.segments (λ g l h. refl) goal r.cleanup r.holder.entered r.new r.is_new
+  pub kept : Agree (frames_of x.image (stack_of (memory_of s)) None r.ends.cleanup.site r.new) frames
+  kept = kept_frames x is s k a outer r.holder.is s.segments k.corresponds.map.segments (λ g l h. refl) goal r.ends.cleanup r.holder.entered r.new r.is_new
 
   pub in_order : All IsInOrder frames.frames
   in_order =
-      order_alike (frames_of x.image (stack_of (memory_of s)) None r.cleanup.site r.new).frames frames.frames (ap (λ (fs : Frames). fs.frames) kept)
-      (all_in_order MOST_FRAMES x.image (stack_of (memory_of s)) None true r.cleanup.site r.new is.image)
+      order_alike (frames_of x.image (stack_of (memory_of s)) None r.ends.cleanup.site r.new).frames frames.frames (ap (λ (fs : Frames). fs.frames) kept)
+      (all_in_order MOST_FRAMES x.image (stack_of (memory_of s)) None true r.ends.cleanup.site r.new is.image)
 
   -- ---- what is cut
 
@@ -157,7 +157,7 @@ module _ (x : Accepted) (is : IsProgram x) (s : Recorded) (k : Keeps x s) (r : R
   good : Good there.frame
   good =
       good_at there.inner there.frame there.outer (subst AllGood there.frames
-      (good_framed x.image (outside x.image None a.caller outer) r.cleanup.site (registers_of s.first.caller) small_site (good_outside x.image None a.caller outer)))
+      (good_framed x.image (outside x.image None a.caller outer) r.ends.cleanup.site (registers_of s.first.caller) small_site (good_outside x.image None a.caller outer)))
 
   small_sp : there.frame.sp < 2 ^ 32
   small_sp = let l = there.under in let h = k.corresponds.map.home.high in omega (arith, l, h)
@@ -166,8 +166,8 @@ module _ (x : Accepted) (is : IsProgram x) (s : Recorded) (k : Keeps x s) (r : R
   register = there.fit.1
 
   -- its slots lie below what is entered, and a cleanup is given words
-  pub lands_there : Lands ended cut (phase2 goal r.cleanup.next frames)
-  lands_there = go (phase2 goal r.cleanup.next frames) there.of
+  pub lands_there : Lands ended cut (phase2 goal r.ends.cleanup.next frames)
+  lands_there = go (phase2 goal r.ends.cleanup.next frames) there.of
     where
       at_register : (q : List ℕ) → q ≡ there.frame.r → AreBelow ended cut (slice_index q SP)
       at_register q e = subst (λ n. AreBelow ended cut n) (sym (ap (λ (v : List ℕ). slice_index v SP) e ∙ register)) below

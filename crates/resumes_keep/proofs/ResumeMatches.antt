@@ -29,19 +29,19 @@ use Rattle.resumes_keep.proofs.ResumeLands as resume
 
 module _ (x : Accepted) (is : IsProgram x) (s : Recorded) (k : Keeps x s) (g : Guide) where
   -- what phase 2 enters is entered alike
-  pub entered_match : (r : Resumes x s) → GateMatches (entered (bytes_of (machine.without_cleanup s r.others)) (block r.cleanup.slot) (barrier_of (word (memory_of s)) (Some r.cleanup.slot)).object (enters x is s k g r))
-      (machine.entered (machine.without_cleanup s r.others) ((resume.there x is s k r).first ∷ (resume.there x is s k r).more) (block r.cleanup.slot) (barrier_of (word (memory_of s)) (Some r.cleanup.slot)).object (enters x is s k g r))
+  pub entered_match : (r : Resumes x s) → GateMatches (entered (bytes_of (record s { cleanups = r.others })) (block r.ends.cleanup.slot) (barrier_of (word (memory_of s)) (Some r.ends.cleanup.slot)).object (enters x is s k g r))
+      (machine.entered (record s { cleanups = r.others }) ((resume.there x is s k r).first ∷ (resume.there x is s k r).more) (block r.ends.cleanup.slot) (barrier_of (word (memory_of s)) (Some r.ends.cleanup.slot)).object (enters x is s k g r))
   entered_match r =
-      landings_match (machine.without_cleanup s r.others) (resume.cut x is s k r) (resume.there x is s k r).first (resume.there x is s k r).more r.cleanup.slot (barrier_of (word (memory_of s)) (Some r.cleanup.slot)).object
+      landings_match (record s { cleanups = r.others }) (resume.cut x is s k r) (resume.there x is s k r).first (resume.there x is s k r).more r.ends.cleanup.slot (barrier_of (word (memory_of s)) (Some r.ends.cleanup.slot)).object
       (enters x is s k g r) (still x is s k g r) (resume.in_flight x is s k r) (resume.all x is s k r) (resume.lands_there x is s k r)
 
   alike_match : (o : Outcome) (q : machine.Outcome) → Alike x is s k g o q → GateMatches o q
   alike_match o q (inl (end, on_bytes, on_lists, trap)) =
       subst (λ (v : Outcome). GateMatches v q) (sym on_bytes) (subst (λ (w : machine.Outcome). GateMatches (Ended end, bytes_of s) w) (sym on_lists) (record { same = (refl, refl); still = k.corresponds }))
   alike_match o q (inr (r, on_bytes, on_lists)) =
-      let object = (barrier_of (word (memory_of s)) (Some r.cleanup.slot)).object in
+      let object = (barrier_of (word (memory_of s)) (Some r.ends.cleanup.slot)).object in
       subst (λ (v : Outcome). GateMatches v q) (sym on_bytes)
-      (subst (λ (w : machine.Outcome). GateMatches (entered (bytes_of (machine.without_cleanup s r.others)) (block r.cleanup.slot) object (enters x is s k g r)) w) (sym on_lists) (entered_match r))
+      (subst (λ (w : machine.Outcome). GateMatches (entered (bytes_of (record s { cleanups = r.others })) (block r.ends.cleanup.slot) object (enters x is s k g r)) w) (sym on_lists) (entered_match r))
 
   pub resume_matches : (imm : ℕ) → DoesAt x s (Svc imm) → (next : ℕ) → GateMatches (gate_of (ours x is s k g) END_CLEANUP_GATE next (bytes_of s)) (machine.gate_of (ours x is s k g) END_CLEANUP_GATE next s)
   unfolding gate_of machine.gate_of
@@ -67,7 +67,7 @@ module _ (x : Accepted) (is : IsProgram x) (s : Recorded) (k : Keeps x s) (g : G
       same_end : (end : End) (why : Cause) → Ended end ≡ Ended (the_end.Terminate why) → end ≡ the_end.Terminate why
       same_end end why e = cc
   alike_lands o q (inr (r, on_bytes, on_lists)) why e =
-      lands_so (machine.without_cleanup s r.others) ((resume.there x is s k r).first ∷ (resume.there x is s k r).more) (block r.cleanup.slot) (barrier_of (word (memory_of s)) (Some r.cleanup.slot)).object
+      lands_so (record s { cleanups = r.others }) ((resume.there x is s k r).first ∷ (resume.there x is s k r).more) (block r.ends.cleanup.slot) (barrier_of (word (memory_of s)) (Some r.ends.cleanup.slot)).object
       (enters x is s k g r) (resume.resume_enters x is s k r) why (sym (ap (λ (v : machine.Outcome). v.0) on_lists) ∙ e)
 
   pub resume_goes_on : (imm : ℕ) → DoesAt x s (Svc imm) → (next : ℕ) (why : Cause) → (machine.gate_of (ours x is s k g) END_CLEANUP_GATE next s).0 ≡ Ended (the_end.Terminate why) → why ≡ cause.Unexpected

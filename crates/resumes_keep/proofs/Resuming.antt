@@ -4,7 +4,7 @@ use Rattle.throws_keep.specs.eh_bus.Segment.{Segment}
 use Rattle.throws_keep.specs.eh_cxa.Lists.{Cleanup}
 use Rattle.throws_keep.specs.eh_phase.declared.phase2.Goal.{Goal}
 use Rattle.throws_keep.specs.frame_check.Accepts.{Accepted}
-use Rattle.throws_keep.specs.two_machines.Activations.{Activation, Recorded}
+use Rattle.throws_keep.specs.two_machines.Activations.{Activation, Recorded, InProgress}
 use Rattle.throws_keep.specs.stands_for.Chain.{Chain}
 use Rattle.throws_keep.specs.stands_for.Cleanups.{IsHeld, goal_at, AreInProgress}
 use Rattle.resumes_keep.specs.Outside.{IsOutside}
@@ -20,6 +20,6 @@ held_outside x segments home g n c a (b ∷ more) ch (inr outside) e = go outsid
     go (inr beyond) = absurd (let room = ch.0.room in let low = beyond.0 in omega (arith, room, low, e))
 
 -- of a state: the innermost of its cleanups
-pub innermost_outside : (x : Accepted) (s : Recorded) (low n : ℕ) (places : List ℕ) (c : Cleanup) (cleanups : List Cleanup) → Chain x s.segments s.home s.first.caller s.outer
-    → AreInProgress x s low (n ∷ places) (c ∷ cleanups) → s.first.caller.sp ≡ c.sp → IsOutside x s.segments (goal_at s c.slot) n c s.outer
-innermost_outside x s low n places c cleanups ch h e = held_outside x s.segments s.home (goal_at s c.slot) n c s.first s.outer ch h.1 e
+pub innermost_outside : (x : Accepted) (s : Recorded) (low : ℕ) (c : InProgress) (cleanups : List InProgress) → Chain x s.segments s.home s.first.caller s.outer
+    → AreInProgress x s low (c ∷ cleanups) → s.first.caller.sp ≡ c.cleanup.sp → IsOutside x s.segments (goal_at s c.cleanup.slot) c.place c.cleanup s.outer
+innermost_outside x s low c cleanups ch h e = held_outside x s.segments s.home (goal_at s c.cleanup.slot) c.place c.cleanup s.first s.outer ch h.1 e

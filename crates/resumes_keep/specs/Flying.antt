@@ -4,7 +4,7 @@ use Rattle.std.specs.Prelude.{ℕ, None, ◌∷◌, ◌≡◌, ◌<◌, ◌^◌,
 use Rattle.throws_keep.specs.eh_phase.Phases.{Frames, phase2, phase1}
 use Rattle.throws_keep.specs.thumb_core.Registers.{all_of}
 use Rattle.throws_keep.specs.frame_check.Accepts.{Accepted}
-use Rattle.throws_keep.specs.two_machines.Activations.{Recorded, frames_at, with_words, bytes_of, first_place}
+use Rattle.throws_keep.specs.two_machines.Activations.{Recorded, frames_at, with_words, bytes_of, first_place, cleanups_in}
 use Rattle.throws_keep.specs.eh_cxa.Throw.{set_barrier_of}
 use Rattle.throws_keep.specs.eh_cxa.Words.{block_slot, block}
 use Rattle.throws_keep.specs.eh_phase.Laws.{goal_of}
@@ -53,7 +53,7 @@ pub record CanFly (x : Accepted) (s : Recorded) (site slot : ℕ) (b : Barrier) 
   pub desc : (barrier_words (block slot) b).desc < 2 ^ 32
   pub pointer : (barrier_words (block slot) b).pointer < 2 ^ 32
   pub reached : is_reached (goal_of b) 0 (all_frames x s site).frames ≡ true
-  pub within : IsWithin b.sp s.lists.cleanups
+  pub within : IsWithin b.sp (cleanups_in s.cleanups)
 
 -- Then both machines do the same, phase 2 enters a cleanup or the barrier, and what they leave stands for each other.
 pub record Flies (x : Accepted) (s : Recorded) (site slot : ℕ) (b : Barrier) : Type 0 where
@@ -67,8 +67,8 @@ FlightsMatch = (x : Accepted) (s : Recorded) (site slot : ℕ) (b : Barrier) →
 -- a barrier that a search finds is such a one
 abbrev pub SearchesReach : Type 0
 SearchesReach = (x : Accepted) (s : Recorded) (site : ℕ) (m : Meeting) (b : Barrier) → IsProgram x → Keeps x s → ThrowsAt x s site
-    → phase1 m (frames_at x.image (first_place s.places) site (all_of s.regs) s.first s.outer) ≡ found.Barrier b
-    → (is_reached (goal_of b) 0 (all_frames x s site).frames ≡ true) × IsWithin b.sp s.lists.cleanups
+    → phase1 m (frames_at x.image (first_place s.cleanups) site (all_of s.regs) s.first s.outer) ≡ found.Barrier b
+    → (is_reached (goal_of b) 0 (all_frames x s site).frames ≡ true) × IsWithin b.sp (cleanups_in s.cleanups)
 
 -- The end of a cleanup does the same in both machines, and keeps. Phase 2 that goes on there never ends without a pad but at a specification that
 -- has none.

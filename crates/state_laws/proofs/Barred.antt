@@ -1,5 +1,5 @@
 -- The words of a barrier that no cleanup in progress waits for may change.
-use Rattle.std.proofs.Common.{◌≡◌, ℕ, ◌<◌, List, refl, sym, ap, subst, arith, inr, Option, Some, ◌∙◌}
+use Rattle.std.proofs.Common.{◌≡◌, ℕ, ◌<◌, List, sym, ap, subst, arith, inr, Option, Some, ◌∙◌}
 use Rattle.std.proofs.lemmas.Option.{same_Some}
 use Rattle.steps_keep.specs.eh_bus.Lists.{Has}
 use Rattle.steps_keep.specs.eh_bus.Map.{IsMap}
@@ -13,7 +13,7 @@ use Rattle.steps_keep.specs.eh_cxa.declared.layout.TheConstants.{SLOTS, SLOT_WOR
 use Rattle.steps_keep.specs.eh_cxa.declared.state.State.TheVariants.{Landed, Flying}
 use Rattle.steps_keep.proofs.eh_cxa.Meets.{barrier_meets}
 use Rattle.steps_keep.proofs.eh_cxa.Pools.{slot_of_block_is, all_is_map}
-use Rattle.steps_keep.specs.two_machines.Activations.{Recorded, memory_of, heads}
+use Rattle.steps_keep.specs.two_machines.Activations.{Recorded, memory_of, heads, lists_of, cleanups_in}
 use Rattle.steps_keep.specs.two_machines.Corresponds.{Corresponds}
 use Rattle.steps_keep.proofs.two_machines.FirstEvent.{segments_alone}
 use Rattle.steps_keep.specs.frame_check.Accepts.{Accepted}
@@ -22,7 +22,7 @@ use Rattle.steps_keep.proofs.stands_for.Tame.{IsTame, AreTame}
 use Rattle.state_laws.specs.Barriers.{AreWords, barred, FreeBarriers}
 use Rattle.state_laws.proofs.Forced.{writes_keep}
 
-module _ (x : Accepted) (s : Recorded) (k : Keeps x s) (slot : ℕ) (b : BarrierWords) (small : slot < SLOTS) (idle : Has (slots s.lists.cleanups) slot → ⊥) (fit : AreWords b) where
+module _ (x : Accepted) (s : Recorded) (k : Keeps x s) (slot : ℕ) (b : BarrierWords) (small : slot < SLOTS) (idle : Has (slots (cleanups_in s.cleanups)) slot → ⊥) (fit : AreWords b) where
   abbrev writes : List Write
   writes = set_barrier_of (Some slot) b
 
@@ -32,16 +32,15 @@ module _ (x : Accepted) (s : Recorded) (k : Keeps x s) (slot : ℕ) (b : Barrier
   still : Corresponds (barred slot b s)
   still = record {
     map = subst (λ (m : Memory). IsMap m) memory_is (all_is_map writes (memory_of s) k.corresponds.map);
-    stands = subst (λ (m : Memory). Stands (word m) (heads s.lists) s.lists) memory_is
+    stands = subst (λ (m : Memory). Stands (word m) (heads (lists_of s)) (lists_of s)) memory_is
         (barrier_meets (memory_of s) (put_all writes (memory_of s)) (block slot) b k.corresponds.map (record { sp = fit.sp; object = fit.object; desc = fit.desc; pointer = fit.pointer })
-        (ap (λ (o : Option ℕ). put_all (set_barrier_of o b) (memory_of s)) (sym (slot_of_block_is slot small))) (heads s.lists) s.lists k.corresponds.stands);
-    placed = k.corresponds.placed;
+        (ap (λ (o : Option ℕ). put_all (set_barrier_of o b) (memory_of s)) (sym (slot_of_block_is slot small))) (heads (lists_of s)) (lists_of s) k.corresponds.stands);
   }
 
-  one : (place value : ℕ) → place < SLOT_WORDS → IsTame (slots s.lists.cleanups) (record { slot = slot; place = place; value = value })
+  one : (place value : ℕ) → place < SLOT_WORDS → IsTame (slots (cleanups_in s.cleanups)) (record { slot = slot; place = place; value = value })
   one place value h = record { slot = small; place = h; beside = inr idle }
 
-  tame : AreTame (slots s.lists.cleanups) writes
+  tame : AreTame (slots (cleanups_in s.cleanups)) writes
   tame = (
     one BARRIER_SP b.sp (omega arith),
     (
@@ -51,10 +50,10 @@ module _ (x : Accepted) (s : Recorded) (k : Keeps x s) (slot : ℕ) (b : Barrier
   )
 
   barred_keeps : Keeps x (barred slot b s)
-  barred_keeps = writes_keep x s k s.lists writes tame refl k.counted still
+  barred_keeps = writes_keep x s k (lists_of s) writes tame k.counted still
 
 -- an exception with a cleanup in progress flies
-no_cleanup : (x : Accepted) (s : Recorded) → Keeps x s → (slot : ℕ) → state_in (entry s.lists slot) ≡ Some Landed → Has (slots s.lists.cleanups) slot → ⊥
+no_cleanup : (x : Accepted) (s : Recorded) → Keeps x s → (slot : ℕ) → state_in (entry (lists_of s) slot) ≡ Some Landed → Has (slots (cleanups_in s.cleanups)) slot → ⊥
 no_cleanup x s k slot landed has = let flies = k.corresponds.stands.valid.flying slot has in differ (same_Some Flying Landed (sym flies ∙ landed))
   where
     differ : Flying ≡ Landed → ⊥

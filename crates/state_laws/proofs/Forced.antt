@@ -3,14 +3,14 @@ use Rattle.std.proofs.Common.{◌≡◌, ℕ, inl, inr, List, [], ◌∷◌, ref
 use Rattle.steps_keep.specs.eh_bus.Lists.{Has}
 use Rattle.steps_keep.specs.eh_bus.Segment.{Segment}
 use Rattle.steps_keep.proofs.eh_bus.MapLaws.{map_trans}
-use Rattle.steps_keep.specs.eh_cxa.Lists.{Cleanup, Lists, slots, Record, Entry, Free, OutOfUse, Live, entry}
+use Rattle.steps_keep.specs.eh_cxa.Lists.{Lists, slots, Record, Entry, Free, OutOfUse, Live, entry}
 use Rattle.steps_keep.specs.eh_cxa.Words.{Write, put_all, Pool, Wrote, word, object_slot}
 use Rattle.steps_keep.specs.eh_gates.Resuming.{goal_in}
 use Rattle.steps_keep.specs.eh_phase.declared.phase2.Goal.{Goal}
 use Rattle.steps_keep.specs.image_memory.Start.{image_start}
 use Rattle.steps_keep.specs.thumb_core.declared.regs.TheConstants.{SP}
 use Rattle.steps_keep.specs.frame_check.Accepts.{Accepted}
-use Rattle.steps_keep.specs.two_machines.Activations.{Recorded, reg_in, memory_of, with_lists, words_in, heads}
+use Rattle.steps_keep.specs.two_machines.Activations.{Recorded, reg_in, memory_of, with_lists, words_in, heads, lists_of, cleanups_in, InProgress}
 use Rattle.steps_keep.specs.two_machines.Corresponds.{Corresponds}
 use Rattle.steps_keep.proofs.two_machines.FirstEvent.{segments_alone}
 use Rattle.steps_keep.specs.eh_cxa.declared.globals.Globals.{Globals}
@@ -27,7 +27,7 @@ use Rattle.steps_keep.proofs.eh_cxa.Pools.{object_small}
 use Rattle.steps_keep.proofs.eh_cxa.ThrowLaws.{FitThrow}
 use Rattle.steps_keep.proofs.eh_cxa.Zeros.{first_same}
 use Rattle.steps_keep.specs.eh_gates.Laws.{AreHeads}
-use Rattle.steps_keep.proofs.two_machines.CallGates.{left}
+use Rattle.steps_keep.proofs.two_machines.CallGates.{allocate_keeps, left}
 use Rattle.steps_keep.proofs.two_machines.InStep.{same_slot, are_heads}
 use Rattle.steps_keep.specs.stands_for.Chain.{StandsAt, code}
 use Rattle.steps_keep.specs.stands_for.Cleanups.{goal_at, IsHeld, IsWithin, AreInProgress}
@@ -36,21 +36,21 @@ use Rattle.steps_keep.specs.stands_for.Holds.{SameAt, AllSameAt}
 use Rattle.steps_keep.proofs.stands_for.Goes.{chain_top}
 use Rattle.steps_keep.proofs.stands_for.Moved.{SameWords, same_at, all_same_at, holds_moves, chain_lies, chain_moves, held_moves}
 use Rattle.steps_keep.proofs.stands_for.Tame.{AreTame, IsKeptByWrites, tame_keeps}
-use Rattle.steps_keep.proofs.Gated.{low_write, allocate_keeps, allocate_tame}
+use Rattle.steps_keep.proofs.Gated.{low_write, allocate_tame}
 use Rattle.steps_keep.proofs.stands_for.CountedLists.{allocate_counts, throw_counts}
 use Rattle.state_laws.specs.Free.{KeepThrows}
 
--- ---- other lists with the same cleanups, and tame writes
+-- ---- other lists, and tame writes
 
-module _ (x : Accepted) (s : Recorded) (k : Keeps x s) (new : Lists) (ws : List Write) (tame : AreTame (slots s.lists.cleanups) ws) (same : new.cleanups ≡ s.lists.cleanups) (counted : IsCounted new) (c : Corresponds (with_lists new ws s)) where
+module _ (x : Accepted) (s : Recorded) (k : Keeps x s) (new : Lists) (ws : List Write) (tame : AreTame (slots (cleanups_in s.cleanups)) ws) (counted : IsCounted new) (c : Corresponds (with_lists new ws s)) where
   abbrev segments : List Segment
   segments = (put_all ws (memory_of s)).segments
 
   abbrev u : Recorded
   u = with_lists new ws s
 
-  kept : IsKeptByWrites (slots s.lists.cleanups) (memory_of s) (record (memory_of s) { segments = segments })
-  kept = subst (IsKeptByWrites (slots s.lists.cleanups) (memory_of s)) (segments_alone ws (memory_of s)) (tame_keeps (slots s.lists.cleanups) ws (memory_of s) k.corresponds.map tame)
+  kept : IsKeptByWrites (slots (cleanups_in s.cleanups)) (memory_of s) (record (memory_of s) { segments = segments })
+  kept = subst (IsKeptByWrites (slots (cleanups_in s.cleanups)) (memory_of s)) (segments_alone ws (memory_of s)) (tame_keeps (slots (cleanups_in s.cleanups)) ws (memory_of s) k.corresponds.map tame)
 
   same_words : SameWords s.home s.segments segments
   same_words g low high = let home = k.corresponds.map.home in kept.loads g (omega (arith, home.low, low))
@@ -63,16 +63,15 @@ module _ (x : Accepted) (s : Recorded) (k : Keeps x s) (new : Lists) (ws : List 
   outer_same : AllSameAt s.segments segments s.outer
   outer_same = all_same_at s.home s.segments segments s.outer same_words (chain_lies x s.segments s.home s.first.caller s.outer (omega (arith, k.low, k.high)) k.chain)
 
-  in_progress : (low : ℕ) (places : List ℕ) (cleanups : List Cleanup) → ((slot : ℕ) → Has (slots cleanups) slot → goal_at u slot ≡ goal_at s slot) → AreInProgress x s low places cleanups → AreInProgress x u low places cleanups
-  in_progress low [] [] goals q = tt
-  in_progress low [] (d ∷ later) goals q = q
-  in_progress low (n ∷ places) [] goals q = q
-  in_progress low (n ∷ places) (d ∷ later) goals q =
+  in_progress : (low : ℕ) (cleanups : List InProgress) → ((slot : ℕ) → Has (slots (cleanups_in cleanups)) slot → goal_at u slot ≡ goal_at s slot) → AreInProgress x s low cleanups → AreInProgress x u low cleanups
+  in_progress low [] goals q = tt
+  in_progress low (e ∷ later) goals q =
+      let d = e.cleanup in
       let goal = goals d.slot (inl refl) in (
         q.0,
-        subst (λ (g : Goal). IsHeld x segments g n d (s.first ∷ s.outer)) (sym goal) (held_moves s.home s.segments segments x (goal_at s d.slot) n d (s.first ∷ s.outer) (inner_same, outer_same) q.1),
-        subst (λ (g : Goal). IsWithin g.sp later) (sym goal) q.2,
-        in_progress d.sp places later (λ slot h. goals slot (inr h)) q.3,
+        subst (λ (g : Goal). IsHeld x segments g e.place d (s.first ∷ s.outer)) (sym goal) (held_moves s.home s.segments segments x (goal_at s d.slot) e.place d (s.first ∷ s.outer) (inner_same, outer_same) q.1),
+        subst (λ (g : Goal). IsWithin g.sp (cleanups_in later)) (sym goal) q.2,
+        in_progress d.sp later (λ slot h. goals slot (inr h)) q.3,
       )
 
   first_moves : StandsAt x s.first s.segments s.regs s.regs.pc → StandsAt x s.first segments s.regs s.regs.pc
@@ -100,15 +99,14 @@ module _ (x : Accepted) (s : Recorded) (k : Keeps x s) (new : Lists) (ws : List 
     first = λ reached. first_moves (k.first reached);
     beyond = k.beyond;
     chain = chain_moves s.home s.segments segments x s.first.caller s.outer outer_same k.chain;
-    cleanups = subst (λ (cs : List Cleanup). AreInProgress x u (reg_in s SP) s.places cs) (sym same)
-        (in_progress (reg_in s SP) s.places s.lists.cleanups (λ slot has. ap goal_in (kept.barriers slot has)) k.cleanups);
+    cleanups = in_progress (reg_in s SP) s.cleanups (λ slot has. ap goal_in (kept.barriers slot has)) k.cleanups;
   }
 
 -- ---- a new exception
 
 module _ (s : Recorded) (c : Corresponds s) where
   abbrev l : Lists
-  l = s.lists
+  l = lists_of s
 
   abbrev w : Pool
   w = word (memory_of s)
@@ -128,7 +126,7 @@ module _ (s : Recorded) (c : Corresponds s) where
         writes = ap (λ (v : Wrote (Result ℕ CxaFault)). v.writes) (same_allocate size);
         follows = allocate_meets (memory_of s) (put_all d.writes (memory_of s)) d.answer size c.map small refl (heads l) l c.stands;
         tops = are_heads w (heads l) l c.stands;
-        cleanups = allocate_keeps s c size;
+        cleanups = allocate_keeps l size;
       })
 
   -- ---- and a throw
@@ -196,15 +194,15 @@ module _ (s : Recorded) (c : Corresponds s) where
 
 -- ---- both
 
-pub allocate_keeps_all : (x : Accepted) (s : Recorded) (size : ℕ) → Keeps x s → size < 2 ^ 32 → Keeps x (with_lists (allocate_list s.lists size).lists (allocate_of (words_in s.lists) size).writes s)
+pub allocate_keeps_all : (x : Accepted) (s : Recorded) (size : ℕ) → Keeps x s → size < 2 ^ 32 → Keeps x (with_lists (allocate_list (lists_of s) size).lists (allocate_of (words_in (lists_of s)) size).writes s)
 allocate_keeps_all x s size k small =
-    writes_keep x s k (allocate_list s.lists size).lists (allocate_of (words_in s.lists) size).writes (allocate_tame s k.corresponds size) (allocate_keeps s k.corresponds size) (allocate_counts s.lists k.counted size) (allocate_corresponds s k.corresponds size small)
+    writes_keep x s k (allocate_list (lists_of s) size).lists (allocate_of (words_in (lists_of s)) size).writes (allocate_tame s k.corresponds size) (allocate_counts (lists_of s) k.counted size) (allocate_corresponds s k.corresponds size small)
 
 pub throw_keeps_all : (x : Accepted) (s : Recorded) (object : ℕ) (t : Throw) → Keeps x s → FitThrow t
-    → Keeps x (with_lists (throw_list s.lists (object_slot object) t).lists (start_throw_of (words_in s.lists) (heads s.lists) (object_slot object) t).writes s)
+    → Keeps x (with_lists (throw_list (lists_of s) (object_slot object) t).lists (start_throw_of (words_in (lists_of s)) (heads (lists_of s)) (object_slot object) t).writes s)
 throw_keeps_all x s object t k fit =
-    writes_keep x s k (throw_list s.lists (object_slot object) t).lists (start_throw_of (words_in s.lists) (heads s.lists) (object_slot object) t).writes
-    (throw_tame s k.corresponds (words_in s.lists) (heads s.lists) (object_slot object) t (λ slot e. object_small object slot e)) (throw_keeps s k.corresponds (object_slot object) t) (throw_counts s.lists k.counted (object_slot object) t) (throw_corresponds s k.corresponds object t fit)
+    writes_keep x s k (throw_list (lists_of s) (object_slot object) t).lists (start_throw_of (words_in (lists_of s)) (heads (lists_of s)) (object_slot object) t).writes
+    (throw_tame s k.corresponds (words_in (lists_of s)) (heads (lists_of s)) (object_slot object) t (λ slot e. object_small object slot e)) (throw_counts (lists_of s) k.counted (object_slot object) t) (throw_corresponds s k.corresponds object t fit)
 
 pub throws_kept : KeepThrows
 throws_kept x s k = record {

@@ -1,7 +1,7 @@
 -- Over one thread's running stack: what stands for each other rests on the segments that may not be written, the words of slots
 -- of activations, the closed words of the slots of exceptions, and of every other slot of the pool on whether it is free or out of use. All
 -- other bytes may change, and a slot without an exception may become free or go out of use.
-use Rattle.std.proofs.Common.{◌⊎◌, inl, inr, refl, sym, ◌≡◌, pos, ℕ, ◌<◌, List, [], ◌∷◌, length, ap, subst, ◌∙◌, arith}
+use Rattle.std.proofs.Common.{◌⊎◌, inl, inr, refl, sym, ◌≡◌, pos, ℕ, ◌<◌, List, [], ◌∷◌, ap, subst, ◌∙◌, arith}
 use Rattle.std.proofs.lemmas.Option.{none-some}
 use Rattle.steps_keep.specs.eh_cxa.Lists.{Entry, Free, OutOfUse, Live, count_in, Fits, Cleanup, Lists, entry, slots, state_in, Once, IsValid}
 use Rattle.steps_keep.specs.eh_bus.Lists.{Has}
@@ -9,7 +9,7 @@ use Rattle.steps_keep.specs.eh_bus.Segment.{Segment}
 use Rattle.steps_keep.proofs.eh_bus.MapLaws.{map_trans}
 use Rattle.steps_keep.specs.eh_cxa.declared.layout.TheConstants.{SLOTS, STATE, SIZE, TYPE, DESTRUCTOR, COUNT, NEXT_CAUGHT, NEXT_CLEANUP, CLEANUP_NEXT, CLEANUP_SP, CLEANUP_SITE}
 use Rattle.steps_keep.specs.eh_cxa.declared.state.State.TheVariants.{Flying}
-use Rattle.steps_keep.specs.eh_cxa.Stands.{Chain, Frames, Shows, cleanup_of}
+use Rattle.steps_keep.specs.eh_cxa.Stands.{Chain, Frames, Shows, Stands, cleanup_of}
 use Rattle.steps_keep.specs.eh_cxa.Words.{Pool, word}
 use Rattle.steps_keep.proofs.eh_cxa.Chains.{chain_same, chain_small}
 use Rattle.steps_keep.proofs.eh_cxa.Showing.{entry_same, frames_same}
@@ -18,7 +18,7 @@ use Rattle.steps_keep.specs.eh_phase.declared.phase2.Goal.{Goal}
 use Rattle.steps_keep.specs.image_memory.Start.{image_start}
 use Rattle.steps_keep.specs.thumb_core.declared.regs.TheConstants.{SP}
 use Rattle.steps_keep.specs.frame_check.Accepts.{Accepted}
-use Rattle.steps_keep.specs.two_machines.Activations.{Recorded, reg_in, memory_of, heads, head_of}
+use Rattle.steps_keep.specs.two_machines.Activations.{Recorded, reg_in, memory_of, heads, head_of, lists_of, InProgress, cleanups_in, with_exceptions}
 use Rattle.state_laws.specs.Free.{IsIdle, SameRecords, over, SameParts, FreeMemory}
 use Rattle.steps_keep.specs.stands_for.Chain.{StandsAt, code}
 use Rattle.steps_keep.specs.stands_for.Cleanups.{goal_at, IsHeld, IsWithin, AreInProgress}
@@ -41,9 +41,9 @@ idle_fits Free e = tt
 idle_fits OutOfUse e = tt
 idle_fits (Live r) e = absurd (none-some r.state (sym e))
 
-module _ (x : Accepted) (s : Recorded) (k : Keeps x s) (new : Lists) (segments : List Segment) (beyond : List ℕ) (rs : SameRecords s.lists new) (ps : SameParts s new segments beyond) where
+module _ (x : Accepted) (s : Recorded) (k : Keeps x s) (new : Lists) (segments : List Segment) (beyond : List ℕ) (rs : SameRecords (lists_of s) new) (ps : SameParts s new segments beyond) where
   abbrev l : Lists
-  l = s.lists
+  l = lists_of s
 
   abbrev w : Pool
   w = word (memory_of s)
@@ -126,21 +126,23 @@ module _ (x : Accepted) (s : Recorded) (k : Keeps x s) (new : Lists) (segments :
   }
 
   abbrev v : Recorded
-  v = record s { lists = new; segments = segments; beyond = beyond }
+  v = record (with_exceptions new s) { segments = segments; beyond = beyond }
+
+  lists_are : lists_of v ≡ new
+  lists_are = ap (λ (cs : List Cleanup). record { entries = new.entries; caught = new.caught; cleanups = cs; uncaught = new.uncaught }) (sym rs.cleanups)
 
   same_goal : (slot : ℕ) → Has (slots l.cleanups) slot → goal_at v slot ≡ goal_at s slot
   same_goal slot has = ap goal_in (barrier_same w u slot (λ j low high. ps.records slot j (cleanup_small slot has) (omega (arith, high)) (live_cleanup slot has)))
 
-  in_progress : (low : ℕ) (places : List ℕ) (cleanups : List Cleanup) → ((slot : ℕ) → Has (slots cleanups) slot → goal_at v slot ≡ goal_at s slot) → AreInProgress x s low places cleanups → AreInProgress x v low places cleanups
-  in_progress low [] [] goals q = tt
-  in_progress low [] (d ∷ later) goals q = q
-  in_progress low (n ∷ places) [] goals q = q
-  in_progress low (n ∷ places) (d ∷ later) goals q =
+  in_progress : (low : ℕ) (cleanups : List InProgress) → ((slot : ℕ) → Has (slots (cleanups_in cleanups)) slot → goal_at v slot ≡ goal_at s slot) → AreInProgress x s low cleanups → AreInProgress x v low cleanups
+  in_progress low [] goals q = tt
+  in_progress low (c ∷ later) goals q =
+      let d = c.cleanup in
       let goal = goals d.slot (inl refl) in (
         q.0,
-        subst (λ (g : Goal). IsHeld x segments g n d (s.first ∷ s.outer)) (sym goal) (held_moves s.home s.segments segments x (goal_at s d.slot) n d (s.first ∷ s.outer) ps.words q.1),
-        subst (λ (g : Goal). IsWithin g.sp later) (sym goal) q.2,
-        in_progress d.sp places later (λ slot h. goals slot (inr h)) q.3,
+        subst (λ (g : Goal). IsHeld x segments g c.place d (s.first ∷ s.outer)) (sym goal) (held_moves s.home s.segments segments x (goal_at s d.slot) c.place d (s.first ∷ s.outer) ps.words q.1),
+        subst (λ (g : Goal). IsWithin g.sp (cleanups_in later)) (sym goal) q.2,
+        in_progress d.sp later (λ slot h. goals slot (inr h)) q.3,
       )
 
   first_moves : StandsAt x s.first s.segments s.regs s.regs.pc → StandsAt x s.first segments s.regs s.regs.pc
@@ -157,7 +159,7 @@ module _ (x : Accepted) (s : Recorded) (k : Keeps x s) (new : Lists) (segments :
 
   memory_keeps : Keeps x v
   memory_keeps = record {
-    corresponds = record { map = ps.map; stands = record { shows = shows; valid = still_valid }; placed = k.corresponds.placed ∙ ap (λ (cs : List Cleanup). length cs) (sym rs.cleanups) };
+    corresponds = record { map = ps.map; stands = subst (λ (ls : Lists). Stands (word (memory_of v)) (heads ls) ls) (sym lists_are) (record { shows = shows; valid = still_valid }) };
     counted = (let e = rs.uncaught in let h = k.counted in omega (arith, e, h));
     image = map_trans (image_start x.image).memory.segments s.segments segments k.image ps.image;
     sound = k.sound;
@@ -168,11 +170,11 @@ module _ (x : Accepted) (s : Recorded) (k : Keeps x s) (new : Lists) (segments :
     first = λ reached. first_moves (k.first reached);
     beyond = ps.outside;
     chain = chain_moves s.home s.segments segments x s.first.caller s.outer ps.words.1 k.chain;
-    cleanups = subst (λ (cs : List Cleanup). AreInProgress x v (reg_in s SP) s.places cs) (sym rs.cleanups) (in_progress (reg_in s SP) s.places l.cleanups same_goal k.cleanups);
+    cleanups = in_progress (reg_in s SP) s.cleanups same_goal k.cleanups;
   }
 
-pub free_memory : (x : Accepted) (s : Recorded) (new : Lists) (segments : List Segment) (beyond : List ℕ) → Keeps x s → SameRecords s.lists new → SameParts s new segments beyond
-    → Keeps x (record s { lists = new; segments = segments; beyond = beyond })
+pub free_memory : (x : Accepted) (s : Recorded) (new : Lists) (segments : List Segment) (beyond : List ℕ) → Keeps x s → SameRecords (lists_of s) new → SameParts s new segments beyond
+    → Keeps x (record (with_exceptions new s) { segments = segments; beyond = beyond })
 free_memory x s new segments beyond k rs ps = memory_keeps x s k new segments beyond rs ps
 
 pub memory : FreeMemory

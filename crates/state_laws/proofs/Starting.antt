@@ -21,7 +21,7 @@ use Rattle.steps_keep.specs.thumb_core.declared.regs.Regs.{Regs}
 use Rattle.steps_keep.specs.frame_facts.Facts.{entered}
 use Rattle.steps_keep.specs.frame_check.Accepts.{Accepted, IsWell}
 use Rattle.steps_keep.specs.frame_check.Roots.{scene_of}
-use Rattle.steps_keep.specs.two_machines.Activations.{Caller, Recorded, memory_of, heads}
+use Rattle.steps_keep.specs.two_machines.Activations.{Caller, Recorded, memory_of, heads, lists_of}
 use Rattle.steps_keep.specs.stands_for.Holds.{recorded, IsWhole}
 use Rattle.steps_keep.specs.stands_for.Chain.{StandsAt}
 use Rattle.steps_keep.specs.stands_for.Stands.{Keeps, IsProgram}
@@ -49,7 +49,7 @@ module _ (x : Accepted) (is : IsProgram x) (regs : Regs) (entries : List Entry) 
   abbrev c : Caller
   c = s.first.caller
 
-  stands : Stands (word (memory_of s)) (heads s.lists) s.lists
+  stands : Stands (word (memory_of s)) (heads (lists_of s)) (lists_of s)
   stands = record {
     shows = record { small = f.small; sized = f.sized; entries = f.shown; caught = block_slot_zero; cleanups = block_slot_zero; frames = tt; uncaught = refl };
     valid = record {
@@ -95,7 +95,7 @@ module _ (x : Accepted) (is : IsProgram x) (regs : Regs) (entries : List Entry) 
 
   fresh_keeps : Keeps x s
   fresh_keeps = record {
-    corresponds = record { map = f.map; stands = stands; placed = refl };
+    corresponds = record { map = f.map; stands = stands };
     counted = omega arith;
     image = f.image;
     sound = f.sound;

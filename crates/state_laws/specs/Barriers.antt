@@ -7,7 +7,7 @@ use Rattle.steps_keep.specs.eh_cxa.Throw.{set_barrier_of}
 use Rattle.steps_keep.specs.eh_cxa.declared.globals.BarrierWords.{BarrierWords}
 use Rattle.steps_keep.specs.eh_cxa.declared.layout.TheConstants.{SLOTS}
 use Rattle.steps_keep.specs.eh_cxa.declared.state.State.TheVariants.{Landed}
-use Rattle.steps_keep.specs.two_machines.Activations.{Recorded, with_words}
+use Rattle.steps_keep.specs.two_machines.Activations.{Recorded, with_words, lists_of, cleanups_in}
 use Rattle.steps_keep.specs.frame_check.Accepts.{Accepted}
 use Rattle.steps_keep.specs.stands_for.Stands.{Keeps}
 
@@ -24,9 +24,9 @@ barred slot b s = with_words (set_barrier_of (Some slot) b) s
 
 pub record BarriersAreFree (x : Accepted) (s : Recorded) : Type 0 where
   -- of a slot whose exception has no cleanup in progress
-  pub idle : (slot : ℕ) (b : BarrierWords) → slot < SLOTS → (Has (slots s.lists.cleanups) slot → ⊥) → AreWords b → Keeps x (barred slot b s)
+  pub idle : (slot : ℕ) (b : BarrierWords) → slot < SLOTS → (Has (slots (cleanups_in s.cleanups)) slot → ⊥) → AreWords b → Keeps x (barred slot b s)
   -- so of an exception that has landed
-  pub landed : (slot : ℕ) (b : BarrierWords) → slot < SLOTS → state_in (entry s.lists slot) ≡ Some Landed → AreWords b → Keeps x (barred slot b s)
+  pub landed : (slot : ℕ) (b : BarrierWords) → slot < SLOTS → state_in (entry (lists_of s) slot) ≡ Some Landed → AreWords b → Keeps x (barred slot b s)
 
 abbrev pub FreeBarriers : Type 0
 FreeBarriers = (x : Accepted) (s : Recorded) → Keeps x s → BarriersAreFree x s

@@ -6,7 +6,7 @@ use Rattle.steps_keep.specs.eh_cxa.declared.layout.TheConstants.{SLOTS, CLOSED_W
 use Rattle.steps_keep.specs.eh_bus.Guards.{insert_all}
 use Rattle.steps_keep.specs.eh_bus.Memory.{Memory}
 use Rattle.steps_keep.specs.eh_bus.Segment.{Segment}
-use Rattle.steps_keep.specs.two_machines.Activations.{Recorded, guarded_of, memory_of, reg_in, callee, recorded_start}
+use Rattle.steps_keep.specs.two_machines.Activations.{Recorded, guarded_of, memory_of, reg_in, callee, recorded_start, lists_of, with_exceptions}
 use Rattle.steps_keep.specs.two_machines.ActivationMachine.{with_new, in_flight}
 use Rattle.steps_keep.specs.two_machines.Program.{Program}
 use Rattle.steps_keep.specs.two_machines.Start.{start_of}
@@ -60,12 +60,12 @@ pub record SameParts (s : Recorded) (new : Lists) (segments : List Segment) (bey
   pub image : SameMap s.segments segments
   pub words : AllSameAt s.segments segments (s.first ∷ s.outer)
   pub small : (t k : ℕ) → t < SLOTS → k < CLOSED_WORDS → word (over s segments beyond) t k < 2 ^ 32
-  pub records : (t k : ℕ) → t < SLOTS → k < CLOSED_WORDS → (IsIdle (entry s.lists t) → ⊥) → word (over s segments beyond) t k ≡ word (memory_of s) t k
-  pub others : (t : ℕ) → t < SLOTS → IsIdle (entry s.lists t) → entry new t ≡ entry_of (word (over s segments beyond)) t
+  pub records : (t k : ℕ) → t < SLOTS → k < CLOSED_WORDS → (IsIdle (entry (lists_of s) t) → ⊥) → word (over s segments beyond) t k ≡ word (memory_of s) t k
+  pub others : (t : ℕ) → t < SLOTS → IsIdle (entry (lists_of s) t) → entry new t ≡ entry_of (word (over s segments beyond)) t
 
 abbrev pub FreeMemory : Type 0
-FreeMemory = (x : Accepted) (s : Recorded) (new : Lists) (segments : List Segment) (beyond : List ℕ) → Keeps x s → SameRecords s.lists new → SameParts s new segments beyond
-    → Keeps x (record s { lists = new; segments = segments; beyond = beyond })
+FreeMemory = (x : Accepted) (s : Recorded) (new : Lists) (segments : List Segment) (beyond : List ℕ) → Keeps x s → SameRecords (lists_of s) new → SameParts s new segments beyond
+    → Keeps x (record (with_exceptions new s) { segments = segments; beyond = beyond })
 
 -- ---- registers but sp
 
@@ -106,8 +106,10 @@ quiet entries = record { entries = entries; caught = []; cleanups = []; uncaught
 abbrev pub started : Regs → List Entry → List Segment → ℕ × ℕ → Trace → List ℕ → Recorded
 started regs entries segments home events beyond = record {
   regs = regs;
-  lists = quiet entries;
-  places = [];
+  entries = entries;
+  caught = [];
+  cleanups = [];
+  uncaught = 0;
   segments = segments;
   home = home;
   events = events;

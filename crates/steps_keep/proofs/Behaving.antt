@@ -14,25 +14,25 @@ use Rattle.stands_for.specs.eh_gates.State.{Guide, behind}
 use Rattle.stands_for.specs.eh_gates.CallGates.{with_r1}
 use Rattle.stands_for.specs.thumb_core.Laws.{AreWords}
 use Rattle.stands_for.specs.two_machines.Machine.{goes_behind}
-use Rattle.stands_for.specs.two_machines.Activations.{Recorded, reg_in, words_in, heads, with_lists}
+use Rattle.stands_for.specs.two_machines.Activations.{Recorded, reg_in, words_in, heads, with_lists, lists_of, cleanups_in}
 use Rattle.stands_for.specs.two_machines.Corresponds.{Corresponds, WalksNone}
 use Rattle.stands_for.specs.two_machines.ActivationMachine as acts
 use Rattle.stands_for.proofs.Tame.{AreTame}
-use Rattle.steps_keep.proofs.Gated.{Behaves, set_words, set_others, allocate_tame, free_tame, catch_tame, end_tame, small_answer, small_pair, allocate_small, catch_small, end_small, allocate_keeps, free_keeps, catch_keeps, end_keeps}
+use Rattle.steps_keep.proofs.Gated.{Behaves, set_words, set_others, allocate_tame, free_tame, catch_tame, end_tame, small_answer, small_pair, allocate_small, catch_small, end_small}
 
 module _ (s : Recorded) (c : Corresponds s) where
   abbrev l : Lists
-  l = s.lists
+  l = lists_of s
 
   abbrev ss : List ℕ
-  ss = slots s.lists.cleanups
+  ss = slots (cleanups_in s.cleanups)
 
   -- ---- the gates
 
   module _ (words : AreWords 15 s.regs.r) (number next : ℕ) where
-    allocated_behaves : (new : Lists) (ws : List Write) → new.cleanups ≡ l.cleanups → AreTame ss ws → goes_behind number ≡ true → (r : Result ℕ CxaFault) → (small_answer s c) r
+    allocated_behaves : (new : Lists) (ws : List Write) → AreTame ss ws → goes_behind number ≡ true → (r : Result ℕ CxaFault) → (small_answer s c) r
         → Behaves s number next (acts.allocated next s (with_lists new ws s) r)
-    allocated_behaves new ws e t on (Ok object) small = (
+    allocated_behaves new ws t on (Ok object) small = (
       on,
       record {
         regs = behind next (with_r0 object s.regs);
@@ -40,17 +40,16 @@ module _ (s : Recorded) (c : Corresponds s) where
         writes = ws;
         is = refl;
         tame = t;
-        cleanups = e;
         pc = refl;
         words = set_words s.regs.r 0 object (omega arith) small words;
         others = λ j far. set_others s.regs.r 0 object j (omega arith) far;
       },
     )
-    allocated_behaves new ws e t on (Err why) small = refl
+    allocated_behaves new ws t on (Err why) small = refl
 
-    caught_behaves : (new : Lists) (ws : List Write) → new.cleanups ≡ l.cleanups → AreTame ss ws → goes_behind number ≡ true → (r : Result ℕ CxaFault) → (small_answer s c) r
+    caught_behaves : (new : Lists) (ws : List Write) → AreTame ss ws → goes_behind number ≡ true → (r : Result ℕ CxaFault) → (small_answer s c) r
         → Behaves s number next (acts.caught next s (with_lists new ws s) r)
-    caught_behaves new ws e t on (Ok object) small = (
+    caught_behaves new ws t on (Ok object) small = (
       on,
       record {
         regs = behind next (with_r0 object s.regs);
@@ -58,17 +57,16 @@ module _ (s : Recorded) (c : Corresponds s) where
         writes = ws;
         is = refl;
         tame = t;
-        cleanups = e;
         pc = refl;
         words = set_words s.regs.r 0 object (omega arith) small words;
         others = λ j far. set_others s.regs.r 0 object j (omega arith) far;
       },
     )
-    caught_behaves new ws e t on (Err why) small = refl
+    caught_behaves new ws t on (Err why) small = refl
 
-    freed_behaves : (new : Lists) (ws : List Write) → new.cleanups ≡ l.cleanups → AreTame ss ws → goes_behind number ≡ true → (r : Result (Unit {0}) CxaFault)
+    freed_behaves : (new : Lists) (ws : List Write) → AreTame ss ws → goes_behind number ≡ true → (r : Result (Unit {0}) CxaFault)
         → Behaves s number next (acts.freed next s (with_lists new ws s) r)
-    freed_behaves new ws e t on (Ok done) = (
+    freed_behaves new ws t on (Ok done) = (
       on,
       record {
         regs = behind next s.regs;
@@ -76,17 +74,16 @@ module _ (s : Recorded) (c : Corresponds s) where
         writes = ws;
         is = refl;
         tame = t;
-        cleanups = e;
         pc = refl;
         words = words;
         others = λ j far. refl;
       },
     )
-    freed_behaves new ws e t on (Err why) = refl
+    freed_behaves new ws t on (Err why) = refl
 
-    dropped_behaves : (new : Lists) (ws : List Write) → new.cleanups ≡ l.cleanups → AreTame ss ws → goes_behind number ≡ true → (r : Result (ℕ × ℕ) CxaFault) → (small_pair s c) r
+    dropped_behaves : (new : Lists) (ws : List Write) → AreTame ss ws → goes_behind number ≡ true → (r : Result (ℕ × ℕ) CxaFault) → (small_pair s c) r
         → Behaves s number next (acts.dropped next s (with_lists new ws s) r)
-    dropped_behaves new ws e t on (Ok (object, destructor)) small = (
+    dropped_behaves new ws t on (Ok (object, destructor)) small = (
       on,
       record {
         regs = behind next (with_r1 destructor (with_r0 object s.regs));
@@ -94,27 +91,25 @@ module _ (s : Recorded) (c : Corresponds s) where
         writes = ws;
         is = refl;
         tame = t;
-        cleanups = e;
         pc = refl;
         words = set_words (set s.regs.r 0 object) 1 destructor (omega arith) small.1 (set_words s.regs.r 0 object (omega arith) small.0 words);
         others = λ j far. set_others (set s.regs.r 0 object) 1 destructor j (omega arith) far ∙ set_others s.regs.r 0 object j (omega arith) far;
       },
     )
-    dropped_behaves new ws e t on (Err why) small = refl
+    dropped_behaves new ws t on (Err why) small = refl
 
-    uncaught_behaves : s.lists.uncaught < 2 ^ 32 → goes_behind number ≡ true → Behaves s number next (acts.uncaught_gate next s)
+    uncaught_behaves : s.uncaught < 2 ^ 32 → goes_behind number ≡ true → Behaves s number next (acts.uncaught_gate next s)
     uncaught_behaves small on = (
       on,
       record {
-        regs = behind next (with_r0 s.lists.uncaught s.regs);
+        regs = behind next (with_r0 s.uncaught s.regs);
         lists = l;
         writes = [];
         is = refl;
         tame = tt;
-        cleanups = refl;
         pc = refl;
-        words = set_words s.regs.r 0 s.lists.uncaught (omega arith) small words;
-        others = λ j far. set_others s.regs.r 0 s.lists.uncaught j (omega arith) far;
+        words = set_words s.regs.r 0 s.uncaught (omega arith) small words;
+        others = λ j far. set_others s.regs.r 0 s.uncaught j (omega arith) far;
       },
     )
 
@@ -126,18 +121,18 @@ module _ (s : Recorded) (c : Corresponds s) where
     choose false q q' h k = k
 
     -- a gate that walks no frames
-    pub gate_behaves : (g : Guide) → WalksNone number → s.lists.uncaught < 2 ^ 32 → Behaves s number next (acts.gate_of g number next s)
+    pub gate_behaves : (g : Guide) → WalksNone number → s.uncaught < 2 ^ 32 → Behaves s number next (acts.gate_of g number next s)
     unfolding acts.gate_of
     gate_behaves g w small =
-        choose (number == ALLOCATE_GATE) _ _ (λ e. allocated_behaves (allocate_list l (reg_in s 0)).lists (allocate_of (words_in l) (reg_in s 0)).writes ((allocate_keeps s c) (reg_in s 0)) ((allocate_tame s c) (reg_in s 0))
+        choose (number == ALLOCATE_GATE) _ _ (λ e. allocated_behaves (allocate_list l (reg_in s 0)).lists (allocate_of (words_in l) (reg_in s 0)).writes ((allocate_tame s c) (reg_in s 0))
         (goes ALLOCATE_GATE refl e) (allocate_list l (reg_in s 0)).answer ((allocate_small s c) (reg_in s 0))) (
-        choose (number == FREE_GATE) _ _ (λ e. freed_behaves (free_list l (object_slot (reg_in s 0))).lists (free_of (words_in l) (object_slot (reg_in s 0))).writes ((free_keeps s c) (object_slot (reg_in s 0)))
+        choose (number == FREE_GATE) _ _ (λ e. freed_behaves (free_list l (object_slot (reg_in s 0))).lists (free_of (words_in l) (object_slot (reg_in s 0))).writes
         ((free_tame s c) (words_in l) (object_slot (reg_in s 0)) (λ t q. object_small (reg_in s 0) t q)) (goes FREE_GATE refl e) (free_list l (object_slot (reg_in s 0))).answer) (
         choose (number == THROW_GATE) _ _ (λ e. absurd (w.throw (eqb-true number THROW_GATE e))) (
-        choose (number == BEGIN_CATCH_GATE) _ _ (λ e. caught_behaves (acts.begin_catch s).lists (begin_catch_of (words_in l) (heads l) (reg_in s 0)).writes ((catch_keeps s c) (block_slot (reg_in s 0)))
+        choose (number == BEGIN_CATCH_GATE) _ _ (λ e. caught_behaves (acts.begin_catch s).lists (begin_catch_of (words_in l) (heads l) (reg_in s 0)).writes
         ((catch_tame s c) (words_in l) (heads l) (reg_in s 0) (block_slot (reg_in s 0)) (λ t q. slot_small (reg_in s 0) t q)) (goes BEGIN_CATCH_GATE refl e) (acts.begin_catch s).answer
         ((catch_small s c) (block_slot (reg_in s 0)) (λ t q. slot_small (reg_in s 0) t q))) (
-        choose (number == END_CATCH_GATE) _ _ (λ e. dropped_behaves (end_list l).lists (end_catch_of (words_in l) (heads l)).writes (end_keeps s c)
+        choose (number == END_CATCH_GATE) _ _ (λ e. dropped_behaves (end_list l).lists (end_catch_of (words_in l) (heads l)).writes
         ((end_tame s c) (words_in l) (heads l) (block_slot (heads l).caught) (λ t q. slot_small (heads l).caught t q)) (goes END_CATCH_GATE refl e) (end_list l).answer (end_small s c)) (
         choose (number == RETHROW_GATE) _ _ (λ e. absurd (w.rethrow (eqb-true number RETHROW_GATE e))) (
         choose (number == END_CLEANUP_GATE) _ _ (λ e. absurd (w.cleanup (eqb-true number END_CLEANUP_GATE e))) (

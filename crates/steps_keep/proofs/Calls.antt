@@ -9,7 +9,6 @@ use Rattle.std.proofs.lemmas.List.Elements.{All-contains}
 use Rattle.stands_for.specs.elf_image.Functions.{Function}
 use Rattle.stands_for.proofs.flow.Work.{contains_head, contains_tail}
 use Rattle.stands_for.specs.eh_bus.Lists.{Has}
-use Rattle.stands_for.specs.eh_cxa.Lists.{Cleanup}
 use Rattle.stands_for.specs.eh_cxa.ListCalls.{innermost_in}
 use Rattle.stands_for.specs.flow.Flow.{at_entry}
 use Rattle.stands_for.specs.image_memory.Start.{begins_function}
@@ -40,7 +39,7 @@ use Rattle.stands_for.specs.frame_check.Roots.{scene_of}
 use Rattle.stands_for.specs.frame_check.Spots.{look}
 use Rattle.stands_for.proofs.frame_check.Wells.{placed_at}
 use Rattle.stands_for.specs.two_machines.Machine.{sp_end}
-use Rattle.stands_for.specs.two_machines.Activations.{Caller, Recorded, reg_in, memory_of}
+use Rattle.stands_for.specs.two_machines.Activations.{Caller, Recorded, reg_in, memory_of, cleanups_in, InProgress}
 use Rattle.stands_for.specs.two_machines.ActivationLaws.{IsPlain}
 use Rattle.stands_for.specs.two_machines.Checked.{program_of}
 use Rattle.stands_for.proofs.two_machines.CallEvents.{knows}
@@ -205,17 +204,15 @@ module _ (x : Accepted) (is : IsProgram x) (s : Recorded) (k : Keeps x s) (at : 
             let small : link_of size s.regs % 2 ^ 32 ≡ link_of size s.regs = omega (arith, link_small) in
             get_or-set_same s.regs.r LR (link_of size s.regs % 2 ^ 32) 0 (let l : LR < length s.regs.r = omega (arith, k.sound.words.count) in l) ∙ small
 
-    in_progress : (low : ℕ) (places : List ℕ) (cleanups : List Cleanup) → c.sp ≤ low → AreInProgress x s low places cleanups → AreInProgress x t low places cleanups
-    in_progress low [] [] h q = tt
-    in_progress low [] (d ∷ later) h q = q
-    in_progress low (n ∷ places) [] h q = q
-    in_progress low (n ∷ places) (d ∷ later) h q =
-        let above : c.sp ≤ d.sp = omega (arith, h, q.0) in
-        (q.0, inr (above, q.1), q.2, in_progress d.sp places later above q.3)
+    in_progress : (low : ℕ) (cleanups : List InProgress) → c.sp ≤ low → AreInProgress x s low cleanups → AreInProgress x t low cleanups
+    in_progress low [] h q = tt
+    in_progress low (d ∷ later) h q =
+        let above : c.sp ≤ d.cleanup.sp = omega (arith, h, q.0) in
+        (q.0, inr (above, q.1), q.2, in_progress d.cleanup.sp later above q.3)
 
     pub called_keeps : begins_function x.image.functions target ≡ true → Keeps x t
     called_keeps e = record {
-      corresponds = record { map = k.corresponds.map; stands = k.corresponds.stands; placed = k.corresponds.placed };
+      corresponds = record { map = k.corresponds.map; stands = k.corresponds.stands };
       counted = k.counted;
       image = k.image;
       sound = sound;
@@ -226,7 +223,7 @@ module _ (x : Accepted) (is : IsProgram x) (s : Recorded) (k : Keeps x s) (at : 
       first = λ reached. enters e;
       beyond = k.beyond;
       chain = (at_call, k.chain);
-      cleanups = in_progress c.sp s.places s.lists.cleanups (omega arith) (subst (λ n. AreInProgress x s n s.places s.lists.cleanups) (sym sp) k.cleanups);
+      cleanups = in_progress c.sp s.cleanups (omega arith) (subst (λ n. AreInProgress x s n s.cleanups) (sym sp) k.cleanups);
     }
 
     module _ (input : List ℕ) where
@@ -237,7 +234,7 @@ module _ (x : Accepted) (is : IsProgram x) (s : Recorded) (k : Keeps x s) (at : 
           let none_pushed : pushes_some (instr_at (memory_of s) s.regs.pc) ≡ 0 = ap pushes_some (fetch x is s k at i size stands).stands ∙ ap length pushes in
           let level : acts.settled_at (program_of x) s regs base ≡ base =
           settled_level (look x.spots s.regs.pc).saves (pushes_some (instr_at (memory_of s) s.regs.pc)) (reg_in s SP) (slice_index regs.r SP) base none_pushed sp in
-          let way = none_or (sp_end (innermost_in s.lists.cleanups) s.home.0 s.regs.pc (reg_in s SP) (slice_index regs.r SP)) _ e in
+          let way = none_or (sp_end (innermost_in (cleanups_in s.cleanups)) s.home.0 s.regs.pc (reg_in s SP) (slice_index regs.r SP)) _ e in
           subst (Keeps x) (sym (ap (acts.called target (link_of size s.regs)) level)) (called_keeps (go (begins_function x.image.functions target) way))
         where
           go : (b : Bool) → cond b None (Some (the_end.Trap kind.BadCallTarget target s.regs.pc)) ≡ None → b ≡ true

@@ -3,7 +3,7 @@ use Rattle.std.proofs.Common.{ℕ, List, [], ◌∷◌, Option, Some, None, Resu
 use Rattle.std.specs.Prelude.{◌&&◌, is_some}
 use Rattle.stands_for.specs.eh_cxa.Words.{block_slot, word, object_slot}
 use Rattle.stands_for.specs.eh_phase.declared.phase2.Entered.{Entered}
-use Rattle.stands_for.specs.two_machines.Activations.{Activation, Recorded, Caller, reg_in, memory_of, words_in, heads, with_lists}
+use Rattle.stands_for.specs.two_machines.Activations.{Activation, Recorded, Caller, reg_in, memory_of, words_in, heads, with_lists, lists_of, InProgress}
 use Rattle.stands_for.specs.eh_phase.declared.phase1.Barrier.{Barrier}
 use Rattle.stands_for.specs.eh_gates.State.{Guide}
 use Rattle.stands_for.specs.thumb_core.declared.ends.End.{End}
@@ -30,18 +30,18 @@ use Rattle.stands_for.proofs.CountedLists.{land_counts, allocate_counts, free_co
 -- ---- the gates
 
 abbrev Counts : acts.Outcome → Type 0
-Counts q = IsCounted q.1.lists
+Counts q = IsCounted (lists_of q.1)
 
-module _ (s : Recorded) (h : IsCounted s.lists) where
-  flown_counts : (o : Option ℕ) → IsCounted (acts.flown s o).lists
+module _ (s : Recorded) (h : IsCounted (lists_of s)) where
+  flown_counts : (o : Option ℕ) → IsCounted (lists_of (acts.flown s o))
   flown_counts None = h
-  flown_counts (Some t) = land_counts s.lists h t
+  flown_counts (Some t) = land_counts (lists_of s) h t
 
-  progress_counts : (outside block : ℕ) (w : _) (o : Option ℕ) → IsCounted (acts.in_progress s outside block w o).lists
+  progress_counts : (outside block : ℕ) (w : _) (o : Option ℕ) → IsCounted (lists_of (acts.in_progress s outside block w o))
   progress_counts outside block w None = h
   progress_counts outside block w (Some t) = h
 
-  pad_lists : (u : Recorded) (acs : List Activation) (r : List ℕ) (pad answer : ℕ) → IsCounted u.lists → IsCounted (acts.at_pad u acs r pad answer).lists
+  pad_lists : (u : Recorded) (acs : List Activation) (r : List ℕ) (pad answer : ℕ) → IsCounted (lists_of u) → IsCounted (lists_of (acts.at_pad u acs r pad answer))
   pad_lists u [] r pad answer e = e
   pad_lists u (a ∷ more) r pad answer e = e
 
@@ -52,11 +52,11 @@ module _ (s : Recorded) (h : IsCounted s.lists) where
   entered_counts acs block object enters.Unexpected = h
   entered_counts acs block object (enters.Terminate why) = h
 
-throw_to_counts : (g : Guide) (site block : ℕ) (b : Barrier) (s : Recorded) → IsCounted s.lists → Counts (acts.throw_to g site block b s)
+throw_to_counts : (g : Guide) (site block : ℕ) (b : Barrier) (s : Recorded) → IsCounted (lists_of s) → Counts (acts.throw_to g site block b s)
 unfolding acts.throw_to
 throw_to_counts g site block b s h = entered_counts _ h _ block _ _
 
-from_counts : (further : Barrier → Recorded → acts.Outcome) (r : Result Barrier End) (t : Recorded) → IsCounted t.lists → ((b : Barrier) → Counts (further b t)) → Counts (acts.from_barrier further (r, t))
+from_counts : (further : Barrier → Recorded → acts.Outcome) (r : Result Barrier End) (t : Recorded) → IsCounted (lists_of t) → ((b : Barrier) → Counts (further b t)) → Counts (acts.from_barrier further (r, t))
 from_counts further (Ok b) t h f = f b
 from_counts further (Err end) t h f = h
 
@@ -65,13 +65,13 @@ pick_counts : (further : Barrier → Recorded → acts.Outcome) (b : Bool) (x y 
 pick_counts further true x y p q = p
 pick_counts further false x y p q = q
 
-module _ (g : Guide) (s : Recorded) (h : IsCounted s.lists) where
-  seek_counts : (what : EventKind) (thrown : Thrown) (further : Barrier → Recorded → acts.Outcome) → ((b : Barrier) (t : Recorded) → IsCounted t.lists → Counts (further b t))
+module _ (g : Guide) (s : Recorded) (h : IsCounted (lists_of s)) where
+  seek_counts : (what : EventKind) (thrown : Thrown) (further : Barrier → Recorded → acts.Outcome) → ((b : Barrier) (t : Recorded) → IsCounted (lists_of t) → Counts (further b t))
       → Counts (acts.from_barrier further (acts.sought g s what thrown))
   unfolding acts.sought
   seek_counts what thrown further f =
       let found : Result Barrier End = barrier_in s.regs.pc (acts.searched g s thrown) in
-      let after : Recorded = acts.logged s (throw_event what (memory_of s) thrown (acts.size_of s.lists (object_slot thrown.object))) in
+      let after : Recorded = acts.logged s (throw_event what (memory_of s) thrown (acts.size_of (lists_of s) (object_slot thrown.object))) in
       let refused : Result Barrier End × Recorded = (Err (the_end.Trap kind.BadType thrown.ty s.regs.pc), s) in
       pick_counts further (is_some (row_of g.types thrown.ty)) (found, after) refused (from_counts further found after h (λ b. f b after h)) h
 
@@ -79,43 +79,45 @@ module _ (g : Guide) (s : Recorded) (h : IsCounted s.lists) where
   throws_counts (Err why) = h
   throws_counts (Ok block) =
       seek_counts traced.Throw (acts.thrown_first s) (λ b t. acts.throw_to g s.regs.pc block b (acts.flies_first t))
-      (λ b t e. throw_to_counts g s.regs.pc block b (acts.flies_first t) (throw_counts t.lists e (object_slot (reg_in t 0)) (acts.thrown_words t)))
+      (λ b t e. throw_to_counts g s.regs.pc block b (acts.flies_first t) (throw_counts (lists_of t) e (object_slot (reg_in t 0)) (acts.thrown_words t)))
 
   rethrows_counts : (r : Result ℕ CxaFault) → Counts (acts.rethrows g s r)
   rethrows_counts (Err why) = h
   rethrows_counts (Ok block) =
-      seek_counts traced.Rethrow (acts.thrown_of_slot s.lists (block_slot block)) (λ b t. acts.throw_to g s.regs.pc block b (acts.flies_again t))
-      (λ b t e. throw_to_counts g s.regs.pc block b (acts.flies_again t) (rethrow_counts t.lists e))
+      seek_counts traced.Rethrow (acts.thrown_of_slot (lists_of s) (block_slot block)) (λ b t. acts.throw_to g s.regs.pc block b (acts.flies_again t))
+      (λ b t e. throw_to_counts g s.regs.pc block b (acts.flies_again t) (rethrow_counts (lists_of t) e))
 
-  goes_on_counts : (c : Cleanup) (more : List Cleanup) (gate : Caller) (a : Activation) (outer : List Activation) (b : BarrierWords) → Counts (acts.goes_on g (acts.without_cleanup s more) c gate a outer b)
-  goes_on_counts c more gate a outer b = entered_counts (acts.without_cleanup s more) h _ _ _ _
+  goes_on_counts : (c : Cleanup) (more : List InProgress) (gate : Caller) (a : Activation) (outer : List Activation) (b : BarrierWords)
+      → Counts (acts.goes_on g (record s { cleanups = more }) c gate a outer b)
+  goes_on_counts c more gate a outer b = entered_counts (record s { cleanups = more }) h _ _ _ _
 
   choose : (b : Bool) (q q' : acts.Outcome) → Counts q → Counts q' → Counts (cond b q q')
   choose true q q' p r = p
   choose false q q' p r = r
 
-  resumes_in_counts : (c : Cleanup) (more : List Cleanup) (outer : List Activation) (place : Option ℕ) → Counts (acts.resumes_in g s c more outer place)
-  resumes_in_counts c more [] place = h
-  resumes_in_counts c more (a ∷ outer) None = h
-  resumes_in_counts c more (a ∷ outer) (Some outside) = choose ((s.first.caller.sp == c.sp) && (length outer == outside)) _ _ (goes_on_counts c more s.first.caller a outer (barrier_of (word (memory_of s)) (Some c.slot))) h
+  resumes_in_counts : (c : InProgress) (more : List InProgress) (outer : List Activation) → Counts (acts.resumes_in g s c more outer)
+  resumes_in_counts c more [] = h
+  resumes_in_counts c more (a ∷ outer) =
+      choose ((s.first.caller.sp == c.cleanup.sp) && (length outer == c.place)) _ _
+      (goes_on_counts c.cleanup more s.first.caller a outer (barrier_of (word (memory_of s)) (Some c.cleanup.slot))) h
 
-  resumes_counts : (cs : List Cleanup) → Counts (acts.resumes g s cs)
+  resumes_counts : (cs : List InProgress) → Counts (acts.resumes g s cs)
   resumes_counts [] = h
-  resumes_counts (c ∷ more) = choose _ _ _ (resumes_in_counts c more s.outer _) h
+  resumes_counts (c ∷ more) = choose _ _ _ (resumes_in_counts c more s.outer) h
 
-  allocated_counts : (next : ℕ) (new : Recorded) → IsCounted new.lists → (r : Result ℕ CxaFault) → Counts (acts.allocated next s new r)
+  allocated_counts : (next : ℕ) (new : Recorded) → IsCounted (lists_of new) → (r : Result ℕ CxaFault) → Counts (acts.allocated next s new r)
   allocated_counts next new e (Ok object) = e
   allocated_counts next new e (Err why) = h
 
-  freed_counts : (next : ℕ) (new : Recorded) → IsCounted new.lists → (r : Result (Unit {0}) CxaFault) → Counts (acts.freed next s new r)
+  freed_counts : (next : ℕ) (new : Recorded) → IsCounted (lists_of new) → (r : Result (Unit {0}) CxaFault) → Counts (acts.freed next s new r)
   freed_counts next new e (Ok done) = e
   freed_counts next new e (Err why) = h
 
-  caught_counts : (next : ℕ) (new : Recorded) → IsCounted new.lists → (r : Result ℕ CxaFault) → Counts (acts.caught next s new r)
+  caught_counts : (next : ℕ) (new : Recorded) → IsCounted (lists_of new) → (r : Result ℕ CxaFault) → Counts (acts.caught next s new r)
   caught_counts next new e (Ok object) = e
   caught_counts next new e (Err why) = h
 
-  dropped_counts : (next : ℕ) (new : Recorded) → IsCounted new.lists → (r : Result (ℕ × ℕ) CxaFault) → Counts (acts.dropped next s new r)
+  dropped_counts : (next : ℕ) (new : Recorded) → IsCounted (lists_of new) → (r : Result (ℕ × ℕ) CxaFault) → Counts (acts.dropped next s new r)
   dropped_counts next new e (Ok (object, destructor)) = e
   dropped_counts next new e (Err why) = h
 
@@ -123,17 +125,17 @@ module _ (g : Guide) (s : Recorded) (h : IsCounted s.lists) where
   unfolding acts.gate_of
   gate_counts number next =
       choose (number == ALLOCATE_GATE) _ _
-      (allocated_counts next (with_lists (allocate_list s.lists (reg_in s 0)).lists (allocate_of (words_in s.lists) (reg_in s 0)).writes s) (allocate_counts s.lists h (reg_in s 0)) (allocate_list s.lists (reg_in s 0)).answer) (
+      (allocated_counts next (with_lists (allocate_list (lists_of s) (reg_in s 0)).lists (allocate_of (words_in (lists_of s)) (reg_in s 0)).writes s) (allocate_counts (lists_of s) h (reg_in s 0)) (allocate_list (lists_of s) (reg_in s 0)).answer) (
       choose (number == FREE_GATE) _ _
-      (freed_counts next (with_lists (free_list s.lists (object_slot (reg_in s 0))).lists (free_of (words_in s.lists) (object_slot (reg_in s 0))).writes s) (free_counts s.lists h (object_slot (reg_in s 0)))
-      (free_list s.lists (object_slot (reg_in s 0))).answer) (
+      (freed_counts next (with_lists (free_list (lists_of s) (object_slot (reg_in s 0))).lists (free_of (words_in (lists_of s)) (object_slot (reg_in s 0))).writes s) (free_counts (lists_of s) h (object_slot (reg_in s 0)))
+      (free_list (lists_of s) (object_slot (reg_in s 0))).answer) (
       choose (number == THROW_GATE) _ _ (throws_counts (acts.first_flight s).answer) (
       choose (number == BEGIN_CATCH_GATE) _ _
-      (caught_counts next (with_lists (acts.begin_catch s).lists (begin_catch_of (words_in s.lists) (heads s.lists) (reg_in s 0)).writes s) (catch_counts s.lists h (acts.given s) (block_slot (reg_in s 0)))
+      (caught_counts next (with_lists (acts.begin_catch s).lists (begin_catch_of (words_in (lists_of s)) (heads (lists_of s)) (reg_in s 0)).writes s) (catch_counts (lists_of s) h (acts.given s) (block_slot (reg_in s 0)))
       (acts.begin_catch s).answer) (
-      choose (number == END_CATCH_GATE) _ _ (dropped_counts next (with_lists (end_list s.lists).lists (end_catch_of (words_in s.lists) (heads s.lists)).writes s) (end_counts s.lists h) (end_list s.lists).answer) (
-      choose (number == RETHROW_GATE) _ _ (rethrows_counts (rethrow_list s.lists).answer) (
-      choose (number == END_CLEANUP_GATE) _ _ (resumes_counts s.lists.cleanups) (
+      choose (number == END_CATCH_GATE) _ _ (dropped_counts next (with_lists (end_list (lists_of s)).lists (end_catch_of (words_in (lists_of s)) (heads (lists_of s))).writes s) (end_counts (lists_of s) h) (end_list (lists_of s)).answer) (
+      choose (number == RETHROW_GATE) _ _ (rethrows_counts (rethrow_list (lists_of s)).answer) (
+      choose (number == END_CLEANUP_GATE) _ _ (resumes_counts s.cleanups) (
       choose (number == UNEXPECTED_GATE) _ _ h (
       choose (number == TERMINATE_GATE) _ _ h (
       choose (number == UNCAUGHT_GATE) _ _ h h)))))))))

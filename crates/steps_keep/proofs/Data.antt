@@ -32,7 +32,7 @@ use Rattle.stands_for.proofs.frame_reach.Stands.{stands_inside, stands_size}
 use Rattle.stands_for.specs.eh_cxa.ListCalls.{innermost_in}
 use Rattle.stands_for.specs.frame_check.Roots.{scene_of}
 use Rattle.stands_for.specs.two_machines.Machine.{fell_off, sp_end}
-use Rattle.stands_for.specs.two_machines.Activations.{Recorded, reg_in, memory_of}
+use Rattle.stands_for.specs.two_machines.Activations.{Recorded, reg_in, memory_of, cleanups_in}
 use Rattle.stands_for.specs.two_machines.Checked.{program_of}
 use Rattle.stands_for.specs.thumb_core.declared.ends.TrapKind.TheVariants as kind
 use Rattle.stands_for.specs.thumb_core.declared.ends.End.TheVariants as the_end
@@ -124,7 +124,7 @@ module _ (x : Accepted) (is : IsProgram x) (s : Recorded) (k : Keeps x s) (at : 
   -- the tests let it pass only where no function begins behind it
   fresh : acts.tests (program_of x) s Done regs ≡ None → begins_function x.image.functions regs.pc ≡ false
   fresh e =
-      let landing = sp_end (innermost_in s.lists.cleanups) s.home.0 s.regs.pc (reg_in s SP) (slice_index regs.r SP) in
+      let landing = sp_end (innermost_in (cleanups_in s.cleanups)) s.home.0 s.regs.pc (reg_in s SP) (slice_index regs.r SP) in
       let way = none_or landing (acts.way_end_of (program_of x) s (branches_some (instr_at (memory_of s) s.regs.pc) s.regs) Done regs) e in
       let straight : branches_some (instr_at (memory_of s) s.regs.pc) s.regs ≡ false = ap (λ (o : Option (Instr × ℕ)). branches_some o s.regs) fetch.stands ∙ it.taken s.regs in
       let fell : fell_off (program_of x) s.regs.pc regs.pc ≡ None = subst (λ (b : Bool). cond b None (fell_off (program_of x) s.regs.pc regs.pc) ≡ None) straight way in

@@ -5,10 +5,10 @@ use Rattle.std.proofs.lemmas.Bool.{cases_eq}
 use Rattle.std.proofs.lemmas.List.{get_or-set_same, get_or-set_other, length-set}
 use Rattle.std.proofs.lemmas.Option.{same_Some, none-some}
 use Rattle.stands_for.specs.eh_cxa.Lists.{Lists, slots, Record, Entry, Free, OutOfUse, Live, entry, state_in}
-use Rattle.stands_for.specs.eh_cxa.Words.{Write, put_all, write, Pool, word}
+use Rattle.stands_for.specs.eh_cxa.Words.{Write, write, Pool, word}
 use Rattle.stands_for.specs.thumb_core.Laws.{AreWords}
 use Rattle.stands_for.specs.thumb_core.declared.regs.Regs.{Regs}
-use Rattle.stands_for.specs.two_machines.Activations.{Recorded, memory_of, words_in, state_word, heads}
+use Rattle.stands_for.specs.two_machines.Activations.{Recorded, memory_of, words_in, state_word, heads, lists_of, cleanups_in, with_lists}
 use Rattle.stands_for.specs.eh_gates.declared.state.Turned.TheVariants.{Went, Ended}
 use Rattle.stands_for.specs.two_machines.Machine.{goes_behind}
 use Rattle.stands_for.specs.thumb_core.declared.regs.TheConstants.{SP}
@@ -21,7 +21,7 @@ use Rattle.stands_for.specs.eh_cxa.declared.state.State.TheVariants.{Flying}
 use Rattle.stands_for.specs.eh_cxa.Allocate.{first_slot, zeros, allocate_at, allocate_of, free_by, free_of}
 use Rattle.stands_for.specs.eh_cxa.Catch.{catch_fault, catch_by, catch_at, catch_in, Fall, stays, falls, ends, leaves, fall, end_catch_by, end_catch_at}
 use Rattle.stands_for.specs.eh_cxa.declared.globals.Globals.{Globals}
-use Rattle.stands_for.specs.eh_cxa.ListCalls.{is_free, allocate_in, allocate_list, free_by_list, free_list, catch_by_list, catch_entry, catch_list, end_by_list, end_entry, end_from, end_list, fall_of}
+use Rattle.stands_for.specs.eh_cxa.ListCalls.{is_free, allocate_in, allocate_list, catch_by_list, catch_entry, catch_list, end_by_list, end_entry, end_from, end_list, fall_of}
 use Rattle.stands_for.specs.eh_cxa.Stands.{Chain}
 use Rattle.stands_for.specs.eh_cxa.States.{named, may_be_freed}
 use Rattle.stands_for.proofs.eh_cxa.Looking.{Look, live, free, lost, look}
@@ -35,9 +35,8 @@ pub record Behind (s : Recorded) (next : ℕ) (t : Recorded) : Type 0 where
   pub regs : Regs
   pub lists : Lists
   pub writes : List Write
-  pub is : t ≡ record s { regs = regs; lists = lists; segments = (put_all writes (memory_of s)).segments }
-  pub tame : AreTame (slots s.lists.cleanups) writes
-  pub cleanups : lists.cleanups ≡ s.lists.cleanups
+  pub is : t ≡ record (with_lists lists writes s) { regs = regs }
+  pub tame : AreTame (slots (cleanups_in s.cleanups)) writes
   pub pc : regs.pc ≡ next
   pub words : AreWords 15 regs.r
   pub others : (j : ℕ) → 2 ≤ j → slice_index regs.r j ≡ slice_index s.regs.r j
@@ -67,10 +66,10 @@ low_write ss s k v h low = record { slot = h; place = omega (arith, low); beside
 
 module _ (s : Recorded) (c : Corresponds s) where
   abbrev l : Lists
-  l = s.lists
+  l = lists_of s
 
   abbrev ss : List ℕ
-  ss = slots s.lists.cleanups
+  ss = slots (cleanups_in s.cleanups)
 
   -- a cleanup's exception isn't free
   not_freed : (t : ℕ) → (words_in l t STATE == FREE) ≡ true → Has ss t → ⊥
@@ -201,55 +200,3 @@ module _ (s : Recorded) (c : Corresponds s) where
       by_list (t ∷ more) k =
           let h = slot_small (heads l).caught t k.0 in
           by_look t more h (look (word (memory_of s)) (heads l) l t c.stands.shows h) (entry l t) refl
-
-  -- ---- the lists' cleanups stay
-
-  pub allocate_keeps : (size : ℕ) → (allocate_list l size).lists.cleanups ≡ l.cleanups
-  allocate_keeps size = by_size (nat_lt OBJECT_BYTES size)
-    where
-      by_slot : (o : Option ℕ) → (allocate_in l size o).lists.cleanups ≡ l.cleanups
-      by_slot None = refl
-      by_slot (Some t) = refl
-
-      by_size : (b : Bool) → (cond b (record { answer = Err TooBig; lists = l }) (allocate_in l size (first_slot (λ t. is_free (entry l t))))).lists.cleanups ≡ l.cleanups
-      by_size true = refl
-      by_size false = by_slot (first_slot (λ t. is_free (entry l t)))
-
-  pub free_keeps : (o : Option ℕ) → (free_list l o).lists.cleanups ≡ l.cleanups
-  free_keeps None = refl
-  free_keeps (Some t) = by (may_be_freed (state_in (entry l t)))
-    where
-      by : (b : Bool) → (free_by_list b l t).lists.cleanups ≡ l.cleanups
-      by true = refl
-      by false = refl
-
-  pub catch_keeps : (o : Option ℕ) → (catch_list (acts.given s) l o).lists.cleanups ≡ l.cleanups
-  catch_keeps None = refl
-  catch_keeps (Some t) = by_entry (entry l t)
-    where
-      by_fault : (r : Record) (f : Option CxaFault) → (catch_by_list (acts.given s t) l t r f).lists.cleanups ≡ l.cleanups
-      by_fault r (Some why) = refl
-      by_fault r None = refl
-
-      by_entry : (e : Entry) → (catch_entry (acts.given s t) l t e).lists.cleanups ≡ l.cleanups
-      by_entry Free = refl
-      by_entry OutOfUse = refl
-      by_entry (Live r) = by_fault r _
-
-  pub end_keeps : (end_list l).lists.cleanups ≡ l.cleanups
-  end_keeps = by_list l.caught
-    where
-      by_fall : (t : ℕ) (more : List ℕ) (r : Record) (f : Fall ℤ) → (end_by_list l t more r f).lists.cleanups ≡ l.cleanups
-      by_fall t more r stays = refl
-      by_fall t more r (falls n) = refl
-      by_fall t more r ends = refl
-      by_fall t more r leaves = refl
-
-      by_entry : (t : ℕ) (more : List ℕ) (e : Entry) → (end_entry l t more e).lists.cleanups ≡ l.cleanups
-      by_entry t more Free = refl
-      by_entry t more OutOfUse = refl
-      by_entry t more (Live r) = by_fall t more r (fall_of r.count)
-
-      by_list : (xs : List ℕ) → (end_from l xs).lists.cleanups ≡ l.cleanups
-      by_list [] = refl
-      by_list (t ∷ more) = by_entry t more (entry l t)

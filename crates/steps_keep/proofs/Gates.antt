@@ -11,7 +11,7 @@ use Rattle.stands_for.specs.event_runs.Runs.{Goes, Ends}
 use Rattle.stands_for.specs.eh_bus.Lists.{Has}
 use Rattle.stands_for.specs.eh_bus.Segment.{Segment}
 use Rattle.stands_for.proofs.eh_bus.MapLaws.{map_trans}
-use Rattle.stands_for.specs.eh_cxa.Lists.{Cleanup, slots}
+use Rattle.stands_for.specs.eh_cxa.Lists.{slots}
 use Rattle.stands_for.specs.eh_cxa.ListCalls.{innermost_in}
 use Rattle.stands_for.specs.eh_cxa.Words.{put_all}
 use Rattle.stands_for.specs.eh_gates.Resuming.{goal_in}
@@ -40,7 +40,7 @@ use Rattle.stands_for.specs.frame_check.Roots.{scene_of}
 use Rattle.stands_for.specs.frame_check.Spots.{look}
 use Rattle.stands_for.specs.two_machines.Program.{guide}
 use Rattle.stands_for.specs.two_machines.Machine.{sp_end, goes_behind}
-use Rattle.stands_for.specs.two_machines.Activations.{Recorded, reg_in, memory_of}
+use Rattle.stands_for.specs.two_machines.Activations.{Recorded, reg_in, memory_of, lists_of, cleanups_in, InProgress, with_lists}
 use Rattle.stands_for.specs.two_machines.Corresponds.{Corresponds, WalksNone, IsInPlace}
 use Rattle.stands_for.specs.two_machines.Checked.{program_of}
 use Rattle.stands_for.proofs.two_machines.CallEvents.{calls_match}
@@ -96,10 +96,10 @@ module _ (x : Accepted) (is : IsProgram x) (s : Recorded) (k : Keeps x s) (at : 
     segments = (put_all b.writes (memory_of s)).segments
 
     abbrev u : Recorded
-    u = record s { regs = b.regs; lists = b.lists; segments = segments }
+    u = record (with_lists b.lists b.writes s) { regs = b.regs }
 
-    kept : IsKeptByWrites (slots s.lists.cleanups) (memory_of s) (record (memory_of s) { segments = segments })
-    kept = subst (IsKeptByWrites (slots s.lists.cleanups) (memory_of s)) (segments_alone b.writes (memory_of s)) (tame_keeps (slots s.lists.cleanups) b.writes (memory_of s) k.corresponds.map b.tame)
+    kept : IsKeptByWrites (slots (cleanups_in s.cleanups)) (memory_of s) (record (memory_of s) { segments = segments })
+    kept = subst (IsKeptByWrites (slots (cleanups_in s.cleanups)) (memory_of s)) (segments_alone b.writes (memory_of s)) (tame_keeps (slots (cleanups_in s.cleanups)) b.writes (memory_of s) k.corresponds.map b.tame)
 
     same_words : SameWords s.home s.segments segments
     same_words g low high = let home = k.corresponds.map.home in kept.loads g (omega (arith, home.low, low))
@@ -136,20 +136,20 @@ module _ (x : Accepted) (is : IsProgram x) (s : Recorded) (k : Keeps x s) (at : 
               record { low = one.low; deep = omega (arith, one.deep, frame.0); holds = one.holds; slot = one.slot };
         }
 
-    same_goal : (slot : ℕ) → Has (slots s.lists.cleanups) slot → goal_at u slot ≡ goal_at s slot
+    same_goal : (slot : ℕ) → Has (slots (cleanups_in s.cleanups)) slot → goal_at u slot ≡ goal_at s slot
     same_goal slot has = ap goal_in (kept.barriers slot has)
 
-    in_progress : (low : ℕ) (places : List ℕ) (cleanups : List Cleanup) → ((slot : ℕ) → Has (slots cleanups) slot → goal_at u slot ≡ goal_at s slot) → AreInProgress x s low places cleanups → AreInProgress x u low places cleanups
-    in_progress low [] [] goals q = tt
-    in_progress low [] (d ∷ later) goals q = q
-    in_progress low (n ∷ places) [] goals q = q
-    in_progress low (n ∷ places) (d ∷ later) goals q =
+    in_progress : (low : ℕ) (cleanups : List InProgress) → ((slot : ℕ) → Has (slots (cleanups_in cleanups)) slot → goal_at u slot ≡ goal_at s slot) → AreInProgress x s low cleanups
+        → AreInProgress x u low cleanups
+    in_progress low [] goals q = tt
+    in_progress low (c ∷ later) goals q =
+        let d = c.cleanup in
         let goal = goals d.slot (inl refl) in (
           q.0,
-          subst (λ (g : Goal). IsHeld x segments g n d (s.first ∷ s.outer)) (sym goal)
-              (held_moves s.home s.segments segments x (goal_at s d.slot) n d (s.first ∷ s.outer) (first_same, outer_same) q.1),
-          subst (λ (g : Goal). IsWithin g.sp later) (sym goal) q.2,
-          in_progress d.sp places later (λ slot h. goals slot (inr h)) q.3,
+          subst (λ (g : Goal). IsHeld x segments g c.place d (s.first ∷ s.outer)) (sym goal)
+              (held_moves s.home s.segments segments x (goal_at s d.slot) c.place d (s.first ∷ s.outer) (first_same, outer_same) q.1),
+          subst (λ (g : Goal). IsWithin g.sp (cleanups_in later)) (sym goal) q.2,
+          in_progress d.sp later (λ slot h. goals slot (inr h)) q.3,
         )
 
     pc : b.regs.pc ≡ s.regs.pc + size
@@ -174,12 +174,11 @@ module _ (x : Accepted) (is : IsProgram x) (s : Recorded) (k : Keeps x s) (at : 
           (subst (λ n. begins_function x.image.functions n ≡ false) (sym b.pc) fresh);
       beyond = k.beyond;
       chain = chain_moves s.home s.segments segments x s.first.caller s.outer outer_same k.chain;
-      cleanups = subst (λ (cs : List Cleanup). AreInProgress x u (slice_index b.regs.r SP) s.places cs) (sym b.cleanups)
-          (subst (λ n. AreInProgress x u n s.places s.lists.cleanups) (sym sp) (in_progress (reg_in s SP) s.places s.lists.cleanups same_goal k.cleanups));
+      cleanups = subst (λ n. AreInProgress x u n s.cleanups) (sym sp) (in_progress (reg_in s SP) s.cleanups same_goal k.cleanups);
     }
 
-    pub behind_keeps : IsCounted t.lists → Corresponds t → begins_function x.image.functions regs.pc ≡ false → Keeps x t
-    behind_keeps counted c fresh = subst (Keeps x) (sym b.is) (behind_u (subst (λ (v : Recorded). IsCounted v.lists) b.is counted) (subst Corresponds b.is c) fresh)
+    pub behind_keeps : IsCounted (lists_of t) → Corresponds t → begins_function x.image.functions regs.pc ≡ false → Keeps x t
+    behind_keeps counted c fresh = subst (Keeps x) (sym b.is) (behind_u (subst (λ (v : Recorded). IsCounted (lists_of v)) b.is counted) (subst Corresponds b.is c) fresh)
 
   -- ---- the event
 
@@ -191,8 +190,8 @@ module _ (x : Accepted) (is : IsProgram x) (s : Recorded) (k : Keeps x s) (at : 
     plain_behind : (after : Regs) → after.pc ≡ regs.pc → AreWords 15 after.r → ((j : ℕ) → 2 ≤ j → slice_index after.r j ≡ slice_index s.regs.r j) → begins_function x.image.functions regs.pc ≡ false
         → Keeps x (record s { regs = after })
     plain_behind after pc words others fresh =
-        behind_keeps (record s { regs = after }) (record { regs = after; lists = s.lists; writes = []; is = refl; tame = tt; cleanups = refl; pc = pc; words = words; others = others })
-        k.counted (record { map = k.corresponds.map; stands = k.corresponds.stands; placed = k.corresponds.placed }) fresh
+        behind_keeps (record s { regs = after }) (record { regs = after; lists = lists_of s; writes = []; is = refl; tame = tt; pc = pc; words = words; others = others })
+        k.counted (record { map = k.corresponds.map; stands = k.corresponds.stands }) fresh
 
     low_event : Fresh → OnEvent x (acts.in_state s (gate_event number s.regs regs input))
     low_event fresh = go (number == EXIT_GATE) (number == OUTPUT_GATE) refl (number == INPUT_GATE) refl
@@ -210,7 +209,7 @@ module _ (x : Accepted) (is : IsProgram x) (s : Recorded) (k : Keeps x s) (at : 
             (λ j far. set_others s.regs.r 0 (byte_or_end (slice_get input 0)) j (omega arith) far) (fresh (subst (λ n. goes_behind n ≡ true) (sym (eqb-true number INPUT_GATE f)) refl))
         go false false e false f = ended
 
-    high_event : (q : acts.Outcome) → Behaves s number regs.pc q → IsCounted q.1.lists → Corresponds q.1 → Fresh → OnEvent x (acts.event_of q input)
+    high_event : (q : acts.Outcome) → Behaves s number regs.pc q → IsCounted (lists_of q.1) → Corresponds q.1 → Fresh → OnEvent x (acts.event_of q input)
     high_event (Went, t) h counted c fresh = behind_keeps t h.1 counted c (fresh h.0)
     high_event (Ended end, t) h counted c fresh = subst (Keeps x) (sym h) k
 
@@ -226,7 +225,7 @@ module _ (x : Accepted) (is : IsProgram x) (s : Recorded) (k : Keeps x s) (at : 
     tested : (o : Option End) → acts.tests (program_of x) s (Gate number) regs ≡ o → OnEvent x (acts.onward (program_of x) s (acts.tested (program_of x) s (Gate number) regs (memory_of s) o) input)
     tested (Some end) e = k
     tested None e =
-        let way = none_or (sp_end (innermost_in s.lists.cleanups) s.home.0 s.regs.pc (reg_in s SP) (slice_index regs.r SP)) _ e in
+        let way = none_or (sp_end (innermost_in (cleanups_in s.cleanups)) s.home.0 s.regs.pc (reg_in s SP) (slice_index regs.r SP)) _ e in
         gated (λ on. fresh (goes_behind number) on way)
       where
         fresh : (b : Bool) → b ≡ true → cond b (if begins_function x.image.functions regs.pc then Some (the_end.Trap kind.FellOff regs.pc s.regs.pc) else None) None ≡ None → begins_function x.image.functions regs.pc ≡ false

@@ -5,7 +5,7 @@ use Rattle.std.specs.Prelude.{slice_index}
 use Rattle.std.proofs.lemmas.List.{get_or_append_left, get_or_past}
 use Rattle.frames_same.specs.eh_bus.Lists.{Has}
 use Rattle.frames_same.specs.eh_bus.Memory.{stays_guarded, Memory, loads}
-use Rattle.frames_same.specs.two_machines.Activations.{Activation, released_in, Caller, Recorded, registers_of, reg_in}
+use Rattle.frames_same.specs.two_machines.Activations.{Activation, released_in, Caller, Recorded, registers_of, reg_in, InProgress}
 use Rattle.frames_same.specs.eh_bus.Map.{SameMap, IsMap}
 use Rattle.frames_same.specs.eh_bus.declared.map.TheConstants.{POOL_START, SLOT_SIZE, STACK_START, STACK_END}
 use Rattle.frames_same.proofs.eh_bus.PartLaws.{host_map}
@@ -218,16 +218,28 @@ module _ (x : Accepted) (is : IsProgram x) (s : Recorded) (k : Keeps x s) (site 
           is_even = let e = placed.even in omega (arith, at, e);
         }
 
-    module _ (lists : Lists) (places : List ℕ) (segments : List Segment) (events : Trace) (stack_same : (g : ℕ) → STACK_START ≤ g → g + 4 ≤ STACK_END → loads 4 segments g ≡ loads 4 s.segments g) where
+    module _ (lists : Lists) (cleanups : List InProgress) (segments : List Segment) (events : Trace) (stack_same : (g : ℕ) → STACK_START ≤ g → g + 4 ≤ STACK_END → loads 4 segments g ≡ loads 4 s.segments g) where
       -- the state behind it
       abbrev pub left : Recorded
-      left = record { regs = regs; lists = lists; places = places; segments = segments; home = s.home; events = events; first = n.first; outer = n.more; beyond = s.beyond }
+      left = record {
+        regs = regs;
+        entries = lists.entries;
+        caught = lists.caught;
+        cleanups = cleanups;
+        uncaught = lists.uncaught;
+        segments = segments;
+        home = s.home;
+        events = events;
+        first = n.first;
+        outer = n.more;
+        beyond = s.beyond;
+      }
 
       links : IsWhole n.first.caller × Chain x s.segments s.home n.first.caller n.more
       links = chain_from x s.segments s.home s.first s.outer n.cut n.first n.more n.all k.whole k.chain
 
-      pub landed_keeps : IsCounted lists → Corresponds left → SameMap s.segments segments → AreInProgress x left n.frame.sp places lists.cleanups → Keeps x left
-      landed_keeps counted corresponds same cleanups = record {
+      pub landed_keeps : IsCounted lists → Corresponds left → SameMap s.segments segments → AreInProgress x left n.frame.sp cleanups → Keeps x left
+      landed_keeps counted corresponds same in_progress = record {
         corresponds = corresponds;
         counted = counted;
         image = map_trans (image_start x.image).memory.segments s.segments segments k.image same;
@@ -239,5 +251,5 @@ module _ (x : Accepted) (is : IsProgram x) (s : Recorded) (k : Keeps x s) (site 
         first = λ reached. stands_there s.segments segments stack_same x n.first regs regs.pc n.frame.sp n.rest.rise.0 above (let t = n.rest.rise.2 in let r = roof in omega (arith, t, r)) stands;
         beyond = k.beyond;
         chain = chain_there s.segments segments stack_same x s.home roof n.first.caller n.more (let a = above in let u = n.rest.rise.1 in omega (arith, a, u)) links.1;
-        cleanups = subst (λ (m : ℕ). AreInProgress x left m places lists.cleanups) (sym n.register) cleanups;
+        cleanups = subst (λ (m : ℕ). AreInProgress x left m cleanups) (sym n.register) in_progress;
       }

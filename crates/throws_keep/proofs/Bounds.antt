@@ -12,7 +12,7 @@ use Rattle.frames_same.specs.unwind_codes.Cut.{cut}
 use Rattle.frames_same.specs.eh_phase.Frames.{framed, frame_of, covered_at, site_of, ended}
 use Rattle.frames_same.specs.eh_phase.declared.walk.Covered.{Covered}
 use Rattle.frames_same.specs.thumb_core.declared.regs.TheConstants.{SP}
-use Rattle.frames_same.specs.two_machines.Activations.{where_unwound, framed_at, Activation, registers_of, ends_at, outside, Recorded, first_place, frames_at}
+use Rattle.frames_same.specs.two_machines.Activations.{where_unwound, framed_at, Activation, registers_of, ends_at, outside, Recorded, first_place, frames_at, InProgress, cleanups_in}
 use Rattle.frames_same.specs.eh_bus.Segment.{Segment}
 use Rattle.frames_same.specs.eh_cxa.Lists.{Cleanup, slots}
 use Rattle.frames_same.specs.eh_phase.declared.phase2.Goal.{Goal}
@@ -35,6 +35,7 @@ use Rattle.frames_same.specs.stands_for.Holds.{IsWhole}
 use Rattle.frames_same.specs.stands_for.Chain.{Chain}
 use Rattle.frames_same.specs.stands_for.Cleanups.{IsHeld, goal_at, IsWithin, AreInProgress}
 use Rattle.frames_same.proofs.Outwards.{at_sp}
+use Rattle.frames_same.proofs.stands_for.Written.{landings_rise}
 use Rattle.throws_keep.proofs.Behind.{held_there, held_outside}
 use Rattle.frames_same.proofs.Located.{Rest}
 
@@ -91,12 +92,12 @@ found_at top m fs b all e = elim (innermost_decides m fs) [
     by_verdict f (says.Terminate why) l e = absurd cc
 
 -- So a throw's barrier stands at or below the landing sp of the innermost cleanup in progress.
-pub barrier_within : (x : Accepted) (s : Recorded) (site : ℕ) (r : List ℕ) (m : Meeting) (b : Barrier) → IsWhole s.first.caller → Chain x s.segments s.home s.first.caller s.outer → (places : List ℕ) (cleanups : List Cleanup)
-    → AreInProgress x s (slice_index r SP) places cleanups → phase1 m (frames_at x.image (first_place places) site r s.first s.outer) ≡ found.Barrier b → IsWithin b.sp cleanups
-barrier_within x s site r m b whole ch [] [] p e = tt
-barrier_within x s site r m b whole ch [] (c ∷ more) p e = absurd p
-barrier_within x s site r m b whole ch (n ∷ later) [] p e = absurd p
-barrier_within x s site r m b whole ch (n ∷ later) (c ∷ more) p e =
+pub barrier_within : (x : Accepted) (s : Recorded) (site : ℕ) (r : List ℕ) (m : Meeting) (b : Barrier) → IsWhole s.first.caller → Chain x s.segments s.home s.first.caller s.outer → (cleanups : List InProgress)
+    → AreInProgress x s (slice_index r SP) cleanups → phase1 m (frames_at x.image (first_place cleanups) site r s.first s.outer) ≡ found.Barrier b → IsWithin b.sp (cleanups_in cleanups)
+barrier_within x s site r m b whole ch [] p e = tt
+barrier_within x s site r m b whole ch (d ∷ more) p e =
+    let c = d.cleanup in
+    let n = d.place in
     found_at c.sp m (frames_at x.image (Some n) site r s.first s.outer) b
     (at_framed c.sp (outside x.image (Some n) s.first.caller s.outer) site r (covered_at x.image site) p.0 (at_outside x s.segments s.home (goal_at s c.slot) n c s.first s.outer whole ch p.1)) e
 
@@ -133,24 +134,16 @@ module _ (x : Accepted) (s t : Recorded) (sp : ℕ) (cut : List Activation) (a :
       (held_there s.segments t.segments stack_same x g n c s.home.1 sp (a ∷ more) above roof rest.rise
       (held_outside x s.segments g n c sp cut a more l rest.under (subst (IsHeld x s.segments g n c) all held)))))
 
-  pub still_in_progress : (old low : ℕ) (places : List ℕ) (cleanups : List Cleanup) → IsWithin sp cleanups → IsWithin low cleanups → ((slot : ℕ) → Has (slots cleanups) slot → goal_at t slot ≡ goal_at s slot)
-      → AreInProgress x s old places cleanups → AreInProgress x t low places cleanups
-  still_in_progress old low [] [] w l goals p = tt
-  still_in_progress old low [] (c ∷ later) w l goals p = absurd p
-  still_in_progress old low (n ∷ places) [] w l goals p = absurd p
-  still_in_progress old low (n ∷ places) (c ∷ later) w l goals p = (
+  pub still_in_progress : (old low : ℕ) (cleanups : List InProgress) → IsWithin sp (cleanups_in cleanups) → IsWithin low (cleanups_in cleanups)
+      → ((slot : ℕ) → Has (slots (cleanups_in cleanups)) slot → goal_at t slot ≡ goal_at s slot) → AreInProgress x s old cleanups → AreInProgress x t low cleanups
+  still_in_progress old low [] w l goals p = tt
+  still_in_progress old low (d ∷ later) w l goals p = (
     l,
-    held_one (goal_at s c.slot) (goal_at t c.slot) n c (goals c.slot (inl refl)) w p.1,
-    subst (λ (g : Goal). IsWithin g.sp later) (sym (goals c.slot (inl refl))) p.2,
-    still_in_progress c.sp c.sp places later (further places later p.3) (at_next places later p.3) (λ slot h. goals slot (inr h)) p.3,
+    held_one (goal_at s d.cleanup.slot) (goal_at t d.cleanup.slot) d.place d.cleanup (goals d.cleanup.slot (inl refl)) w p.1,
+    subst (λ (g : Goal). IsWithin g.sp (cleanups_in later)) (sym (goals d.cleanup.slot (inl refl))) p.2,
+    still_in_progress d.cleanup.sp d.cleanup.sp later (further later p.3) (landings_rise x s d.cleanup.sp later p.3) (λ slot h. goals slot (inr h)) p.3,
   )
     where
-      at_next : (places : List ℕ) (later : List Cleanup) → AreInProgress x s c.sp places later → IsWithin c.sp later
-      at_next places [] p = tt
-      at_next [] (d ∷ later) p = absurd p
-      at_next (n ∷ places) (d ∷ later) p = p.0
-
-      further : (places : List ℕ) (later : List Cleanup) → AreInProgress x s c.sp places later → IsWithin sp later
-      further places [] p = tt
-      further [] (d ∷ later) p = absurd p
-      further (n ∷ places) (d ∷ later) p = let l = p.0 in omega (arith, l, w)
+      further : (later : List InProgress) → AreInProgress x s d.cleanup.sp later → IsWithin sp (cleanups_in later)
+      further [] p = tt
+      further (c ∷ later) p = let l = p.0 in omega (arith, l, w)

@@ -9,13 +9,12 @@ use Rattle.frames_same.specs.eh_cxa.declared.layout.TheConstants.{BARRIER_SP, BA
 use Rattle.frames_same.specs.eh_bus.Memory.{Memory}
 use Rattle.frames_same.specs.frame_scene.Sites.{pad_of}
 use Rattle.frames_same.specs.frame_check.Accepts.{Accepted}
-use Rattle.frames_same.specs.two_machines.Activations.{Recorded, Activation, memory_of, heads, with_words, with_lists, frames_at}
+use Rattle.frames_same.specs.two_machines.Activations.{Recorded, Activation, memory_of, heads, with_words, with_lists, frames_at, cleanups_in, InProgress, lists_of}
 use Rattle.frames_same.specs.eh_bus.Lists.{Has}
 use Rattle.frames_same.specs.eh_bus.Map.{IsMap}
 use Rattle.frames_same.specs.eh_bus.Segment.{Segment}
 use Rattle.frames_same.specs.eh_bus.declared.map.TheConstants.{STACK_START}
 use Rattle.frames_same.specs.eh_cxa.Lists.{Lists, Cleanup, slots}
-use Rattle.frames_same.specs.eh_cxa.ListCalls.{begin_cleanup_list}
 use Rattle.frames_same.specs.eh_cxa.declared.globals.BarrierWords.{BarrierWords}
 use Rattle.frames_same.specs.eh_cxa.Throw.{set_barrier_of}
 use Rattle.frames_same.proofs.eh_cxa.Pools.{slot_of_block_is}
@@ -57,8 +56,8 @@ pub offers_of : (x : Accepted) (is : IsProgram x) (s : Recorded) (k : Keeps x s)
 offers_of x is s k site here n pad next c = record { before = c.before; desc = c.desc; after = c.after; items = c.items; scope = c.scope; kind = ap pad_of c.kind }
 
 module _ (x : Accepted) (is : IsProgram x) (s : Recorded) (k : Keeps x s) (site : ℕ) (here : IsSiteOf x s site) (deep : is_call here.instr ≡ true → 4 ≤ here.at.fact.depth) (n : Enters x is s k site here) (pad next : ℕ)
-    (c : IsCleanupOf n.frame pad next) (slot : ℕ) (writes : List Write) (flown : Lists) (flight : HasFlown s slot writes flown) (cleanups_same : flown.cleanups ≡ s.lists.cleanups) (of_slot : AreOf slot writes) (counted : IsCounted flown)
-    (within : IsWithin n.frame.sp s.lists.cleanups) (e : Event) (b : BarrierWords) (small_sp : b.sp < 2 ^ 32) (small_desc : b.desc < 2 ^ 32) (bound : IsWithin b.sp s.lists.cleanups)
+    (c : IsCleanupOf n.frame pad next) (slot : ℕ) (writes : List Write) (flown : Lists) (flight : HasFlown s slot writes flown) (cleanups_same : flown.cleanups ≡ cleanups_in s.cleanups) (of_slot : AreOf slot writes) (counted : IsCounted flown)
+    (within : IsWithin n.frame.sp (cleanups_in s.cleanups)) (e : Event) (b : BarrierWords) (small_sp : b.sp < 2 ^ 32) (small_desc : b.desc < 2 ^ 32) (bound : IsWithin b.sp (cleanups_in s.cleanups))
     (reach : is_reached (goal_in b) next (frames_at x.image None n.frame.site (by_sp n.frame.sp) n.first n.more).frames ≡ true) (logs : Event) where
   abbrev offers : Offers n.frame pad
   offers = offers_of x is s k site here n pad next c
@@ -69,13 +68,17 @@ module _ (x : Accepted) (is : IsProgram x) (s : Recorded) (k : Keeps x s) (site 
   abbrev words : CleanupWords
   words = words_of n.frame.r next n.frame.site
 
+  -- the cleanup that is entered, at its place
+  abbrev pub entered : InProgress
+  entered = record { cleanup = record { slot = slot; next = next; sp = slice_index n.frame.r SP; site = n.frame.site }; place = length n.more }
+
   abbrev pub goes_in : Option ℕ → Recorded
   goes_in o = machine.logged (machine.at_pad
-      (record (with_lists (begin_cleanup_list flown slot words) (cleanup_at (heads flown) (block slot) words o).writes before_landing) { places = length n.more ∷ s.places })
+      (record (with_words (cleanup_at (heads (lists_of before_landing)) (block slot) words o).writes before_landing) { cleanups = entered ∷ s.cleanups })
       (n.first ∷ n.more) n.frame.r pad 0) logs
 
   abbrev begin_writes : List Write
-  begin_writes = (cleanup_at (heads flown) (block slot) words (Some slot)).writes
+  begin_writes = (cleanup_at (heads (lists_of before_landing)) (block slot) words (Some slot)).writes
 
   abbrev segments : List Segment
   segments = (put_all begin_writes (memory_of before_landing)).segments
@@ -87,14 +90,14 @@ module _ (x : Accepted) (is : IsProgram x) (s : Recorded) (k : Keeps x s) (site 
   map_there = map_behind x is s k site here n pad offers slot writes flown flight cleanups_same of_slot counted within e b
 
   abbrev kept : Recorded
-  kept = left x is s k site here n pad 0 (omega arith) offers (begin_cleanup_list flown slot words) (length n.more ∷ s.places) segments (pushed (pushed s.events e) logs)
-      (λ g low high. (wrote_one slot begin_writes before_landing (record before_landing { segments = segments }) flight.small (begins_of (heads flown) slot words) map_there refl).stack g low high ∙ to_behind.stack g low high)
+  kept = left x is s k site here n pad 0 (omega arith) offers (lists_of before_landing) (entered ∷ s.cleanups) segments (pushed (pushed s.events e) logs)
+      (λ g low high. (wrote_one slot begin_writes before_landing (record before_landing { segments = segments }) flight.small (begins_of (heads (lists_of before_landing)) slot words) map_there refl).stack g low high ∙ to_behind.stack g low high)
 
   same_state : goes_in (Some slot) ≡ kept
   same_state =
       let sp = slice_index n.frame.r SP in
       let e = n.register in
-      let pads : Recorded = machine.at_pad (record (with_lists (begin_cleanup_list flown slot words) begin_writes before_landing) { places = length n.more ∷ s.places }) (n.first ∷ n.more) n.frame.r pad 0 in
+      let pads : Recorded = machine.at_pad (record (with_words begin_writes before_landing) { cleanups = entered ∷ s.cleanups }) (n.first ∷ n.more) n.frame.r pad 0 in
       let stays : pads ≡ record pads { first = n.first; outer = n.more; beyond = s.beyond } =
       ap (λ (f : Activation). record pads { first = f }) (released_same s.home sp n.frame.sp n.first (omega (arith, e)) n.rest.rise.0)
       ∙ ap (λ (acts : List Activation). record pads { first = n.first; outer = acts }) (all_released_same s.home s.home.1 sp n.first.caller.sp n.more (let up = n.rest.rise.1 in omega (arith, e, up)) n.rest.rise.3)
@@ -102,10 +105,10 @@ module _ (x : Accepted) (is : IsProgram x) (s : Recorded) (k : Keeps x s) (site 
       ap (λ (r : Recorded). machine.logged r logs) stays
 
   wrote : Wrote slot s kept
-  wrote = wrote_then slot s before_landing kept to_behind (wrote_one slot begin_writes before_landing kept flight.small (begins_of (heads flown) slot words) map_there refl)
+  wrote = wrote_then slot s before_landing kept to_behind (wrote_one slot begin_writes before_landing kept flight.small (begins_of (heads (lists_of before_landing)) slot words) map_there refl)
 
-  differs : (u : ℕ) → Has (slots s.lists.cleanups) u → u ≡ slot → ⊥
-  differs u h e = flight.idle (subst (λ (cs : List Cleanup). Has (slots cs) slot) (sym cleanups_same) (subst (Has (slots s.lists.cleanups)) e h))
+  differs : (u : ℕ) → Has (slots (cleanups_in s.cleanups)) u → u ≡ slot → ⊥
+  differs u h e = flight.idle (subst (λ (cs : List Cleanup). Has (slots cs) slot) (sym cleanups_same) (subst (Has (slots (cleanups_in s.cleanups))) e h))
 
   thrown_map : IsMap (memory_of (with_lists flown writes (machine.logged s e)))
   thrown_map = map_with writes s k.corresponds.map
@@ -115,43 +118,38 @@ module _ (x : Accepted) (is : IsProgram x) (s : Recorded) (k : Keeps x s) (site 
   goal_is =
       let m : Memory = memory_of (with_lists flown writes (machine.logged s e)) in
       let sp : word (memory_of kept) slot BARRIER_SP ≡ b.sp =
-      word_same (put_all begin_writes (memory_of before_landing)) (memory_of kept) refl slot BARRIER_SP ∙ puts_else begin_writes (memory_of before_landing) slot BARRIER_SP (begins_else_sp (heads flown) slot words)
+      word_same (put_all begin_writes (memory_of before_landing)) (memory_of kept) refl slot BARRIER_SP ∙ puts_else begin_writes (memory_of before_landing) slot BARRIER_SP (begins_else_sp (heads (lists_of before_landing)) slot words)
       ∙ word_same (put_all (set_barrier_of (Some slot) b) m) (memory_of before_landing) refl slot BARRIER_SP ∙ barrier_sp m slot b thrown_map flight.small small_sp in
       let desc : word (memory_of kept) slot BARRIER_DESCRIPTOR ≡ b.desc =
-      word_same (put_all begin_writes (memory_of before_landing)) (memory_of kept) refl slot BARRIER_DESCRIPTOR ∙ puts_else begin_writes (memory_of before_landing) slot BARRIER_DESCRIPTOR (begins_else_desc (heads flown) slot words)
+      word_same (put_all begin_writes (memory_of before_landing)) (memory_of kept) refl slot BARRIER_DESCRIPTOR ∙ puts_else begin_writes (memory_of before_landing) slot BARRIER_DESCRIPTOR (begins_else_desc (heads (lists_of before_landing)) slot words)
       ∙ word_same (put_all (set_barrier_of (Some slot) b) m) (memory_of before_landing) refl slot BARRIER_DESCRIPTOR ∙ barrier_desc m slot b thrown_map flight.small small_desc in
       ap (λ (v : ℕ). let g : Goal = record { sp = v; desc = word (memory_of kept) slot BARRIER_DESCRIPTOR } in g) sp ∙ ap (λ (v : ℕ). let g : Goal = record { sp = b.sp; desc = v } in g) desc
 
   above : STACK_START ≤ n.frame.sp
   above = let a = k.corresponds.map.home.low in let b = k.low in let c = n.low in omega (arith, a, b, c)
 
-  new_cleanup : Cleanup
-  new_cleanup = record { slot = slot; next = next; sp = slice_index n.frame.r SP; site = n.frame.site }
-
-  entered_new : IsEntered x segments (goal_at kept slot) (record { slot = slot; next = next; sp = slice_index n.frame.r SP; site = n.frame.site }) n.first n.more
+  entered_new : IsEntered x segments (goal_at kept slot) entered.cleanup n.first n.more
   entered_new =
-      subst (λ (g : Goal). IsEntered x segments g (record { slot = slot; next = next; sp = slice_index n.frame.r SP; site = n.frame.site }) n.first n.more) (sym goal_is)
+      subst (λ (g : Goal). IsEntered x segments g entered.cleanup n.first n.more) (sym goal_is)
       (subst (λ (v : ℕ). IsEntered x segments (goal_in b) (record { slot = slot; next = next; sp = v; site = n.frame.site }) n.first n.more) (sym n.register)
       (entered_there s.segments segments wrote.stack x (goal_in b) (record { slot = slot; next = next; sp = n.frame.sp; site = n.frame.site }) n.first n.more n.frame.sp n.rest.rise.0 above
       (let t = n.rest.rise.2 in let r = k.corresponds.map.home.high in omega (arith, t, r)) (cleanup_entered x is s k site here deep n slot pad next c (goal_in b) reach)))
 
-  others : AreInProgress x kept (slice_index n.frame.r SP) s.places flown.cleanups
+  others : AreInProgress x kept (slice_index n.frame.r SP) s.cleanups
   others =
-      subst (AreInProgress x kept (slice_index n.frame.r SP) s.places) (sym cleanups_same)
-      (still_in_progress x s kept n.frame.sp n.cut n.first n.more n.all refl refl n.rest above k.corresponds.map.home.high wrote.stack (slice_index s.regs.r SP) (slice_index n.frame.r SP) s.places s.lists.cleanups within
-      (subst (λ (v : ℕ). IsWithin v s.lists.cleanups) (sym n.register) within) (λ u h. same_goals slot s kept wrote u (differs u h)) k.cleanups)
+      still_in_progress x s kept n.frame.sp n.cut n.first n.more n.all refl refl n.rest above k.corresponds.map.home.high wrote.stack (slice_index s.regs.r SP) (slice_index n.frame.r SP) s.cleanups within
+      (subst (λ (v : ℕ). IsWithin v (cleanups_in s.cleanups)) (sym n.register) within) (λ u h. same_goals slot s kept wrote u (differs u h)) k.cleanups
 
   -- what every event keeps
   pub cleanup_keeps : Corresponds (goes_in (block_slot (block slot))) → Keeps x (goes_in (block_slot (block slot)))
   cleanup_keeps still =
       subst (λ (o : Option ℕ). Keeps x (goes_in o)) (sym is_slot)
       (subst (Keeps x) (sym same_state)
-      (landed_keeps x is s k site here n pad 0 (omega arith) offers (begin_cleanup_list flown slot words) (length n.more ∷ s.places) segments (pushed (pushed s.events e) logs) wrote.stack counted
+      (landed_keeps x is s k site here n pad 0 (omega arith) offers (lists_of before_landing) (entered ∷ s.cleanups) segments (pushed (pushed s.events e) logs) wrote.stack counted
       (subst Corresponds same_state (subst (λ (o : Option ℕ). Corresponds (goes_in o)) is_slot still)) wrote.map (
         (let r = n.register in omega (arith, r)),
         inl (refl, entered_new),
-        subst (λ (cs : List Cleanup). IsWithin (goal_at kept slot).sp cs) (sym cleanups_same)
-            (subst (λ (g : Goal). IsWithin g.sp s.lists.cleanups) (sym goal_is) bound),
+        subst (λ (g : Goal). IsWithin g.sp (cleanups_in s.cleanups)) (sym goal_is) bound,
         others,
       )))
     where

@@ -19,7 +19,7 @@ use Rattle.frames_same.specs.frame_check.Accepts.{Accepted}
 use Rattle.frames_same.specs.eh_gates.State.{Guide}
 use Rattle.frames_same.specs.eh_gates.Landing.{pad_event, words_of}
 use Rattle.frames_same.specs.eh_gates.Throwing.{barrier_words}
-use Rattle.frames_same.specs.two_machines.Activations.{Recorded, with_lists, with_words}
+use Rattle.frames_same.specs.two_machines.Activations.{Recorded, with_lists, with_words, cleanups_in}
 use Rattle.frames_same.specs.two_machines.Corresponds.{Corresponds}
 use Rattle.frames_same.specs.two_machines.Throws.{CanLand}
 use Rattle.frames_same.proofs.two_machines.Flying.{HasFlown}
@@ -39,7 +39,7 @@ use Rattle.throws_keep.proofs.ThrowGates.{can_land}
 use Rattle.throws_keep.proofs.ThrowKeeps.{here, throw_enters, enters_of, throw_within, throw_reaches, cleanup_within}
 
 module _ (x : Accepted) (is : IsProgram x) (s : Recorded) (k : Keeps x s) (imm : ℕ) (does : DoesAt x s (Svc imm)) (g : Guide) (thrown : Thrown) (small : thrown.object < 2 ^ 32) (slot : ℕ) (writes : List Write) (flown : Lists)
-    (e : Event) (b : Barrier) (flight : HasFlown s slot writes flown) (same : flown.cleanups ≡ s.lists.cleanups) (of_slot : AreOf slot writes) (counted : IsCounted flown) (search : machine.searched (ours x is s k imm does g) s thrown ≡ found.Barrier b) where
+    (e : Event) (b : Barrier) (flight : HasFlown s slot writes flown) (same : flown.cleanups ≡ cleanups_in s.cleanups) (of_slot : AreOf slot writes) (counted : IsCounted flown) (search : machine.searched (ours x is s k imm does g) s thrown ≡ found.Barrier b) where
   abbrev m : Meeting
   m = meeting x.image g.types s.segments thrown
 

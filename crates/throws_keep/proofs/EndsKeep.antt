@@ -2,7 +2,7 @@
 use Rattle.std.proofs.Common.{◌≡◌, ℕ, ◌≤◌, List, [], ◌∷◌, refl, sym, subst, arith, Some}
 use Rattle.frames_same.specs.eh_trace.Trace.{Trace}
 use Rattle.frames_same.specs.frame_check.Accepts.{Accepted}
-use Rattle.frames_same.specs.two_machines.Activations.{Recorded, reg_in, with_words, with_lists}
+use Rattle.frames_same.specs.two_machines.Activations.{Recorded, reg_in, with_words, with_lists, cleanups_in, with_exceptions}
 use Rattle.frames_same.specs.eh_bus.Lists.{Has}
 use Rattle.frames_same.specs.eh_bus.Segment.{Segment}
 use Rattle.frames_same.specs.eh_bus.declared.map.TheConstants.{STACK_START}
@@ -18,9 +18,9 @@ use Rattle.frames_same.specs.eh_trace.declared.event.Event.{Event}
 use Rattle.frames_same.proofs.two_machines.Flying.{HasFlown}
 use Rattle.frames_same.specs.two_machines.ActivationMachine as machine
 use Rattle.frames_same.specs.stands_for.Stands.{Keeps, IsCounted}
-use Rattle.frames_same.specs.stands_for.Cleanups.{IsWithin, AreInProgress}
 use Rattle.frames_same.proofs.Agreement.{chain_there}
 use Rattle.throws_keep.proofs.Bounds.{still_in_progress, AreOf}
+use Rattle.frames_same.proofs.stands_for.Written.{landings_rise}
 use Rattle.frames_same.proofs.stands_for.Goes.{chain_top}
 use Rattle.throws_keep.proofs.Handler.{Wrote, same_goals, wrote_one, wrote_then, map_with, barred_of}
 use Rattle.frames_same.proofs.Landing.{rise_outside}
@@ -30,7 +30,7 @@ use Rattle.frames_same.proofs.PadStands.{stands_there}
 -- an event alone
 pub logged_keeps : (x : Accepted) (s : Recorded) (events : Trace) → Keeps x s → Keeps x (record s { events = events })
 logged_keeps x s events k = record {
-  corresponds = record { map = k.corresponds.map; stands = k.corresponds.stands; placed = k.corresponds.placed };
+  corresponds = record { map = k.corresponds.map; stands = k.corresponds.stands };
   counted = k.counted;
   image = k.image;
   sound = k.sound;
@@ -44,10 +44,10 @@ logged_keeps x s events k = record {
   cleanups = k.cleanups;
 }
 
--- words of a slot none of whose cleanups is in progress, and lists with the same cleanups
+-- words of a slot none of whose cleanups is in progress, and other lists
 module _ (x : Accepted) (s : Recorded) (k : Keeps x s) (lists : Lists) (segments : List Segment) (events : Trace) where
   abbrev pub poured : Recorded
-  poured = record s { lists = lists; segments = segments; events = events }
+  poured = record (with_exceptions lists s) { segments = segments; events = events }
 
   above : STACK_START ≤ reg_in s SP
   above = let a = k.corresponds.map.home.low in let b = k.low in omega (arith, a, b)
@@ -58,13 +58,8 @@ module _ (x : Accepted) (s : Recorded) (k : Keeps x s) (lists : Lists) (segments
   rest : Rest s.home.1 (reg_in s SP) [] s.first s.outer
   rest = record { under = tt; rise = (k.slots, k.high, below, rise_outside x s.segments s.home s.first.caller s.outer k.chain) }
 
-  start_within : (places : List ℕ) (cleanups : List Cleanup) → AreInProgress x s (reg_in s SP) places cleanups → IsWithin (reg_in s SP) cleanups
-  start_within places [] p = tt
-  start_within [] (c ∷ later) p = absurd p
-  start_within (n ∷ places) (c ∷ later) p = p.0
-
-  pub poured_keeps : IsCounted lists → (slot : ℕ) → Wrote slot s poured → lists.cleanups ≡ s.lists.cleanups → (Has (slots s.lists.cleanups) slot → ⊥) → Corresponds poured → Keeps x poured
-  poured_keeps counted slot wrote same idle corresponds = record {
+  pub poured_keeps : IsCounted lists → (slot : ℕ) → Wrote slot s poured → (Has (slots (cleanups_in s.cleanups)) slot → ⊥) → Corresponds poured → Keeps x poured
+  poured_keeps counted slot wrote idle corresponds = record {
     corresponds = corresponds;
     counted = counted;
     image = map_trans (image_start x.image).memory.segments s.segments segments k.image wrote.map;
@@ -77,14 +72,13 @@ module _ (x : Accepted) (s : Recorded) (k : Keeps x s) (lists : Lists) (segments
     beyond = k.beyond;
     chain = chain_there s.segments segments wrote.stack x s.home k.corresponds.map.home.high s.first.caller s.outer (let a = above in let b = k.high in omega (arith, a, b)) k.chain;
     cleanups =
-        subst (AreInProgress x poured (reg_in s SP) s.places) (sym same)
-        (still_in_progress x s poured (reg_in s SP) [] s.first s.outer refl refl refl rest above k.corresponds.map.home.high wrote.stack (reg_in s SP) (reg_in s SP) s.places s.lists.cleanups
-        (start_within s.places s.lists.cleanups k.cleanups) (start_within s.places s.lists.cleanups k.cleanups)
-        (λ u h. same_goals slot s poured wrote u (λ e. idle (subst (Has (slots s.lists.cleanups)) e h))) k.cleanups);
+        still_in_progress x s poured (reg_in s SP) [] s.first s.outer refl refl refl rest above k.corresponds.map.home.high wrote.stack (reg_in s SP) (reg_in s SP) s.cleanups
+        (landings_rise x s (reg_in s SP) s.cleanups k.cleanups) (landings_rise x s (reg_in s SP) s.cleanups k.cleanups)
+        (λ u h. same_goals slot s poured wrote u (λ e. idle (subst (Has (slots (cleanups_in s.cleanups))) e h))) k.cleanups;
   }
 
 -- behind the words of a throw and of its barrier: the state that an end by a specification without a pad leaves
-pub behind_keeps : (x : Accepted) (s : Recorded) → Keeps x s → (slot : ℕ) (writes : List Write) (flown : Lists) → HasFlown s slot writes flown → flown.cleanups ≡ s.lists.cleanups → AreOf slot writes → IsCounted flown → (e : Event)
+pub behind_keeps : (x : Accepted) (s : Recorded) → Keeps x s → (slot : ℕ) (writes : List Write) (flown : Lists) → HasFlown s slot writes flown → flown.cleanups ≡ cleanups_in s.cleanups → AreOf slot writes → IsCounted flown → (e : Event)
     (b : BarrierWords) → Corresponds (with_words (set_barrier_of (Some slot) b) (with_lists flown writes (machine.logged s e))) → Keeps x (with_words (set_barrier_of (Some slot) b) (with_lists flown writes (machine.logged s e)))
 behind_keeps x s k slot writes flown flight same of_slot counted e b corresponds =
     let thrown : Recorded = with_lists flown writes (machine.logged s e) in
@@ -92,4 +86,4 @@ behind_keeps x s k slot writes flown flight same of_slot counted e b corresponds
     poured_keeps x s k flown behind.segments behind.events counted slot
     (wrote_then slot s thrown behind (wrote_one slot writes s thrown flight.small of_slot k.corresponds.map refl)
     (wrote_one slot (set_barrier_of (Some slot) b) thrown behind flight.small (barred_of slot b) (map_with writes s k.corresponds.map) refl))
-    same (λ h. flight.idle (subst (λ (cs : List Cleanup). Has (slots cs) slot) (sym same) h)) corresponds
+    (λ h. flight.idle (subst (λ (cs : List Cleanup). Has (slots cs) slot) (sym same) h)) corresponds

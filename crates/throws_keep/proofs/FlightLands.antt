@@ -22,7 +22,7 @@ use Rattle.frames_same.specs.frame_check.Accepts.{Accepted}
 use Rattle.frames_same.specs.eh_gates.State.{Guide}
 use Rattle.frames_same.specs.eh_gates.Landing.{pad_event}
 use Rattle.frames_same.specs.eh_gates.Throwing.{handed, barrier_words}
-use Rattle.frames_same.specs.two_machines.Activations.{Activation, Recorded, with_lists, with_words}
+use Rattle.frames_same.specs.two_machines.Activations.{Activation, Recorded, with_lists, with_words, cleanups_in}
 use Rattle.frames_same.specs.two_machines.Corresponds.{Corresponds}
 use Rattle.frames_same.proofs.two_machines.Flying.{HasFlown, flown_bytes, flies_match}
 use Rattle.frames_same.specs.eh_phase.declared.phase1.Found.TheVariants as found
@@ -50,7 +50,7 @@ module _ (x : Accepted) (is : IsProgram x) (s : Recorded) (k : Keeps x s) (imm :
   frames = recorded_frames x is s k s.regs.pc throws None
 
   module _ (thrown : Thrown) (small : thrown.object < 2 ^ 32) (slot : ℕ) (writes : List Write) (flown : Lists) (e : Event) (b : Barrier) (flight : HasFlown s slot writes flown)
-      (same : flown.cleanups ≡ s.lists.cleanups) (of_slot : AreOf slot writes) (counted : IsCounted flown) (search : machine.searched ours s thrown ≡ found.Barrier b) where
+      (same : flown.cleanups ≡ cleanups_in s.cleanups) (of_slot : AreOf slot writes) (counted : IsCounted flown) (search : machine.searched ours s thrown ≡ found.Barrier b) where
     abbrev m : Meeting
     m = meeting x.image g.types s.segments thrown
 

@@ -8,7 +8,7 @@ use Rattle.frames_same.specs.eh_phase.declared.verdict.Thrown.{Thrown}
 use Rattle.frames_same.specs.eh_trace.declared.event.Event.{Event}
 use Rattle.frames_same.specs.frame_check.Accepts.{Accepted}
 use Rattle.frames_same.specs.eh_gates.State.{Guide}
-use Rattle.frames_same.specs.two_machines.Activations.{Recorded, with_lists, reg_in, memory_of, heads, words_in}
+use Rattle.frames_same.specs.two_machines.Activations.{Recorded, with_lists, reg_in, memory_of, heads, words_in, lists_of, cleanups_in}
 use Rattle.frames_same.proofs.two_machines.Flying.{HasFlown}
 use Rattle.frames_same.specs.eh_bus.Lists.{Has}
 use Rattle.frames_same.specs.eh_cxa.declared.globals.CxaFault.{CxaFault}
@@ -41,7 +41,7 @@ use Rattle.frames_same.proofs.stands_for.CountedLists.{more_small}
 
 -- what is left behind the words of a flight of one slot, for a barrier that was found
 abbrev pub FlightKeeps : Guide → Accepted → Recorded → Thrown → Type 0
-FlightKeeps g x s thrown = (slot : ℕ) (writes : List Write) (flown : Lists) (e : Event) (b : Barrier) → HasFlown s slot writes flown → flown.cleanups ≡ s.lists.cleanups → AreOf slot writes → IsCounted flown
+FlightKeeps g x s thrown = (slot : ℕ) (writes : List Write) (flown : Lists) (e : Event) (b : Barrier) → HasFlown s slot writes flown → flown.cleanups ≡ cleanups_in s.cleanups → AreOf slot writes → IsCounted flown
     → machine.searched g s thrown ≡ found.Barrier b → Keeps x (machine.throw_to g s.regs.pc (block slot) b (with_lists flown writes (machine.logged s e))).1
 
 module _ (g : Guide) (x : Accepted) (s : Recorded) (k : Keeps x s) where
@@ -51,7 +51,7 @@ module _ (g : Guide) (x : Accepted) (s : Recorded) (k : Keeps x s) where
   -- events of the trace are no part of it
   pub logged_keeps : (e : Event) → Keeps x (machine.logged s e)
   logged_keeps e = record {
-    corresponds = record { map = k.corresponds.map; stands = k.corresponds.stands; placed = k.corresponds.placed };
+    corresponds = record { map = k.corresponds.map; stands = k.corresponds.stands };
     counted = k.counted;
     image = k.image;
     sound = k.sound;
@@ -71,7 +71,7 @@ module _ (g : Guide) (x : Accepted) (s : Recorded) (k : Keeps x s) where
   sought_keeps further what thrown h = go (is_some (row_of g.types thrown.ty))
     where
       abbrev_event : Event
-      abbrev_event = throw_event what (memory_of s) thrown (machine.size_of s.lists (object_slot thrown.object))
+      abbrev_event = throw_event what (memory_of s) thrown (machine.size_of (lists_of s) (object_slot thrown.object))
 
       by : (f : Found) → machine.searched g s thrown ≡ f → Keeps x (machine.from_barrier further (barrier_in s.regs.pc f, machine.logged s abbrev_event)).1
       by (found.Barrier b) e = h abbrev_event b e
@@ -92,38 +92,38 @@ module _ (g : Guide) (x : Accepted) (s : Recorded) (k : Keeps x s) where
     refused_keeps why e = subst (λ (r : Result ℕ CxaFault). Keeps x (machine.throws g s r).1) (sym e) k
 
     module _ (slot : ℕ) (is : object_slot (reg_in s 0) ≡ Some slot) (st : Stage) (name : named (word (memory_of s) slot STATE) ≡ Some st)
-        (live_is : entry s.lists slot ≡ Live (record_of st (word (memory_of s)) slot)) (fresh : is_fresh (Some st) ≡ true) where
+        (live_is : entry (lists_of s) slot ≡ Live (record_of st (word (memory_of s)) slot)) (fresh : is_fresh (Some st) ≡ true) where
       small : slot < SLOTS
       small = object_small (reg_in s 0) slot is
 
       abbrev flight : Done (Result ℕ CxaFault)
-      flight = throw_by true (heads s.lists) slot with_type
+      flight = throw_by true (heads (lists_of s)) slot with_type
 
       abbrev flown : Lists
       flown = record {
-        entries = set s.lists.entries slot (Live (thrown_record with_type (record_of st (word (memory_of s)) slot)));
-        caught = s.lists.caught;
-        cleanups = s.lists.cleanups;
-        uncaught = one_more s.lists.uncaught;
+        entries = set s.entries slot (Live (thrown_record with_type (record_of st (word (memory_of s)) slot)));
+        caught = s.caught;
+        cleanups = cleanups_in s.cleanups;
+        uncaught = one_more s.uncaught;
       }
 
-      by_words : start_throw_of (word (memory_of s)) (heads s.lists) (object_slot (reg_in s 0)) with_type ≡ flight
+      by_words : start_throw_of (word (memory_of s)) (heads (lists_of s)) (object_slot (reg_in s 0)) with_type ≡ flight
       by_words =
-          ap (λ (o : Option ℕ). start_throw_of (word (memory_of s)) (heads s.lists) o with_type) is
-          ∙ ap (λ n. throw_by (is_fresh n) (heads s.lists) slot with_type) name ∙ ap (λ (b : Bool). throw_by b (heads s.lists) slot with_type) fresh
+          ap (λ (o : Option ℕ). start_throw_of (word (memory_of s)) (heads (lists_of s)) o with_type) is
+          ∙ ap (λ n. throw_by (is_fresh n) (heads (lists_of s)) slot with_type) name ∙ ap (λ (b : Bool). throw_by b (heads (lists_of s)) slot with_type) fresh
 
-      by_list_words : start_throw_of (words_in s.lists) (heads s.lists) (object_slot (reg_in s 0)) with_type ≡ flight
+      by_list_words : start_throw_of (words_in (lists_of s)) (heads (lists_of s)) (object_slot (reg_in s 0)) with_type ≡ flight
       by_list_words =
-          ap (λ (o : Option ℕ). start_throw_of (words_in s.lists) (heads s.lists) o with_type) is
-          ∙ ap (λ n. throw_by (is_fresh n) (heads s.lists) slot with_type) ((same_slot (word (memory_of s)) (heads s.lists) s.lists c.stands slot small).state ∙ name)
-          ∙ ap (λ (b : Bool). throw_by b (heads s.lists) slot with_type) fresh
+          ap (λ (o : Option ℕ). start_throw_of (words_in (lists_of s)) (heads (lists_of s)) o with_type) is
+          ∙ ap (λ n. throw_by (is_fresh n) (heads (lists_of s)) slot with_type) ((same_slot (word (memory_of s)) (heads (lists_of s)) (lists_of s) c.stands slot small).state ∙ name)
+          ∙ ap (λ (b : Bool). throw_by b (heads (lists_of s)) slot with_type) fresh
 
       by_lists : ◌≡◌ {A = Call (Result ℕ CxaFault)} (machine.first_flight s) (record { answer = Ok (block slot); lists = flown })
       by_lists =
-          ap (λ (o : Option ℕ). throw_list s.lists o with_type) is ∙ ap (λ (e : Entry). throw_entry s.lists slot e with_type) live_is
-          ∙ ap (λ (b : Bool). throw_by_list b s.lists slot (record_of st (word (memory_of s)) slot) with_type) fresh
+          ap (λ (o : Option ℕ). throw_list (lists_of s) o with_type) is ∙ ap (λ (e : Entry). throw_entry (lists_of s) slot e with_type) live_is
+          ∙ ap (λ (b : Bool). throw_by_list b (lists_of s) slot (record_of st (word (memory_of s)) slot) with_type) fresh
 
-      not_flying : Has (slots s.lists.cleanups) slot → ⊥
+      not_flying : Has (slots (cleanups_in s.cleanups)) slot → ⊥
       not_flying h =
           let f = c.stands.valid.flying slot h in
           let p : Some st ≡ Some Flying = sym (ap state_in live_is) ∙ f in
@@ -133,16 +133,16 @@ module _ (g : Guide) (x : Accepted) (s : Recorded) (k : Keeps x s) where
       stands_flown : Stands (word (put_all flight.writes (memory_of s))) (heads flown) flown
       stands_flown =
           let middle = put_all flight.writes (memory_of s) in
-          let f = throw_meets (memory_of s) middle (heads s.lists) flight.globals flight.answer (reg_in s 0) with_type c.map (record { ty = ty; destructor = destructor })
-          (ap (λ (d : Done (Result ℕ CxaFault)). made d (memory_of s)) (sym by_words)) s.lists c.stands in
+          let f = throw_meets (memory_of s) middle (heads (lists_of s)) flight.globals flight.answer (reg_in s 0) with_type c.map (record { ty = ty; destructor = destructor })
+          (ap (λ (d : Done (Result ℕ CxaFault)). made d (memory_of s)) (sym by_words)) (lists_of s) c.stands in
           subst (λ (o : Call (Result ℕ CxaFault)). Stands (word middle) (heads flown) o.lists) by_lists f.stands
 
       has_flown : HasFlown s slot flight.writes flown
       has_flown = record {
         small = small;
         stands = stands_flown;
-        placed = c.placed;
-        flies = let h = small in let z = c.stands.shows.sized in let inside : slot < length s.lists.entries = omega arith in rw get_or-set_same refl;
+        cleanups = refl;
+        flies = let h = small in let z = c.stands.shows.sized in let inside : slot < length s.entries = omega arith in rw get_or-set_same refl;
         idle = not_flying;
         in_pool = λ more rest. (small, omega arith, (small, omega arith, (small, omega arith, (small, omega arith, (small, omega arith, rest)))));
       }
@@ -153,80 +153,80 @@ module _ (g : Guide) (x : Accepted) (s : Recorded) (k : Keeps x s) where
       flown_same : (e : Event) → machine.flies_first (machine.logged s e) ≡ with_lists flown flight.writes (machine.logged s e)
       flown_same e =
           ap (λ (o : Call (Result ℕ CxaFault)).
-          with_lists o.lists (start_throw_of (words_in s.lists) (heads s.lists) (object_slot (reg_in s 0)) with_type).writes (machine.logged s e)) by_lists
+          with_lists o.lists (start_throw_of (words_in (lists_of s)) (heads (lists_of s)) (object_slot (reg_in s 0)) with_type).writes (machine.logged s e)) by_lists
           ∙ ap (λ (d : Done (Result ℕ CxaFault)). with_lists flown d.writes (machine.logged s e)) by_list_words
 
       fresh_keeps : Keeps x (machine.throw_gate g s).1
       fresh_keeps =
           subst (λ (o : Call (Result ℕ CxaFault)). Keeps x (machine.throws g s o.answer).1) (sym by_lists)
           (sought_keeps (λ b t. machine.throw_to g s.regs.pc (block slot) b (machine.flies_first t)) kind.Throw (machine.thrown_first s)
-          (λ e b q. subst (λ (t : Recorded). Keeps x (machine.throw_to g s.regs.pc (block slot) b t).1) (sym (flown_same e)) (flies slot flight.writes flown e b has_flown refl of_slot (more_small s.lists.uncaught) q)))
+          (λ e b q. subst (λ (t : Recorded). Keeps x (machine.throw_to g s.regs.pc (block slot) b t).1) (sym (flown_same e)) (flies slot flight.writes flown e b has_flown refl of_slot (more_small s.uncaught) q)))
 
-    list_by : (slot : ℕ) (e : Entry) → object_slot (reg_in s 0) ≡ Some slot → entry s.lists slot ≡ e → (r : Result ℕ CxaFault) → (throw_entry s.lists slot e with_type).answer ≡ r → (machine.first_flight s).answer ≡ r
+    list_by : (slot : ℕ) (e : Entry) → object_slot (reg_in s 0) ≡ Some slot → entry (lists_of s) slot ≡ e → (r : Result ℕ CxaFault) → (throw_entry (lists_of s) slot e with_type).answer ≡ r → (machine.first_flight s).answer ≡ r
     list_by slot e is there r old =
-        ap (λ (o : Option ℕ). (throw_list s.lists o with_type).answer) is ∙ ap (λ (x : Entry). (throw_entry s.lists slot x with_type).answer) there ∙ old
+        ap (λ (o : Option ℕ). (throw_list (lists_of s) o with_type).answer) is ∙ ap (λ (x : Entry). (throw_entry (lists_of s) slot x with_type).answer) there ∙ old
 
     pub throw_leaves : Keeps x (machine.throw_gate g s).1
     throw_leaves = start (object_slot (reg_in s 0)) refl
       where
-        by_fresh : (slot : ℕ) → object_slot (reg_in s 0) ≡ Some slot → (st : Stage) → named (word (memory_of s) slot STATE) ≡ Some st → entry s.lists slot ≡ Live (record_of st (word (memory_of s)) slot)
+        by_fresh : (slot : ℕ) → object_slot (reg_in s 0) ≡ Some slot → (st : Stage) → named (word (memory_of s) slot STATE) ≡ Some st → entry (lists_of s) slot ≡ Live (record_of st (word (memory_of s)) slot)
             → (b : Bool) → is_fresh (Some st) ≡ b → Keeps x (machine.throw_gate g s).1
         by_fresh slot is st name there true q = fresh_keeps slot is st name there q
         by_fresh slot is st name there false q =
             refused_keeps _ (list_by slot (Live (record_of st (word (memory_of s)) slot)) is there _
-            (ap (λ (b : Bool). (throw_by_list b s.lists slot (record_of st (word (memory_of s)) slot) with_type).answer) q))
+            (ap (λ (b : Bool). (throw_by_list b (lists_of s) slot (record_of st (word (memory_of s)) slot) with_type).answer) q))
 
-        seen : (slot : ℕ) → object_slot (reg_in s 0) ≡ Some slot → Look (word (memory_of s)) s.lists slot → Keeps x (machine.throw_gate g s).1
+        seen : (slot : ℕ) → object_slot (reg_in s 0) ≡ Some slot → Look (word (memory_of s)) (lists_of s) slot → Keeps x (machine.throw_gate g s).1
         seen slot is (live st name there) = by_fresh slot is st name there (is_fresh (Some st)) refl
         seen slot is (free zero there) = refused_keeps _ (list_by slot Free is there _ refl)
         seen slot is (lost used none there) = refused_keeps _ (list_by slot OutOfUse is there _ refl)
 
         start : (o : Option ℕ) → object_slot (reg_in s 0) ≡ o → Keeps x (machine.throw_gate g s).1
-        start None is = refused_keeps _ (ap (λ (o : Option ℕ). (throw_list s.lists o with_type).answer) is)
-        start (Some slot) is = seen slot is (look (word (memory_of s)) (heads s.lists) s.lists slot c.stands.shows (object_small (reg_in s 0) slot is))
+        start None is = refused_keeps _ (ap (λ (o : Option ℕ). (throw_list (lists_of s) o with_type).answer) is)
+        start (Some slot) is = seen slot is (look (word (memory_of s)) (heads (lists_of s)) (lists_of s) slot c.stands.shows (object_small (reg_in s 0) slot is))
 
   -- ---- a rethrow of the top of the caught stack
 
-  module _ (flies : (slot : ℕ) → slot < SLOTS → FlightKeeps g x s (machine.thrown_of_slot s.lists (Some slot))) where
-    again_refused : (why : CxaFault) → (rethrow_list s.lists).answer ≡ Err why → Keeps x (machine.rethrow_gate g s).1
+  module _ (flies : (slot : ℕ) → slot < SLOTS → FlightKeeps g x s (machine.thrown_of_slot (lists_of s) (Some slot))) where
+    again_refused : (why : CxaFault) → (rethrow_list (lists_of s)).answer ≡ Err why → Keeps x (machine.rethrow_gate g s).1
     again_refused why e = subst (λ (r : Result ℕ CxaFault). Keeps x (machine.rethrows g s r).1) (sym e) k
 
-    module _ (slot : ℕ) (rest : List ℕ) (top : s.lists.caught ≡ slot ∷ rest) (st : Stage) (name : named (word (memory_of s) slot STATE) ≡ Some st)
-        (live_is : entry s.lists slot ≡ Live (record_of st (word (memory_of s)) slot)) (caught : is_caught (Some st) ≡ true) where
-      head : block_slot (heads s.lists).caught ≡ Some slot
-      head = let k = subst (λ (xs : List ℕ). Chain (λ t. word (memory_of s) t NEXT_CAUGHT) (heads s.lists).caught xs) top c.stands.shows.caught in k.0
+    module _ (slot : ℕ) (rest : List ℕ) (top : s.caught ≡ slot ∷ rest) (st : Stage) (name : named (word (memory_of s) slot STATE) ≡ Some st)
+        (live_is : entry (lists_of s) slot ≡ Live (record_of st (word (memory_of s)) slot)) (caught : is_caught (Some st) ≡ true) where
+      head : block_slot (heads (lists_of s)).caught ≡ Some slot
+      head = let k = subst (λ (xs : List ℕ). Chain (λ t. word (memory_of s) t NEXT_CAUGHT) (heads (lists_of s)).caught xs) top c.stands.shows.caught in k.0
 
       low : slot < SLOTS
-      low = slot_small (heads s.lists).caught slot head
+      low = slot_small (heads (lists_of s)).caught slot head
 
       abbrev flight_again : Done (Result ℕ CxaFault)
-      flight_again = rethrow_by true (word (memory_of s)) (heads s.lists) slot
+      flight_again = rethrow_by true (word (memory_of s)) (heads (lists_of s)) slot
 
       abbrev flown_again : Lists
       flown_again = record {
-        entries = set s.lists.entries slot (Live (become Flying (neg_ℤ (record_of st (word (memory_of s)) slot).count) (record_of st (word (memory_of s)) slot)));
-        caught = s.lists.caught;
-        cleanups = s.lists.cleanups;
-        uncaught = one_more s.lists.uncaught;
+        entries = set s.entries slot (Live (become Flying (neg_ℤ (record_of st (word (memory_of s)) slot).count) (record_of st (word (memory_of s)) slot)));
+        caught = s.caught;
+        cleanups = cleanups_in s.cleanups;
+        uncaught = one_more s.uncaught;
       }
 
-      again_words : rethrow_of (word (memory_of s)) (heads s.lists) ≡ flight_again
+      again_words : rethrow_of (word (memory_of s)) (heads (lists_of s)) ≡ flight_again
       again_words =
-          ap (rethrow_at (word (memory_of s)) (heads s.lists)) head ∙ ap (λ n. rethrow_by (is_caught n) (word (memory_of s)) (heads s.lists) slot) name
-          ∙ ap (λ (b : Bool). rethrow_by b (word (memory_of s)) (heads s.lists) slot) caught
+          ap (rethrow_at (word (memory_of s)) (heads (lists_of s))) head ∙ ap (λ n. rethrow_by (is_caught n) (word (memory_of s)) (heads (lists_of s)) slot) name
+          ∙ ap (λ (b : Bool). rethrow_by b (word (memory_of s)) (heads (lists_of s)) slot) caught
 
-      again_list_words : (rethrow_of (words_in s.lists) (heads s.lists)).writes ≡ flight_again.writes
+      again_list_words : (rethrow_of (words_in (lists_of s)) (heads (lists_of s))).writes ≡ flight_again.writes
       again_list_words =
-          ap (λ (o : Option ℕ). (rethrow_at (words_in s.lists) (heads s.lists) o).writes) head
-          ∙ ap (λ n. (rethrow_by (is_caught n) (words_in s.lists) (heads s.lists) slot).writes) ((same_slot (word (memory_of s)) (heads s.lists) s.lists c.stands slot low).state ∙ name)
-          ∙ ap (λ (b : Bool). (rethrow_by b (words_in s.lists) (heads s.lists) slot).writes) caught
-          ∙ ap (λ (n : ℕ). write slot COUNT (negated n) ∷ (write slot STATE FLYING ∷ [])) (same_count (word (memory_of s)) (heads s.lists) s.lists c.stands slot st low live_is)
+          ap (λ (o : Option ℕ). (rethrow_at (words_in (lists_of s)) (heads (lists_of s)) o).writes) head
+          ∙ ap (λ n. (rethrow_by (is_caught n) (words_in (lists_of s)) (heads (lists_of s)) slot).writes) ((same_slot (word (memory_of s)) (heads (lists_of s)) (lists_of s) c.stands slot low).state ∙ name)
+          ∙ ap (λ (b : Bool). (rethrow_by b (words_in (lists_of s)) (heads (lists_of s)) slot).writes) caught
+          ∙ ap (λ (n : ℕ). write slot COUNT (negated n) ∷ (write slot STATE FLYING ∷ [])) (same_count (word (memory_of s)) (heads (lists_of s)) (lists_of s) c.stands slot st low live_is)
 
-      again_lists : ◌≡◌ {A = Call (Result ℕ CxaFault)} (rethrow_list s.lists) (record { answer = Ok (block slot); lists = flown_again })
+      again_lists : ◌≡◌ {A = Call (Result ℕ CxaFault)} (rethrow_list (lists_of s)) (record { answer = Ok (block slot); lists = flown_again })
       again_lists =
-          ap (rethrow_from s.lists) top ∙ ap (rethrow_entry s.lists slot) live_is ∙ ap (λ (b : Bool). rethrow_by_list b s.lists slot (record_of st (word (memory_of s)) slot)) caught
+          ap (rethrow_from (lists_of s)) top ∙ ap (rethrow_entry (lists_of s) slot) live_is ∙ ap (λ (b : Bool). rethrow_by_list b (lists_of s) slot (record_of st (word (memory_of s)) slot)) caught
 
-      not_again : Has (slots s.lists.cleanups) slot → ⊥
+      not_again : Has (slots (cleanups_in s.cleanups)) slot → ⊥
       not_again h =
           let f = c.stands.valid.flying slot h in
           let p : Some st ≡ Some Flying = sym (ap state_in live_is) ∙ f in
@@ -236,22 +236,22 @@ module _ (g : Guide) (x : Accepted) (s : Recorded) (k : Keeps x s) where
       again_stands : Stands (word (put_all flight_again.writes (memory_of s))) (heads flown_again) flown_again
       again_stands =
           let middle = put_all flight_again.writes (memory_of s) in
-          let f = rethrow_meets (memory_of s) middle (heads s.lists) flight_again.globals flight_again.answer c.map (ap (λ (d : Done (Result ℕ CxaFault)). made d (memory_of s)) (sym again_words)) s.lists c.stands in
+          let f = rethrow_meets (memory_of s) middle (heads (lists_of s)) flight_again.globals flight_again.answer c.map (ap (λ (d : Done (Result ℕ CxaFault)). made d (memory_of s)) (sym again_words)) (lists_of s) c.stands in
           subst (λ (o : Call (Result ℕ CxaFault)). Stands (word middle) (heads flown_again) o.lists) again_lists f.stands
 
       again_flown : HasFlown s slot flight_again.writes flown_again
       again_flown = record {
         small = low;
         stands = again_stands;
-        placed = c.placed;
-        flies = let h = low in let z = c.stands.shows.sized in let inside : slot < length s.lists.entries = omega arith in rw get_or-set_same refl;
+        cleanups = refl;
+        flies = let h = low in let z = c.stands.shows.sized in let inside : slot < length s.entries = omega arith in rw get_or-set_same refl;
         idle = not_again;
         in_pool = λ more rest. (low, omega arith, (low, omega arith, rest));
       }
 
       again_same : (e : Event) → machine.flies_again (machine.logged s e) ≡ with_lists flown_again flight_again.writes (machine.logged s e)
       again_same e =
-          ap (λ (o : Call (Result ℕ CxaFault)). with_lists o.lists (rethrow_of (words_in s.lists) (heads s.lists)).writes (machine.logged s e)) again_lists
+          ap (λ (o : Call (Result ℕ CxaFault)). with_lists o.lists (rethrow_of (words_in (lists_of s)) (heads (lists_of s))).writes (machine.logged s e)) again_lists
           ∙ ap (λ (ws : List Write). with_lists flown_again ws (machine.logged s e)) again_list_words
 
       is_slot : block_slot (block slot) ≡ Some slot
@@ -260,30 +260,30 @@ module _ (g : Guide) (x : Accepted) (s : Recorded) (k : Keeps x s) where
       caught_keeps : Keeps x (machine.rethrow_gate g s).1
       caught_keeps =
           subst (λ (o : Call (Result ℕ CxaFault)). Keeps x (machine.rethrows g s o.answer).1) (sym again_lists)
-          (subst (λ (o : Option ℕ). Keeps x (machine.from_barrier (λ b t. machine.throw_to g s.regs.pc (block slot) b (machine.flies_again t)) (machine.sought g s kind.Rethrow (machine.thrown_of_slot s.lists o))).1) (sym is_slot)
-          (sought_keeps (λ b t. machine.throw_to g s.regs.pc (block slot) b (machine.flies_again t)) kind.Rethrow (machine.thrown_of_slot s.lists (Some slot))
+          (subst (λ (o : Option ℕ). Keeps x (machine.from_barrier (λ b t. machine.throw_to g s.regs.pc (block slot) b (machine.flies_again t)) (machine.sought g s kind.Rethrow (machine.thrown_of_slot (lists_of s) o))).1) (sym is_slot)
+          (sought_keeps (λ b t. machine.throw_to g s.regs.pc (block slot) b (machine.flies_again t)) kind.Rethrow (machine.thrown_of_slot (lists_of s) (Some slot))
           (λ e b q. subst (λ (t : Recorded). Keeps x (machine.throw_to g s.regs.pc (block slot) b t).1) (sym (again_same e))
-          (flies slot low slot flight_again.writes flown_again e b again_flown refl (refl, omega arith, (refl, omega arith, tt)) (more_small s.lists.uncaught) q))))
+          (flies slot low slot flight_again.writes flown_again e b again_flown refl (refl, omega arith, (refl, omega arith, tt)) (more_small s.uncaught) q))))
 
     pub rethrow_leaves : Keeps x (machine.rethrow_gate g s).1
-    rethrow_leaves = start s.lists.caught refl
+    rethrow_leaves = start s.caught refl
       where
-        by_caught : (slot : ℕ) (rest : List ℕ) → s.lists.caught ≡ slot ∷ rest → (st : Stage) → named (word (memory_of s) slot STATE) ≡ Some st
-            → entry s.lists slot ≡ Live (record_of st (word (memory_of s)) slot) → (b : Bool) → is_caught (Some st) ≡ b → Keeps x (machine.rethrow_gate g s).1
+        by_caught : (slot : ℕ) (rest : List ℕ) → s.caught ≡ slot ∷ rest → (st : Stage) → named (word (memory_of s) slot STATE) ≡ Some st
+            → entry (lists_of s) slot ≡ Live (record_of st (word (memory_of s)) slot) → (b : Bool) → is_caught (Some st) ≡ b → Keeps x (machine.rethrow_gate g s).1
         by_caught slot rest top st name there true q = caught_keeps slot rest top st name there q
         by_caught slot rest top st name there false q =
-            again_refused _ (ap (λ (xs : List ℕ). (rethrow_from s.lists xs).answer) top ∙ ap (λ (x : Entry). (rethrow_entry s.lists slot x).answer) there
-            ∙ ap (λ (b : Bool). (rethrow_by_list b s.lists slot (record_of st (word (memory_of s)) slot)).answer) q)
+            again_refused _ (ap (λ (xs : List ℕ). (rethrow_from (lists_of s) xs).answer) top ∙ ap (λ (x : Entry). (rethrow_entry (lists_of s) slot x).answer) there
+            ∙ ap (λ (b : Bool). (rethrow_by_list b (lists_of s) slot (record_of st (word (memory_of s)) slot)).answer) q)
 
-        seen : (slot : ℕ) (rest : List ℕ) → s.lists.caught ≡ slot ∷ rest → Look (word (memory_of s)) s.lists slot → Keeps x (machine.rethrow_gate g s).1
+        seen : (slot : ℕ) (rest : List ℕ) → s.caught ≡ slot ∷ rest → Look (word (memory_of s)) (lists_of s) slot → Keeps x (machine.rethrow_gate g s).1
         seen slot rest top (live st name there) = by_caught slot rest top st name there (is_caught (Some st)) refl
         seen slot rest top (free zero there) =
-            again_refused _ (ap (λ (xs : List ℕ). (rethrow_from s.lists xs).answer) top ∙ ap (λ (x : Entry). (rethrow_entry s.lists slot x).answer) there)
+            again_refused _ (ap (λ (xs : List ℕ). (rethrow_from (lists_of s) xs).answer) top ∙ ap (λ (x : Entry). (rethrow_entry (lists_of s) slot x).answer) there)
         seen slot rest top (lost used none there) =
-            again_refused _ (ap (λ (xs : List ℕ). (rethrow_from s.lists xs).answer) top ∙ ap (λ (x : Entry). (rethrow_entry s.lists slot x).answer) there)
+            again_refused _ (ap (λ (xs : List ℕ). (rethrow_from (lists_of s) xs).answer) top ∙ ap (λ (x : Entry). (rethrow_entry (lists_of s) slot x).answer) there)
 
-        start : (xs : List ℕ) → s.lists.caught ≡ xs → Keeps x (machine.rethrow_gate g s).1
-        start [] top = again_refused _ (ap (λ (ys : List ℕ). (rethrow_from s.lists ys).answer) top)
+        start : (xs : List ℕ) → s.caught ≡ xs → Keeps x (machine.rethrow_gate g s).1
+        start [] top = again_refused _ (ap (λ (ys : List ℕ). (rethrow_from (lists_of s) ys).answer) top)
         start (slot ∷ rest) top =
-            let k = subst (λ (ys : List ℕ). Chain (λ t. word (memory_of s) t NEXT_CAUGHT) (heads s.lists).caught ys) top c.stands.shows.caught in
-            seen slot rest top (look (word (memory_of s)) (heads s.lists) s.lists slot c.stands.shows (slot_small (heads s.lists).caught slot k.0))
+            let k = subst (λ (ys : List ℕ). Chain (λ t. word (memory_of s) t NEXT_CAUGHT) (heads (lists_of s)).caught ys) top c.stands.shows.caught in
+            seen slot rest top (look (word (memory_of s)) (heads (lists_of s)) (lists_of s) slot c.stands.shows (slot_small (heads (lists_of s)).caught slot k.0))

@@ -6,7 +6,7 @@ use Rattle.frames_same.specs.eh_bus.Memory.{loads, Memory}
 use Rattle.frames_same.specs.eh_bus.declared.map.TheConstants.{STACK_START, STACK_END}
 use Rattle.frames_same.specs.eh_cxa.Words.{word, Write, put_all, block, block_slot}
 use Rattle.frames_same.specs.eh_cxa.declared.layout.TheConstants.{SLOT_WORDS, SLOTS, BARRIER_SP, BARRIER_DESCRIPTOR, STATE}
-use Rattle.frames_same.specs.two_machines.Activations.{Recorded, memory_of, with_words, Activation, words_in, with_lists}
+use Rattle.frames_same.specs.two_machines.Activations.{Recorded, memory_of, with_words, Activation, words_in, with_lists, cleanups_in, lists_of}
 use Rattle.frames_same.specs.two_machines.Throws.{AreInPool}
 use Rattle.frames_same.specs.eh_bus.Segment.{Segment}
 use Rattle.frames_same.proofs.eh_bus.MapLaws.{map_trans}
@@ -25,13 +25,12 @@ use Rattle.frames_same.specs.thumb_core.declared.regs.TheConstants.{SP}
 use Rattle.frames_same.specs.frame_check.Accepts.{Accepted}
 use Rattle.frames_same.specs.two_machines.Corresponds.{Corresponds}
 use Rattle.frames_same.proofs.two_machines.Flying.{HasFlown}
-use Rattle.frames_same.proofs.two_machines.RecordedGates.{land_keeps}
 use Rattle.frames_same.proofs.two_machines.Beyond.{outside_stay}
 use Rattle.frames_same.specs.two_machines.ActivationMachine as machine
 use Rattle.throws_keep.proofs.Bounds.{AreOf, puts_other, still_in_progress}
 use Rattle.frames_same.proofs.Agreement.{pool_stack}
 use Rattle.throws_keep.proofs.Behind.{pool_map, Enters, left, landed_keeps, released_same, all_released_same}
-use Rattle.frames_same.specs.stands_for.Cleanups.{goal_at, IsWithin, AreInProgress}
+use Rattle.frames_same.specs.stands_for.Cleanups.{goal_at, IsWithin}
 use Rattle.frames_same.specs.stands_for.Stands.{Keeps, IsProgram, IsCounted}
 use Rattle.frames_same.proofs.stands_for.CountedLists.{land_counts}
 use Rattle.frames_same.specs.Frames.{IsSiteOf}
@@ -84,8 +83,8 @@ land_of_slot slot false = tt
 -- ---- a handler
 
 module _ (x : Accepted) (is : IsProgram x) (s : Recorded) (k : Keeps x s) (site : ℕ) (here : IsSiteOf x s site) (n : Enters x is s k site here) (pad : ℕ) (offers : Offers n.frame pad)
-    (slot : ℕ) (writes : List Write) (flown : Lists) (flight : HasFlown s slot writes flown) (cleanups_same : flown.cleanups ≡ s.lists.cleanups) (of_slot : AreOf slot writes) (counted : IsCounted flown)
-    (within : IsWithin n.frame.sp s.lists.cleanups) (e : Event) where
+    (slot : ℕ) (writes : List Write) (flown : Lists) (flight : HasFlown s slot writes flown) (cleanups_same : flown.cleanups ≡ cleanups_in s.cleanups) (of_slot : AreOf slot writes) (counted : IsCounted flown)
+    (within : IsWithin n.frame.sp (cleanups_in s.cleanups)) (e : Event) where
   abbrev pub thrown : Recorded
   thrown = with_lists flown writes (machine.logged s e)
 
@@ -111,11 +110,14 @@ module _ (x : Accepted) (is : IsProgram x) (s : Recorded) (k : Keeps x s) (site 
     abbrev land_writes : List Write
     land_writes = land_of (words_in flown) (Some slot)
 
+    abbrev landed : Lists
+    landed = land_list (lists_of (behind b)) slot
+
     abbrev segments : List Segment
     segments = (put_all land_writes (memory_of (behind b))).segments
 
     abbrev kept : Recorded
-    kept = left x is s k site here n pad (block slot) (let l = flight.small in omega (arith, l)) offers (land_list flown slot) s.places segments (pushed (pushed s.events e) logs)
+    kept = left x is s k site here n pad (block slot) (let l = flight.small in omega (arith, l)) offers landed s.cleanups segments (pushed (pushed s.events e) logs)
         (λ g low high. (wrote_one slot land_writes (behind b) (record (behind b) { segments = segments }) flight.small (land_of_slot slot (is_flying (named (words_in flown slot STATE)))) (map_behind b) refl).stack g low high
         ∙ (wrote_behind b).stack g low high)
 
@@ -137,20 +139,19 @@ module _ (x : Accepted) (is : IsProgram x) (s : Recorded) (k : Keeps x s) (site 
     wrote : Wrote slot s kept
     wrote = wrote_then slot s (behind b) kept (wrote_behind b) (wrote_one slot land_writes (behind b) kept flight.small (land_of_slot slot (is_flying (named (words_in flown slot STATE)))) (map_behind b) refl)
 
-    differs : (u : ℕ) → Has (slots s.lists.cleanups) u → u ≡ slot → ⊥
-    differs u h e = flight.idle (subst (λ (cs : List Cleanup). Has (slots cs) slot) (sym cleanups_same) (subst (Has (slots s.lists.cleanups)) e h))
+    differs : (u : ℕ) → Has (slots (cleanups_in s.cleanups)) u → u ≡ slot → ⊥
+    differs u h e = flight.idle (subst (λ (cs : List Cleanup). Has (slots cs) slot) (sym cleanups_same) (subst (Has (slots (cleanups_in s.cleanups))) e h))
 
     -- what every event keeps
     pub handler_keeps : Corresponds (flies_on (block_slot (block slot))) → Keeps x (flies_on (block_slot (block slot)))
     handler_keeps still =
         subst (λ (o : Option ℕ). Keeps x (flies_on o)) (sym is_slot)
         (subst (Keeps x) (sym same_state)
-        (landed_keeps x is s k site here n pad (block slot) small_block offers (land_list flown slot) s.places segments (pushed (pushed s.events e) logs) wrote.stack (land_counts flown counted slot)
+        (landed_keeps x is s k site here n pad (block slot) small_block offers landed s.cleanups segments (pushed (pushed s.events e) logs) wrote.stack (land_counts (lists_of (behind b)) counted slot)
         (subst Corresponds same_state (subst (λ (o : Option ℕ). Corresponds (flies_on o)) is_slot still)) wrote.map
-        (subst (λ (cs : List Cleanup). AreInProgress x kept n.frame.sp s.places cs) (sym (land_keeps flown slot ∙ cleanups_same))
         (still_in_progress x s kept n.frame.sp n.cut n.first n.more n.all refl refl n.rest
         (let a = k.corresponds.map.home.low in let b = k.low in let c = n.low in omega (arith, a, b, c)) k.corresponds.map.home.high wrote.stack
-        (slice_index s.regs.r SP) n.frame.sp s.places s.lists.cleanups within within (λ u h. same_goals slot s kept wrote u (differs u h)) k.cleanups))))
+        (slice_index s.regs.r SP) n.frame.sp s.cleanups within within (λ u h. same_goals slot s kept wrote u (differs u h)) k.cleanups)))
       where
         is_slot : block_slot (block slot) ≡ Some slot
         is_slot = slot_of_block_is slot flight.small

@@ -181,7 +181,7 @@ small_next (Err fault ∷ before) d after h = small_next before d after h
 -- ---- a landing
 
 module _ (x : Accepted) (is : IsProgram x) (s : Recorded) (k : Keeps x s) (site : ℕ) (low : site < 2 ^ 32) (throws : ThrowsAt x s site) (m : Meeting) (b : Barrier)
-    (search : phase1 m (recorded_frames x is s k site throws (first_place s.places)) ≡ found.Barrier b) where
+    (search : phase1 m (recorded_frames x is s k site throws (first_place s.cleanups)) ≡ found.Barrier b) where
   abbrev there : LandsIn (goal_of b) 0 s.home.1 (reg_in s SP) (recorded_frames x is s k site throws None).frames (s.first ∷ s.outer) (phase2 (goal_of b) 0 (recorded_frames x is s k site throws None))
   there = throw_lands x is s k site throws m b search
 

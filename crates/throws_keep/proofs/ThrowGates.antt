@@ -22,7 +22,7 @@ use Rattle.frames_same.specs.eh_gates.Gates.{gate_of}
 use Rattle.frames_same.specs.eh_gates.State.{Guide}
 use Rattle.frames_same.specs.eh_gates.Throwing.{handed, pointed}
 use Rattle.frames_same.specs.eh_gates.declared.gates.TheConstants.{THROW_GATE, RETHROW_GATE}
-use Rattle.frames_same.specs.two_machines.Activations.{Recorded, reg_in, bytes_of, heads, first_place, outside}
+use Rattle.frames_same.specs.two_machines.Activations.{Recorded, reg_in, bytes_of, heads, first_place, outside, lists_of}
 use Rattle.frames_same.specs.two_machines.Corresponds.{GateMatches}
 use Rattle.frames_same.specs.two_machines.Throws.{CanLand}
 use Rattle.frames_same.proofs.two_machines.Throwing.{throws_match}
@@ -53,7 +53,7 @@ module _ (x : Accepted) (is : IsProgram x) (s : Recorded) (k : Keeps x s) (imm :
   abbrev frames : Option ℕ → Frames
   frames place = recorded_frames x is s k s.regs.pc (inl (imm, does, refl)) place
 
-  module _ (m : Meeting) (object_small : m.object < 2 ^ 32) (matched : (t : ℕ) → SmallMatch (m.matched t)) (b : Barrier) (search : phase1 m (frames (first_place s.places)) ≡ found.Barrier b) where
+  module _ (m : Meeting) (object_small : m.object < 2 ^ 32) (matched : (t : ℕ) → SmallMatch (m.matched t)) (b : Barrier) (search : phase1 m (frames (first_place s.cleanups)) ≡ found.Barrier b) where
     by_verdict : (f : Frame) (v : Verdict) → f.sp < 2 ^ 32 → Good f → verdict_of m f.site f.items ≡ Some v → found_by f v ≡ found.Barrier b → AreWordsOf b
     by_verdict f (says.Barrier desc hit) sp good v e =
         let small = verdict_small m object_small matched f.site f.items desc hit good.0 v in
@@ -63,12 +63,12 @@ module _ (x : Accepted) (is : IsProgram x) (s : Recorded) (k : Keeps x s) (imm :
     by_verdict f (says.Terminate why) sp good v e = absurd cc
 
     pub barrier_words_small : AreWordsOf b
-    barrier_words_small = elim (innermost_decides m (frames (first_place s.places))) [
-      | inl silent ↦ absurd (let e : ◌≡◌ {A = Found} (found.Terminate (frames (first_place s.places)).last) (found.Barrier b) = sym silent.1 ∙ search in cc)
+    barrier_words_small = elim (innermost_decides m (frames (first_place s.cleanups))) [
+      | inl silent ↦ absurd (let e : ◌≡◌ {A = Found} (found.Terminate (frames (first_place s.cleanups)).last) (found.Barrier b) = sym silent.1 ∙ search in cc)
       | inr d ↦ decided d
     ]
       where
-        decided : IsDecided m (frames (first_place s.places)).frames (phase1 m (frames (first_place s.places))) → AreWordsOf b
+        decided : IsDecided m (frames (first_place s.cleanups)).frames (phase1 m (frames (first_place s.cleanups))) → AreWordsOf b
         decided d =
             let top = chain_top x s.segments s.home s.first.caller s.outer k.chain in
             let high = k.high in
@@ -76,12 +76,12 @@ module _ (x : Accepted) (is : IsProgram x) (s : Recorded) (k : Keeps x s) (imm :
             let under =
             fit_top s.home.1 (reg_in s SP) d.inner d.frame d.outer (s.first ∷ s.outer) (omega (arith, high, top))
             (subst (λ (fs : List Frame). Fit (reg_in s SP) fs (s.first ∷ s.outer)) d.parts
-            (subst (λ (n : ℕ). Fit n (frames (first_place s.places)).frames (s.first ∷ s.outer)) (sp_is x is s k s.regs.pc (inl (imm, does, refl)))
-            (fit_frames x s.segments s.home (first_place s.places) s.regs.pc (all_of s.regs) s.first s.outer k.whole k.chain)))
+            (subst (λ (n : ℕ). Fit n (frames (first_place s.cleanups)).frames (s.first ∷ s.outer)) (sp_is x is s k s.regs.pc (inl (imm, does, refl)))
+            (fit_frames x s.segments s.home (first_place s.cleanups) s.regs.pc (all_of s.regs) s.first s.outer k.whole k.chain)))
             (k.slots, high, top, rise_outside x s.segments s.home s.first.caller s.outer k.chain) in
             let good =
             good_at d.inner d.frame d.outer (subst AllGood d.parts
-            (good_framed x.image (outside x.image (first_place s.places) s.first.caller s.outer) s.regs.pc (all_of s.regs) k.sound.small (good_outside x.image (first_place s.places) s.first.caller s.outer))) in
+            (good_framed x.image (outside x.image (first_place s.cleanups) s.first.caller s.outer) s.regs.pc (all_of s.regs) k.sound.small (good_outside x.image (first_place s.cleanups) s.first.caller s.outer))) in
             by_verdict d.frame d.verdict (omega (arith, under, roof)) good d.says (sym d.found ∙ search)
 
   -- ---- a landing
@@ -130,8 +130,8 @@ module _ (x : Accepted) (is : IsProgram x) (s : Recorded) (k : Keeps x s) (imm :
     pub rethrow_matches : (next : ℕ) → GateMatches (gate_of ours RETHROW_GATE next (bytes_of s)) (machine.gate_of ours RETHROW_GATE next s)
     rethrow_matches next =
         rethrows_match ours next s k.corresponds (throws_see_alike x s ours imm is k does refl)
-        (λ slot b at search. can_land (machine.thrown_of_slot s.lists (Some slot)) slot b
-        (let small : slot < SLOTS = slot_small (heads s.lists).caught slot at in let low : object slot < 2 ^ 32 = omega (arith, small) in low) search)
+        (λ slot b at search. can_land (machine.thrown_of_slot (lists_of s) (Some slot)) slot b
+        (let small : slot < SLOTS = slot_small (heads (lists_of s)).caught slot at in let low : object slot < 2 ^ 32 = omega (arith, small) in low) search)
 
 -- gates of a program
 pub throw_gates_match : ThrowGatesMatch

@@ -14,7 +14,7 @@ use Rattle.frames_same.specs.eh_trace.declared.event.Event.{Event}
 use Rattle.frames_same.specs.thumb_core.Registers.{all_of}
 use Rattle.frames_same.specs.thumb_core.declared.regs.TheConstants.{SP}
 use Rattle.frames_same.specs.frame_check.Accepts.{Accepted}
-use Rattle.frames_same.specs.two_machines.Activations.{Activation, Recorded, reg_in, first_place, frames_at, with_words, with_lists}
+use Rattle.frames_same.specs.two_machines.Activations.{Activation, Recorded, reg_in, first_place, frames_at, with_words, with_lists, cleanups_in}
 use Rattle.frames_same.specs.eh_cxa.Throw.{set_barrier_of}
 use Rattle.frames_same.specs.two_machines.Corresponds.{Corresponds}
 use Rattle.frames_same.proofs.two_machines.Flying.{HasFlown}
@@ -38,7 +38,7 @@ use Rattle.throws_keep.proofs.ThrowReached.{throw_in_order, throw_reached}
 use Rattle.frames_same.proofs.WithinReach.{reached_above}
 
 module _ (x : Accepted) (is : IsProgram x) (s : Recorded) (k : Keeps x s) (site : ℕ) (throws : ThrowsAt x s site) (m : Meeting) (b : Barrier)
-    (search : phase1 m (recorded_frames x is s k site throws (first_place s.places)) ≡ found.Barrier b) where
+    (search : phase1 m (recorded_frames x is s k site throws (first_place s.cleanups)) ≡ found.Barrier b) where
   abbrev pub here : IsSiteOf x s site
   here = site_is x s site is throws
 
@@ -86,10 +86,10 @@ module _ (x : Accepted) (is : IsProgram x) (s : Recorded) (k : Keeps x s) (site 
   enters_of = there.of
 
   -- its barrier stands at or below the landing sp of the innermost cleanup in progress
-  pub throw_within : IsWithin b.sp s.lists.cleanups
+  pub throw_within : IsWithin b.sp (cleanups_in s.cleanups)
   throw_within =
-      barrier_within x s site (all_of s.regs) m b k.whole k.chain s.places s.lists.cleanups
-      (subst (λ (n : ℕ). AreInProgress x s n s.places s.lists.cleanups) (sym (sp_is x is s k site throws)) k.cleanups) search
+      barrier_within x s site (all_of s.regs) m b k.whole k.chain s.cleanups
+      (subst (λ (n : ℕ). AreInProgress x s n s.cleanups) (sym (sp_is x is s k site throws)) k.cleanups) search
 
   -- where it is a cleanup, the barrier is within reach from it on ..
   pub throw_reaches : (vrs : Vrs) (pad next at : ℕ) → phase2 (goal_of b) 0 (recorded_frames x is s k site throws None) ≡ enters.Cleanup vrs pad next at
@@ -109,14 +109,14 @@ module _ (x : Accepted) (is : IsProgram x) (s : Recorded) (k : Keeps x s) (site 
   within_below low high (c ∷ more) l w = omega (arith, l, w)
 
   -- .. and no cleanup in progress landed below that
-  pub cleanup_within : (vrs : Vrs) (pad next at : ℕ) → phase2 (goal_of b) 0 (recorded_frames x is s k site throws None) ≡ enters.Cleanup vrs pad next at → IsWithin throw_enters.frame.sp s.lists.cleanups
-  cleanup_within vrs pad next at e = within_below throw_enters.frame.sp b.sp s.lists.cleanups (throw_above vrs pad next at e) throw_within
+  pub cleanup_within : (vrs : Vrs) (pad next at : ℕ) → phase2 (goal_of b) 0 (recorded_frames x is s k site throws None) ≡ enters.Cleanup vrs pad next at → IsWithin throw_enters.frame.sp (cleanups_in s.cleanups)
+  cleanup_within vrs pad next at e = within_below throw_enters.frame.sp b.sp (cleanups_in s.cleanups) (throw_above vrs pad next at e) throw_within
 
-  pub moved_within : (n : ℕ) → n ≡ b.sp → IsWithin n s.lists.cleanups
-  moved_within n e = subst (λ (v : ℕ). IsWithin v s.lists.cleanups) (sym e) throw_within
+  pub moved_within : (n : ℕ) → n ≡ b.sp → IsWithin n (cleanups_in s.cleanups)
+  moved_within n e = subst (λ (v : ℕ). IsWithin v (cleanups_in s.cleanups)) (sym e) throw_within
 
   -- in a handler: behind the words of the throw and of its barrier
-  module _ (slot : ℕ) (writes : List Write) (flown : Lists) (flight : HasFlown s slot writes flown) (cleanups_same : flown.cleanups ≡ s.lists.cleanups) (of_slot : AreOf slot writes) (counted : IsCounted flown) (e : Event) (w : BarrierWords) (logs : Event) where
+  module _ (slot : ℕ) (writes : List Write) (flown : Lists) (flight : HasFlown s slot writes flown) (cleanups_same : flown.cleanups ≡ cleanups_in s.cleanups) (of_slot : AreOf slot writes) (counted : IsCounted flown) (e : Event) (w : BarrierWords) (logs : Event) where
     abbrev pub before_landing : Recorded
     before_landing = with_words (set_barrier_of (Some slot) w) (with_lists flown writes (machine.logged s e))
 

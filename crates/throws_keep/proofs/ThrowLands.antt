@@ -18,7 +18,7 @@ use Rattle.frames_same.specs.thumb_core.Registers.{all_of}
 use Rattle.frames_same.specs.thumb_core.declared.regs.TheConstants.{SP}
 use Rattle.frames_same.specs.frame_check.Accepts.{Accepted}
 use Rattle.frames_same.specs.eh_cxa.ListCalls.{innermost_in}
-use Rattle.frames_same.specs.two_machines.Activations.{Recorded, reg_in, memory_of, first_place, frames_at}
+use Rattle.frames_same.specs.two_machines.Activations.{Recorded, reg_in, memory_of, first_place, frames_at, cleanups_in}
 use Rattle.frames_same.specs.two_machines.Landings.{AreBelow}
 use Rattle.frames_same.proofs.two_machines.Agreeing.{are_one}
 use Rattle.frames_same.specs.eh_phase.Laws as phase_law
@@ -67,11 +67,11 @@ module _ (x : Accepted) (is : IsProgram x) (s : Recorded) (k : Keeps x s) (site 
   same = frames_are_same x s site is k throws
 
   -- where phase 1 gives a barrier, phase 2 enters a cleanup or the barrier
-  pub enters_one : (m : Meeting) (b : Barrier) → phase1 m (recorded_frames (first_place s.places)) ≡ found.Barrier b → phase_law.Lands (phase2 (goal_of b) 0 (recorded_frames None))
+  pub enters_one : (m : Meeting) (b : Barrier) → phase1 m (recorded_frames (first_place s.cleanups)) ≡ found.Barrier b → phase_law.Lands (phase2 (goal_of b) 0 (recorded_frames None))
   enters_one m b e =
       let bytes = (are_one _ _ same.limited).search m ∙ e in
       let reaches : Reaches m b (frames_of x.image (stack_of (memory_of s)) None site (all_of s.regs)) =
-      barriers_are_reached m x.image (stack_of (memory_of s)) (innermost_in s.lists.cleanups) site (all_of s.regs) b bytes in
+      barriers_are_reached m x.image (stack_of (memory_of s)) (innermost_in (cleanups_in s.cleanups)) site (all_of s.regs) b bytes in
       lands_alike reaches.entered (phase2 (goal_of b) 0 (recorded_frames None))
       (ap (seen_entered handed_on) (sym reaches.enters) ∙ entered_alike (frames_of x.image (stack_of (memory_of s)) None site (all_of s.regs)) (recorded_frames None) same.all (goal_of b) 0) reaches.lands
 
@@ -79,7 +79,7 @@ module _ (x : Accepted) (is : IsProgram x) (s : Recorded) (k : Keeps x s) (site 
   sp_is = get_or_append_left s.regs.r (s.regs.pc ∷ []) 0 13 (let count = k.sound.words.count in omega (arith, count))
 
   -- in an activation: those inside it are cut, and their slots lie in home and below what is entered
-  pub throw_lands : (m : Meeting) (b : Barrier) → phase1 m (recorded_frames (first_place s.places)) ≡ found.Barrier b
+  pub throw_lands : (m : Meeting) (b : Barrier) → phase1 m (recorded_frames (first_place s.cleanups)) ≡ found.Barrier b
       → LandsIn (goal_of b) 0 s.home.1 (reg_in s SP) (recorded_frames None).frames (s.first ∷ s.outer) (phase2 (goal_of b) 0 (recorded_frames None))
   throw_lands m b e =
       let top = chain_top x s.segments s.home s.first.caller s.outer k.chain in
@@ -90,7 +90,7 @@ module _ (x : Accepted) (is : IsProgram x) (s : Recorded) (k : Keeps x s) (site 
       (entered_some (goal_of b) 0 (recorded_frames None) (enters_one m b e))
 
   -- the slots of what is cut
-  pub throw_cuts : (m : Meeting) (b : Barrier) (e : phase1 m (recorded_frames (first_place s.places)) ≡ found.Barrier b) → AreBelow s (throw_lands m b e).cut (throw_lands m b e).frame.sp
+  pub throw_cuts : (m : Meeting) (b : Barrier) (e : phase1 m (recorded_frames (first_place s.cleanups)) ≡ found.Barrier b) → AreBelow s (throw_lands m b e).cut (throw_lands m b e).frame.sp
   throw_cuts m b e q h =
       let w = (throw_lands m b e).below q h in
       let low = k.low in

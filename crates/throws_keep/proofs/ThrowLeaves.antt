@@ -6,7 +6,7 @@ use Rattle.frames_same.specs.thumb_isa.declared.instr.Instr.TheVariants.{Svc}
 use Rattle.frames_same.specs.frame_check.Accepts.{Accepted}
 use Rattle.frames_same.specs.eh_gates.State.{Guide}
 use Rattle.frames_same.specs.eh_gates.declared.gates.TheConstants.{THROW_GATE, RETHROW_GATE}
-use Rattle.frames_same.specs.two_machines.Activations.{Recorded}
+use Rattle.frames_same.specs.two_machines.Activations.{Recorded, lists_of}
 use Rattle.frames_same.specs.two_machines.ActivationMachine as machine
 use Rattle.frames_same.specs.stands_for.Stands.{Keeps, IsProgram, DoesAt}
 use Rattle.throws_keep.proofs.CleanupLands.{cleanup_lands}
@@ -29,5 +29,5 @@ module _ (x : Accepted) (is : IsProgram x) (s : Recorded) (k : Keeps x s) (imm :
   unfolding machine.gate_of
   rethrow_gate_keeps next =
       rethrow_leaves (ours x is s k imm does g) x s k
-      (λ top low slot writes flown e b flight same of_slot counted search. flight_keeps x is s k imm does g (machine.thrown_of_slot s.lists (Some top)) (small_object top low) slot writes flown e b flight same of_slot counted search
-      (cleanup_lands x is s k imm does g (machine.thrown_of_slot s.lists (Some top)) (small_object top low) slot writes flown e b flight same of_slot counted search))
+      (λ top low slot writes flown e b flight same of_slot counted search. flight_keeps x is s k imm does g (machine.thrown_of_slot (lists_of s) (Some top)) (small_object top low) slot writes flown e b flight same of_slot counted search
+      (cleanup_lands x is s k imm does g (machine.thrown_of_slot (lists_of s) (Some top)) (small_object top low) slot writes flown e b flight same of_slot counted search))

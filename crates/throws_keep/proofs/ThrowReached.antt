@@ -16,7 +16,7 @@ use Rattle.frames_same.proofs.eh_phase.Reached.{up_to_barrier, unlimited, whole_
 use Rattle.frames_same.proofs.eh_phase.Whole.{all_in_order}
 use Rattle.frames_same.specs.thumb_core.Registers.{all_of}
 use Rattle.frames_same.specs.frame_check.Accepts.{Accepted}
-use Rattle.frames_same.specs.two_machines.Activations.{Recorded, memory_of, first_place}
+use Rattle.frames_same.specs.two_machines.Activations.{Recorded, memory_of, first_place, cleanups_in}
 use Rattle.frames_same.proofs.two_machines.Agreeing.{are_one}
 use Rattle.frames_same.specs.eh_phase.declared.phase1.Found.TheVariants as found
 use Rattle.frames_same.specs.Frames.{ThrowsAt, FramesAre}
@@ -45,9 +45,9 @@ module _ (x : Accepted) (is : IsProgram x) (s : Recorded) (k : Keeps x s) (site 
       order_alike (frames_of x.image (stack_of (memory_of s)) None site (all_of s.regs)).frames (recorded_frames x is s k site throws None).frames (ap (λ (fs : Frames). fs.frames) same.all)
       (all_in_order MOST_FRAMES x.image (stack_of (memory_of s)) None true site (all_of s.regs) is.image)
 
-  pub throw_reached : (m : Meeting) (b : Barrier) → phase1 m (recorded_frames x is s k site throws (first_place s.places)) ≡ found.Barrier b → is_reached (goal_of b) 0 (recorded_frames x is s k site throws None).frames ≡ true
+  pub throw_reached : (m : Meeting) (b : Barrier) → phase1 m (recorded_frames x is s k site throws (first_place s.cleanups)) ≡ found.Barrier b → is_reached (goal_of b) 0 (recorded_frames x is s k site throws None).frames ≡ true
   throw_reached m b e =
       let fs = recorded_frames x is s k site throws None in
       let bytes : phase1 m (frames_of x.image (stack_of (memory_of s)) None site (all_of s.regs)) ≡ found.Barrier b =
-      unlimited m MOST_FRAMES x.image (stack_of (memory_of s)) (innermost_in s.lists.cleanups) true site (all_of s.regs) b ((are_one _ _ same.limited).search m ∙ e) in
+      unlimited m MOST_FRAMES x.image (stack_of (memory_of s)) (innermost_in (cleanups_in s.cleanups)) true site (all_of s.regs) b ((are_one _ _ same.limited).search m ∙ e) in
       whole_reached m b fs (up_to_barrier m fs.last b fs.frames (sym ((are_one _ _ same.all).search m) ∙ bytes))

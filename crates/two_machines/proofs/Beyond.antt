@@ -1,5 +1,5 @@
 -- Guarded words beyond the running stack stay behind every event.
-use Rattle.std.proofs.Common.{◌≡◌, ℕ, ◌<◌, ◌≤◌, ◌⊎◌, inl, inr, ◌==◌, ◌&&◌, nat_lt, Bool, true, false, cond, List, [], ◌∷◌, length, drop, filter, slice_index, Option, Some, None, Result, Ok, Err, refl, ap, ◌∙◌, arith}
+use Rattle.std.proofs.Common.{◌≡◌, ℕ, ◌<◌, ◌≤◌, ◌⊎◌, inl, inr, ◌==◌, ◌&&◌, nat_lt, Bool, true, false, cond, List, [], ◌∷◌, length, filter, slice_index, Option, Some, None, Result, Ok, Err, refl, ap, ◌∙◌, arith}
 use Rattle.std.specs.Prelude.{is_some}
 use Rattle.event_runs.specs.Runs.{Event, Goes, Ends}
 use Rattle.eh_bus.specs.Memory.{Memory, stays_guarded}
@@ -8,14 +8,12 @@ use Rattle.guest_gates.specs.Gates.{gate_event}
 use Rattle.eh_cxa.specs.Allocate.{allocate_of, free_of}
 use Rattle.eh_cxa.specs.Catch.{begin_catch_of, end_catch_of}
 use Rattle.eh_cxa.specs.ListCalls.{allocate_list, free_list, end_list, rethrow_list}
-use Rattle.eh_cxa.specs.Lists.{Cleanup}
 use Rattle.eh_cxa.specs.Throw.{barrier_of}
-use Rattle.eh_cxa.specs.Words.{word, block, block_slot, object_slot}
+use Rattle.eh_cxa.specs.Words.{word, block_slot, object_slot}
 use Rattle.eh_cxa.specs.declared.globals.CleanupWords.{CleanupWords}
 use Rattle.eh_cxa.specs.declared.globals.CxaFault.{CxaFault}
 use Rattle.eh_cxa.specs.declared.globals.CxaFault.TheVariants as fault
 use Rattle.eh_phase.specs.Frames.{covered_at}
-use Rattle.eh_phase.specs.Phases.{phase2}
 use Rattle.eh_phase.specs.declared.phase1.Barrier.{Barrier}
 use Rattle.eh_phase.specs.declared.phase2.Entered.{Entered}
 use Rattle.eh_phase.specs.declared.phase2.Entered.TheVariants as enters
@@ -38,7 +36,7 @@ use Rattle.eh_gates.specs.State.{Guide}
 use Rattle.eh_gates.specs.Landing.{words_of}
 use Rattle.eh_gates.specs.Throwing.{barrier_in, throw_event}
 use Rattle.two_machines.specs.Program.{Program, guide}
-use Rattle.two_machines.specs.Activations.{Activation, Recorded, reg_in, memory_of, staying, words_in, heads, with_lists, first_place}
+use Rattle.two_machines.specs.Activations.{Activation, InProgress, Recorded, reg_in, memory_of, staying, words_in, heads, with_lists, lists_of}
 use Rattle.two_machines.specs.ActivationMachine as acts
 use Rattle.two_machines.specs.RecordedSlots.{AreOutside, LeavesBeyond, WordsBeyondStay}
 use Rattle.two_machines.proofs.Released.{it_stays}
@@ -112,7 +110,7 @@ module _ (home : ℕ × ℕ) (beyond : List ℕ) (out : AreOutside home beyond) 
       by_found (Err end) t i = i
 
       go : (c : Bool) → Leaves (acts.from_barrier further (cond c
-          (barrier_in s.regs.pc (acts.searched g s thrown), acts.logged s (throw_event what (memory_of s) thrown (acts.size_of s.lists (object_slot thrown.object))))
+          (barrier_in s.regs.pc (acts.searched g s thrown), acts.logged s (throw_event what (memory_of s) thrown (acts.size_of (lists_of s) (object_slot thrown.object))))
           (Err (the_end.Trap kind.BadType thrown.ty s.regs.pc), s)))
       go true = by_found (barrier_in s.regs.pc (acts.searched g s thrown)) _ h
       go false = h
@@ -123,24 +121,24 @@ module _ (home : ℕ × ℕ) (beyond : List ℕ) (out : AreOutside home beyond) 
 
   rethrows : (g : Guide) (s : Recorded) (r : Result ℕ CxaFault) → Has s → Leaves (acts.rethrows g s r)
   rethrows g s (Ok blk) h =
-      sought g s event.Rethrow (acts.thrown_of_slot s.lists (block_slot blk)) (λ b t. acts.throw_to g s.regs.pc blk b (acts.flies_again t)) (λ b t i. throw_to g s.regs.pc blk b (acts.flies_again t) i) h
+      sought g s event.Rethrow (acts.thrown_of_slot (lists_of s) (block_slot blk)) (λ b t. acts.throw_to g s.regs.pc blk b (acts.flies_again t)) (λ b t i. throw_to g s.regs.pc blk b (acts.flies_again t) i) h
   rethrows g s (Err why) h = h
 
-  resumes_in : (g : Guide) (s : Recorded) (c : Cleanup) (more : List Cleanup) (xs : List Activation) (place : Option ℕ) → Has s → Leaves (acts.resumes_in g s c more xs place)
-  resumes_in g s c more [] place h = h
-  resumes_in g s c more (a ∷ outer) None h = h
-  resumes_in g s c more (a ∷ outer) (Some outside) h = go ((s.first.caller.sp == c.sp) && (length outer == outside))
+  resumes_in : (g : Guide) (s : Recorded) (p : InProgress) (more : List InProgress) (xs : List Activation) → Has s → Leaves (acts.resumes_in g s p more xs)
+  resumes_in g s p more [] h = h
+  resumes_in g s p more (a ∷ outer) h = go ((s.first.caller.sp == p.cleanup.sp) && (length outer == p.place))
     where
-      go : (b : Bool) → Leaves (cond b (acts.goes_on g (acts.without_cleanup s more) c s.first.caller a outer (barrier_of (word (memory_of s)) (Some c.slot))) (acts.refused fault.CleanupElsewhere s.first.caller.sp s))
-      go true = entered (acts.without_cleanup s more) _ _ _ _ h
+      go : (b : Bool)
+          → Leaves (cond b (acts.goes_on g (record s { cleanups = more }) p.cleanup s.first.caller a outer (barrier_of (word (memory_of s)) (Some p.cleanup.slot))) (acts.refused fault.CleanupElsewhere s.first.caller.sp s))
+      go true = entered (record s { cleanups = more }) _ _ _ _ h
       go false = h
 
-  resumes : (g : Guide) (s : Recorded) (cs : List Cleanup) → Has s → Leaves (acts.resumes g s cs)
+  resumes : (g : Guide) (s : Recorded) (ps : List InProgress) → Has s → Leaves (acts.resumes g s ps)
   resumes g s [] h = h
-  resumes g s (c ∷ more) h = go (acts.can_unwind (covered_at g.image s.regs.pc))
+  resumes g s (p ∷ more) h = go (acts.can_unwind (covered_at g.image s.regs.pc))
     where
-      go : (b : Bool) → Leaves (cond b (acts.resumes_in g s c more s.outer (first_place s.places)) (acts.refused fault.CleanupElsewhere 0 s))
-      go true = resumes_in g s c more s.outer (first_place s.places) h
+      go : (b : Bool) → Leaves (cond b (acts.resumes_in g s p more s.outer) (acts.refused fault.CleanupElsewhere 0 s))
+      go true = resumes_in g s p more s.outer h
       go false = h
 
   -- ---- the other gates
@@ -168,14 +166,14 @@ module _ (home : ℕ × ℕ) (beyond : List ℕ) (out : AreOutside home beyond) 
   gate : (g : Guide) (number next : ℕ) (s : Recorded) → Has s → Leaves (acts.gate_of g number next s)
   unfolding acts.gate_of
   gate g number next s h =
-      either (number == ALLOCATE_GATE) _ _ (allocated next s (with_lists (allocate_list s.lists (reg_in s 0)).lists (allocate_of (words_in s.lists) (reg_in s 0)).writes s) (allocate_list s.lists (reg_in s 0)).answer h h)
+      either (number == ALLOCATE_GATE) _ _ (allocated next s (with_lists (allocate_list (lists_of s) (reg_in s 0)).lists (allocate_of (words_in (lists_of s)) (reg_in s 0)).writes s) (allocate_list (lists_of s) (reg_in s 0)).answer h h)
       (either (number == FREE_GATE) _ _
-      (freed_by next s (with_lists (free_list s.lists (object_slot (reg_in s 0))).lists (free_of (words_in s.lists) (object_slot (reg_in s 0))).writes s) (free_list s.lists (object_slot (reg_in s 0))).answer h h)
+      (freed_by next s (with_lists (free_list (lists_of s) (object_slot (reg_in s 0))).lists (free_of (words_in (lists_of s)) (object_slot (reg_in s 0))).writes s) (free_list (lists_of s) (object_slot (reg_in s 0))).answer h h)
       (either (number == THROW_GATE) _ _ (throws g s (acts.first_flight s).answer h)
-      (either (number == BEGIN_CATCH_GATE) _ _ (caught next s (with_lists (acts.begin_catch s).lists (begin_catch_of (words_in s.lists) (heads s.lists) (reg_in s 0)).writes s) (acts.begin_catch s).answer h h)
-      (either (number == END_CATCH_GATE) _ _ (dropped next s (with_lists (end_list s.lists).lists (end_catch_of (words_in s.lists) (heads s.lists)).writes s) (end_list s.lists).answer h h)
-      (either (number == RETHROW_GATE) _ _ (rethrows g s (rethrow_list s.lists).answer h)
-      (either (number == END_CLEANUP_GATE) _ _ (resumes g s s.lists.cleanups h)
+      (either (number == BEGIN_CATCH_GATE) _ _ (caught next s (with_lists (acts.begin_catch s).lists (begin_catch_of (words_in (lists_of s)) (heads (lists_of s)) (reg_in s 0)).writes s) (acts.begin_catch s).answer h h)
+      (either (number == END_CATCH_GATE) _ _ (dropped next s (with_lists (end_list (lists_of s)).lists (end_catch_of (words_in (lists_of s)) (heads (lists_of s))).writes s) (end_list (lists_of s)).answer h h)
+      (either (number == RETHROW_GATE) _ _ (rethrows g s (rethrow_list (lists_of s)).answer h)
+      (either (number == END_CLEANUP_GATE) _ _ (resumes g s s.cleanups h)
       (either (number == UNEXPECTED_GATE) _ _ h (either (number == TERMINATE_GATE) _ _ h (either (number == UNCAUGHT_GATE) _ _ (h.0, λ l. h.1) h)))))))))
 
 -- ---- the event

@@ -1,5 +1,5 @@
 -- Events of states that stand for each other: all that walk no frames and are no returns.
-use Rattle.std.proofs.Common.{◌≡◌, ℕ, ◌+◌, ◌*◌, ◌^◌, ◌<◌, nat_lt, Bool, true, false, cond, map, refl, arith}
+use Rattle.std.proofs.Common.{◌≡◌, ℕ, ◌+◌, ◌*◌, ◌^◌, ◌<◌, nat_lt, Bool, true, false, cond, map, arith}
 use Rattle.eh_bus.specs.Map.{IsMap}
 use Rattle.eh_bus.specs.declared.map.TheConstants.{POOL_START, SLOT_SIZE}
 use Rattle.image_memory.specs.Start.{memory_segment}
@@ -16,7 +16,7 @@ use Rattle.eh_gates.specs.Gates.{gate_of}
 use Rattle.two_machines.specs.Program.{Program, guide}
 use Rattle.two_machines.specs.Start.{start_of}
 use Rattle.two_machines.specs.Machine as bytes
-use Rattle.two_machines.specs.Activations.{Recorded, reg_in, memory_of, heads, bytes_of, recorded_start}
+use Rattle.two_machines.specs.Activations.{Recorded, reg_in, memory_of, heads, bytes_of, recorded_start, lists_of}
 use Rattle.two_machines.specs.ActivationMachine as acts
 use Rattle.two_machines.specs.ActivationLaws.{Matches, KnowsLanding}
 use Rattle.two_machines.specs.Corresponds.{Corresponds, WalksNone, IsInPlace, CallsMatch}
@@ -25,7 +25,7 @@ use Rattle.two_machines.proofs.FirstEvent.{at_pool, outcome_event}
 use Rattle.two_machines.proofs.CallGates.{gates_match}
 
 pub knows : (s : Recorded) → Corresponds s → KnowsLanding s
-knows s c = innermost_follows (word (memory_of s)) (heads s.lists) s.lists c.stands
+knows s c = innermost_follows (word (memory_of s)) (heads (lists_of s)) (lists_of s) c.stands
 
 -- a pool of zeros stands for no exceptions
 zero_words : (p : Program) (s k : ℕ) → s < SLOTS → k < CLOSED_WORDS → word (start_of p).memory s k ≡ 0
@@ -33,7 +33,7 @@ unfolding word
 zero_words p s k h i = at_pool (map memory_segment p.image.segments) (POOL_START + SLOT_SIZE * s + 4 * k) (omega arith) (omega arith)
 
 pub start_corresponds : (p : Program) → IsMap (start_of p).memory → Corresponds (recorded_start p)
-start_corresponds p mapped = record { map = mapped; stands = start_stands (word (start_of p).memory) (zero_words p); placed = refl }
+start_corresponds p mapped = record { map = mapped; stands = start_stands (word (start_of p).memory) (zero_words p) }
 
 module _ (p : Program) (s : Recorded) (c : Corresponds s) (small : reg_in s 0 < 2 ^ 32) where
   at_gate : (number : ℕ) → WalksNone number → CanMatch p s (Gate number)

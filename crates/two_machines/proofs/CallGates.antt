@@ -1,5 +1,5 @@
 -- The gates that walk no frames do the same over bytes and with recorded activations, and leave what stands for each other.
-use Rattle.std.proofs.Common.{◌≡◌, ℕ, ◌^◌, ◌<◌, inl, ◌==◌, nat_lt, Bool, true, false, cond, List, [], ◌∷◌, length, Option, Some, None, Result, Ok, Err, ℤ, pos, refl, sym, ap, subst, ◌∙◌, arith}
+use Rattle.std.proofs.Common.{◌≡◌, ℕ, ◌^◌, ◌<◌, inl, ◌==◌, nat_lt, Bool, true, false, cond, List, [], ◌∷◌, Option, Some, None, Result, Ok, Err, ℤ, pos, refl, sym, ap, subst, ◌∙◌, arith}
 use Rattle.std.proofs.lemmas.Bool.Decides.{nat_tests}
 use Rattle.eh_bus.specs.Lists.{Has}
 use Rattle.eh_bus.specs.Map.{IsMap}
@@ -27,15 +27,16 @@ use Rattle.eh_gates.specs.declared.gates.TheConstants.{ALLOCATE_GATE, FREE_GATE,
 use Rattle.eh_gates.specs.State.{State, Guide, Outcome, behind}
 use Rattle.eh_gates.specs.CallGates.{with_r1, allocated, freed, caught, dropped, allocate_gate, free_gate, begin_catch_gate, end_catch_gate, uncaught_gate}
 use Rattle.eh_gates.specs.Gates.{gate_of}
-use Rattle.two_machines.specs.Activations.{Recorded, reg_in, memory_of, words_in, head_of, heads, with_lists, bytes_of}
+use Rattle.two_machines.specs.Activations.{Recorded, reg_in, memory_of, words_in, head_of, heads, with_lists, bytes_of, lists_of, cleanups_in}
 use Rattle.two_machines.specs.ActivationMachine as acts
 use Rattle.two_machines.specs.Corresponds.{Corresponds, GateMatches, WalksNone}
 use Rattle.two_machines.proofs.FirstEvent.{segments_alone}
+use Rattle.two_machines.proofs.WithLists.{lists_are, heads_same}
 use Rattle.two_machines.proofs.InStep.{catch_heads, end_heads, same_slot, same_count, heads_are, are_heads}
 
 -- ---- the lists' cleanups stay
 
-allocate_keeps : (l : Lists) (size : ℕ) → (allocate_list l size).lists.cleanups ≡ l.cleanups
+pub allocate_keeps : (l : Lists) (size : ℕ) → (allocate_list l size).lists.cleanups ≡ l.cleanups
 allocate_keeps l size = by_size (nat_lt OBJECT_BYTES size)
   where
     by_slot : (o : Option ℕ) → (allocate_in l size o).lists.cleanups ≡ l.cleanups
@@ -164,14 +165,14 @@ pub record InStep {A : Type 0} (s : Recorded) (d : Done A) (ws : List Write) (o 
   pub writes : ws ≡ d.writes
   pub follows : Follows (word (put_all d.writes (memory_of s))) d.globals d.answer o
   pub tops : AreHeads d.globals
-  pub cleanups : o.lists.cleanups ≡ s.lists.cleanups
+  pub cleanups : o.lists.cleanups ≡ cleanups_in s.cleanups
 
 module _ (s : Recorded) (c : Corresponds s) where
-  pub still : (l : Lists) (ws : List Write) → Stands (word (put_all ws (memory_of s))) (heads l) l → l.cleanups ≡ s.lists.cleanups → Corresponds (with_lists l ws s)
+  pub still : (l : Lists) (ws : List Write) → Stands (word (put_all ws (memory_of s))) (heads l) l → l.cleanups ≡ cleanups_in s.cleanups → Corresponds (with_lists l ws s)
   still l ws x e = record {
     map = subst (λ (m : Memory). IsMap m) (segments_alone ws (memory_of s)) (all_is_map ws (memory_of s) c.map);
-    stands = subst (λ (m : Memory). Stands (word m) (heads l) l) (segments_alone ws (memory_of s)) x;
-    placed = c.placed ∙ ap (λ xs. length xs) (sym e);
+    stands = subst (λ (k : Lists). Stands (word (memory_of (with_lists l ws s))) (heads k) k) (sym (lists_are l ws s e))
+        (subst (λ (m : Memory). Stands (word m) (heads l) l) (segments_alone ws (memory_of s)) x);
   }
 
   module _ {A : Type 0} (d : Done A) (ws : List Write) (o : Call A) (i : InStep s d ws o) where
@@ -185,95 +186,96 @@ module _ (s : Recorded) (c : Corresponds s) where
 
     -- what a gate makes of the answer
     pub by_call : (F : A × Globals × Memory → Outcome) (G : Recorded → A → acts.Outcome)
-        → ((r : A) (l : Lists) (vs : List Write) → Corresponds (with_lists l vs s) → d.globals ≡ heads l → GateMatches (F (r, heads l, put_all vs (memory_of s))) (G (with_lists l vs s) r))
+        → ((r : A) (l : Lists) (vs : List Write) → Corresponds (with_lists l vs s) → l.cleanups ≡ cleanups_in s.cleanups → d.globals ≡ heads l → GateMatches (F (r, heads l, put_all vs (memory_of s))) (G (with_lists l vs s) r))
         → GateMatches (F (made d (memory_of s))) (G (with_lists o.lists ws s) o.answer)
     by_call F G h =
         subst (λ (r : A). GateMatches (F (r, d.globals, put_all d.writes (memory_of s))) (G (with_lists o.lists ws s) o.answer)) (sym i.follows.same)
         (subst (λ (g : Globals). GateMatches (F (o.answer, g, put_all d.writes (memory_of s))) (G (with_lists o.lists ws s) o.answer)) (sym same_heads)
         (subst (λ (vs : List Write). GateMatches (F (o.answer, heads o.lists, put_all vs (memory_of s))) (G (with_lists o.lists ws s) o.answer)) i.writes
-        (h o.answer o.lists ws left same_heads)))
+        (h o.answer o.lists ws left i.cleanups same_heads)))
 
   -- ---- the gates
 
   alone : (ws : List Write) → put_all ws (memory_of s) ≡ record (memory_of s) { segments = (put_all ws (memory_of s)).segments }
   alone ws = segments_alone ws (memory_of s)
 
-  allocated_match : (next : ℕ) (r : Result ℕ CxaFault) (l : Lists) (ws : List Write) → Corresponds (with_lists l ws s) → heads s.lists ≡ heads l
+  allocated_match : (next : ℕ) (r : Result ℕ CxaFault) (l : Lists) (ws : List Write) → Corresponds (with_lists l ws s) → l.cleanups ≡ cleanups_in s.cleanups → heads (lists_of s) ≡ heads l
       → GateMatches (allocated next (bytes_of s) (r, put_all ws (memory_of s))) (acts.allocated next s (with_lists l ws s) r)
-  allocated_match next (Ok object) l ws k e =
+  allocated_match next (Ok object) l ws k q e =
       let one : Memory → State = λ m. record (bytes_of s) { regs = with_r0 object (behind next s.regs); memory = m } in
       let two : Globals → State = λ g.
       record { regs = with_r0 object (behind next s.regs); globals = g; memory = record (memory_of s) { segments = (put_all ws (memory_of s)).segments }; events = s.events }
       in
-      record { same = ap one (alone ws) ∙ ap two e; still = record { map = k.map; stands = k.stands; placed = k.placed } }
-  allocated_match next (Err why) l ws k e = record { same = (refl, refl); still = c }
+      record { same = ap one (alone ws) ∙ ap two (e ∙ sym (heads_same l ws s q)); still = record { map = k.map; stands = k.stands } }
+  allocated_match next (Err why) l ws k q e = record { same = (refl, refl); still = c }
 
-  freed_match : (next : ℕ) (r : Result (Unit {0}) CxaFault) (l : Lists) (ws : List Write) → Corresponds (with_lists l ws s) → heads s.lists ≡ heads l
+  freed_match : (next : ℕ) (r : Result (Unit {0}) CxaFault) (l : Lists) (ws : List Write) → Corresponds (with_lists l ws s) → l.cleanups ≡ cleanups_in s.cleanups → heads (lists_of s) ≡ heads l
       → GateMatches (freed next (bytes_of s) (r, put_all ws (memory_of s))) (acts.freed next s (with_lists l ws s) r)
-  freed_match next (Ok done) l ws k e =
+  freed_match next (Ok done) l ws k q e =
       let one : Memory → State = λ m. record (bytes_of s) { regs = behind next s.regs; memory = m } in
       let two : Globals → State = λ g.
       record { regs = behind next s.regs; globals = g; memory = record (memory_of s) { segments = (put_all ws (memory_of s)).segments }; events = s.events }
       in
-      record { same = ap one (alone ws) ∙ ap two e; still = record { map = k.map; stands = k.stands; placed = k.placed } }
-  freed_match next (Err why) l ws k e = record { same = (refl, refl); still = c }
+      record { same = ap one (alone ws) ∙ ap two (e ∙ sym (heads_same l ws s q)); still = record { map = k.map; stands = k.stands } }
+  freed_match next (Err why) l ws k q e = record { same = (refl, refl); still = c }
 
-  caught_match : (next : ℕ) (r : Result ℕ CxaFault) (l : Lists) (ws : List Write) → Corresponds (with_lists l ws s)
+  caught_match : (next : ℕ) (r : Result ℕ CxaFault) (l : Lists) (ws : List Write) → Corresponds (with_lists l ws s) → l.cleanups ≡ cleanups_in s.cleanups
       → GateMatches (caught next (bytes_of s) (r, heads l, put_all ws (memory_of s))) (acts.caught next s (with_lists l ws s) r)
-  caught_match next (Ok object) l ws k = record {
-    same = ap (λ (m : Memory). record (bytes_of s) { regs = with_r0 object (behind next s.regs); globals = heads l; memory = m }) (alone ws);
-    still = record { map = k.map; stands = k.stands; placed = k.placed };
+  caught_match next (Ok object) l ws k q = record {
+    same =
+        ap (λ (m : Memory). record (bytes_of s) { regs = with_r0 object (behind next s.regs); globals = heads l; memory = m }) (alone ws)
+        ∙ ap (λ (g : Globals). record (bytes_of s) { regs = with_r0 object (behind next s.regs); globals = g; memory = memory_of (with_lists l ws s) }) (sym (heads_same l ws s q));
+    still = record { map = k.map; stands = k.stands };
   }
-  caught_match next (Err why) l ws k = record { same = (refl, refl); still = c }
+  caught_match next (Err why) l ws k q = record { same = (refl, refl); still = c }
 
-  dropped_match : (next : ℕ) (r : Result (ℕ × ℕ) CxaFault) (l : Lists) (ws : List Write) → Corresponds (with_lists l ws s)
+  dropped_match : (next : ℕ) (r : Result (ℕ × ℕ) CxaFault) (l : Lists) (ws : List Write) → Corresponds (with_lists l ws s) → l.cleanups ≡ cleanups_in s.cleanups
       → GateMatches (dropped next (bytes_of s) (r, heads l, put_all ws (memory_of s))) (acts.dropped next s (with_lists l ws s) r)
-  dropped_match next (Ok (object, destructor)) l ws k = record {
-    same = ap (λ (m : Memory). record (bytes_of s) {
-      regs = with_r1 destructor (with_r0 object (behind next s.regs));
-      globals = heads l;
-      memory = m;
-    }) (alone ws);
-    still = record { map = k.map; stands = k.stands; placed = k.placed };
+  dropped_match next (Ok (object, destructor)) l ws k q = record {
+    same =
+        ap (λ (m : Memory). record (bytes_of s) { regs = with_r1 destructor (with_r0 object (behind next s.regs)); globals = heads l; memory = m }) (alone ws)
+        ∙ ap (λ (g : Globals). record (bytes_of s) { regs = with_r1 destructor (with_r0 object (behind next s.regs)); globals = g; memory = memory_of (with_lists l ws s) })
+        (sym (heads_same l ws s q));
+    still = record { map = k.map; stands = k.stands };
   }
-  dropped_match next (Err why) l ws k = record { same = (refl, refl); still = c }
+  dropped_match next (Err why) l ws k q = record { same = (refl, refl); still = c }
 
   abbrev of_wrote : {A : Type 0} → Wrote A → Done A
-  of_wrote d = record { answer = d.answer; globals = heads s.lists; writes = d.writes }
+  of_wrote d = record { answer = d.answer; globals = heads (lists_of s); writes = d.writes }
 
-  fine : AreHeads (heads s.lists)
-  fine = are_heads (word (memory_of s)) (heads s.lists) s.lists c.stands
+  fine : AreHeads (heads (lists_of s))
+  fine = are_heads (word (memory_of s)) (heads (lists_of s)) (lists_of s) c.stands
 
   allocate_matches : (next : ℕ) → reg_in s 0 < 2 ^ 32 → GateMatches (allocate_gate next (bytes_of s)) (acts.allocate_gate next s)
   allocate_matches next small =
       let size = reg_in s 0 in
       let d = allocate_of (word (memory_of s)) size in
-      by_call (of_wrote d) (allocate_of (words_in s.lists) size).writes (allocate_list s.lists size)
+      by_call (of_wrote d) (allocate_of (words_in (lists_of s)) size).writes (allocate_list (lists_of s) size)
       (record {
-        writes = ap (λ (v : Wrote (Result ℕ CxaFault)). v.writes) (same_allocate (word (memory_of s)) (heads s.lists) s.lists c.stands size);
-        follows = allocate_meets (memory_of s) (put_all d.writes (memory_of s)) d.answer size c.map small refl (heads s.lists) s.lists c.stands;
+        writes = ap (λ (v : Wrote (Result ℕ CxaFault)). v.writes) (same_allocate (word (memory_of s)) (heads (lists_of s)) (lists_of s) c.stands size);
+        follows = allocate_meets (memory_of s) (put_all d.writes (memory_of s)) d.answer size c.map small refl (heads (lists_of s)) (lists_of s) c.stands;
         tops = fine;
-        cleanups = allocate_keeps s.lists size;
+        cleanups = allocate_keeps (lists_of s) size;
       })
       (λ (q : Result ℕ CxaFault × Globals × Memory). allocated next (bytes_of s) (q.0, q.2)) (λ (t : Recorded) (r : Result ℕ CxaFault). acts.allocated next s t r)
-      (λ r l vs k e. allocated_match next r l vs k e)
+      (λ r l vs k q e. allocated_match next r l vs k q e)
 
   free_matches : (next : ℕ) → GateMatches (free_gate next (bytes_of s)) (acts.free_gate next s)
   free_matches next =
       let at = object_slot (reg_in s 0) in
       let d = free_of (word (memory_of s)) at in
-      by_call (of_wrote d) (free_of (words_in s.lists) at).writes (free_list s.lists at)
+      by_call (of_wrote d) (free_of (words_in (lists_of s)) at).writes (free_list (lists_of s) at)
       (record {
-        writes = ap (λ (v : Wrote (Result (Unit {0}) CxaFault)). v.writes) (same_free (word (memory_of s)) (heads s.lists) s.lists c.stands at (λ t e. object_small (reg_in s 0) t e));
-        follows = free_meets (memory_of s) (put_all d.writes (memory_of s)) d.answer (reg_in s 0) c.map refl (heads s.lists) s.lists c.stands;
+        writes = ap (λ (v : Wrote (Result (Unit {0}) CxaFault)). v.writes) (same_free (word (memory_of s)) (heads (lists_of s)) (lists_of s) c.stands at (λ t e. object_small (reg_in s 0) t e));
+        follows = free_meets (memory_of s) (put_all d.writes (memory_of s)) d.answer (reg_in s 0) c.map refl (heads (lists_of s)) (lists_of s) c.stands;
         tops = fine;
-        cleanups = free_keeps s.lists at;
+        cleanups = free_keeps (lists_of s) at;
       })
       (λ (q : Result (Unit {0}) CxaFault × Globals × Memory). freed next (bytes_of s) (q.0, q.2)) (λ (t : Recorded) (r : Result (Unit {0}) CxaFault). acts.freed next s t r)
-      (λ r l vs k e. freed_match next r l vs k e)
+      (λ r l vs k q e. freed_match next r l vs k q e)
 
-  small_head : (heads s.lists).caught < 2 ^ 32
-  small_head = go s.lists.caught c.stands.shows.caught
+  small_head : (heads (lists_of s)).caught < 2 ^ 32
+  small_head = go s.caught c.stands.shows.caught
     where
       go : (xs : List ℕ) → Chain (λ t. word (memory_of s) t NEXT_CAUGHT) (head_of xs) xs → head_of xs < 2 ^ 32
       go [] k = omega arith
@@ -282,34 +284,34 @@ module _ (s : Recorded) (c : Corresponds s) where
   begin_matches : (next : ℕ) → GateMatches (begin_catch_gate next (bytes_of s)) (acts.begin_catch_gate next s)
   begin_matches next =
       let ucb = reg_in s 0 in
-      let g = heads s.lists in
+      let g = heads (lists_of s) in
       let d = begin_catch_of (word (memory_of s)) g ucb in
-      by_call d (begin_catch_of (words_in s.lists) g ucb).writes (acts.begin_catch s)
+      by_call d (begin_catch_of (words_in (lists_of s)) g ucb).writes (acts.begin_catch s)
       (record {
-        writes = catch_in_writes (word (memory_of s)) g s.lists c.stands ucb (block_slot ucb) (λ t e. slot_small ucb t e);
-        follows = begin_catch_meets (memory_of s) (put_all d.writes (memory_of s)) g d.globals d.answer ucb c.map small_head refl s.lists c.stands;
+        writes = catch_in_writes (word (memory_of s)) g (lists_of s) c.stands ucb (block_slot ucb) (λ t e. slot_small ucb t e);
+        follows = begin_catch_meets (memory_of s) (put_all d.writes (memory_of s)) g d.globals d.answer ucb c.map small_head refl (lists_of s) c.stands;
         tops = catch_heads (word (memory_of s)) g ucb (block_slot ucb) refl fine;
-        cleanups = catch_keeps (acts.given s) s.lists (block_slot ucb);
+        cleanups = catch_keeps (acts.given s) (lists_of s) (block_slot ucb);
       })
       (λ (q : Result ℕ CxaFault × Globals × Memory). caught next (bytes_of s) q) (λ (t : Recorded) (r : Result ℕ CxaFault). acts.caught next s t r)
-      (λ r l vs k e. caught_match next r l vs k)
+      (λ r l vs k q e. caught_match next r l vs k q)
 
   end_matches : (next : ℕ) → GateMatches (end_catch_gate next (bytes_of s)) (acts.end_catch_gate next s)
   end_matches next =
-      let g = heads s.lists in
+      let g = heads (lists_of s) in
       let d = end_catch_of (word (memory_of s)) g in
-      by_call d (end_catch_of (words_in s.lists) g).writes (end_list s.lists)
+      by_call d (end_catch_of (words_in (lists_of s)) g).writes (end_list (lists_of s))
       (record {
-        writes = end_at_writes (word (memory_of s)) g s.lists c.stands (block_slot g.caught) (λ t e. e);
-        follows = end_catch_meets (memory_of s) (put_all d.writes (memory_of s)) g d.globals d.answer c.map refl s.lists c.stands;
+        writes = end_at_writes (word (memory_of s)) g (lists_of s) c.stands (block_slot g.caught) (λ t e. e);
+        follows = end_catch_meets (memory_of s) (put_all d.writes (memory_of s)) g d.globals d.answer c.map refl (lists_of s) c.stands;
         tops = end_heads (word (memory_of s)) g (block_slot g.caught) fine;
-        cleanups = end_keeps s.lists;
+        cleanups = end_keeps (lists_of s);
       })
       (λ (q : Result (ℕ × ℕ) CxaFault × Globals × Memory). dropped next (bytes_of s) q) (λ (t : Recorded) (r : Result (ℕ × ℕ) CxaFault). acts.dropped next s t r)
-      (λ r l vs k e. dropped_match next r l vs k)
+      (λ r l vs k q e. dropped_match next r l vs k q)
 
   uncaught_matches : (next : ℕ) → GateMatches (uncaught_gate next (bytes_of s)) (acts.uncaught_gate next s)
-  uncaught_matches next = record { same = refl; still = record { map = c.map; stands = c.stands; placed = c.placed } }
+  uncaught_matches next = record { same = refl; still = record { map = c.map; stands = c.stands } }
 
 -- ---- by their numbers
 

@@ -4,7 +4,7 @@ use Rattle.eh_cxa.proofs.Pools.{slot_of_block_is}
 use Rattle.eh_phase.specs.declared.phase2.Entered.TheVariants as enters
 use Rattle.thumb_core.specs.declared.regs.TheConstants.{SP}
 use Rattle.two_machines.specs.Landings.{LandingsAreInTheirActivation}
-use Rattle.two_machines.proofs.RecordedGates.{callers_left, land_keeps}
+use Rattle.two_machines.proofs.RecordedGates.{callers_left}
 
 pub are_in : LandingsAreInTheirActivation
 are_in s a more slot object (enters.Cleanup vrs pad next site) h =
@@ -13,23 +13,20 @@ are_in s a more slot object (enters.Cleanup vrs pad next site) h =
       stands = record { function = refl; caller = refl; outer = callers_left s.home (slice_index vrs.r SP) more };
       with_regs = refl;
       in_progress = refl;
-      named = refl;
     })
 are_in s a more slot object (enters.Catch vrs pad) h =
     rw (slot_of_block_is slot h) (record {
       goes = refl;
       stands = record { function = refl; caller = refl; outer = callers_left s.home (slice_index vrs.r SP) more };
       with_regs = refl;
-      in_progress = land_keeps s.lists slot;
-      named = refl;
+      in_progress = refl;
     })
 are_in s a more slot object (enters.Spec vrs pad) h =
     rw (slot_of_block_is slot h) (record {
       goes = refl;
       stands = record { function = refl; caller = refl; outer = callers_left s.home (slice_index vrs.r SP) more };
       with_regs = refl;
-      in_progress = land_keeps s.lists slot;
-      named = refl;
+      in_progress = refl;
     })
 are_in s a more slot object enters.Unexpected h = refl
 are_in s a more slot object (enters.Terminate why) h = refl

@@ -1,6 +1,6 @@
 -- An exception that flies to its barrier, and the search before it: what a throw and a rethrow have in common, over bytes and with recorded
 -- activations, where the frames of both agree.
-use Rattle.std.proofs.Common.{◌≡◌, ℕ, ◌<◌, Bool, true, false, cond, List, [], ◌∷◌, ◌++◌, length, Option, Some, None, Err, refl, sym, ap, subst, ◌∙◌, arith}
+use Rattle.std.proofs.Common.{◌≡◌, ℕ, ◌<◌, Bool, true, false, cond, List, [], ◌∷◌, ◌++◌, Option, Some, None, Err, refl, sym, ap, subst, ◌∙◌, arith}
 use Rattle.std.specs.Prelude.{is_some}
 use Rattle.eh_bus.specs.Lists.{Has}
 use Rattle.eh_bus.specs.Map.{IsMap}
@@ -8,7 +8,8 @@ use Rattle.eh_bus.specs.Memory.{Memory}
 use Rattle.eh_cxa.specs.declared.layout.TheConstants.{SLOTS}
 use Rattle.eh_cxa.specs.declared.state.State.TheVariants.{Flying}
 use Rattle.eh_cxa.specs.Allocate.{size_at}
-use Rattle.eh_cxa.specs.Lists.{Lists, entry, slots, state_in}
+use Rattle.eh_cxa.specs.Lists.{Cleanup, Lists, entry, slots, state_in}
+use Rattle.eh_cxa.specs.declared.globals.Globals.{Globals}
 use Rattle.eh_cxa.specs.Throw.{set_barrier_of}
 use Rattle.eh_cxa.specs.Stands.{Stands}
 use Rattle.eh_cxa.specs.Words.{Write, word, block, block_slot, object_slot, put, put_all}
@@ -32,7 +33,7 @@ use Rattle.eh_gates.specs.State.{State, Guide, Outcome, logged}
 use Rattle.eh_gates.specs.Landing.{entered}
 use Rattle.eh_gates.specs.Throwing as bytes
 use Rattle.eh_gates.specs.Throwing.{handed, barrier_words, throw_event, barrier_in, from_barrier}
-use Rattle.two_machines.specs.Activations.{Activation, Recorded, memory_of, heads, with_words, with_lists, bytes_of, first_place}
+use Rattle.two_machines.specs.Activations.{Activation, Recorded, memory_of, heads, with_words, with_lists, bytes_of, first_place, lists_of, cleanups_in}
 use Rattle.two_machines.specs.ActivationMachine as machine
 use Rattle.two_machines.specs.Agreeing.{Agree}
 use Rattle.two_machines.specs.Corresponds.{Corresponds, GateMatches}
@@ -41,6 +42,7 @@ use Rattle.two_machines.specs.Throws.{AreInPool, AdvancesAlike, SeesAlike, CanLa
 use Rattle.two_machines.proofs.Agreeing.{are_one}
 use Rattle.two_machines.proofs.FirstEvent.{segments_alone}
 use Rattle.two_machines.proofs.Landed.{landings_match}
+use Rattle.two_machines.proofs.WithLists.{lists_are}
 
 put_append : (xs ys : List Write) (m : Memory) → put_all (xs ++ ys) m ≡ put_all ys (put_all xs m)
 put_append [] ys m = refl
@@ -50,7 +52,7 @@ put_append (x ∷ xs) ys m = put_append xs ys (put m x.slot x.place x.value)
 pub record HasFlown (s : Recorded) (slot : ℕ) (writes : List Write) (flown : Lists) : Type 0 where
   pub small : slot < SLOTS
   pub stands : Stands (word (put_all writes (memory_of s))) (heads flown) flown
-  pub placed : length s.places ≡ length flown.cleanups
+  pub cleanups : flown.cleanups ≡ cleanups_in s.cleanups
   pub flies : state_in (entry flown slot) ≡ Some Flying
   pub idle : Has (slots flown.cleanups) slot → ⊥
   pub in_pool : (more : List Write) → AreInPool more → AreInPool (writes ++ more)
@@ -77,17 +79,19 @@ module _ (g : Guide) (s : Recorded) (c : Corresponds s) where
     memory_is =
         ap (put_all barred) (segments_alone writes (memory_of s)) ∙ segments_alone barred (record (memory_of s) { segments = middle.segments })
 
+    flown_is : lists_of behind ≡ flown
+    flown_is = lists_are flown writes s flight.cleanups
+
     corresponds : Corresponds behind
     corresponds = record {
       map = subst (λ (m : Memory). IsMap m) memory_is (all_is_map barred middle (all_is_map writes (memory_of s) c.map));
-      stands = subst (λ (m : Memory). Stands (word m) (heads flown) flown) memory_is
+      stands = subst (λ (l : Lists). Stands (word (memory_of behind)) (heads l) l) (sym flown_is) (subst (λ (m : Memory). Stands (word m) (heads flown) flown) memory_is
           (barrier_meets middle (put_all barred middle) (block slot) (barrier_words (block slot) b) (all_is_map writes (memory_of s) c.map)
-          (record { sp = can.sp; object = can.object; desc = can.desc; pointer = can.pointer }) refl (heads flown) flown flight.stands);
-      placed = flight.placed;
+          (record { sp = can.sp; object = can.object; desc = can.desc; pointer = can.pointer }) refl (heads flown) flown flight.stands));
     }
 
     in_flight : IsInFlight behind slot
-    in_flight = record { small = flight.small; flies = flight.flies; idle = flight.idle }
+    in_flight = record { small = flight.small; flies = flight.flies; idle = λ h. flight.idle (subst (λ (cs : List Cleanup). Has (slots cs) slot) (sym flight.cleanups) h) }
 
     abbrev goes : Entered
     goes = phase2 (goal_of b) 0 (machine.frames_from g s None site)
@@ -112,6 +116,8 @@ module _ (g : Guide) (s : Recorded) (c : Corresponds s) where
         (alike (writes ++ barred) (flight.in_pool barred barred_in))) in
         one.bytes (goal_of b) 0 (after (put_all barred middle)) (block slot) (handed (block slot) b.hit)
         ∙ ap (λ (m : Memory). entered (after m) (block slot) (handed (block slot) b.hit) goes) memory_is
+        ∙ ap (λ (k : Globals). entered (record { regs = s.regs; globals = k; memory = memory_of behind; events = events }) (block slot) (handed (block slot) b.hit) goes)
+        (sym (ap heads flown_is))
 
     recorded_same : machine.throw_to g site (block slot) b (with_lists flown writes (record s { events = events })) ≡ machine.entered behind (can.first ∷ can.more) (block slot) (handed (block slot) b.hit) goes
     unfolding machine.throw_to
@@ -133,19 +139,19 @@ module _ (g : Guide) (s : Recorded) (c : Corresponds s) where
 
 module _ (g : Guide) (s : Recorded) (c : Corresponds s) (sees : SeesAlike g s) where
   module _ (what : EventKind) (thrown : Thrown) (on_bytes : Barrier → State → Outcome) (on_lists : Barrier → Recorded → machine.Outcome)
-      (same_size : size_at (word (memory_of s)) (object_slot thrown.object) ≡ machine.size_of s.lists (object_slot thrown.object))
+      (same_size : size_at (word (memory_of s)) (object_slot thrown.object) ≡ machine.size_of (lists_of s) (object_slot thrown.object))
       (flies : (e : Event) (b : Barrier) → machine.searched g s thrown ≡ found.Barrier b → GateMatches (on_bytes b (logged (bytes_of s) e)) (on_lists b (machine.logged s e))) where
     by_found : (e : Event) (f : Found) → machine.searched g s thrown ≡ f
         → GateMatches (from_barrier on_bytes (barrier_in s.regs.pc f, logged (bytes_of s) e)) (machine.from_barrier on_lists (barrier_in s.regs.pc f, machine.logged s e))
     by_found e (found.Barrier b) q = flies e b q
-    by_found e (found.Terminate why) q = record { same = (refl, refl); still = record { map = c.map; stands = c.stands; placed = c.placed } }
-    by_found e (found.ObjectRead a) q = record { same = (refl, refl); still = record { map = c.map; stands = c.stands; placed = c.placed } }
+    by_found e (found.Terminate why) q = record { same = (refl, refl); still = record { map = c.map; stands = c.stands } }
+    by_found e (found.ObjectRead a) q = record { same = (refl, refl); still = record { map = c.map; stands = c.stands } }
 
     abbrev event_of : ℕ → Event
     event_of size = throw_event what (memory_of s) thrown size
 
     same_search : bytes.searched g (bytes_of s) thrown ≡ machine.searched g s thrown
-    same_search = (are_one (bytes.frames_seen g (bytes_of s)) (machine.frames_from g s (first_place s.places) s.regs.pc) sees.search).search (meeting g.image g.types s.segments thrown)
+    same_search = (are_one (bytes.frames_seen g (bytes_of s)) (machine.frames_from g s (first_place s.cleanups) s.regs.pc) sees.search).search (meeting g.image g.types s.segments thrown)
 
     pub sought_match : GateMatches (from_barrier on_bytes (bytes.sought g (bytes_of s) what thrown)) (machine.from_barrier on_lists (machine.sought g s what thrown))
     unfolding bytes.sought machine.sought
@@ -155,19 +161,19 @@ module _ (g : Guide) (s : Recorded) (c : Corresponds s) (sees : SeesAlike g s) w
             (barrier_in s.regs.pc (bytes.searched g (bytes_of s) thrown), logged (bytes_of s) (event_of (size_at (word (memory_of s)) (object_slot thrown.object))))
             (Err (the_end.Trap trap.BadType thrown.ty s.regs.pc), bytes_of s)))
             (machine.from_barrier on_lists (cond row
-            (barrier_in s.regs.pc (machine.searched g s thrown), machine.logged s (event_of (machine.size_of s.lists (object_slot thrown.object))))
+            (barrier_in s.regs.pc (machine.searched g s thrown), machine.logged s (event_of (machine.size_of (lists_of s) (object_slot thrown.object))))
             (Err (the_end.Trap trap.BadType thrown.ty s.regs.pc), s)))
         by_row false = record { same = (refl, refl); still = c }
         by_row true =
             subst (λ (n : ℕ). GateMatches (from_barrier on_bytes (barrier_in s.regs.pc (bytes.searched g (bytes_of s) thrown), logged (bytes_of s) (event_of n)))
-            (machine.from_barrier on_lists (barrier_in s.regs.pc (machine.searched g s thrown), machine.logged s (event_of (machine.size_of s.lists (object_slot thrown.object)))))) (sym same_size)
-            (subst (λ (f : Found). GateMatches (from_barrier on_bytes (barrier_in s.regs.pc f, logged (bytes_of s) (event_of (machine.size_of s.lists (object_slot thrown.object)))))
-            (machine.from_barrier on_lists (barrier_in s.regs.pc (machine.searched g s thrown), machine.logged s (event_of (machine.size_of s.lists (object_slot thrown.object)))))) (sym same_search)
-            (by_found (event_of (machine.size_of s.lists (object_slot thrown.object))) (machine.searched g s thrown) refl))
+            (machine.from_barrier on_lists (barrier_in s.regs.pc (machine.searched g s thrown), machine.logged s (event_of (machine.size_of (lists_of s) (object_slot thrown.object)))))) (sym same_size)
+            (subst (λ (f : Found). GateMatches (from_barrier on_bytes (barrier_in s.regs.pc f, logged (bytes_of s) (event_of (machine.size_of (lists_of s) (object_slot thrown.object)))))
+            (machine.from_barrier on_lists (barrier_in s.regs.pc (machine.searched g s thrown), machine.logged s (event_of (machine.size_of (lists_of s) (object_slot thrown.object)))))) (sym same_search)
+            (by_found (event_of (machine.size_of (lists_of s) (object_slot thrown.object))) (machine.searched g s thrown) refl))
 
 -- ---- from any site
 
 pub throws_to_match : ThrowsToMatch
 throws_to_match g s site slot b c f alike can =
-    flies_match g s c slot [] s.lists (record { small = f.small; stands = c.stands; placed = c.placed; flies = f.flies; idle = f.idle; in_pool = λ more rest. rest }) s.events site alike b can
+    flies_match g s c slot [] (lists_of s) (record { small = f.small; stands = c.stands; cleanups = refl; flies = f.flies; idle = f.idle; in_pool = λ more rest. rest }) s.events site alike b can
     (bytes.throw_to g (bytes_of s) site (block slot) b) s refl refl

@@ -20,7 +20,7 @@ use Rattle.thumb_core.specs.declared.regs.Stepped.{Stepped}
 use Rattle.thumb_core.specs.declared.regs.Stepped.TheVariants.{Done, Call, Return, Gate, Trap}
 use Rattle.thumb_core.specs.declared.ends.End.{End}
 use Rattle.two_machines.specs.Program.{Program, guide}
-use Rattle.two_machines.specs.Activations.{Activation, Recorded, memory_of, heads}
+use Rattle.two_machines.specs.Activations.{Activation, Recorded, memory_of, heads, lists_of}
 use Rattle.two_machines.specs.ActivationMachine.{left_by, settled_at, moved, tested, tests, stepped, checked, passed, onward, gated, in_state, event_of, gate_of, registers_behind, returned, pops_back, trapped_by, recorded_event}
 use Rattle.two_machines.specs.Corresponds.{IsNoCall, KeepLists, ListsAreKept}
 
@@ -39,23 +39,23 @@ same_word : (m m' : Memory) → ((a : ℕ) → a % 4 ≡ 0 → is_closed a ≡ t
 unfolding word
 same_word m m' closed s k h i = closed (POOL_START + SLOT_SIZE * s + 4 * k) (omega arith) (closed_word s k h i)
 
-module _ (s : Recorded) (x : Stands (word (memory_of s)) (heads s.lists) s.lists) where
+module _ (s : Recorded) (x : Stands (word (memory_of s)) (heads (lists_of s)) (lists_of s)) where
   -- a state with the same lists, over segments that kept the closed words
-  kept : (t : Recorded) (m : Memory) → KeepsMap (memory_of s) m → t.lists ≡ s.lists → t.places ≡ s.places → t.segments ≡ m.segments → KeepLists s t
+  kept : (t : Recorded) (m : Memory) → KeepsMap (memory_of s) m → lists_of t ≡ lists_of s → t.cleanups ≡ s.cleanups → t.segments ≡ m.segments → KeepLists s t
   kept t m k l p e = record {
     lists = l;
-    places = p;
+    cleanups = p;
     stands = subst (λ ls. Stands (word (memory_of t)) (heads ls) ls) (sym l)
-        (still_stands (memory_of s) (memory_of t) (heads s.lists) s.lists
+        (still_stands (memory_of s) (memory_of t) (heads (lists_of s)) (lists_of s)
         (same_word (memory_of s) (memory_of t) (λ a al cl. ap (λ segments. number_in 4 segments a) e ∙ k.closed a al cl)) x);
   }
 
-  stays : (t : Recorded) → t.lists ≡ s.lists → t.places ≡ s.places → t.segments ≡ s.segments → KeepLists s t
+  stays : (t : Recorded) → lists_of t ≡ lists_of s → t.cleanups ≡ s.cleanups → t.segments ≡ s.segments → KeepLists s t
   stays t l p e = record {
     lists = l;
-    places = p;
+    cleanups = p;
     stands = subst (λ ls. Stands (word (memory_of t)) (heads ls) ls) (sym l)
-        (still_stands (memory_of s) (memory_of t) (heads s.lists) s.lists
+        (still_stands (memory_of s) (memory_of t) (heads (lists_of s)) (lists_of s)
         (same_word (memory_of s) (memory_of t) (λ a al cl. ap (λ segments. number_in 4 segments a) e)) x);
   }
 
@@ -69,7 +69,7 @@ module _ (s : Recorded) (x : Stands (word (memory_of s)) (heads s.lists) s.lists
   by_gate (Ends end regs) = tt
 
   module _ (p : Program) (input : List ℕ) where
-    by_left : (acts : List Activation) (u : Recorded) (m : Memory) → KeepsMap (memory_of s) m → u.lists ≡ s.lists → u.places ≡ s.places → u.segments ≡ m.segments → KeepLists s (left_by acts u)
+    by_left : (acts : List Activation) (u : Recorded) (m : Memory) → KeepsMap (memory_of s) m → lists_of u ≡ lists_of s → u.cleanups ≡ s.cleanups → u.segments ≡ m.segments → KeepLists s (left_by acts u)
     by_left [] u m k l q e = kept u m k l q e
     by_left (a ∷ more) u m k l q e = kept (record u { first = a; outer = more }) m k l q e
 

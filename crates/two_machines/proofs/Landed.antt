@@ -1,5 +1,5 @@
 -- A landing does the same over bytes and with recorded activations.
-use Rattle.std.proofs.Common.{◌≡◌, ℕ, suc, ◌^◌, ◌<◌, Bool, true, false, List, [], ◌∷◌, ◌++◌, length, map, filter, slice_index, Option, Some, refl, sym, ap, subst, ◌∙◌, arith}
+use Rattle.std.proofs.Common.{◌≡◌, ℕ, ◌^◌, ◌<◌, Bool, true, false, List, [], ◌∷◌, ◌++◌, length, map, filter, slice_index, Option, Some, refl, sym, ap, subst, ◌∙◌, arith}
 use Rattle.std.proofs.lemmas.List.Elements.{filter-append}
 use Rattle.eh_bus.specs.Guards.{insert_all}
 use Rattle.eh_bus.specs.Map.{IsMap}
@@ -25,11 +25,12 @@ use Rattle.thumb_core.specs.declared.regs.TheConstants.{SP}
 use Rattle.eh_gates.specs.State.{State}
 use Rattle.eh_trace.specs.Trace.{pushed}
 use Rattle.eh_gates.specs.Landing.{landed, pad_event, words_of, enter_cleanup, enter_handler}
-use Rattle.two_machines.specs.Activations.{Activation, Recorded, slots_of, guarded_of, released_in, memory_of, words_in, head_of, heads, bytes_of}
+use Rattle.two_machines.specs.Activations.{Activation, Recorded, slots_of, guarded_of, released_in, memory_of, words_in, head_of, heads, bytes_of, lists_of, cleanups_in}
 use Rattle.two_machines.specs.ActivationMachine as acts
 use Rattle.two_machines.specs.Corresponds.{Corresponds}
 use Rattle.two_machines.specs.Landings.{IsInFlight, AreBelow, LandingsMatch}
 use Rattle.two_machines.proofs.FirstEvent.{segments_alone}
+use Rattle.two_machines.proofs.WithLists.{lists_are, land_keeps}
 use Rattle.two_machines.proofs.InStep.{same_slot}
 use Rattle.two_machines.proofs.Returning.{none_pass, leaves_home}
 use Rattle.two_machines.proofs.SameSlots.{filter_all}
@@ -99,29 +100,29 @@ module _ (s : Recorded) (c : Corresponds s) (cut : List Activation) (a : Activat
 
     -- ---- a cleanup
 
-    small_head : (heads s.lists).cleanup < 2 ^ 32
-    small_head = go (slots s.lists.cleanups) c.stands.shows.cleanups
+    small_head : (heads (lists_of s)).cleanup < 2 ^ 32
+    small_head = go (slots (cleanups_in s.cleanups)) c.stands.shows.cleanups
       where
         go : (xs : List ℕ) → Chain (λ t. word (memory_of s) t NEXT_CLEANUP) (head_of xs) xs → head_of xs < 2 ^ 32
         go [] k = omega arith
         go (t ∷ rest) k = let h = slot_small (block t) t k.0 in omega arith
 
     begins : (w : CleanupWords) → w.next < 2 ^ 32 → w.sp < 2 ^ 32 → w.site < 2 ^ 32
-        → Stands (word (put_all (begin_cleanup_of (heads s.lists) (block slot) w).writes (memory_of s))) (begin_cleanup_of (heads s.lists) (block slot) w).globals (begin_cleanup_list s.lists slot w)
+        → Stands (word (put_all (begin_cleanup_of (heads (lists_of s)) (block slot) w).writes (memory_of s))) (begin_cleanup_of (heads (lists_of s)) (block slot) w).globals (begin_cleanup_list (lists_of s) slot w)
     begins w next sp site =
-        let d = begin_cleanup_of (heads s.lists) (block slot) w in
-        begin_cleanup_meets (memory_of s) (put_all d.writes (memory_of s)) (heads s.lists) d.globals (block slot) w c.map small_head (record { next = next; sp = sp; site = site }) refl
-        s.lists slot c.stands is_slot f.flies f.idle
+        let d = begin_cleanup_of (heads (lists_of s)) (block slot) w in
+        begin_cleanup_meets (memory_of s) (put_all d.writes (memory_of s)) (heads (lists_of s)) d.globals (block slot) w c.map small_head (record { next = next; sp = sp; site = site }) refl
+        (lists_of s) slot c.stands is_slot f.flies f.idle
 
-    cleanup_globals : (w : CleanupWords) → (begin_cleanup_of (heads s.lists) (block slot) w).globals ≡ heads (begin_cleanup_list s.lists slot w)
+    cleanup_globals : (w : CleanupWords) → (begin_cleanup_of (heads (lists_of s)) (block slot) w).globals ≡ heads (begin_cleanup_list (lists_of s) slot w)
     cleanup_globals w = rw is_slot refl
 
     cleanup_match : (object : ℕ) (r : List ℕ) (pad : ℕ) (w : CleanupWords) → AreBelow s cut (slice_index r SP) → w.next < 2 ^ 32 → w.sp < 2 ^ 32 → w.site < 2 ^ 32
         → (enter_cleanup (bytes_of s) (block slot) r pad w ≡ bytes_of (acts.enter_cleanup s (a ∷ more) (block slot) r pad w)) × Corresponds (acts.enter_cleanup s (a ∷ more) (block slot) r pad w)
     cleanup_match object r pad w below next sp site =
-        let d = begin_cleanup_of (heads s.lists) (block slot) w in
+        let d = begin_cleanup_of (heads (lists_of s)) (block slot) w in
         let e = pad_event kind.Cleanup pad (slice_index r SP) 0 in
-        let x = subst (λ (g : Globals). Stands (word (put_all d.writes (memory_of s))) g (begin_cleanup_list s.lists slot w)) (cleanup_globals w) (begins w next sp site) in
+        let x = subst (λ (g : Globals). Stands (word (put_all d.writes (memory_of s))) g (begin_cleanup_list (lists_of s) slot w)) (cleanup_globals w) (begins w next sp site) in
         let one : Memory → State = λ m. record {
           regs = landed s.regs r pad 0;
           globals = d.globals;
@@ -141,52 +142,42 @@ module _ (s : Recorded) (c : Corresponds s) (cut : List Activation) (a : Activat
           same,
           record {
             map = left_map d.writes (slice_index r SP) below;
-            stands = left_stands d.writes (slice_index r SP) (heads (begin_cleanup_list s.lists slot w)) (begin_cleanup_list s.lists slot w) x;
-            placed = ap (λ (n : ℕ). suc n) c.placed;
+            stands = left_stands d.writes (slice_index r SP) (heads (begin_cleanup_list (lists_of s) slot w)) (begin_cleanup_list (lists_of s) slot w) x;
           },
         )
 
     -- ---- a handler
 
     abbrev landed_lists : Lists
-    landed_lists = land_list s.lists slot
+    landed_lists = land_list (lists_of s) slot
 
-    land_heads : heads landed_lists ≡ heads s.lists
-    land_heads = by_entry (entry s.lists slot)
+    land_heads : heads landed_lists ≡ heads (lists_of s)
+    land_heads = by_entry (entry (lists_of s) slot)
       where
-        by_state : (b : Bool) (r : Record) → heads (land_record b s.lists slot r) ≡ heads s.lists
+        by_state : (b : Bool) (r : Record) → heads (land_record b (lists_of s) slot r) ≡ heads (lists_of s)
         by_state true r = refl
         by_state false r = refl
 
-        by_entry : (e : Entry) → heads (land_entry s.lists slot e) ≡ heads s.lists
+        by_entry : (e : Entry) → heads (land_entry (lists_of s) slot e) ≡ heads (lists_of s)
         by_entry Free = refl
         by_entry OutOfUse = refl
         by_entry (Live r) = by_state (is_flying (Some r.state)) r
 
-    land_cleanups : landed_lists.cleanups ≡ s.lists.cleanups
-    land_cleanups = by_entry (entry s.lists slot)
-      where
-        by_state : (b : Bool) (r : Record) → (land_record b s.lists slot r).cleanups ≡ s.lists.cleanups
-        by_state true r = refl
-        by_state false r = refl
-
-        by_entry : (e : Entry) → (land_entry s.lists slot e).cleanups ≡ s.lists.cleanups
-        by_entry Free = refl
-        by_entry OutOfUse = refl
-        by_entry (Live r) = by_state (is_flying (Some r.state)) r
+    land_is : lists_of (acts.flown s (Some slot)) ≡ landed_lists
+    land_is = lists_are landed_lists (land_of (words_in (lists_of s)) (Some slot)) s (land_keeps (lists_of s) slot)
 
     abbrev land_writes : List Write
-    land_writes = land_of (words_in s.lists) (Some slot)
+    land_writes = land_of (words_in (lists_of s)) (Some slot)
 
     same_land : land_of (word (memory_of s)) (block_slot (block slot)) ≡ land_writes
     same_land =
         ap (land_of (word (memory_of s))) is_slot
-        ∙ ap (λ n. land_by (is_flying n) slot) (sym (same_slot (word (memory_of s)) (heads s.lists) s.lists c.stands slot f.small).state)
+        ∙ ap (λ n. land_by (is_flying n) slot) (sym (same_slot (word (memory_of s)) (heads (lists_of s)) (lists_of s) c.stands slot f.small).state)
 
     lands : Stands (word (put_all land_writes (memory_of s))) (heads landed_lists) landed_lists
     lands =
         subst (λ (g : Globals). Stands (word (put_all land_writes (memory_of s))) g landed_lists) (sym land_heads)
-        (land_meets (memory_of s) (put_all land_writes (memory_of s)) (block slot) c.map (ap (λ (ws : List Write). put_all ws (memory_of s)) (sym same_land)) (heads s.lists) s.lists slot
+        (land_meets (memory_of s) (put_all land_writes (memory_of s)) (block slot) c.map (ap (λ (ws : List Write). put_all ws (memory_of s)) (sym same_land)) (heads (lists_of s)) (lists_of s) slot
         c.stands is_slot f.idle)
 
     handler_match : (r : List ℕ) (pad : ℕ) (e : Event) → AreBelow s cut (slice_index r SP)
@@ -194,7 +185,7 @@ module _ (s : Recorded) (c : Corresponds s) (cut : List Activation) (a : Activat
     handler_match r pad e below =
         let behind : Memory → State = λ m. record {
           regs = landed s.regs r pad (block slot);
-          globals = heads s.lists;
+          globals = heads (lists_of s);
           memory = m;
           events = pushed s.events e;
         } in
@@ -205,15 +196,15 @@ module _ (s : Recorded) (c : Corresponds s) (cut : List Activation) (a : Activat
           events = pushed s.events e;
         } in
         let same =
-        ap (λ (ws : List Write). behind (released (put_all ws (memory_of s)) (slice_index r SP))) same_land ∙ ap behind (memory_left land_writes (slice_index r SP) below) ∙ ap two (sym land_heads) in
+        ap (λ (ws : List Write). behind (released (put_all ws (memory_of s)) (slice_index r SP))) same_land ∙ ap behind (memory_left land_writes (slice_index r SP) below) ∙ ap two (sym land_heads ∙ sym (ap heads land_is)) in
         subst (λ (o : Option ℕ).
         (enter_handler (bytes_of s) (block slot) r pad e ≡ bytes_of (acts.logged (acts.at_pad (acts.flown s o) (a ∷ more) r pad (block slot)) e))
         × Corresponds (acts.logged (acts.at_pad (acts.flown s o) (a ∷ more) r pad (block slot)) e)) (sym is_slot) (
           same,
           record {
             map = left_map land_writes (slice_index r SP) below;
-            stands = left_stands land_writes (slice_index r SP) (heads landed_lists) landed_lists lands;
-            placed = c.placed ∙ ap (λ xs. length xs) (sym land_cleanups);
+            stands = subst (λ (l : Lists). Stands (word (left_memory land_writes (slice_index r SP))) (heads l) l) (sym land_is)
+                (left_stands land_writes (slice_index r SP) (heads landed_lists) landed_lists lands);
           },
         )
 

@@ -7,6 +7,7 @@ pub mod Passed
 pub mod FirstEvent
 pub mod Calling
 pub mod FramesEnd
+pub mod WithLists
 pub mod RecordedGates
 pub mod Saving
 pub mod Returning

@@ -2,17 +2,15 @@
 use Rattle.std.proofs.Common.{◌≡◌, ℕ, suc, ◌+◌, ◌-◌, ◌<◌, ◌≤◌, ◌==◌, ◌&&◌, Bool, true, false, cond, List, [], ◌∷◌, length, map, drop, slice_index, Option, Some, None, Result, Ok, Err, refl, sym, ap, subst, ◌∙◌, arith}
 use Rattle.std.specs.Prelude.{is_some}
 use Rattle.std.proofs.lemmas.Bool.Decides.{nat_tests}
-use Rattle.std.proofs.lemmas.List.{drop-map, drop_all, length-drop}
+use Rattle.std.proofs.lemmas.List.{drop-map, drop_all, length-drop, length-map}
 use Rattle.elf_image.specs.Image.{Image}
 use Rattle.eh_bytecode.specs.declared.recipe.Recipe.{Recipe}
 use Rattle.eh_bytecode.specs.declared.recipe.RecipeFault.{RecipeFault}
 use Rattle.eh_bytecode.specs.Recipe.{recipe}
 use Rattle.unwind_codes.specs.Cut.{cut}
 use Rattle.eh_phase.specs.declared.walk.Covered.{Covered}
-use Rattle.eh_cxa.specs.States.{is_flying}
-use Rattle.eh_cxa.specs.Lists.{Record, Entry, Free, OutOfUse, Live, Cleanup, Lists, entry}
+use Rattle.eh_cxa.specs.Lists.{Cleanup}
 use Rattle.eh_cxa.specs.Throw.{barrier_of}
-use Rattle.eh_cxa.specs.ListCalls.{land_list, land_entry, land_record}
 use Rattle.eh_cxa.specs.Words.{word, block, block_slot, object_slot}
 use Rattle.eh_cxa.specs.declared.layout.TheConstants.{SLOTS}
 use Rattle.eh_cxa.proofs.Pools.{slot_of_block_is}
@@ -36,8 +34,8 @@ use Rattle.eh_gates.specs.declared.state.Turned.TheVariants.{Ended}
 use Rattle.eh_gates.specs.State.{Guide}
 use Rattle.eh_gates.specs.Throwing.{barrier_in, throw_event}
 use Rattle.eh_gates.specs.Resuming.{goal_in}
-use Rattle.two_machines.specs.Activations.{Caller, Activation, Recorded, registers_of, memory_of, first_place, ends_at, where_unwound, framed_at, outside, frames_at, released_in}
-use Rattle.two_machines.specs.ActivationMachine.{Outcome, gate_of, logged, sought, searched, size_of, from_barrier, throw_to, throws, throw_gate, flies_first, thrown_first, rethrows, rethrow_gate, flies_again, thrown_of_slot, can_unwind, resumes, resumes_in, goes_on, without_cleanup, entered, advances, passed_by}
+use Rattle.two_machines.specs.Activations.{Caller, Activation, InProgress, Recorded, registers_of, memory_of, ends_at, where_unwound, framed_at, outside, frames_at, released_in, lists_of}
+use Rattle.two_machines.specs.ActivationMachine.{Outcome, gate_of, logged, sought, searched, size_of, from_barrier, throw_to, throws, throw_gate, flies_first, thrown_first, rethrows, rethrow_gate, flies_again, thrown_of_slot, can_unwind, resumes, resumes_in, goes_on, entered, advances, passed_by}
 use Rattle.two_machines.specs.ActivationLaws.{IsPassed, callers}
 use Rattle.two_machines.proofs.Passed.{landings_stand}
 use Rattle.two_machines.specs.RecordedGates.{EndsAlone, FailedSearchesAddTheirEvent, IsCalledBy, IsResumed, CleanupsEndInTheirOwn}
@@ -46,7 +44,7 @@ use Rattle.two_machines.specs.RecordedGates.{EndsAlone, FailedSearchesAddTheirEv
 
 module _ (g : Guide) (s : Recorded) (what : EventKind) (thrown : Thrown) (why : End) (holds : is_some (row_of g.types thrown.ty) ≡ true) (none : barrier_in s.regs.pc (searched g s thrown) ≡ Err why) where
   abbrev behind : Recorded
-  behind = logged s (throw_event what (memory_of s) thrown (size_of s.lists (object_slot thrown.object)))
+  behind = logged s (throw_event what (memory_of s) thrown (size_of (lists_of s) (object_slot thrown.object)))
 
   found_none : ◌≡◌ {A = Result Barrier End × Recorded} (sought g s what thrown) (Err why, behind)
   unfolding sought
@@ -57,7 +55,7 @@ module _ (g : Guide) (s : Recorded) (what : EventKind) (thrown : Thrown) (why : 
   alone : (further : Barrier → Recorded → Outcome) (o : Outcome) → from_barrier further (sought g s what thrown) ≡ o → EndsAlone what why s o
   alone further o e =
       subst (λ (q : Outcome). EndsAlone what why s q) (sym (ap (from_barrier further) found_none) ∙ e)
-      (record { ends = refl; added = throw_event what (memory_of s) thrown (size_of s.lists (object_slot thrown.object)); is = refl; only = refl })
+      (record { ends = refl; added = throw_event what (memory_of s) thrown (size_of (lists_of s) (object_slot thrown.object)); is = refl; only = refl })
 
 pub searches_fail : FailedSearchesAddTheirEvent
 unfolding gate_of
@@ -65,7 +63,7 @@ searches_fail g next s why = record {
   throw = λ block may holds none.
       alone g s event.Throw (thrown_first s) why holds none (λ b t. throw_to g s.regs.pc block b (flies_first t)) (throw_gate g s) (ap (throws g s) (sym may));
   rethrow = λ block may holds none.
-      alone g s event.Rethrow (thrown_of_slot s.lists (block_slot block)) why holds none (λ b t. throw_to g s.regs.pc block b (flies_again t)) (rethrow_gate g s) (ap (rethrows g s) (sym may));
+      alone g s event.Rethrow (thrown_of_slot (lists_of s) (block_slot block)) why holds none (λ b t. throw_to g s.regs.pc block b (flies_again t)) (rethrow_gate g s) (ap (rethrows g s) (sym may));
 }
 
 -- ---- the end of a cleanup
@@ -113,33 +111,31 @@ some_left {A} n xs e = let l : length (drop n xs) ≡ 0 = ap (λ (ys : List A). 
 
 -- ---- what is entered, of a state without its innermost cleanup
 
-pub land_keeps : (l : Lists) (s : ℕ) → (land_list l s).cleanups ≡ l.cleanups
-land_keeps l s = by_entry (entry l s)
-  where
-    by_state : (b : Bool) (r : Record) → (land_record b l s r).cleanups ≡ l.cleanups
-    by_state true r = refl
-    by_state false r = refl
-
-    by_entry : (e : Entry) → (land_entry l s e).cleanups ≡ l.cleanups
-    by_entry Free = refl
-    by_entry OutOfUse = refl
-    by_entry (Live r) = by_state (is_flying (Some r.state)) r
-
-module _ (s : Recorded) (c : Cleanup) (more : List Cleanup) (h : c.slot < SLOTS) where
+module _ (s : Recorded) (c : Cleanup) (more : List InProgress) (h : c.slot < SLOTS) where
   abbrev ended_one : Recorded
-  ended_one = without_cleanup s more
+  ended_one = record s { cleanups = more }
 
   module _ (b : Activation) (rest : List Activation) (object gone : ℕ) (acts : callers (b ∷ rest) ≡ drop gone (callers s.outer)) where
     same_acts : (sp : ℕ) → b.caller ∷ callers (map (λ (x : Activation). released_in s.home sp x) rest) ≡ drop gone (callers s.outer)
     same_acts sp = ap (λ (cs : List Caller). b.caller ∷ cs) (callers_left s.home sp rest) ∙ acts
 
+    -- the place of the cleanup that is entered: as many stand outside as before the slots below sp left
+    entered_one : (r : List ℕ) (next site : ℕ)
+        → ◌≡◌ {A = List InProgress} (record { cleanup = record { slot = c.slot; next = next; sp = slice_index r SP; site = site }; place = length rest } ∷ more)
+        (record { cleanup = record { slot = c.slot; next = next; sp = slice_index r SP; site = site }; place = length (map (λ (x : Activation). released_in s.home (slice_index r SP) x) rest) } ∷ more)
+    entered_one r next site =
+        ap (λ (n : ℕ).
+        let all : List InProgress = record { cleanup = record { slot = c.slot; next = next; sp = slice_index r SP; site = site }; place = n } ∷ more in
+        all)
+        (sym (length-map rest (λ (x : Activation). released_in s.home (slice_index r SP) x)))
+
     resumed : (e : Entered) → IsResumed s c more e (entered ended_one (b ∷ rest) (block c.slot) object e)
     resumed (enters.Cleanup vrs pad next site) =
-        rw (slot_of_block_is c.slot h) (record { goes = refl; regs = refl; cleanups = refl; gone = gone; acts = same_acts (slice_index vrs.r SP) })
+        rw (slot_of_block_is c.slot h) (record { goes = refl; regs = refl; cleanups = entered_one vrs.r next site; gone = gone; acts = same_acts (slice_index vrs.r SP) })
     resumed (enters.Catch vrs pad) =
-        rw (slot_of_block_is c.slot h) (record { goes = refl; regs = refl; cleanups = land_keeps ended_one.lists c.slot; gone = gone; acts = same_acts (slice_index vrs.r SP) })
+        rw (slot_of_block_is c.slot h) (record { goes = refl; regs = refl; cleanups = refl; gone = gone; acts = same_acts (slice_index vrs.r SP) })
     resumed (enters.Spec vrs pad) =
-        rw (slot_of_block_is c.slot h) (record { goes = refl; regs = refl; cleanups = land_keeps ended_one.lists c.slot; gone = gone; acts = same_acts (slice_index vrs.r SP) })
+        rw (slot_of_block_is c.slot h) (record { goes = refl; regs = refl; cleanups = refl; gone = gone; acts = same_acts (slice_index vrs.r SP) })
     resumed enters.Unexpected = record { ends = refl; regs = refl; cleanups = refl; first = refl; outer = refl }
     resumed (enters.Terminate why) = record { ends = refl; regs = refl; cleanups = refl; first = refl; outer = refl }
 
@@ -161,56 +157,58 @@ module _ (s : Recorded) (c : Cleanup) (more : List Cleanup) (h : c.slot < SLOTS)
     advances_so : IsResumed s c more (phase2 g from fs) (advances ended_one s.outer (block c.slot) object g from fs)
     advances_so = advanced (drop j s.outer) refl
 
-module _ (g : Guide) (s : Recorded) (c : Cleanup) (more : List Cleanup) (outside : ℕ) (later : List ℕ) (cleanups : s.lists.cleanups ≡ c ∷ more) (places : s.places ≡ outside ∷ later) where
-  -- the tests of the gate's activation passed
-  tested : can_unwind (covered_at g.image s.regs.pc) ≡ true → ◌≡◌ {A = Outcome} (resumes g s s.lists.cleanups) (resumes_in g s c more s.outer (Some outside))
-  tested u =
-      ap (resumes g s) cleanups ∙ rw u refl ∙ ap (λ (ps : List ℕ). resumes_in g s c more s.outer (first_place ps)) places
+module _ (g : Guide) (s : Recorded) (p : InProgress) (more : List InProgress) (cleanups : s.cleanups ≡ p ∷ more) where
+  abbrev c : Cleanup
+  c = p.cleanup
 
-  refused_at : (acts : List Activation) → s.outer ≡ acts → (IsCalledBy g s c.sp outside → ⊥) → can_unwind (covered_at g.image s.regs.pc) ≡ true
-      → ◌≡◌ {A = Outcome} (resumes_in g s c more acts (Some outside)) (Ended (the_end.Trap kind.CleanupElsewhere s.first.caller.sp s.regs.pc), s)
+  -- the tests of the gate's activation passed
+  tested : can_unwind (covered_at g.image s.regs.pc) ≡ true → ◌≡◌ {A = Outcome} (resumes g s s.cleanups) (resumes_in g s p more s.outer)
+  tested u = ap (resumes g s) cleanups ∙ rw u refl
+
+  refused_at : (acts : List Activation) → s.outer ≡ acts → (IsCalledBy g s p → ⊥) → can_unwind (covered_at g.image s.regs.pc) ≡ true
+      → ◌≡◌ {A = Outcome} (resumes_in g s p more acts) (Ended (the_end.Trap kind.CleanupElsewhere s.first.caller.sp s.regs.pc), s)
   refused_at [] e n u = refl
-  refused_at (a ∷ outer) e n u = go (s.first.caller.sp == c.sp) refl (length outer == outside) refl
+  refused_at (a ∷ outer) e n u = go (s.first.caller.sp == c.sp) refl (length outer == p.place) refl
     where
       yes : Outcome
-      yes = goes_on g (without_cleanup s more) c s.first.caller a outer (barrier_of (word (memory_of s)) (Some c.slot))
+      yes = goes_on g (record s { cleanups = more }) c s.first.caller a outer (barrier_of (word (memory_of s)) (Some c.slot))
 
       no : Outcome
       no = (Ended (the_end.Trap kind.CleanupElsewhere s.first.caller.sp s.regs.pc), s)
 
-      go : (x : Bool) → (s.first.caller.sp == c.sp) ≡ x → (y : Bool) → (length outer == outside) ≡ y → ◌≡◌ {A = Outcome} (cond (x && y) yes no) no
-      go false p y q = refl
-      go true p false q = refl
-      go true p true q =
+      go : (x : Bool) → (s.first.caller.sp == c.sp) ≡ x → (y : Bool) → (length outer == p.place) ≡ y → ◌≡◌ {A = Outcome} (cond (x && y) yes no) no
+      go false v y q = refl
+      go true v false q = refl
+      go true v true q =
           let same : s.first.caller.sp ≡ c.sp = grind (arith, nat_tests) in
-          let stands : length outer ≡ outside = grind (arith, nat_tests) in
-          let many : length s.outer ≡ outside + 1 = ap (λ (xs : List Activation). length xs) e ∙ omega arith in
+          let stands : length outer ≡ p.place = grind (arith, nat_tests) in
+          let many : length s.outer ≡ p.place + 1 = ap (λ (xs : List Activation). length xs) e ∙ omega arith in
           absurd (n (record { unwinds = u; sp = same; place = many }))
 
-  passes_tests : (a : Activation) (outer : List Activation) → s.outer ≡ a ∷ outer → IsCalledBy g s c.sp outside
-      → ◌≡◌ {A = Outcome} (resumes_in g s c more s.outer (Some outside)) (goes_on g (without_cleanup s more) c s.first.caller a outer (barrier_of (word (memory_of s)) (Some c.slot)))
+  passes_tests : (a : Activation) (outer : List Activation) → s.outer ≡ a ∷ outer → IsCalledBy g s p
+      → ◌≡◌ {A = Outcome} (resumes_in g s p more s.outer) (goes_on g (record s { cleanups = more }) c s.first.caller a outer (barrier_of (word (memory_of s)) (Some c.slot)))
   passes_tests a outer e i =
-      let same : (s.first.caller.sp == c.sp) ≡ true = let p = i.sp in grind (arith, nat_tests) in
-      let many : suc (length outer) ≡ outside + 1 = sym (ap (λ (xs : List Activation). length xs) e) ∙ i.place in
-      let stands : (length outer == outside) ≡ true = grind (arith, nat_tests) in
-      ap (λ (acts : List Activation). resumes_in g s c more acts (Some outside)) e ∙ rw (same, stands) refl
+      let same : (s.first.caller.sp == c.sp) ≡ true = let u = i.sp in grind (arith, nat_tests) in
+      let many : suc (length outer) ≡ p.place + 1 = sym (ap (λ (xs : List Activation). length xs) e) ∙ i.place in
+      let stands : (length outer == p.place) ≡ true = grind (arith, nat_tests) in
+      ap (λ (acts : List Activation). resumes_in g s p more acts) e ∙ rw (same, stands) refl
 
-  resumes_so : (a : Activation) (outer : List Activation) → c.slot < SLOTS → s.outer ≡ a ∷ outer → IsCalledBy g s c.sp outside
-      → IsResumed s c more (phase2 (goal_in (barrier_of (word (memory_of s)) (Some c.slot))) c.next (frames_at g.image None c.site (registers_of s.first.caller) a outer)) (resumes g s s.lists.cleanups)
+  resumes_so : (a : Activation) (outer : List Activation) → c.slot < SLOTS → s.outer ≡ a ∷ outer → IsCalledBy g s p
+      → IsResumed s c more (phase2 (goal_in (barrier_of (word (memory_of s)) (Some c.slot))) c.next (frames_at g.image None c.site (registers_of s.first.caller) a outer)) (resumes g s s.cleanups)
   resumes_so a outer h e i =
       let b = barrier_of (word (memory_of s)) (Some c.slot) in
       let fs = frames_at g.image None c.site (registers_of s.first.caller) a outer in
       let small : length fs.frames ≤ length s.outer =
       subst (λ (acts : List Activation). length fs.frames ≤ length acts) (sym e) (few g.image None c.site (registers_of s.first.caller) a outer) in
-      let is : ◌≡◌ {A = Outcome} (resumes g s s.lists.cleanups) (advances (without_cleanup s more) s.outer (block c.slot) b.object (goal_in b) c.next fs) =
-      tested i.unwinds ∙ passes_tests a outer e i ∙ ap (λ (acts : List Activation). advances (without_cleanup s more) acts (block c.slot) b.object (goal_in b) c.next fs) (sym e) in
+      let is : ◌≡◌ {A = Outcome} (resumes g s s.cleanups) (advances (record s { cleanups = more }) s.outer (block c.slot) b.object (goal_in b) c.next fs) =
+      tested i.unwinds ∙ passes_tests a outer e i ∙ ap (λ (acts : List Activation). advances (record s { cleanups = more }) acts (block c.slot) b.object (goal_in b) c.next fs) (sym e) in
       subst (λ (o : Outcome). IsResumed s c more (phase2 (goal_in b) c.next fs) o) (sym is) (advances_so s c more h b.object (goal_in b) c.next fs small)
 
 pub cleanups_end : CleanupsEndInTheirOwn
 unfolding gate_of
 cleanups_end g next s = record {
   none = λ e. ap (resumes g s) e;
-  stuck = λ c more e u. ap (resumes g s) e ∙ rw u refl;
-  elsewhere = λ c more outside later e f u n. tested g s c more outside later e f u ∙ refused_at g s c more outside later e f s.outer refl n u;
-  resumes = λ c more outside later a outer e f h i o. resumes_so g s c more outside later e f a outer h o i;
+  stuck = λ p more e u. ap (resumes g s) e ∙ rw u refl;
+  elsewhere = λ p more e u n. tested g s p more e u ∙ refused_at g s p more e s.outer refl n u;
+  resumes = λ p more a outer e h i o. resumes_so g s p more e a outer h o i;
 }

@@ -29,7 +29,7 @@ use Rattle.eh_gates.specs.State.{State, Guide, Outcome, logged}
 use Rattle.eh_gates.specs.Gates.{gate_of}
 use Rattle.eh_gates.specs.Throwing as bytes
 use Rattle.eh_gates.specs.Throwing.{from_barrier}
-use Rattle.two_machines.specs.Activations.{Recorded, memory_of, heads, with_lists, words_in, bytes_of}
+use Rattle.two_machines.specs.Activations.{Recorded, memory_of, heads, with_lists, words_in, bytes_of, lists_of, cleanups_in}
 use Rattle.two_machines.specs.ActivationMachine as machine
 use Rattle.two_machines.specs.Corresponds.{Corresponds, GateMatches}
 use Rattle.two_machines.specs.Throws.{SeesAlike, CanLand, RethrowsMatch}
@@ -37,42 +37,42 @@ use Rattle.two_machines.proofs.InStep.{same_slot, same_count}
 use Rattle.two_machines.proofs.Flying.{HasFlown, flown_bytes, flies_match, sought_match}
 
 module _ (g : Guide) (s : Recorded) (c : Corresponds s) (sees : SeesAlike g s) where
-  module _ (slot : ℕ) (rest : List ℕ) (top : s.lists.caught ≡ slot ∷ rest) (st : Stage) (name : named (word (memory_of s) slot STATE) ≡ Some st)
-      (live_is : entry s.lists slot ≡ Live (record_of st (word (memory_of s)) slot)) (caught : is_caught (Some st) ≡ true) where
-    head : block_slot (heads s.lists).caught ≡ Some slot
-    head = let k = subst (λ (xs : List ℕ). Chain (λ t. word (memory_of s) t NEXT_CAUGHT) (heads s.lists).caught xs) top c.stands.shows.caught in k.0
+  module _ (slot : ℕ) (rest : List ℕ) (top : s.caught ≡ slot ∷ rest) (st : Stage) (name : named (word (memory_of s) slot STATE) ≡ Some st)
+      (live_is : entry (lists_of s) slot ≡ Live (record_of st (word (memory_of s)) slot)) (caught : is_caught (Some st) ≡ true) where
+    head : block_slot (heads (lists_of s)).caught ≡ Some slot
+    head = let k = subst (λ (xs : List ℕ). Chain (λ t. word (memory_of s) t NEXT_CAUGHT) (heads (lists_of s)).caught xs) top c.stands.shows.caught in k.0
 
     small : slot < SLOTS
-    small = slot_small (heads s.lists).caught slot head
+    small = slot_small (heads (lists_of s)).caught slot head
 
     abbrev flight : Done (Result ℕ CxaFault)
-    flight = rethrow_by true (word (memory_of s)) (heads s.lists) slot
+    flight = rethrow_by true (word (memory_of s)) (heads (lists_of s)) slot
 
     abbrev flown : Lists
     flown = record {
-      entries = set s.lists.entries slot (Live (become Flying (neg_ℤ (record_of st (word (memory_of s)) slot).count) (record_of st (word (memory_of s)) slot)));
-      caught = s.lists.caught;
-      cleanups = s.lists.cleanups;
-      uncaught = one_more s.lists.uncaught;
+      entries = set s.entries slot (Live (become Flying (neg_ℤ (record_of st (word (memory_of s)) slot).count) (record_of st (word (memory_of s)) slot)));
+      caught = s.caught;
+      cleanups = cleanups_in s.cleanups;
+      uncaught = one_more s.uncaught;
     }
 
-    by_words : rethrow_of (word (memory_of s)) (heads s.lists) ≡ flight
+    by_words : rethrow_of (word (memory_of s)) (heads (lists_of s)) ≡ flight
     by_words =
-        ap (rethrow_at (word (memory_of s)) (heads s.lists)) head ∙ ap (λ n. rethrow_by (is_caught n) (word (memory_of s)) (heads s.lists) slot) name
-        ∙ ap (λ (b : Bool). rethrow_by b (word (memory_of s)) (heads s.lists) slot) caught
+        ap (rethrow_at (word (memory_of s)) (heads (lists_of s))) head ∙ ap (λ n. rethrow_by (is_caught n) (word (memory_of s)) (heads (lists_of s)) slot) name
+        ∙ ap (λ (b : Bool). rethrow_by b (word (memory_of s)) (heads (lists_of s)) slot) caught
 
-    by_list_words : (rethrow_of (words_in s.lists) (heads s.lists)).writes ≡ flight.writes
+    by_list_words : (rethrow_of (words_in (lists_of s)) (heads (lists_of s))).writes ≡ flight.writes
     by_list_words =
-        ap (λ (o : Option ℕ). (rethrow_at (words_in s.lists) (heads s.lists) o).writes) head
-        ∙ ap (λ n. (rethrow_by (is_caught n) (words_in s.lists) (heads s.lists) slot).writes) ((same_slot (word (memory_of s)) (heads s.lists) s.lists c.stands slot small).state ∙ name)
-        ∙ ap (λ (b : Bool). (rethrow_by b (words_in s.lists) (heads s.lists) slot).writes) caught
-        ∙ ap (λ (n : ℕ). write slot COUNT (negated n) ∷ (write slot STATE FLYING ∷ [])) (same_count (word (memory_of s)) (heads s.lists) s.lists c.stands slot st small live_is)
+        ap (λ (o : Option ℕ). (rethrow_at (words_in (lists_of s)) (heads (lists_of s)) o).writes) head
+        ∙ ap (λ n. (rethrow_by (is_caught n) (words_in (lists_of s)) (heads (lists_of s)) slot).writes) ((same_slot (word (memory_of s)) (heads (lists_of s)) (lists_of s) c.stands slot small).state ∙ name)
+        ∙ ap (λ (b : Bool). (rethrow_by b (words_in (lists_of s)) (heads (lists_of s)) slot).writes) caught
+        ∙ ap (λ (n : ℕ). write slot COUNT (negated n) ∷ (write slot STATE FLYING ∷ [])) (same_count (word (memory_of s)) (heads (lists_of s)) (lists_of s) c.stands slot st small live_is)
 
-    by_lists : ◌≡◌ {A = Call (Result ℕ CxaFault)} (rethrow_list s.lists) (record { answer = Ok (block slot); lists = flown })
+    by_lists : ◌≡◌ {A = Call (Result ℕ CxaFault)} (rethrow_list (lists_of s)) (record { answer = Ok (block slot); lists = flown })
     by_lists =
-        ap (rethrow_from s.lists) top ∙ ap (rethrow_entry s.lists slot) live_is ∙ ap (λ (b : Bool). rethrow_by_list b s.lists slot (record_of st (word (memory_of s)) slot)) caught
+        ap (rethrow_from (lists_of s)) top ∙ ap (rethrow_entry (lists_of s) slot) live_is ∙ ap (λ (b : Bool). rethrow_by_list b (lists_of s) slot (record_of st (word (memory_of s)) slot)) caught
 
-    not_flying : Has (slots s.lists.cleanups) slot → ⊥
+    not_flying : Has (slots (cleanups_in s.cleanups)) slot → ⊥
     not_flying h =
         let f = c.stands.valid.flying slot h in
         let p : Some st ≡ Some Flying = sym (ap state_in live_is) ∙ f in
@@ -82,21 +82,21 @@ module _ (g : Guide) (s : Recorded) (c : Corresponds s) (sees : SeesAlike g s) w
     stands_flown : Stands (word (put_all flight.writes (memory_of s))) (heads flown) flown
     stands_flown =
         let middle = put_all flight.writes (memory_of s) in
-        let f = rethrow_meets (memory_of s) middle (heads s.lists) flight.globals flight.answer c.map (ap (λ (d : Done (Result ℕ CxaFault)). made d (memory_of s)) (sym by_words)) s.lists c.stands in
+        let f = rethrow_meets (memory_of s) middle (heads (lists_of s)) flight.globals flight.answer c.map (ap (λ (d : Done (Result ℕ CxaFault)). made d (memory_of s)) (sym by_words)) (lists_of s) c.stands in
         subst (λ (o : Call (Result ℕ CxaFault)). Stands (word middle) (heads flown) o.lists) by_lists f.stands
 
     has_flown : HasFlown s slot flight.writes flown
     has_flown = record {
       small = small;
       stands = stands_flown;
-      placed = c.placed;
-      flies = let h = small in let z = c.stands.shows.sized in let inside : slot < length s.lists.entries = omega arith in rw get_or-set_same refl;
+      cleanups = refl;
+      flies = let h = small in let z = c.stands.shows.sized in let inside : slot < length s.entries = omega arith in rw get_or-set_same refl;
       idle = not_flying;
       in_pool = λ more rest. (small, omega arith, (small, omega arith, rest));
     }
 
     abbrev again : Thrown
-    again = machine.thrown_of_slot s.lists (Some slot)
+    again = machine.thrown_of_slot (lists_of s) (Some slot)
 
     module _ (can : (b : Barrier) → machine.searched g s again ≡ found.Barrier b → CanLand g s s.regs.pc slot b) where
       abbrev on_bytes : Barrier → State → Outcome
@@ -110,17 +110,17 @@ module _ (g : Guide) (s : Recorded) (c : Corresponds s) (sees : SeesAlike g s) w
 
       flown_same : (e : Event) → machine.flies_again (machine.logged s e) ≡ with_lists flown flight.writes (machine.logged s e)
       flown_same e =
-          ap (λ (o : Call (Result ℕ CxaFault)). with_lists o.lists (rethrow_of (words_in s.lists) (heads s.lists)).writes (machine.logged s e)) by_lists
+          ap (λ (o : Call (Result ℕ CxaFault)). with_lists o.lists (rethrow_of (words_in (lists_of s)) (heads (lists_of s))).writes (machine.logged s e)) by_lists
           ∙ ap (λ (ws : List Write). with_lists flown ws (machine.logged s e)) by_list_words
 
       flies : (e : Event) (b : Barrier) → machine.searched g s again ≡ found.Barrier b → GateMatches (on_bytes b (logged (bytes_of s) e)) (on_lists b (machine.logged s e))
       flies e b q =
           flies_match g s c slot flight.writes flown has_flown (pushed s.events e) s.regs.pc sees.advance b (can b q) (on_bytes b (logged (bytes_of s) e)) (machine.flies_again (machine.logged s e)) (flies_same e b) (flown_same e)
 
-      same_size : size_at (word (memory_of s)) (object_slot (object slot)) ≡ machine.size_of s.lists (object_slot (object slot))
+      same_size : size_at (word (memory_of s)) (object_slot (object slot)) ≡ machine.size_of (lists_of s) (object_slot (object slot))
       same_size =
           let o = slot_of_object_is slot small in
-          ap (size_at (word (memory_of s))) o ∙ sym (ap (machine.size_of s.lists) o ∙ ap size_in live_is)
+          ap (size_at (word (memory_of s))) o ∙ sym (ap (machine.size_of (lists_of s)) o ∙ ap size_in live_is)
 
       sought : GateMatches (from_barrier on_bytes (bytes.sought g (bytes_of s) kind.Rethrow again)) (machine.from_barrier on_lists (machine.sought g s kind.Rethrow again))
       sought = sought_match g s c sees kind.Rethrow again on_bytes on_lists same_size flies
@@ -139,43 +139,43 @@ module _ (g : Guide) (s : Recorded) (c : Corresponds s) (sees : SeesAlike g s) w
           (subst (λ (o : Call (Result ℕ CxaFault)). GateMatches (bytes.rethrows g (bytes_of s) (Ok (block slot))) (machine.rethrows g s o.answer)) (sym by_lists)
           (subst (λ (t : Thrown). GateMatches (from_barrier on_bytes (bytes.sought g (bytes_of s) kind.Rethrow t)) (machine.rethrows g s (Ok (block slot)))) (sym same_thrown)
           (subst (λ (o : Option ℕ). GateMatches (from_barrier on_bytes (bytes.sought g (bytes_of s) kind.Rethrow again))
-          (machine.from_barrier on_lists (machine.sought g s kind.Rethrow (machine.thrown_of_slot s.lists o)))) (sym is_slot) sought)))
+          (machine.from_barrier on_lists (machine.sought g s kind.Rethrow (machine.thrown_of_slot (lists_of s) o)))) (sym is_slot) sought)))
 
   -- ---- nothing that is caught, or a top that isn't
 
-  same_answer : (rethrow_of (word (memory_of s)) (heads s.lists)).answer ≡ (rethrow_list s.lists).answer
+  same_answer : (rethrow_of (word (memory_of s)) (heads (lists_of s))).answer ≡ (rethrow_list (lists_of s)).answer
   same_answer =
-      let d = rethrow_of (word (memory_of s)) (heads s.lists) in
-      (rethrow_meets (memory_of s) (put_all d.writes (memory_of s)) (heads s.lists) d.globals d.answer c.map refl s.lists c.stands).same
+      let d = rethrow_of (word (memory_of s)) (heads (lists_of s)) in
+      (rethrow_meets (memory_of s) (put_all d.writes (memory_of s)) (heads (lists_of s)) d.globals d.answer c.map refl (lists_of s) c.stands).same
 
-  refused_match : (why : CxaFault) → (rethrow_list s.lists).answer ≡ Err why → GateMatches (bytes.rethrow_gate g (bytes_of s)) (machine.rethrow_gate g s)
+  refused_match : (why : CxaFault) → (rethrow_list (lists_of s)).answer ≡ Err why → GateMatches (bytes.rethrow_gate g (bytes_of s)) (machine.rethrow_gate g s)
   refused_match why e =
       subst (λ (r : Result ℕ CxaFault). GateMatches (bytes.rethrows g (bytes_of s) r) (machine.rethrow_gate g s)) (sym (same_answer ∙ e))
       (subst (λ (r : Result ℕ CxaFault). GateMatches (bytes.rethrows g (bytes_of s) (Err why)) (machine.rethrows g s r)) (sym e) (record { same = (refl, refl); still = c }))
 
-  gate_match : ((slot : ℕ) (b : Barrier) → block_slot (heads s.lists).caught ≡ Some slot → machine.searched g s (machine.thrown_of_slot s.lists (Some slot)) ≡ found.Barrier b → CanLand g s s.regs.pc slot b)
+  gate_match : ((slot : ℕ) (b : Barrier) → block_slot (heads (lists_of s)).caught ≡ Some slot → machine.searched g s (machine.thrown_of_slot (lists_of s) (Some slot)) ≡ found.Barrier b → CanLand g s s.regs.pc slot b)
       → GateMatches (bytes.rethrow_gate g (bytes_of s)) (machine.rethrow_gate g s)
-  gate_match can = start s.lists.caught refl
+  gate_match can = start s.caught refl
     where
-      by_caught : (slot : ℕ) (rest : List ℕ) → s.lists.caught ≡ slot ∷ rest → (st : Stage) → named (word (memory_of s) slot STATE) ≡ Some st
-          → entry s.lists slot ≡ Live (record_of st (word (memory_of s)) slot) → (b : Bool) → is_caught (Some st) ≡ b → GateMatches (bytes.rethrow_gate g (bytes_of s)) (machine.rethrow_gate g s)
+      by_caught : (slot : ℕ) (rest : List ℕ) → s.caught ≡ slot ∷ rest → (st : Stage) → named (word (memory_of s) slot STATE) ≡ Some st
+          → entry (lists_of s) slot ≡ Live (record_of st (word (memory_of s)) slot) → (b : Bool) → is_caught (Some st) ≡ b → GateMatches (bytes.rethrow_gate g (bytes_of s)) (machine.rethrow_gate g s)
       by_caught slot rest top st name there true q = caught_match slot rest top st name there q (λ b f. can slot b (head slot rest top st name there q) f)
       by_caught slot rest top st name there false q =
-          refused_match CaughtOrder (ap (λ (xs : List ℕ). (rethrow_from s.lists xs).answer) top ∙ ap (λ (x : Entry). (rethrow_entry s.lists slot x).answer) there
-          ∙ ap (λ (b : Bool). (rethrow_by_list b s.lists slot (record_of st (word (memory_of s)) slot)).answer) q)
+          refused_match CaughtOrder (ap (λ (xs : List ℕ). (rethrow_from (lists_of s) xs).answer) top ∙ ap (λ (x : Entry). (rethrow_entry (lists_of s) slot x).answer) there
+          ∙ ap (λ (b : Bool). (rethrow_by_list b (lists_of s) slot (record_of st (word (memory_of s)) slot)).answer) q)
 
-      seen : (slot : ℕ) (rest : List ℕ) → s.lists.caught ≡ slot ∷ rest → Look (word (memory_of s)) s.lists slot → GateMatches (bytes.rethrow_gate g (bytes_of s)) (machine.rethrow_gate g s)
+      seen : (slot : ℕ) (rest : List ℕ) → s.caught ≡ slot ∷ rest → Look (word (memory_of s)) (lists_of s) slot → GateMatches (bytes.rethrow_gate g (bytes_of s)) (machine.rethrow_gate g s)
       seen slot rest top (live st name there) = by_caught slot rest top st name there (is_caught (Some st)) refl
       seen slot rest top (free zero there) =
-          refused_match CaughtOrder (ap (λ (xs : List ℕ). (rethrow_from s.lists xs).answer) top ∙ ap (λ (x : Entry). (rethrow_entry s.lists slot x).answer) there)
+          refused_match CaughtOrder (ap (λ (xs : List ℕ). (rethrow_from (lists_of s) xs).answer) top ∙ ap (λ (x : Entry). (rethrow_entry (lists_of s) slot x).answer) there)
       seen slot rest top (lost used none there) =
-          refused_match CaughtOrder (ap (λ (xs : List ℕ). (rethrow_from s.lists xs).answer) top ∙ ap (λ (x : Entry). (rethrow_entry s.lists slot x).answer) there)
+          refused_match CaughtOrder (ap (λ (xs : List ℕ). (rethrow_from (lists_of s) xs).answer) top ∙ ap (λ (x : Entry). (rethrow_entry (lists_of s) slot x).answer) there)
 
-      start : (xs : List ℕ) → s.lists.caught ≡ xs → GateMatches (bytes.rethrow_gate g (bytes_of s)) (machine.rethrow_gate g s)
-      start [] top = refused_match NoCaught (ap (λ (ys : List ℕ). (rethrow_from s.lists ys).answer) top)
+      start : (xs : List ℕ) → s.caught ≡ xs → GateMatches (bytes.rethrow_gate g (bytes_of s)) (machine.rethrow_gate g s)
+      start [] top = refused_match NoCaught (ap (λ (ys : List ℕ). (rethrow_from (lists_of s) ys).answer) top)
       start (slot ∷ rest) top =
-          let k = subst (λ (ys : List ℕ). Chain (λ t. word (memory_of s) t NEXT_CAUGHT) (heads s.lists).caught ys) top c.stands.shows.caught in
-          seen slot rest top (look (word (memory_of s)) (heads s.lists) s.lists slot c.stands.shows (slot_small (heads s.lists).caught slot k.0))
+          let k = subst (λ (ys : List ℕ). Chain (λ t. word (memory_of s) t NEXT_CAUGHT) (heads (lists_of s)).caught ys) top c.stands.shows.caught in
+          seen slot rest top (look (word (memory_of s)) (heads (lists_of s)) (lists_of s) slot c.stands.shows (slot_small (heads (lists_of s)).caught slot k.0))
 
 pub rethrows_match : RethrowsMatch
 unfolding gate_of machine.gate_of

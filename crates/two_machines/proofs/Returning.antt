@@ -1,5 +1,5 @@
 -- Returns that find what was recorded do the same over bytes and with recorded activations; so does the first event of a run.
-use Rattle.std.proofs.Common.{◌≡◌, ℕ, ◌+◌, ◌-◌, ◌<◌, ◌≤◌, inl, inr, ◌==◌, ◌||◌, nat_le, nat_lt, Bool, true, false, cond, List, [], ◌∷◌, ◌++◌, filter, slice_index, Option, Some, None, refl, sym, ap, subst, ◌∙◌, arith}
+use Rattle.std.proofs.Common.{◌≡◌, ℕ, ◌<◌, ◌≤◌, inl, inr, ◌==◌, ◌||◌, nat_le, nat_lt, Bool, true, false, cond, List, [], ◌∷◌, ◌++◌, filter, slice_index, Option, Some, None, refl, sym, ap, subst, ◌∙◌, arith}
 use Rattle.std.specs.Option.{option_or}
 use Rattle.std.proofs.lemmas.Bool.{le-ltb, lt-leb, ltb-false}
 use Rattle.std.proofs.lemmas.Bool.Decides.{nat_tests}
@@ -24,7 +24,7 @@ use Rattle.eh_gates.specs.State.{State}
 use Rattle.two_machines.specs.Program.{Program}
 use Rattle.two_machines.specs.Machine as bytes
 use Rattle.two_machines.specs.Machine.{saved_words, fell_off, sp_end}
-use Rattle.two_machines.specs.Activations.{Activation, Recorded, reg_in, guarded_of, freed_in, with_slots, memory_of, heads, bytes_of}
+use Rattle.two_machines.specs.Activations.{Activation, Recorded, reg_in, guarded_of, freed_in, with_slots, memory_of, heads, bytes_of, lists_of, cleanups_in}
 use Rattle.two_machines.specs.ActivationMachine as acts
 use Rattle.two_machines.specs.ActivationLaws.{Matches, KnowsLanding}
 use Rattle.two_machines.specs.RecordedSlots.{FindsCaller, ReturnsMatch}
@@ -73,7 +73,7 @@ module _ (p : Program) (s : Recorded) (knows : KnowsLanding s) (to : ℕ) (regs 
   left_same : (xs : List Activation) (u : Recorded) → u.outer ≡ xs → u.first.slots ≡ [] → bytes_of u ≡ bytes_of (acts.left_by xs u)
   left_same [] u e n = refl
   left_same (a ∷ more) u e n =
-      let one : List ℕ → State = λ gs. record { regs = u.regs; globals = heads u.lists; memory = record { segments = u.segments; guards = insert_all gs []; home = u.home }; events = u.events } in
+      let one : List ℕ → State = λ gs. record { regs = u.regs; globals = heads (lists_of u); memory = record { segments = u.segments; guards = insert_all gs []; home = u.home }; events = u.events } in
       ap one (ap (λ (gs : List ℕ). gs ++ guarded_of u.beyond u.outer) n ∙ ap (guarded_of u.beyond) e)
 
   same_way : (outer : List Activation) → s.outer ≡ outer → cond (to == NO_CALLER) (Some (the_end.Exit (r0 regs))) (fell_off p s.regs.pc regs.pc) ≡ acts.return_end p s.regs.pc outer regs
@@ -87,7 +87,7 @@ module _ (p : Program) (s : Recorded) (knows : KnowsLanding s) (to : ℕ) (regs 
   same_tests : bytes.tests p (bytes_of s) (Return to) regs ≡ acts.tests p s (Return to) regs
   same_tests =
       ap (λ (l : Option ℕ). option_or (sp_end l s.home.0 s.regs.pc (reg_in s SP) new) (bytes.way_end p (branches_some (instr_at (memory_of s) s.regs.pc) s.regs) s.regs.pc (Return to) regs)) knows
-      ∙ ap (λ (w : Option End). option_or (sp_end (innermost_in s.lists.cleanups) s.home.0 s.regs.pc (reg_in s SP) new) w) (same_way s.outer refl)
+      ∙ ap (λ (w : Option End). option_or (sp_end (innermost_in (cleanups_in s.cleanups)) s.home.0 s.regs.pc (reg_in s SP) new) w) (same_way s.outer refl)
 
   module _ (input : List ℕ) where
     abbrev Match : bytes.Passed → acts.Passed → Type 0

@@ -1,12 +1,11 @@
 -- A return with recorded activations does the same whatever the slots hold.
-use Rattle.std.proofs.Common.{◌≡◌, ℕ, ◌+◌, ◌%◌, ◌^◌, ◌<◌, ◌≤◌, ◌⊎◌, inl, inr, ◌==◌, ◌||◌, nat_le, nat_lt, Bool, true, false, cond, List, [], ◌∷◌, ◌++◌, length, take, set, slice_index, Option, Some, None, Result, Ok, Err, refl, sym, ap, subst, ◌∙◌, arith}
+use Rattle.std.proofs.Common.{◌≡◌, ℕ, ◌+◌, ◌%◌, ◌^◌, ◌<◌, ◌≤◌, ◌⊎◌, inl, inr, ◌==◌, nat_le, Bool, true, false, cond, List, [], ◌∷◌, length, take, slice_index, Option, Some, None, Result, Ok, Err, refl, sym, ap, subst, ◌∙◌, arith}
 use Rattle.std.specs.Int.{bit_at}
 use Rattle.std.proofs.lemmas.Bool.{cases_eq, cases_lt}
 use Rattle.std.proofs.lemmas.List.{get_or-set_other, get_or-set_same, get_or_past, get_or-take, length-set}
 use Rattle.event_runs.specs.Runs.{Event, Goes, Ends}
-use Rattle.eh_bus.specs.Lists.{Has}
 use Rattle.eh_bus.specs.Map.{SameMap}
-use Rattle.eh_bus.specs.Memory.{Memory, fault_in, number_in, load_fault, or_fault, loads, fetch}
+use Rattle.eh_bus.specs.Memory.{Memory, fault_in, number_in, load_fault, loads, fetch}
 use Rattle.eh_bus.specs.Segment.{Segment, holds}
 use Rattle.eh_bus.specs.declared.fault.BusFault.{BusFault}
 use Rattle.guest_gates.specs.Ends.{trap_end}
@@ -14,15 +13,14 @@ use Rattle.step_ahead.proofs.Stored.{step_is}
 use Rattle.step_ahead.specs.Ahead.{pushes_some}
 use Rattle.thumb_isa.specs.declared.instr.Instr.{Instr}
 use Rattle.thumb_isa.specs.declared.instr.Instr.TheVariants.{Bx, Pop}
-use Rattle.thumb_core.specs.Branch.{if_odd, return_to}
+use Rattle.thumb_core.specs.Branch.{return_to}
 use Rattle.thumb_core.specs.Lists.{bytes_of, load_list, pop_end, pop_to}
 use Rattle.thumb_core.specs.Outcome.{Outcome as Stepping, with_memory}
 use Rattle.thumb_core.specs.Registers.{operand, put, word_in, all_of, with_all, with_pc}
 use Rattle.thumb_core.specs.Step.{step_of, instr_at, instr_of_first, instr_of_second, instr_of}
 use Rattle.thumb_isa.specs.Rows.{decoded_of}
-use Rattle.thumb_core.specs.Words.{Load, listed, loads_from, load_words, ◌>>=◌}
+use Rattle.thumb_core.specs.Words.{Load, listed, loads_from, load_words}
 use Rattle.thumb_core.specs.declared.ends.End.{End}
-use Rattle.thumb_core.specs.declared.regs.CoreTrap.{CoreTrap}
 use Rattle.thumb_core.specs.declared.regs.CoreTrap.TheVariants as trap
 use Rattle.thumb_core.specs.declared.regs.Regs.{Regs}
 use Rattle.thumb_core.specs.declared.regs.Stepped.TheVariants.{Return, Trap}
@@ -30,7 +28,7 @@ use Rattle.thumb_core.specs.declared.regs.TheConstants.{SP, LR, PC}
 use Rattle.two_machines.specs.Program.{Program}
 use Rattle.two_machines.specs.Activations.{Activation, Caller, Recorded, reg_in, slots_of, memory_of, with_caller}
 use Rattle.two_machines.specs.ActivationMachine.{returned, activations_behind, left_by, settled_in, moved, tests, tested, with_tests, popped, popped_back, pops_some, pops_back, trapped_by, stepped, checked, passed, onward, recorded_event}
-use Rattle.two_machines.specs.SlotWords.{over, event_over, is_free, LoadNoSlot, DifferInSlots, ReadsNoSlot, ReturnsReadNoSlot}
+use Rattle.two_machines.specs.SlotWords.{over, event_over, is_free, LoadNoSlot, DifferInSlots, ReturnsReadNoSlot}
 
 -- ---- loads from both
 

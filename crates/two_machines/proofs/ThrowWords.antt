@@ -26,9 +26,9 @@ use Rattle.thumb_core.specs.declared.ends.End.TheVariants as the_end
 use Rattle.eh_gates.specs.State.{Guide}
 use Rattle.eh_gates.specs.Landing.{pad_event, words_of}
 use Rattle.eh_gates.specs.Throwing.{handed, barrier_words, throw_event, barrier_in}
-use Rattle.two_machines.specs.Activations.{Activation, Recorded, memory_of, with_words}
+use Rattle.two_machines.specs.Activations.{Activation, Recorded, memory_of, with_words, lists_of}
 use Rattle.two_machines.specs.ActivationMachine as acts
-use Rattle.two_machines.specs.SlotWords.{over, SameBut, ReadsAlike, ThrowsReadNoSlot, ThrowsReadNoSlots}
+use Rattle.two_machines.specs.SlotWords.{over, SameBut, ReadsAlike, ThrowsReadNoSlots}
 
 same_trans : (o p q : acts.Outcome) → SameBut o p → SameBut p q → SameBut o q
 same_trans o p q h k = (h.0 ∙ k.0, h.1 ∙ k.1)
@@ -86,11 +86,11 @@ module _ (g : Guide) (s : Recorded) (segments : List Segment) (what : EventKind)
   t = over segments s
 
   abbrev event_in : Recorded → Event
-  event_in u = throw_event what (memory_of u) thrown (acts.size_of s.lists (object_slot thrown.object))
+  event_in u = throw_event what (memory_of u) thrown (acts.size_of (lists_of s) (object_slot thrown.object))
 
   same_event : event_in t ≡ event_in s
   same_event =
-      let n = min (acts.size_of s.lists (object_slot thrown.object)) MAX_BYTES in
+      let n = min (acts.size_of (lists_of s) (object_slot thrown.object)) MAX_BYTES in
       ap (λ (bs : List ℕ). let e : Event = record { kind = what; a = thrown.object; b = thrown.ty; c = 0; bytes = bs; count = n } in e) (alike.bytes n)
 
   by_found : (r : Result Barrier End) → SameBut (acts.from_barrier further (r, acts.logged t (event_in t))) (acts.from_barrier further (r, acts.logged s (event_in s)))
@@ -118,16 +118,16 @@ module _ (g : Guide) (s : Recorded) (segments : List Segment) where
       sought_same g s segments event.Throw (acts.thrown_first s) alike (λ b u. acts.throw_to g s.regs.pc blk b (acts.flies_first u))
       (λ b u v h. lands_same g s.regs.pc blk b (acts.flies_first u) (acts.flies_first v) (ap (λ (w : Recorded). over [] (acts.flies_first w)) h))
 
-  rethrow_same : (r : Result ℕ CxaFault) → ((blk : ℕ) → r ≡ Ok blk → ReadsAlike g s segments (acts.thrown_of_slot s.lists (block_slot blk)))
+  rethrow_same : (r : Result ℕ CxaFault) → ((blk : ℕ) → r ≡ Ok blk → ReadsAlike g s segments (acts.thrown_of_slot (lists_of s) (block_slot blk)))
       → SameBut (acts.rethrows g (over segments s) r) (acts.rethrows g s r)
   rethrow_same (Err why) alike = (refl, refl)
   rethrow_same (Ok blk) alike =
-      sought_same g s segments event.Rethrow (acts.thrown_of_slot s.lists (block_slot blk)) (alike blk refl) (λ b u. acts.throw_to g s.regs.pc blk b (acts.flies_again u))
+      sought_same g s segments event.Rethrow (acts.thrown_of_slot (lists_of s) (block_slot blk)) (alike blk refl) (λ b u. acts.throw_to g s.regs.pc blk b (acts.flies_again u))
       (λ b u v h. lands_same g s.regs.pc blk b (acts.flies_again u) (acts.flies_again v) (ap (λ (w : Recorded). over [] (acts.flies_again w)) h))
 
 pub throws_read_none : ThrowsReadNoSlots
 unfolding acts.gate_of
 throws_read_none g next s segments = record {
   throw = λ alike. throw_same g s segments (acts.first_flight s).answer alike;
-  rethrow = λ alike. rethrow_same g s segments (rethrow_list s.lists).answer alike;
+  rethrow = λ alike. rethrow_same g s segments (rethrow_list (lists_of s)).answer alike;
 }

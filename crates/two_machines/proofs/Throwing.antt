@@ -25,7 +25,7 @@ use Rattle.eh_trace.specs.declared.event.EventKind.TheVariants as kind
 use Rattle.eh_gates.specs.State.{State, Guide, Outcome, logged}
 use Rattle.eh_gates.specs.Gates.{gate_of}
 use Rattle.eh_gates.specs.Throwing as bytes
-use Rattle.two_machines.specs.Activations.{Recorded, reg_in, memory_of, heads, with_lists, words_in, bytes_of}
+use Rattle.two_machines.specs.Activations.{Recorded, reg_in, memory_of, heads, with_lists, words_in, bytes_of, lists_of, cleanups_in}
 use Rattle.two_machines.specs.ActivationMachine as machine
 use Rattle.two_machines.specs.Corresponds.{Corresponds, GateMatches}
 use Rattle.two_machines.specs.Throws.{SeesAlike, CanLand, ThrowsMatch}
@@ -39,38 +39,38 @@ module _ (g : Guide) (s : Recorded) (c : Corresponds s) (ty : reg_in s 1 < 2 ^ 3
   -- ---- an exception that is thrown
 
   module _ (slot : ℕ) (is : object_slot (reg_in s 0) ≡ Some slot) (st : Stage) (name : named (word (memory_of s) slot STATE) ≡ Some st)
-      (live_is : entry s.lists slot ≡ Live (record_of st (word (memory_of s)) slot)) (fresh : is_fresh (Some st) ≡ true) where
+      (live_is : entry (lists_of s) slot ≡ Live (record_of st (word (memory_of s)) slot)) (fresh : is_fresh (Some st) ≡ true) where
     small : slot < SLOTS
     small = object_small (reg_in s 0) slot is
 
     abbrev flight : Done (Result ℕ CxaFault)
-    flight = throw_by true (heads s.lists) slot with_type
+    flight = throw_by true (heads (lists_of s)) slot with_type
 
     abbrev flown : Lists
     flown = record {
-      entries = set s.lists.entries slot (Live (thrown_record with_type (record_of st (word (memory_of s)) slot)));
-      caught = s.lists.caught;
-      cleanups = s.lists.cleanups;
-      uncaught = one_more s.lists.uncaught;
+      entries = set s.entries slot (Live (thrown_record with_type (record_of st (word (memory_of s)) slot)));
+      caught = s.caught;
+      cleanups = cleanups_in s.cleanups;
+      uncaught = one_more s.uncaught;
     }
 
-    by_words : start_throw_of (word (memory_of s)) (heads s.lists) (object_slot (reg_in s 0)) with_type ≡ flight
+    by_words : start_throw_of (word (memory_of s)) (heads (lists_of s)) (object_slot (reg_in s 0)) with_type ≡ flight
     by_words =
-        ap (λ (o : Option ℕ). start_throw_of (word (memory_of s)) (heads s.lists) o with_type) is
-        ∙ ap (λ n. throw_by (is_fresh n) (heads s.lists) slot with_type) name ∙ ap (λ (b : Bool). throw_by b (heads s.lists) slot with_type) fresh
+        ap (λ (o : Option ℕ). start_throw_of (word (memory_of s)) (heads (lists_of s)) o with_type) is
+        ∙ ap (λ n. throw_by (is_fresh n) (heads (lists_of s)) slot with_type) name ∙ ap (λ (b : Bool). throw_by b (heads (lists_of s)) slot with_type) fresh
 
-    by_list_words : start_throw_of (words_in s.lists) (heads s.lists) (object_slot (reg_in s 0)) with_type ≡ flight
+    by_list_words : start_throw_of (words_in (lists_of s)) (heads (lists_of s)) (object_slot (reg_in s 0)) with_type ≡ flight
     by_list_words =
-        ap (λ (o : Option ℕ). start_throw_of (words_in s.lists) (heads s.lists) o with_type) is
-        ∙ ap (λ n. throw_by (is_fresh n) (heads s.lists) slot with_type) ((same_slot (word (memory_of s)) (heads s.lists) s.lists c.stands slot small).state ∙ name)
-        ∙ ap (λ (b : Bool). throw_by b (heads s.lists) slot with_type) fresh
+        ap (λ (o : Option ℕ). start_throw_of (words_in (lists_of s)) (heads (lists_of s)) o with_type) is
+        ∙ ap (λ n. throw_by (is_fresh n) (heads (lists_of s)) slot with_type) ((same_slot (word (memory_of s)) (heads (lists_of s)) (lists_of s) c.stands slot small).state ∙ name)
+        ∙ ap (λ (b : Bool). throw_by b (heads (lists_of s)) slot with_type) fresh
 
     by_lists : ◌≡◌ {A = Call (Result ℕ CxaFault)} (machine.first_flight s) (record { answer = Ok (block slot); lists = flown })
     by_lists =
-        ap (λ (o : Option ℕ). throw_list s.lists o with_type) is ∙ ap (λ (e : Entry). throw_entry s.lists slot e with_type) live_is
-        ∙ ap (λ (b : Bool). throw_by_list b s.lists slot (record_of st (word (memory_of s)) slot) with_type) fresh
+        ap (λ (o : Option ℕ). throw_list (lists_of s) o with_type) is ∙ ap (λ (e : Entry). throw_entry (lists_of s) slot e with_type) live_is
+        ∙ ap (λ (b : Bool). throw_by_list b (lists_of s) slot (record_of st (word (memory_of s)) slot) with_type) fresh
 
-    not_flying : Has (slots s.lists.cleanups) slot → ⊥
+    not_flying : Has (slots (cleanups_in s.cleanups)) slot → ⊥
     not_flying h =
         let f = c.stands.valid.flying slot h in
         let p : Some st ≡ Some Flying = sym (ap state_in live_is) ∙ f in
@@ -80,16 +80,16 @@ module _ (g : Guide) (s : Recorded) (c : Corresponds s) (ty : reg_in s 1 < 2 ^ 3
     stands_flown : Stands (word (put_all flight.writes (memory_of s))) (heads flown) flown
     stands_flown =
         let middle = put_all flight.writes (memory_of s) in
-        let f = throw_meets (memory_of s) middle (heads s.lists) flight.globals flight.answer (reg_in s 0) with_type c.map (record { ty = ty; destructor = destructor })
-        (ap (λ (d : Done (Result ℕ CxaFault)). made d (memory_of s)) (sym by_words)) s.lists c.stands in
+        let f = throw_meets (memory_of s) middle (heads (lists_of s)) flight.globals flight.answer (reg_in s 0) with_type c.map (record { ty = ty; destructor = destructor })
+        (ap (λ (d : Done (Result ℕ CxaFault)). made d (memory_of s)) (sym by_words)) (lists_of s) c.stands in
         subst (λ (o : Call (Result ℕ CxaFault)). Stands (word middle) (heads flown) o.lists) by_lists f.stands
 
     has_flown : HasFlown s slot flight.writes flown
     has_flown = record {
       small = small;
       stands = stands_flown;
-      placed = c.placed;
-      flies = let h = small in let z = c.stands.shows.sized in let inside : slot < length s.lists.entries = omega arith in rw get_or-set_same refl;
+      cleanups = refl;
+      flies = let h = small in let z = c.stands.shows.sized in let inside : slot < length s.entries = omega arith in rw get_or-set_same refl;
       idle = not_flying;
       in_pool = λ more rest. (small, omega arith, (small, omega arith, (small, omega arith, (small, omega arith, (small, omega arith, rest)))));
     }
@@ -107,15 +107,15 @@ module _ (g : Guide) (s : Recorded) (c : Corresponds s) (ty : reg_in s 1 < 2 ^ 3
       flown_same : (e : Event) → machine.flies_first (machine.logged s e) ≡ with_lists flown flight.writes (machine.logged s e)
       flown_same e =
           ap (λ (o : Call (Result ℕ CxaFault)).
-          with_lists o.lists (start_throw_of (words_in s.lists) (heads s.lists) (object_slot (reg_in s 0)) with_type).writes (machine.logged s e)) by_lists
+          with_lists o.lists (start_throw_of (words_in (lists_of s)) (heads (lists_of s)) (object_slot (reg_in s 0)) with_type).writes (machine.logged s e)) by_lists
           ∙ ap (λ (d : Done (Result ℕ CxaFault)). with_lists flown d.writes (machine.logged s e)) by_list_words
 
       flies : (e : Event) (b : Barrier) → machine.searched g s (machine.thrown_first s) ≡ found.Barrier b → GateMatches (on_bytes b (logged (bytes_of s) e)) (on_lists b (machine.logged s e))
       flies e b q =
           flies_match g s c slot flight.writes flown has_flown (pushed s.events e) s.regs.pc sees.advance b (can b q) (on_bytes b (logged (bytes_of s) e)) (machine.flies_first (machine.logged s e)) (flies_same e b) (flown_same e)
 
-      same_size : size_at (word (memory_of s)) (object_slot (reg_in s 0)) ≡ machine.size_of s.lists (object_slot (reg_in s 0))
-      same_size = ap (size_at (word (memory_of s))) is ∙ sym (ap (machine.size_of s.lists) is ∙ ap size_in live_is)
+      same_size : size_at (word (memory_of s)) (object_slot (reg_in s 0)) ≡ machine.size_of (lists_of s) (object_slot (reg_in s 0))
+      same_size = ap (size_at (word (memory_of s))) is ∙ sym (ap (machine.size_of (lists_of s)) is ∙ ap size_in live_is)
 
       may : throw_fault (word (memory_of s)) (object_slot (reg_in s 0)) ≡ Ok tt
       may =
@@ -140,30 +140,30 @@ module _ (g : Guide) (s : Recorded) (c : Corresponds s) (ty : reg_in s 1 < 2 ^ 3
   fault_by slot o is name old =
       ap (throw_fault (word (memory_of s))) is ∙ ap (λ n. cond (is_fresh n) (Ok tt) (Err BadObject)) name ∙ ap (λ (b : Bool). cond b (Ok tt) (Err BadObject)) old
 
-  list_by : (slot : ℕ) (e : Entry) → object_slot (reg_in s 0) ≡ Some slot → entry s.lists slot ≡ e → (throw_entry s.lists slot e with_type).answer ≡ Err BadObject → (machine.first_flight s).answer ≡ Err BadObject
+  list_by : (slot : ℕ) (e : Entry) → object_slot (reg_in s 0) ≡ Some slot → entry (lists_of s) slot ≡ e → (throw_entry (lists_of s) slot e with_type).answer ≡ Err BadObject → (machine.first_flight s).answer ≡ Err BadObject
   list_by slot e is there old =
-      ap (λ (o : Option ℕ). (throw_list s.lists o with_type).answer) is ∙ ap (λ (x : Entry). (throw_entry s.lists slot x with_type).answer) there ∙ old
+      ap (λ (o : Option ℕ). (throw_list (lists_of s) o with_type).answer) is ∙ ap (λ (x : Entry). (throw_entry (lists_of s) slot x with_type).answer) there ∙ old
 
   gate_match : ((slot : ℕ) (b : Barrier) → object_slot (reg_in s 0) ≡ Some slot → machine.searched g s (machine.thrown_first s) ≡ found.Barrier b → CanLand g s s.regs.pc slot b)
       → GateMatches (bytes.throw_gate g (bytes_of s)) (machine.throw_gate g s)
   gate_match can = start (object_slot (reg_in s 0)) refl
     where
-      by_fresh : (slot : ℕ) → object_slot (reg_in s 0) ≡ Some slot → (st : Stage) → named (word (memory_of s) slot STATE) ≡ Some st → entry s.lists slot ≡ Live (record_of st (word (memory_of s)) slot)
+      by_fresh : (slot : ℕ) → object_slot (reg_in s 0) ≡ Some slot → (st : Stage) → named (word (memory_of s) slot STATE) ≡ Some st → entry (lists_of s) slot ≡ Live (record_of st (word (memory_of s)) slot)
           → (b : Bool) → is_fresh (Some st) ≡ b → GateMatches (bytes.throw_gate g (bytes_of s)) (machine.throw_gate g s)
       by_fresh slot is st name there true q = fresh_match slot is st name there q (λ b f. can slot b is f)
       by_fresh slot is st name there false q =
           refused_match (fault_by slot (Some st) is name q)
           (list_by slot (Live (record_of st (word (memory_of s)) slot)) is there
-          (ap (λ (b : Bool). (throw_by_list b s.lists slot (record_of st (word (memory_of s)) slot) with_type).answer) q))
+          (ap (λ (b : Bool). (throw_by_list b (lists_of s) slot (record_of st (word (memory_of s)) slot) with_type).answer) q))
 
-      seen : (slot : ℕ) → object_slot (reg_in s 0) ≡ Some slot → Look (word (memory_of s)) s.lists slot → GateMatches (bytes.throw_gate g (bytes_of s)) (machine.throw_gate g s)
+      seen : (slot : ℕ) → object_slot (reg_in s 0) ≡ Some slot → Look (word (memory_of s)) (lists_of s) slot → GateMatches (bytes.throw_gate g (bytes_of s)) (machine.throw_gate g s)
       seen slot is (live st name there) = by_fresh slot is st name there (is_fresh (Some st)) refl
       seen slot is (free zero there) = refused_match (fault_by slot None is (ap named zero) refl) (list_by slot Free is there refl)
       seen slot is (lost used none there) = refused_match (fault_by slot None is none refl) (list_by slot OutOfUse is there refl)
 
       start : (o : Option ℕ) → object_slot (reg_in s 0) ≡ o → GateMatches (bytes.throw_gate g (bytes_of s)) (machine.throw_gate g s)
-      start None is = refused_match (ap (throw_fault (word (memory_of s))) is) (ap (λ (o : Option ℕ). (throw_list s.lists o with_type).answer) is)
-      start (Some slot) is = seen slot is (look (word (memory_of s)) (heads s.lists) s.lists slot c.stands.shows (object_small (reg_in s 0) slot is))
+      start None is = refused_match (ap (throw_fault (word (memory_of s))) is) (ap (λ (o : Option ℕ). (throw_list (lists_of s) o with_type).answer) is)
+      start (Some slot) is = seen slot is (look (word (memory_of s)) (heads (lists_of s)) (lists_of s) slot c.stands.shows (object_small (reg_in s 0) slot is))
 
 pub throws_match : ThrowsMatch
 unfolding gate_of machine.gate_of

@@ -23,7 +23,7 @@ use Rattle.eh_gates.specs.State.{State}
 use Rattle.two_machines.specs.Program.{Program}
 use Rattle.two_machines.specs.Machine.{machine_event}
 use Rattle.two_machines.specs.Start.{start_of}
-use Rattle.two_machines.specs.Activations.{Caller, Activation, Recorded, memory_of, heads, bytes_of, callee, registers_of, frames_at, recorded_start}
+use Rattle.two_machines.specs.Activations.{Caller, Activation, Recorded, memory_of, heads, bytes_of, callee, registers_of, frames_at, recorded_start, lists_of, cleanups_in}
 use Rattle.two_machines.specs.ActivationMachine.{pops_back, recorded_event, passed_by}
 
 -- ---- the same event
@@ -45,7 +45,7 @@ IsPlain s (Trap trap) = pops_back s ≡ None
 
 -- the landing sp of the innermost cleanup stands in the pool as in the list
 abbrev pub KnowsLanding : Recorded → Type 0
-KnowsLanding s = innermost_of (word (memory_of s)) (heads s.lists) ≡ innermost_in s.lists.cleanups
+KnowsLanding s = innermost_of (word (memory_of s)) (heads (lists_of s)) ≡ innermost_in (cleanups_in s.cleanups)
 
 -- an instruction that is no return and no gate of exceptions does the same in both machines
 abbrev pub PlainEventsMatch : Type 0

@@ -12,7 +12,7 @@ use Rattle.guest_gates.specs.Gates.{r0, with_r0, gate_event, gate_fails}
 use Rattle.eh_cxa.specs.Allocate.{allocate_of, free_of}
 use Rattle.eh_cxa.specs.Catch.{begin_catch_of, end_catch_of, rethrow_of}
 use Rattle.eh_cxa.specs.Cleanup.{begin_cleanup_of}
-use Rattle.eh_cxa.specs.ListCalls.{allocate_list, free_list, size_in, throw_list, land_list, catch_list, end_list, rethrow_list, begin_cleanup_list, innermost_in}
+use Rattle.eh_cxa.specs.ListCalls.{allocate_list, free_list, size_in, throw_list, land_list, catch_list, end_list, rethrow_list, innermost_in}
 use Rattle.eh_cxa.specs.Lists.{Entry, Free, OutOfUse, Live, Cleanup, Lists, entry}
 use Rattle.eh_cxa.specs.Lists.{Outcome as Call}
 use Rattle.eh_cxa.specs.Throw.{Throw, start_throw_of, set_barrier_of, barrier_of, land_of}
@@ -71,7 +71,7 @@ use Rattle.eh_gates.specs.Throwing.{handed, barrier_words, throw_event, barrier_
 use Rattle.eh_gates.specs.Resuming.{goal_in}
 use Rattle.two_machines.specs.Program.{Program, guide}
 use Rattle.two_machines.specs.Machine.{sp_end, way_end, fell_off, saved_words}
-use Rattle.two_machines.specs.Activations.{Caller, Activation, Recorded, callee, with_caller, registers_of, released_in, freed_in, staying, with_slots, reg_in, memory_of, words_in, heads, with_words, with_lists, first_place, frames_at}
+use Rattle.two_machines.specs.Activations.{Caller, Activation, InProgress, Recorded, callee, with_caller, registers_of, released_in, freed_in, staying, with_slots, lists_of, reg_in, memory_of, words_in, heads, with_words, with_lists, first_place, frames_at}
 
 -- ---- what a gate does
 
@@ -121,34 +121,34 @@ dropped next s new (Err why) = refused why 0 s
 
 -- with a new exception of so many bytes, where there is room for it
 abbrev pub with_new : ℕ → Recorded → Recorded
-with_new size s = with_lists (allocate_list s.lists size).lists (allocate_of (words_in s.lists) size).writes s
+with_new size s = with_lists (allocate_list (lists_of s) size).lists (allocate_of (words_in (lists_of s)) size).writes s
 
 abbrev pub allocate_gate : ℕ → Recorded → Outcome
-allocate_gate next s = allocated next s (with_new (reg_in s 0) s) (allocate_list s.lists (reg_in s 0)).answer
+allocate_gate next s = allocated next s (with_new (reg_in s 0) s) (allocate_list (lists_of s) (reg_in s 0)).answer
 
 abbrev pub free_gate : ℕ → Recorded → Outcome
 free_gate next s =
     freed next s
-    (with_lists (free_list s.lists (object_slot (reg_in s 0))).lists (free_of (words_in s.lists) (object_slot (reg_in s 0))).writes s)
-    (free_list s.lists (object_slot (reg_in s 0))).answer
+    (with_lists (free_list (lists_of s) (object_slot (reg_in s 0))).lists (free_of (words_in (lists_of s)) (object_slot (reg_in s 0))).writes s)
+    (free_list (lists_of s) (object_slot (reg_in s 0))).answer
 
 -- the object that the barrier of a slot gives its handler
 abbrev pub given : Recorded → ℕ → ℕ
 given s slot = word (memory_of s) slot BARRIER_OBJECT
 
 abbrev pub begin_catch : Recorded → Call (Result ℕ CxaFault)
-begin_catch s = catch_list (given s) s.lists (block_slot (reg_in s 0))
+begin_catch s = catch_list (given s) (lists_of s) (block_slot (reg_in s 0))
 
 abbrev pub begin_catch_gate : ℕ → Recorded → Outcome
 begin_catch_gate next s =
-    caught next s (with_lists (begin_catch s).lists (begin_catch_of (words_in s.lists) (heads s.lists) (reg_in s 0)).writes s) (begin_catch s).answer
+    caught next s (with_lists (begin_catch s).lists (begin_catch_of (words_in (lists_of s)) (heads (lists_of s)) (reg_in s 0)).writes s) (begin_catch s).answer
 
 abbrev pub end_catch_gate : ℕ → Recorded → Outcome
 end_catch_gate next s =
-    dropped next s (with_lists (end_list s.lists).lists (end_catch_of (words_in s.lists) (heads s.lists)).writes s) (end_list s.lists).answer
+    dropped next s (with_lists (end_list (lists_of s)).lists (end_catch_of (words_in (lists_of s)) (heads (lists_of s))).writes s) (end_list (lists_of s)).answer
 
 abbrev pub uncaught_gate : ℕ → Recorded → Outcome
-uncaught_gate next s = went next (with_answer s.lists.uncaught s)
+uncaught_gate next s = went next (with_answer s.uncaught s)
 
 -- ---- landing
 
@@ -175,8 +175,9 @@ at_pad s (a ∷ more) r pad answer = record s {
 -- a cleanup is in progress, in the activation with so many outside it
 abbrev pub in_progress : Recorded → ℕ → ℕ → CleanupWords → Option ℕ → Recorded
 in_progress s outside block w None = s
-in_progress s outside block w (Some slot) =
-    record (with_lists (begin_cleanup_list s.lists slot w) (begin_cleanup_of (heads s.lists) block w).writes s) { places = outside ∷ s.places }
+in_progress s outside block w (Some slot) = record (with_words (begin_cleanup_of (heads (lists_of s)) block w).writes s) {
+  cleanups = record { cleanup = record { slot = slot; next = w.next; sp = w.sp; site = w.site }; place = outside } ∷ s.cleanups;
+}
 
 -- the number of the activations outside the first of some
 abbrev pub outside_of : List Activation → ℕ
@@ -190,7 +191,7 @@ enter_cleanup s acts block r pad w =
 -- the exception landed
 abbrev pub flown : Recorded → Option ℕ → Recorded
 flown s None = s
-flown s (Some slot) = with_lists (land_list s.lists slot) (land_of (words_in s.lists) (Some slot)) s
+flown s (Some slot) = with_lists (land_list (lists_of s) slot) (land_of (words_in (lists_of s)) (Some slot)) s
 
 abbrev pub enter_handler : Recorded → List Activation → ℕ → List ℕ → ℕ → Traced → Recorded
 enter_handler s acts block r pad e = logged (at_pad (flown s (block_slot block)) acts r pad block) e
@@ -217,7 +218,7 @@ frames_from g s place site = frames_at g.image place site (all_of s.regs) s.firs
 
 -- of a throw at a gate that is the gate's own address. Phase 1 goes no further than the activation of the innermost cleanup in progress
 abbrev pub searched : Guide → Recorded → Thrown → Found
-searched g s thrown = phase1 (meeting g.image g.types s.segments thrown) (frames_from g s (first_place s.places) s.regs.pc)
+searched g s thrown = phase1 (meeting g.image g.types s.segments thrown) (frames_from g s (first_place s.cleanups) s.regs.pc)
 
 abbrev pub size_of : Lists → Option ℕ → ℕ
 size_of l None = 0
@@ -229,7 +230,7 @@ sought g s what thrown =
     if is_some (row_of g.types thrown.ty)
     then (
       barrier_in s.regs.pc (searched g s thrown),
-      logged s (throw_event what (memory_of s) thrown (size_of s.lists (object_slot thrown.object))),
+      logged s (throw_event what (memory_of s) thrown (size_of (lists_of s) (object_slot thrown.object))),
     )
     else (Err (the_end.Trap kind.BadType thrown.ty s.regs.pc), s)
 
@@ -253,10 +254,10 @@ thrown_words s = record { ty = reg_in s 1; destructor = reg_in s 2 }
 
 -- an object's exception begins to fly, of the type and with the destructor of a throw
 abbrev pub flight_of : ℕ → Throw → Recorded → Call (Result ℕ CxaFault)
-flight_of object t s = throw_list s.lists (object_slot object) t
+flight_of object t s = throw_list (lists_of s) (object_slot object) t
 
 abbrev pub in_flight : ℕ → Throw → Recorded → Recorded
-in_flight object t s = with_lists (flight_of object t s).lists (start_throw_of (words_in s.lists) (heads s.lists) (object_slot object) t).writes s
+in_flight object t s = with_lists (flight_of object t s).lists (start_throw_of (words_in (lists_of s)) (heads (lists_of s)) (object_slot object) t).writes s
 
 abbrev pub first_flight : Recorded → Call (Result ℕ CxaFault)
 first_flight s = flight_of (reg_in s 0) (thrown_words s) s
@@ -283,24 +284,17 @@ thrown_of_slot l None = record { object = 0; ty = 0 }
 thrown_of_slot l (Some slot) = record { object = object slot; ty = type_in (entry l slot) }
 
 abbrev pub flies_again : Recorded → Recorded
-flies_again s = with_lists (rethrow_list s.lists).lists (rethrow_of (words_in s.lists) (heads s.lists)).writes s
+flies_again s = with_lists (rethrow_list (lists_of s)).lists (rethrow_of (words_in (lists_of s)) (heads (lists_of s))).writes s
 
 abbrev pub rethrows : Guide → Recorded → Result ℕ CxaFault → Outcome
-rethrows g s (Err why) = (Ended (rethrow_end why (heads s.lists).caught s.regs.pc), s)
+rethrows g s (Err why) = (Ended (rethrow_end why (heads (lists_of s)).caught s.regs.pc), s)
 rethrows g s (Ok block) =
-    from_barrier (λ b t. throw_to g s.regs.pc block b (flies_again t)) (sought g s event.Rethrow (thrown_of_slot s.lists (block_slot block)))
+    from_barrier (λ b t. throw_to g s.regs.pc block b (flies_again t)) (sought g s event.Rethrow (thrown_of_slot (lists_of s) (block_slot block)))
 
 abbrev pub rethrow_gate : Guide → Recorded → Outcome
-rethrow_gate g s = rethrows g s (rethrow_list s.lists).answer
+rethrow_gate g s = rethrows g s (rethrow_list (lists_of s)).answer
 
 -- ---- the end of a cleanup
-
--- the cleanup isn't in progress any more
-abbrev pub without_cleanup : Recorded → List Cleanup → Recorded
-without_cleanup s more = record s {
-  lists = record { entries = s.lists.entries; caught = s.lists.caught; cleanups = more; uncaught = s.lists.uncaught };
-  places = drop 1 s.places;
-}
 
 -- phase 2 goes on in the cleanup's activation, from its site and next descriptor, to the barrier of its exception; the registers there are
 -- those at the call of the gate's function
@@ -308,13 +302,12 @@ abbrev pub goes_on : Guide → Recorded → Cleanup → Caller → Activation �
 goes_on g s c gate a outer b =
     advances s (a ∷ outer) (block c.slot) b.object (goal_in b) c.next (frames_at g.image None c.site (registers_of gate) a outer)
 
--- the cleanup's activation is the one outside the gate's
-abbrev pub resumes_in : Guide → Recorded → Cleanup → List Cleanup → List Activation → Option ℕ → Outcome
-resumes_in g s c more [] place = refused fault.CleanupElsewhere s.first.caller.sp s
-resumes_in g s c more (a ∷ outer) None = refused fault.CleanupElsewhere s.first.caller.sp s
-resumes_in g s c more (a ∷ outer) (Some outside) =
-    if (s.first.caller.sp == c.sp) && (length outer == outside)
-    then goes_on g (without_cleanup s more) c s.first.caller a outer (barrier_of (word (memory_of s)) (Some c.slot))
+-- the cleanup's activation is the one outside the gate's; it isn't in progress any more then
+abbrev pub resumes_in : Guide → Recorded → InProgress → List InProgress → List Activation → Outcome
+resumes_in g s p more [] = refused fault.CleanupElsewhere s.first.caller.sp s
+resumes_in g s p more (a ∷ outer) =
+    if (s.first.caller.sp == p.cleanup.sp) && (length outer == p.place)
+    then goes_on g (record s { cleanups = more }) p.cleanup s.first.caller a outer (barrier_of (word (memory_of s)) (Some p.cleanup.slot))
     else refused fault.CleanupElsewhere s.first.caller.sp s
 
 -- an activation can be unwound where its entry has codes with a recipe
@@ -326,14 +319,13 @@ abbrev pub can_unwind : Option Covered → Bool
 can_unwind None = false
 can_unwind (Some c) = has_recipe (recipe (cut c.codes))
 
-abbrev pub resumes : Guide → Recorded → List Cleanup → Outcome
+abbrev pub resumes : Guide → Recorded → List InProgress → Outcome
 resumes g s [] = refused fault.NoCleanup 0 s
-resumes g s (c ∷ more) =
-    if can_unwind (covered_at g.image s.regs.pc) then resumes_in g s c more s.outer (first_place s.places)
-    else refused fault.CleanupElsewhere 0 s
+resumes g s (p ∷ more) =
+    if can_unwind (covered_at g.image s.regs.pc) then resumes_in g s p more s.outer else refused fault.CleanupElsewhere 0 s
 
 abbrev pub end_cleanup_gate : Guide → Recorded → Outcome
-end_cleanup_gate g s = resumes g s s.lists.cleanups
+end_cleanup_gate g s = resumes g s s.cleanups
 
 -- ---- gates by their numbers, in the state before the instruction, where the next one is at `next`
 
@@ -377,7 +369,7 @@ way_end_of p s branches (Trap trap) regs = None
 
 abbrev pub tests : Program → Recorded → Stepped → Regs → Option End
 tests p s what regs =
-    option_or (sp_end (innermost_in s.lists.cleanups) s.home.0 s.regs.pc (reg_in s SP) (slice_index regs.r SP))
+    option_or (sp_end (innermost_in (lists_of s).cleanups) s.home.0 s.regs.pc (reg_in s SP) (slice_index regs.r SP))
     (way_end_of p s (branches_some (instr_at (memory_of s) s.regs.pc) s.regs) what regs)
 
 -- the slots behind an instruction: a push adds those of its words that are saves to the first activation's, and where sp rose those below

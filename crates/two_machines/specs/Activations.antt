@@ -12,7 +12,7 @@ use Rattle.unwind_codes.specs.Cut.{cut}
 use Rattle.eh_bytecode.specs.Recipe.{recipe}
 use Rattle.eh_bytecode.specs.declared.recipe.Recipe.{Recipe}
 use Rattle.eh_bytecode.specs.declared.recipe.RecipeFault.{RecipeFault}
-use Rattle.eh_cxa.specs.Lists.{Entry, Free, OutOfUse, Live, Lists, entry, slots, count_in}
+use Rattle.eh_cxa.specs.Lists.{Entry, Free, OutOfUse, Live, Cleanup, Lists, entry, slots, count_in}
 use Rattle.eh_cxa.specs.Runs.{nothing}
 use Rattle.eh_cxa.specs.States.{code}
 use Rattle.eh_cxa.specs.Words.{Pool, Write, block, put_all}
@@ -82,21 +82,44 @@ freed_in home old new a = record a { slots = staying home old new a.slots }
 abbrev pub with_slots : List ℕ → Activation → Activation
 with_slots more a = record a { slots = more ++ a.slots }
 
+-- ---- cleanups in progress
+
+-- a cleanup in progress, and its place: how many activations stand outside the one that it was entered in
+pub record InProgress : Type 0 where
+  pub cleanup : Cleanup
+  pub place : ℕ
+
+-- .. as the lists of exceptions have them, which know no activations
+abbrev pub cleanups_in : List InProgress → List Cleanup
+cleanups_in [] = []
+cleanups_in (p ∷ more) = p.cleanup ∷ cleanups_in more
+
+-- the activation of the innermost, by how many stand outside it
+abbrev pub first_place : List InProgress → Option ℕ
+first_place [] = None
+first_place (p ∷ more) = Some p.place
+
 -- ---- the state
 
--- A state: registers, the exceptions as lists, the segments of the memory and its running stack, the events so far, and the activations,
--- the innermost first. Each cleanup in progress names its activation by how many stand outside it. Besides slots there may be guarded words
--- beyond the running stack, which are nobody's here.
+-- A state: registers, the exceptions by slot, the caught stack, the cleanups in progress with their places, the innermost first, and how many
+-- exceptions are uncaught; the segments of the memory and its running stack, the events so far, and the activations, the innermost first.
+-- Besides slots there may be guarded words beyond the running stack, which are nobody's here.
 pub record Recorded : Type 0 where
   pub regs : Regs
-  pub lists : Lists
-  pub places : List ℕ
+  pub entries : List Entry
+  pub caught : List ℕ
+  pub cleanups : List InProgress
+  pub uncaught : ℕ
   pub segments : List Segment
   pub home : ℕ × ℕ
   pub events : Trace
   pub first : Activation
   pub outer : List Activation
   pub beyond : List ℕ
+
+-- the exceptions as lists
+abbrev pub lists_of : Recorded → Lists
+lists_of s = record { entries = s.entries; caught = s.caught; cleanups = cleanups_in s.cleanups; uncaught = s.uncaught }
 
 abbrev pub reg_in : Recorded → ℕ → ℕ
 reg_in s k = slice_index s.regs.r k
@@ -133,22 +156,21 @@ heads l = record { caught = head_of l.caught; cleanup = head_of (slots l.cleanup
 abbrev pub with_words : List Write → Recorded → Recorded
 with_words writes s = record s { segments = (put_all writes (memory_of s)).segments }
 
--- With other lists, and the words that go with them: a call on lists is made on their words too, and what it writes stays in the pool. Nobody
--- reads the words of headers and of chains that are written so: of the closed words those of barriers alone are read, by the runtime, and word 2
--- of one by programs too.
+-- the exceptions of other lists; the cleanups in progress stay
+abbrev pub with_exceptions : Lists → Recorded → Recorded
+with_exceptions l s = record s { entries = l.entries; caught = l.caught; uncaught = l.uncaught }
+
+-- .. and the words that go with them: a call on lists is made on their words too, and what it writes stays in the pool. Nobody reads the words
+-- of headers and of chains that are written so: of the closed words those of barriers alone are read, by the runtime, and word 2 of one by
+-- programs too.
 abbrev pub with_lists : Lists → List Write → Recorded → Recorded
-with_lists l writes s = record (with_words writes s) { lists = l }
+with_lists l writes s = with_exceptions l (with_words writes s)
 
 -- the same state without activations: guarded words in place of slots, and chains in place of lists
 abbrev pub bytes_of : Recorded → State
-bytes_of s = record { regs = s.regs; globals = heads s.lists; memory = memory_of s; events = s.events }
+bytes_of s = record { regs = s.regs; globals = heads (lists_of s); memory = memory_of s; events = s.events }
 
 -- ---- the frames of a throw
-
--- the activation of the innermost cleanup in progress
-abbrev pub first_place : List ℕ → Option ℕ
-first_place [] = None
-first_place (n ∷ more) = Some n
 
 abbrev pub ends_at : Option ℕ → ℕ → Bool
 ends_at None outside = false
@@ -184,8 +206,10 @@ no_caller = record { back = NO_CALLER; sp = STACK_END; saved = 0 ∷ 0 ∷ 0 ∷
 abbrev pub recorded_start : Program → Recorded
 recorded_start p = record {
   regs = (image_start p.image).regs;
-  lists = nothing;
-  places = [];
+  entries = nothing.entries;
+  caught = [];
+  cleanups = [];
+  uncaught = 0;
   segments = (image_start p.image).memory.segments;
   home = (image_start p.image).memory.home;
   events = no_events;

@@ -1,5 +1,5 @@
 -- Words and lists of exceptions that stand for each other, and the gates that walk no frames (docs/machine.md, "Laws").
-use Rattle.std.specs.Prelude.{◌≡◌, ℕ, ◌<◌, ◌≤◌, ◌^◌, List, length, None}
+use Rattle.std.specs.Prelude.{◌≡◌, ℕ, ◌<◌, ◌≤◌, ◌^◌, List, None}
 use Rattle.event_runs.specs.Runs.{Goes}
 use Rattle.guest_gates.specs.declared.gates.TheConstants.{INPUT_GATE}
 use Rattle.eh_bus.specs.Map.{IsMap}
@@ -15,16 +15,14 @@ use Rattle.eh_gates.specs.Gates.{gate_of}
 use Rattle.two_machines.specs.Program.{Program}
 use Rattle.two_machines.specs.Machine.{machine_event}
 use Rattle.two_machines.specs.Start.{start_of}
-use Rattle.two_machines.specs.Activations.{Recorded, reg_in, memory_of, heads, bytes_of, recorded_start}
+use Rattle.two_machines.specs.Activations.{Recorded, reg_in, memory_of, heads, bytes_of, recorded_start, lists_of}
 use Rattle.two_machines.specs.ActivationMachine as acts
 use Rattle.two_machines.specs.ActivationLaws.{Matches, KnowsLanding}
 
--- the memory is one that a bus may have, the words of its pool and the heads of the lists stand for the lists, and each cleanup in progress
--- has the place of its activation
+-- the memory is one that a bus may have, and the words of its pool and the heads of the lists stand for the lists
 pub record Corresponds (s : Recorded) : Type 0 where
   pub map : IsMap (memory_of s)
-  pub stands : Stands (word (memory_of s)) (heads s.lists) s.lists
-  pub placed : length s.places ≡ length s.lists.cleanups
+  pub stands : Stands (word (memory_of s)) (heads (lists_of s)) (lists_of s)
 
 -- both go on or both end, alike, and the states are the same but for what stands in place of what
 abbrev pub OutcomesMatch : Outcome → acts.Outcome → Type 0
@@ -70,13 +68,14 @@ IsNoCall (Return to) = Unit {0}
 IsNoCall (Gate number) = number ≤ INPUT_GATE
 IsNoCall (Trap trap) = Unit {0}
 
--- behind an instruction that is no gate of exceptions the lists are the same, and the words of the pool stand for them still
+-- behind an instruction that is no gate of exceptions the lists and the places of cleanups are the same, and the words of the pool stand for
+-- the lists still
 pub record KeepLists (s t : Recorded) : Type 0 where
-  pub lists : t.lists ≡ s.lists
-  pub places : t.places ≡ s.places
-  pub stands : Stands (word (memory_of t)) (heads t.lists) t.lists
+  pub lists : lists_of t ≡ lists_of s
+  pub cleanups : t.cleanups ≡ s.cleanups
+  pub stands : Stands (word (memory_of t)) (heads (lists_of t)) (lists_of t)
 
 abbrev pub ListsAreKept : Type 0
 ListsAreKept =
-    (p : Program) (s t : Recorded) (input text left : List ℕ) → Stands (word (memory_of s)) (heads s.lists) s.lists → IsNoCall (step_of s.regs (memory_of s)).0
+    (p : Program) (s t : Recorded) (input text left : List ℕ) → Stands (word (memory_of s)) (heads (lists_of s)) (lists_of s) → IsNoCall (step_of s.regs (memory_of s)).0
     → acts.recorded_event p s input ≡ Goes t text left → KeepLists s t

@@ -1,7 +1,7 @@
 -- Landings over bytes and with recorded activations (docs/machine.md, "Laws").
 use Rattle.std.specs.Prelude.{◌≡◌, ℕ, ◌<◌, ◌≤◌, ◌^◌, List, ◌∷◌, ◌++◌, length, slice_index, Some}
 use Rattle.eh_bus.specs.Lists.{Has}
-use Rattle.eh_cxa.specs.Lists.{Cleanup, entry, slots, state_in}
+use Rattle.eh_cxa.specs.Lists.{entry, slots, state_in}
 use Rattle.eh_cxa.specs.Words.{block}
 use Rattle.eh_cxa.specs.declared.layout.TheConstants.{SLOTS}
 use Rattle.eh_cxa.specs.declared.state.State.TheVariants.{Flying}
@@ -13,7 +13,7 @@ use Rattle.thumb_core.specs.declared.ends.Cause.TheVariants as cause
 use Rattle.thumb_core.specs.declared.ends.End.TheVariants as the_end
 use Rattle.eh_gates.specs.declared.state.Turned.TheVariants.{Went, Ended}
 use Rattle.eh_gates.specs.Landing.{landed, entered}
-use Rattle.two_machines.specs.Activations.{Activation, Recorded, slots_of, bytes_of}
+use Rattle.two_machines.specs.Activations.{Activation, InProgress, Recorded, slots_of, bytes_of, lists_of, cleanups_in}
 use Rattle.two_machines.specs.ActivationMachine as acts
 use Rattle.two_machines.specs.ActivationLaws.{callers}
 use Rattle.two_machines.specs.Corresponds.{Corresponds, GateMatches}
@@ -21,8 +21,8 @@ use Rattle.two_machines.specs.Corresponds.{Corresponds, GateMatches}
 -- the exception of a slot flies, and none of its cleanups is in progress
 pub record IsInFlight (s : Recorded) (slot : ℕ) : Type 0 where
   pub small : slot < SLOTS
-  pub flies : state_in (entry s.lists slot) ≡ Some Flying
-  pub idle : Has (slots s.lists.cleanups) slot → ⊥
+  pub flies : state_in (entry (lists_of s) slot) ≡ Some Flying
+  pub idle : Has (slots (cleanups_in s.cleanups)) slot → ⊥
 
 -- the slots of activations that a landing cuts stand below its sp
 abbrev pub AreBelow : Recorded → List Activation → ℕ → Type 0
@@ -50,20 +50,20 @@ pub record IsIn (a : Activation) (more : List Activation) (t : Recorded) : Type 
   pub caller : t.first.caller ≡ a.caller
   pub outer : callers t.outer ≡ callers more
 
--- with these registers, these cleanups in progress, and the places of their activations
-pub record HasLanded (a : Activation) (more : List Activation) (regs : Regs) (cleanups : List Cleanup) (places : List ℕ) (o : acts.Outcome) : Type 0 where
+-- with these registers, and these cleanups in progress with their places
+pub record HasLanded (a : Activation) (more : List Activation) (regs : Regs) (cleanups : List InProgress) (o : acts.Outcome) : Type 0 where
   pub goes : o.0 ≡ Went
   pub stands : IsIn a more o.1
   pub with_regs : o.1.regs ≡ regs
-  pub in_progress : o.1.lists.cleanups ≡ cleanups
-  pub named : o.1.places ≡ places
+  pub in_progress : o.1.cleanups ≡ cleanups
 
 -- a cleanup that is entered is the innermost in progress, and names its activation by how many stand outside it
 abbrev pub IsEntered : Recorded → Activation → List Activation → ℕ → Entered → acts.Outcome → Type 0
 IsEntered s a more slot (enters.Cleanup vrs pad next site) o =
-    HasLanded a more (landed s.regs vrs.r pad 0) (record { slot = slot; next = next; sp = slice_index vrs.r SP; site = site } ∷ s.lists.cleanups) (length more ∷ s.places) o
-IsEntered s a more slot (enters.Catch vrs pad) o = HasLanded a more (landed s.regs vrs.r pad (block slot)) s.lists.cleanups s.places o
-IsEntered s a more slot (enters.Spec vrs pad) o = HasLanded a more (landed s.regs vrs.r pad (block slot)) s.lists.cleanups s.places o
+    HasLanded a more (landed s.regs vrs.r pad 0)
+    (record { cleanup = record { slot = slot; next = next; sp = slice_index vrs.r SP; site = site }; place = length more } ∷ s.cleanups) o
+IsEntered s a more slot (enters.Catch vrs pad) o = HasLanded a more (landed s.regs vrs.r pad (block slot)) s.cleanups o
+IsEntered s a more slot (enters.Spec vrs pad) o = HasLanded a more (landed s.regs vrs.r pad (block slot)) s.cleanups o
 IsEntered s a more slot enters.Unexpected o = o ≡ (Ended (the_end.Terminate cause.Unexpected), s)
 IsEntered s a more slot (enters.Terminate why) o = o ≡ (Ended (the_end.Terminate why), s)
 

@@ -26,7 +26,7 @@ use Rattle.eh_gates.specs.State.{Guide}
 use Rattle.eh_gates.specs.Landing.{landed}
 use Rattle.eh_gates.specs.Throwing.{barrier_in}
 use Rattle.eh_gates.specs.Resuming.{goal_in}
-use Rattle.two_machines.specs.Activations.{Activation, Recorded, registers_of, reg_in, memory_of, frames_at}
+use Rattle.two_machines.specs.Activations.{Activation, InProgress, Recorded, registers_of, reg_in, memory_of, frames_at, lists_of}
 use Rattle.two_machines.specs.ActivationMachine.{Outcome, gate_of, first_flight, searched, thrown_first, thrown_of_slot, can_unwind}
 use Rattle.two_machines.specs.ActivationLaws.{callers}
 
@@ -45,8 +45,8 @@ pub record SearchesFail (g : Guide) (next : ℕ) (s : Recorded) (why : End) : Ty
       (block : ℕ) → (first_flight s).answer ≡ Ok block → is_some (row_of g.types (reg_in s 1)) ≡ true
       → barrier_in s.regs.pc (searched g s (thrown_first s)) ≡ Err why → EndsAlone event.Throw why s (gate_of g THROW_GATE next s)
   pub rethrow :
-      (block : ℕ) → (rethrow_list s.lists).answer ≡ Ok block → is_some (row_of g.types (thrown_of_slot s.lists (block_slot block)).ty) ≡ true
-      → barrier_in s.regs.pc (searched g s (thrown_of_slot s.lists (block_slot block))) ≡ Err why → EndsAlone event.Rethrow why s (gate_of g RETHROW_GATE next s)
+      (block : ℕ) → (rethrow_list (lists_of s)).answer ≡ Ok block → is_some (row_of g.types (thrown_of_slot (lists_of s) (block_slot block)).ty) ≡ true
+      → barrier_in s.regs.pc (searched g s (thrown_of_slot (lists_of s) (block_slot block))) ≡ Err why → EndsAlone event.Rethrow why s (gate_of g RETHROW_GATE next s)
 
 -- where phase 1 finds no barrier nothing is entered, no exception flies, and the registers, the exceptions, the memory and the activations stay
 abbrev pub FailedSearchesAddTheirEvent : Type 0
@@ -54,32 +54,34 @@ FailedSearchesAddTheirEvent = (g : Guide) (next : ℕ) (s : Recorded) (why : End
 
 -- ---- the end of a cleanup
 
--- the activation that runs the gate can be unwound, and was called with the landing sp, by the one that has so many outside it
-pub record IsCalledBy (g : Guide) (s : Recorded) (landing outside : ℕ) : Type 0 where
+-- the activation that runs the gate can be unwound, and was called with the landing sp of a cleanup, by the one at the cleanup's place
+pub record IsCalledBy (g : Guide) (s : Recorded) (p : InProgress) : Type 0 where
   pub unwinds : can_unwind (covered_at g.image s.regs.pc) ≡ true
-  pub sp : s.first.caller.sp ≡ landing
-  pub place : length s.outer ≡ outside + 1
+  pub sp : s.first.caller.sp ≡ p.cleanup.sp
+  pub place : length s.outer ≡ p.place + 1
 
 -- the run goes on at a pad, in one of the activations outside the gate's, with these cleanups in progress
-pub record IsAt (s : Recorded) (r : List ℕ) (pad answer : ℕ) (left : List Cleanup) (o : Outcome) : Type 0 where
+pub record IsAt (s : Recorded) (r : List ℕ) (pad answer : ℕ) (left : List InProgress) (o : Outcome) : Type 0 where
   pub goes : o.0 ≡ Went
   pub regs : o.1.regs ≡ landed s.regs r pad answer
-  pub cleanups : o.1.lists.cleanups ≡ left
+  pub cleanups : o.1.cleanups ≡ left
   pub gone : ℕ
   pub acts : callers (o.1.first ∷ o.1.outer) ≡ drop gone (callers s.outer)
 
 -- the run ends, with the registers and the activations as before the gate, and with these cleanups in progress
-pub record IsOver (s : Recorded) (end : End) (left : List Cleanup) (o : Outcome) : Type 0 where
+pub record IsOver (s : Recorded) (end : End) (left : List InProgress) (o : Outcome) : Type 0 where
   pub ends : o.0 ≡ Ended end
   pub regs : o.1.regs ≡ s.regs
-  pub cleanups : o.1.lists.cleanups ≡ left
+  pub cleanups : o.1.cleanups ≡ left
   pub first : o.1.first ≡ s.first
   pub outer : o.1.outer ≡ s.outer
 
--- by what phase 2 enters: another cleanup of the same exception is the innermost now; a handler is given the control block
-abbrev pub IsResumed : Recorded → Cleanup → List Cleanup → Entered → Outcome → Type 0
+-- by what phase 2 enters: another cleanup of the same exception is the innermost now, in the first activation; a handler is given the control
+-- block
+abbrev pub IsResumed : Recorded → Cleanup → List InProgress → Entered → Outcome → Type 0
 IsResumed s c more (enters.Cleanup vrs pad next site) o =
-    IsAt s vrs.r pad 0 (record { slot = c.slot; next = next; sp = slice_index vrs.r SP; site = site } ∷ more) o
+    IsAt s vrs.r pad 0
+    (record { cleanup = record { slot = c.slot; next = next; sp = slice_index vrs.r SP; site = site }; place = length o.1.outer } ∷ more) o
 IsResumed s c more (enters.Catch vrs pad) o = IsAt s vrs.r pad (block c.slot) more o
 IsResumed s c more (enters.Spec vrs pad) o = IsAt s vrs.r pad (block c.slot) more o
 IsResumed s c more enters.Unexpected o = IsOver s (the_end.Terminate cause.Unexpected) more o
@@ -88,19 +90,19 @@ IsResumed s c more (enters.Terminate why) o = IsOver s (the_end.Terminate why) m
 -- a cleanup ends only in the activation that recorded its landing sp, called by its own activation. Then phase 2 goes on there, from its site
 -- and next descriptor, to the barrier of its exception
 pub record CleanupsEndSo (g : Guide) (next : ℕ) (s : Recorded) (o : Outcome) : Type 0 where
-  pub none : s.lists.cleanups ≡ [] → o ≡ (Ended (the_end.Trap kind.NoCleanup 0 s.regs.pc), s)
+  pub none : s.cleanups ≡ [] → o ≡ (Ended (the_end.Trap kind.NoCleanup 0 s.regs.pc), s)
   pub stuck :
-      (c : Cleanup) (more : List Cleanup) → s.lists.cleanups ≡ c ∷ more → can_unwind (covered_at g.image s.regs.pc) ≡ false
+      (p : InProgress) (more : List InProgress) → s.cleanups ≡ p ∷ more → can_unwind (covered_at g.image s.regs.pc) ≡ false
       → o ≡ (Ended (the_end.Trap kind.CleanupElsewhere 0 s.regs.pc), s)
   pub elsewhere :
-      (c : Cleanup) (more : List Cleanup) (outside : ℕ) (later : List ℕ) → s.lists.cleanups ≡ c ∷ more → s.places ≡ outside ∷ later
-      → can_unwind (covered_at g.image s.regs.pc) ≡ true → (IsCalledBy g s c.sp outside → ⊥)
+      (p : InProgress) (more : List InProgress) → s.cleanups ≡ p ∷ more → can_unwind (covered_at g.image s.regs.pc) ≡ true → (IsCalledBy g s p → ⊥)
       → o ≡ (Ended (the_end.Trap kind.CleanupElsewhere s.first.caller.sp s.regs.pc), s)
   pub resumes :
-      (c : Cleanup) (more : List Cleanup) (outside : ℕ) (later : List ℕ) (a : Activation) (outer : List Activation)
-      → s.lists.cleanups ≡ c ∷ more → s.places ≡ outside ∷ later → c.slot < SLOTS → IsCalledBy g s c.sp outside → s.outer ≡ a ∷ outer
-      → IsResumed s c more
-      (phase2 (goal_in (barrier_of (word (memory_of s)) (Some c.slot))) c.next (frames_at g.image None c.site (registers_of s.first.caller) a outer)) o
+      (p : InProgress) (more : List InProgress) (a : Activation) (outer : List Activation) → s.cleanups ≡ p ∷ more → p.cleanup.slot < SLOTS → IsCalledBy g s p
+      → s.outer ≡ a ∷ outer
+      → IsResumed s p.cleanup more
+      (phase2 (goal_in (barrier_of (word (memory_of s)) (Some p.cleanup.slot))) p.cleanup.next
+      (frames_at g.image None p.cleanup.site (registers_of s.first.caller) a outer)) o
 
 abbrev pub CleanupsEndInTheirOwn : Type 0
 CleanupsEndInTheirOwn = (g : Guide) (next : ℕ) (s : Recorded) → CleanupsEndSo g next s (gate_of g END_CLEANUP_GATE next s)

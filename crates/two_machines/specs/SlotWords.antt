@@ -18,7 +18,7 @@ use Rattle.eh_gates.specs.declared.gates.TheConstants.{THROW_GATE, RETHROW_GATE}
 use Rattle.eh_gates.specs.State.{Guide}
 use Rattle.eh_gates.specs.Throwing.{bytes_of}
 use Rattle.two_machines.specs.Program.{Program}
-use Rattle.two_machines.specs.Activations.{Recorded, slots_of, reg_in, memory_of}
+use Rattle.two_machines.specs.Activations.{Recorded, slots_of, reg_in, memory_of, lists_of}
 use Rattle.two_machines.specs.ActivationMachine.{Outcome, gate_of, searched, thrown_first, thrown_of_slot, recorded_event}
 
 -- the same state over other segments
@@ -74,7 +74,7 @@ pub record ReadsAlike (g : Guide) (s : Recorded) (segments : List Segment) (thro
 pub record ThrowsReadNoSlot (g : Guide) (next : ℕ) (s : Recorded) (segments : List Segment) : Type 0 where
   pub throw : ReadsAlike g s segments (thrown_first s) → SameBut (gate_of g THROW_GATE next (over segments s)) (gate_of g THROW_GATE next s)
   pub rethrow :
-      ((block : ℕ) → (rethrow_list s.lists).answer ≡ Ok block → ReadsAlike g s segments (thrown_of_slot s.lists (block_slot block)))
+      ((block : ℕ) → (rethrow_list (lists_of s)).answer ≡ Ok block → ReadsAlike g s segments (thrown_of_slot (lists_of s) (block_slot block)))
       → SameBut (gate_of g RETHROW_GATE next (over segments s)) (gate_of g RETHROW_GATE next s)
 
 abbrev pub ThrowsReadNoSlots : Type 0

@@ -13,7 +13,7 @@ use Rattle.eh_gates.specs.declared.gates.TheConstants.{THROW_GATE, RETHROW_GATE}
 use Rattle.eh_gates.specs.State.{Guide}
 use Rattle.eh_gates.specs.Gates.{gate_of}
 use Rattle.eh_gates.specs.Throwing.{frames_seen, barrier_words, throw_to}
-use Rattle.two_machines.specs.Activations.{Activation, Recorded, reg_in, memory_of, heads, bytes_of, first_place}
+use Rattle.two_machines.specs.Activations.{Activation, Recorded, reg_in, memory_of, heads, bytes_of, first_place, lists_of}
 use Rattle.two_machines.specs.ActivationMachine as machine
 use Rattle.two_machines.specs.Agreeing.{Agree}
 use Rattle.two_machines.specs.Corresponds.{Corresponds, GateMatches}
@@ -31,7 +31,7 @@ AdvancesAlike g s site =
 
 -- the frames of a state agree at a gate: those that phase 1 sees, and those that phase 2 goes over
 pub record SeesAlike (g : Guide) (s : Recorded) : Type 0 where
-  pub search : Agree (frames_seen g (bytes_of s)) (machine.frames_from g s (first_place s.places) s.regs.pc)
+  pub search : Agree (frames_seen g (bytes_of s)) (machine.frames_from g s (first_place s.cleanups) s.regs.pc)
   pub advance : AdvancesAlike g s s.regs.pc
 
 -- what phase 2 enters from a site, for a barrier that was found, stands in an activation, and leaves no slot of those that it cuts
@@ -58,7 +58,7 @@ ThrowsMatch =
 abbrev pub RethrowsMatch : Type 0
 RethrowsMatch =
     (g : Guide) (next : ℕ) (s : Recorded) → Corresponds s → SeesAlike g s
-    → ((slot : ℕ) (b : Barrier) → block_slot (heads s.lists).caught ≡ Some slot → machine.searched g s (machine.thrown_of_slot s.lists (Some slot)) ≡ found.Barrier b
+    → ((slot : ℕ) (b : Barrier) → block_slot (heads (lists_of s)).caught ≡ Some slot → machine.searched g s (machine.thrown_of_slot (lists_of s) (Some slot)) ≡ found.Barrier b
     → CanLand g s s.regs.pc slot b)
     → GateMatches (gate_of g RETHROW_GATE next (bytes_of s)) (machine.gate_of g RETHROW_GATE next s)
 
