@@ -76,7 +76,8 @@ fn check_functions(alloc: Global, index: &Index) -> Result<Spots, CheckFault>
     let mut spots = Spots::new(alloc);
     let mut cover = Cover::new(alloc, index);
     for f in index.image().functions() {
-        cover = cover.turned(alloc, f.start)?;
+        let turned = cover.turned(alloc, f.start)?;
+        cover = turned.around(alloc, f.start, f.end)?;
         match check_function(alloc, &mut spots, &cover, f) {
             Ok(()) => {}
             Err(fault) => return Err(fault),

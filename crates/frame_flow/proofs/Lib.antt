@@ -8,3 +8,4 @@ pub mod Rising
 pub mod Conditions
 pub mod Pads
 pub mod Standing
+pub mod Edges

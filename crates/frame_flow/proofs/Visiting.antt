@@ -1,5 +1,5 @@
 -- A place of the work list.
-use Rattle.std.proofs.Common.{ℕ, ◌≡◌, ◌<◌, ◌+◌, ◌*◌, ◌/◌, ◌-◌, ◌%◌, min, map, List, [], ◌∷◌, ◌++◌, length, Option, Some, None, Ok, Err, sym, ap, subst, refl, arith, set, replicate}
+use Rattle.std.proofs.Common.{ℕ, ◌≡◌, ◌<◌, ◌+◌, ◌*◌, ◌/◌, ◌-◌, ◌%◌, min, map, List, [], ◌∷◌, ◌++◌, length, Option, Some, None, Ok, Err, ap, subst, refl, arith, set, replicate}
 use Rattle.std.proofs.lemmas.List.{length-replicate}
 use Rattle.std.proofs.lemmas.List.Elements.{Contains-append_right}
 use Rattle.std.specs.Int.{div_ceil}
@@ -9,6 +9,7 @@ use Rattle.frame_facts.specs.declared.facts.Fact.{Fact}
 use Rattle.frame_facts.specs.Facts.{entered, height, IsAtMost}
 use Rattle.frame_scene.specs.declared.ways.Way.{Way}
 use Rattle.frame_scene.specs.Sites.{ways_of}
+use Rattle.frame_scene.specs.Stretch.{HaveSame}
 use Rattle.flow.specs.Flow.{fact_at}
 use Rattle.flow.proofs.Law.{none_stand}
 use Rattle.flow.proofs.Work.{take_up, unasked, over, contains_head}
@@ -21,6 +22,7 @@ use Rattle.frame_flow.specs.Flows.{behind, edge_of, edges_from, edges, flow_of, 
 use Rattle.frame_flow.specs.Work.{by_first, passed, IsSound, top_of, load, FaultStands, LacksFacts}
 use Rattle.frame_flow.proofs.Causing.{found_passes, head_met}
 use Rattle.frame_flow.proofs.Instance.{laws, falls, inside}
+use Rattle.frame_flow.proofs.Edges.{same_edges}
 
 -- what `passed` answers
 err_is : {X : Type 0} (l : List FrameCause) (o x : X) (c : FrameCause) → by_first l o ≡ Err c → (more : List FrameCause) × (l ≡ c ∷ more)
@@ -57,8 +59,8 @@ pub visit_ends : (x : Framed) (facts : List (Option Fact)) (work : List ℕ) (p 
 visit_ends x facts work p f s is h = visit_on x facts work p f None s is h
 
 pub visit_leads : (x : Framed) (facts : List (Option Fact)) (work : List ℕ) (p : ℕ) (f g : Fact) (ways : List Way)
-    → IsSound x facts (work ++ p ∷ []) [] → fact_at facts p ≡ Some f → passed x p f ≡ Ok (Some g) → ways ≡ ways_of x.scene p → IsSound x facts work (map (edge_of g) ways)
-visit_leads x facts work p f g ways s is h e = subst (λ l. IsSound x facts work (map (edge_of g) l)) (sym e) (visit_on x facts work p f (Some g) s is h)
+    → IsSound x facts (work ++ p ∷ []) [] → fact_at facts p ≡ Some f → passed x p f ≡ Ok (Some g) → HaveSame ways (ways_of x.scene p) → IsSound x facts work (map (edge_of g) ways)
+visit_leads x facts work p f g ways s is h same = same_edges x facts work g ways (ways_of x.scene p) same (visit_on x facts work p f (Some g) s is h)
 
 last_in : (work : List ℕ) (p : ℕ) → Contains (work ++ p ∷ []) p
 last_in work p = Contains-append_right work (p ∷ []) p (contains_head p [])

@@ -4,11 +4,12 @@ ghost use Rattle.frame_flow.specs.Framed.{framed_of};
 ghost use Rattle.frame_flow.specs.Causes.{is_call, unwound, throws_in_leaf, site_causes, found};
 ghost use Rattle.frame_flow.specs.Flows.{behind, parting};
 ghost use Rattle.frame_flow.specs.Work.{by_first, passed};
-ghost use Rattle.frame_scene.specs.Sites.{unwinding_at};
+ghost use Rattle.frame_scene.specs.Sites.{unwinding_at, pads_out};
+ghost use Rattle.frame_scene.specs.Stretch.{Tells, TellsOn};
 
 use crate::framed::Framed;
 use frame_facts::{Fact, FrameCause, after, agrees};
-use frame_scene::{Standing, Unwinding};
+use frame_scene::{Standing, Stretch, Unwinding};
 use thumb_core::regs::LR;
 use thumb_isa::instr::Instr;
 
@@ -37,29 +38,52 @@ impl<'f, 's, 'i, 'a> Framed<'f, 's, 'i, 'a> {
     }
 
     /// Whether a gate stands in the scope of a descriptor with nothing on the stack.
-    fn throws_in_leaf(&self, site: u32, call: bool, fact: &Fact) -> bool
+    fn throws_in_leaf(&self, stretch: &Stretch, site: u32, call: bool, fact: &Fact) -> bool
+        requires { Tells self.now.scene stretch.now site }
         ensures { result ≡ throws_in_leaf self.now.scene site call fact.now }
     {
-        !call && fact.depth == 0 && self.scene.is_scoped(site)
+        !call && fact.depth == 0 && stretch.is_scoped()
+    }
+
+    /// Whether a landing pad of a site isn't code of the function.
+    fn pads_out(&self, stretch: &Stretch, site: u32) -> bool
+        requires { Tells self.now.scene stretch.now site }
+        ensures { result ≡ pads_out self.now.scene site }
+    {
+        stretch.pads_out()
     }
 
     /// The lowest cause that a fact meets at a site.
-    fn agrees_at(&self, site: u32, call: bool, fact: &Fact) -> Result<(), FrameCause>
+    fn agrees_at(
+        &self,
+        stretch: &Stretch,
+        site: u32,
+        call: bool,
+        fact: &Fact,
+    ) -> Result<(), FrameCause>
+        requires { Tells self.now.scene stretch.now site }
         ensures { result ≡ by_first (site_causes (framed_of self.now) call fact.now site) tt }
     {
         self.unwound(site, call, fact)?;
-        if self.scene.pads_out(site) {
+        if self.pads_out(stretch, site) {
             return Err(FrameCause::PadDepth);
         }
-        if self.throws_in_leaf(site, call, fact) {
+        if self.throws_in_leaf(stretch, site, call, fact) {
             return Err(FrameCause::ThrowInLeafScope);
         }
         Ok(())
     }
 
-    /// The fact behind a place, none where nothing leads on; or the lowest cause that the fact before it meets there.
-    pub(crate) fn passed(&self, place: u32, fact: &Fact) -> Result<Option<Fact>, FrameCause>
-        requires { self.now.scene.start + 2 * place < 2 ^ 32 }
+    /// The fact behind a place, none where nothing leads on; or the lowest cause that the fact before it meets there. The stretch is
+    /// that of its site.
+    pub(crate) fn passed(
+        &self,
+        stretch: &Stretch,
+        place: u32,
+        fact: &Fact,
+    ) -> Result<Option<Fact>, FrameCause>
+        requires low { self.now.scene.start + 2 * place < 2 ^ 32 }
+        requires tells { TellsOn self.now.scene stretch.now place }
         ensures { result ≡ passed (framed_of self.now) place fact.now }
     {
         if self.scene.is_undecodable(place) {
@@ -84,7 +108,7 @@ impl<'f, 's, 'i, 'a> Framed<'f, 's, 'i, 'a> {
             Err(cause) => Err(cause),
             Ok(next) => match self.scene.site_at(place) {
                 None => Ok(Some(next)),
-                Some(site) => match self.agrees_at(site, is_call(&i), fact) {
+                Some(site) => match self.agrees_at(stretch, site, is_call(&i), fact) {
                     Err(cause) => Err(cause),
                     Ok(()) => Ok(Some(next)),
                 },

@@ -1,12 +1,13 @@
 //! A work list that finds the facts of a function. docs/acceptance.md, "The facts of a function".
 ghost use Rattle.std.specs.Prelude.{◌≡◌, ℕ, ◌+◌, ◌*◌, ◌<◌, ◌≤◌, ◌^◌, ◌++◌, ◌∷◌, [], List, Option, map, length, IfOk, IfErr, vec_len, slice_set, replicate};
+ghost use Rattle.frame_scene.specs.Stretch.{TellsOn};
 ghost use Rattle.frame_flow.specs.Framed.{framed_of};
 ghost use Rattle.frame_flow.specs.Flows.{edge_of, count_of, HasFacts, NoneStands};
 ghost use Rattle.frame_flow.specs.Work.{IsSound, FaultStands, LacksFacts, Keeps, Merged};
 
 use crate::framed::Framed;
 use frame_facts::{Fact, FrameCause, entry_fact, forget, is_same, join};
-use frame_scene::Way;
+use frame_scene::{Stretch, Way};
 use std::alloc::{AllocError, Global};
 
 /// Why a function has no valid facts, or why none were found.
@@ -84,24 +85,26 @@ fn spread(
     Ok(())
 }
 
-/// Visits a place that was taken from the end of the work list.
+/// Visits a place that was taken from the end of the work list, by the stretch of its site.
 fn visit(
     alloc: Global,
     x: &Framed,
     facts: &mut Vec<Option<Fact>>,
     work: &mut Vec<u32>,
+    stretch: &Stretch,
     place: u32,
 ) -> Result<(), FrameFault>
     requires short { x.now.scene.end < 2 ^ 32 }
     requires sound { IsSound (framed_of x.now) facts.old.items (work.old.items ++ place ∷ []) [] }
+    requires tells { TellsOn x.now.scene stretch.now place }
     ensures { Keeps (framed_of x.now) facts.old.items work.old.items facts.new.items work.new.items [] result }
 {
     match facts[place as usize] {
         None => Ok(()),
-        Some(fact) => match x.passed(place, &fact) {
+        Some(fact) => match x.passed(stretch, place, &fact) {
             Err(cause) => Err(FrameFault::Stands(place, cause)),
             Ok(None) => Ok(()),
-            Ok(Some(next)) => match x.scene.ways_of(alloc, place) {
+            Ok(Some(next)) => match x.scene.ways_on(alloc, stretch, place) {
                 Ok(ways) => spread(x, facts, work, &ways, &next),
                 Err(_) => Err(FrameFault::OutOfMemory),
             },
@@ -137,8 +140,13 @@ pub fn settle(alloc: Global, x: &Framed) -> Result<(), FrameFault>
     };
     let mut work = Vec::new(alloc);
     put(&mut facts, &mut work, 0, entry_fact())?;
+    let mut stretch = Stretch::new(alloc);
     while let Some(place) = work.pop() {
-        match visit(alloc, x, &mut facts, &mut work, place) {
+        stretch = match x.scene.stretch_on(alloc, stretch, place) {
+            Ok(next) => next,
+            Err(_) => return Err(FrameFault::OutOfMemory),
+        };
+        match visit(alloc, x, &mut facts, &mut work, &stretch, place) {
             Ok(()) => {}
             Err(fault) => return Err(fault),
         }

@@ -157,19 +157,16 @@ followed_grow s h g p more f = record {
   branch = λ q e. more.target q (f.branch q e);
 }
 
-pub followed : (s : Scene) (a b c : Held) (p : ℕ) (ways landings : List Way) (target : Option ℕ) → ways ≡ straight_ways s p → landings ≡ ways_from s (site_at s p) → target ≡ branched_to s p
-    → Grow a b → Grow b c → ((w : Way) → Contains ways w → IsPutIn a w.to) → ((w : Way) → Contains landings w → IsLandedIn b w.to) → ((q : ℕ) → target ≡ Some q → is_set c.target q ≡ true) → AreFollowed s c p
-followed s a b c p ways landings target is_ways is_landings is_target g h put landed aimed = record {
+pub followed : (s : Scene) (a b c : Held) (p : ℕ) (ways : List Way) (target : Option ℕ) → ways ≡ straight_ways s p → target ≡ branched_to s p
+    → Grow a b → Grow b c → ((w : Way) → Contains ways w → IsPutIn a w.to) → ((w : Way) → Contains (ways_from s (site_at s p)) w → IsLandedIn b w.to) → ((q : ℕ) → target ≡ Some q → is_set c.target q ≡ true) → AreFollowed s c p
+followed s a b c p ways target is_ways is_target g h put landed aimed = record {
   straight = λ w e. h.reached w.to (g.reached w.to (put w (subst (λ (ws : List Way). Contains ws w) (sym is_ways) e)));
-  landings = λ w e. let l = landed w (subst (λ (ws : List Way). Contains ws w) (sym is_landings) e) in (h.reached w.to l.0, h.target w.to l.1, h.pad w.to l.2);
+  landings = λ w e. let l = landed w e in (h.reached w.to l.0, h.target w.to l.1, h.pad w.to l.2);
   branch = λ q e. aimed q (is_target ∙ e);
 }
 
 pub straight_all : (s : Scene) (p : ℕ) (ways : List Way) → IsReached s p → ways ≡ straight_ways s p → (w : Way) → Contains ways w → IsReached s w.to
 straight_all s p ways r e w c = straight_reached s p w r (subst (λ (ws : List Way). Contains ws w) e c)
-
-pub landings_all : (s : Scene) (p : ℕ) (ways : List Way) → IsReached s p → ways ≡ ways_from s (site_at s p) → (w : Way) → Contains ways w → IsPad s w.to
-landings_all s p ways r e w c = (p, w, r, subst (λ (ws : List Way). Contains ws w) e c, refl)
 
 -- a place more is followed
 pub followed_more : (s : Scene) (h g : Held) (n p : ℕ) → Grow h g → n < length h.places → p ≡ slice_index h.places n → ((k : ℕ) → k < n → AreFollowed s h (slice_index h.places k)) → AreFollowed s g p

@@ -4,3 +4,4 @@ pub mod Found
 pub mod Runs
 pub mod Existing
 pub mod Others
+pub mod Landing

@@ -2,4 +2,5 @@ pub mod Marks
 pub mod Held
 pub mod Prologue
 pub mod Search
+pub mod Landed
 pub mod Laws

@@ -3,13 +3,15 @@ ghost use Rattle.std.specs.Prelude.{◌≡◌, ◌+◌, ◌*◌, ◌<◌, ◌^�
 ghost use Rattle.std.specs.List.{Contains};
 ghost use Rattle.frame_scene.specs.declared.ways.Way.{Way as AWay};
 ghost use Rattle.frame_scene.specs.Reach.{IsReached};
+ghost use Rattle.frame_scene.specs.Stretch.{IsStretch, TellsOn};
 ghost use Rattle.frame_reach.specs.Marks.{AreMarks, IsPad, IsTooLong};
 ghost use Rattle.frame_reach.specs.Held.{marks_of};
+ghost use Rattle.frame_reach.specs.Landed.{ArePadsOf};
 ghost use Rattle.frame_reach.specs.Search.{IsSound, Steps, AllTargets, Aims, IsPut, IsLanded, ArePut, AreLanded, IsVisited, Starts, Begins, Follows};
 
 use crate::marks::{MOST_REACHED, Reached, is_set};
 use crate::prologue::places;
-use frame_scene::{Scene, Way};
+use frame_scene::{Scene, Stretch, Way};
 use std::alloc::{AllocError, Global};
 
 /// Why it isn't told which places are reached.
@@ -109,17 +111,42 @@ fn aim(scene: &Scene, found: &mut Found, target: Option<u32>)
     found.targets[place as usize] = true;
 }
 
-/// Follows the ways of a place that is reached.
-fn visit(alloc: Global, scene: &Scene, found: &mut Found, place: u32) -> Result<(), ReachFault>
+/// Puts the landing pads on the list to which the site of a place leads, where there is one.
+fn land_on(
+    scene: &Scene,
+    found: &mut Found,
+    stretch: &Stretch,
+    place: u32,
+) -> Result<(), ReachFault>
     requires low { scene.now.start + 2 * place < 2 ^ 32 }
     requires sound { IsSound scene.now found.old }
     requires reached { IsReached scene.now place }
+    requires tells { TellsOn scene.now stretch.now place }
+    ensures { Steps scene.now found.old found.new (ArePadsOf scene.now found.new place) result }
+{
+    match scene.site_at(place) {
+        None => Ok(()),
+        Some(_) => land_all(scene, found, stretch.ways()),
+    }
+}
+
+/// Follows the ways of a place that is reached, by the stretch of its site.
+fn visit(
+    alloc: Global,
+    scene: &Scene,
+    found: &mut Found,
+    stretch: &Stretch,
+    place: u32,
+) -> Result<(), ReachFault>
+    requires low { scene.now.start + 2 * place < 2 ^ 32 }
+    requires sound { IsSound scene.now found.old }
+    requires reached { IsReached scene.now place }
+    requires tells { TellsOn scene.now stretch.now place }
     ensures { Steps scene.now found.old found.new (IsVisited scene.now found.new place) result }
 {
     let ways = scene.straight_ways(alloc, place)?;
     put_all(scene, found, &ways)?;
-    let landings = scene.landings(alloc, place)?;
-    land_all(scene, found, &landings)?;
+    land_on(scene, found, stretch, place)?;
     aim(scene, found, scene.branched_to(place));
     Ok(())
 }
@@ -155,9 +182,11 @@ fn follow(alloc: Global, scene: &Scene, found: &mut Found) -> Result<(), ReachFa
     let _start = scene.start();
     let _end = scene.end();
     let mut next = 0;
+    let mut stretch = Stretch::new(alloc);
     while next < found.places.len() {
         let place = found.places[next];
-        visit(alloc, scene, found, place)?;
+        stretch = scene.stretch_on(alloc, stretch, place)?;
+        visit(alloc, scene, found, &stretch, place)?;
         next += 1;
     }
     Ok(())

@@ -3,3 +3,5 @@ pub mod Items
 pub mod Kept
 pub mod Inside
 pub mod Landings
+pub mod Stretches
+pub mod Thinned

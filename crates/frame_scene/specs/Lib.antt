@@ -4,5 +4,6 @@ pub mod Ways
 pub mod Unwinding
 pub mod Sites
 pub mod Cover
+pub mod Stretch
 pub mod Laws
 pub mod Reach

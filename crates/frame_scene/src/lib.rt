@@ -7,11 +7,13 @@ pub mod laws;
 pub mod places;
 pub mod scene;
 pub mod sites;
+pub mod stretch;
 pub mod unwinding;
 pub mod ways;
 
 pub use cover::Cover;
 pub use places::Standing;
 pub use scene::Scene;
+pub use stretch::Stretch;
 pub use unwinding::Unwinding;
 pub use ways::Way;

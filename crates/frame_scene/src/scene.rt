@@ -3,6 +3,7 @@ ghost use Rattle.std.specs.Prelude.{◌≡◌};
 ghost use Rattle.frame_scene.specs.Scene.{Scene as Parts};
 
 use crate::cover::Cover;
+use crate::stretch::Span;
 use crate::unwinding::Unwinding;
 use eh_desc::{Desc, DescFault};
 use eh_index::{Entry, Index};
@@ -19,17 +20,20 @@ pub struct Scene<'s, 'i, 'a> {
     pub(crate) unwinding: Unwinding,
     pub(crate) items: &'s [Result<Desc, DescFault>],
     pub(crate) faulty: bool,
+    pub(crate) span: Option<Span>,
+    pub(crate) near: &'s [Result<Desc, DescFault>],
 }
 
 impl<'s, 'i, 'a> Model for Scene<'s, 'i, 'a> {
     ghost use Rattle.frame_scene.specs.Scene.{Scene as Parts};
     ghost use Rattle.frame_scene.specs.Cover.{IsKept};
+    ghost use Rattle.frame_scene.specs.Stretch.{AreAtHand};
 
     ghost Value = { Parts };
 
     ghost view = { λ s. record { image = s.index.now; start = s.start; end = s.end } };
 
-    ghost invariant = { λ s. IsKept s.index.now s.entry s.unwinding s.items.now s.faulty };
+    ghost invariant = { λ s. IsKept s.index.now s.entry s.unwinding s.items.now s.faulty × AreAtHand s.index.now s.entry s.span s.near.now };
 }
 
 impl<'s, 'i, 'a> Scene<'s, 'i, 'a> {
@@ -45,6 +49,8 @@ impl<'s, 'i, 'a> Scene<'s, 'i, 'a> {
             unwinding: Unwinding::Refused,
             items: &[],
             faulty: false,
+            span: None,
+            near: &[],
         }
     }
 
@@ -60,6 +66,8 @@ impl<'s, 'i, 'a> Scene<'s, 'i, 'a> {
             unwinding: cover.unwinding,
             items: &cover.items,
             faulty: cover.faulty,
+            span: cover.span,
+            near: &cover.near,
         }
     }
 

@@ -100,7 +100,7 @@ fn some_covered(site: u32, descs: Descs) -> bool
 }
 
 /// The same of a list of items.
-fn any_covered(site: u32, items: &[Result<Desc, DescFault>]) -> bool
+pub(crate) fn any_covered(site: u32, items: &[Result<Desc, DescFault>]) -> bool
     ensures { result ≡ list_any (is_one (covers site)) items.now }
 {
     items.iter().any(|item| is_covered(site, *item))
@@ -132,7 +132,7 @@ impl<'s, 'i, 'a> Scene<'s, 'i, 'a> {
 
     /// What the codes of an entry say.
     #[tactic(auto, using(crate::proofs::Kept::kept_unwinding))]
-    fn unwinding_by(&self, e: &Entry) -> Unwinding
+    pub(crate) fn unwinding_by(&self, e: &Entry) -> Unwinding
         ensures { result ≡ of_body e.now.body (table_of self.now.image e.now) }
     {
         if is_entry(self.entry, e) {
@@ -232,7 +232,7 @@ impl<'s, 'i, 'a> Scene<'s, 'i, 'a> {
     }
 
     /// The same of a list of items.
-    fn any_out(&self, site: u32, items: &[Result<Desc, DescFault>]) -> bool
+    pub(crate) fn any_out(&self, site: u32, items: &[Result<Desc, DescFault>]) -> bool
         ensures { result ≡ list_any (is_one (lands_out self.now site)) items.now }
     {
         items.iter().any(|item| self.item_lands_out(site, *item))
@@ -332,7 +332,7 @@ impl<'s, 'i, 'a> Scene<'s, 'i, 'a> {
     }
 
     /// The same of a list of items.
-    fn add_listed_pads(
+    pub(crate) fn add_listed_pads(
         &self,
         ways: &mut Vec<Way>,
         site: u32,

@@ -11,7 +11,7 @@ use std::alloc::{AllocError, Global};
 use thumb_isa::instr::Instr;
 
 /// Where a place leads to.
-#[derive(Clone, Copy, PartialEq, Eq, Debug)]
+#[derive(Clone, Copy, PartialEq, Eq, PartialOrd, Ord, Debug)]
 pub struct Way {
     /// The place, by how many halfwords it lies behind the entry.
     pub to: u32,

@@ -19,11 +19,11 @@ pub returns-in-Err-clause-refused : goal.returns-in-Err-clause-refused
 returns-in-Err-clause-refused c =
     rejected_item c.args.index.now c.functions-f-items.result.now c.loop-f.f-index c.f-item.result c.in-Err.fault
     (c.functions-f-items.ensures.functions ∙ ap (λ (i : Image). i.functions) c.image.ensures) c.loop-f-test.true c.f-item.is c.loop-f.invariant.well
-    (subst (λ (i : Image). RefusesOne i c.f-item.result c.in-Err.fault) (c.in_ok-cover.ensures ∙ c.loop-f.invariant.cover) c.in-Err.ensures.refused)
+    (subst (λ (i : Image). RefusesOne i c.f-item.result c.in-Err.fault) (c.in_ok-cover.ensures ∙ (c.in_ok-turned.ensures ∙ c.loop-f.invariant.cover)) c.in-Err.ensures.refused)
 
 pub loop-f-preserved : goal.loop-f-preserved
 loop-f-preserved c =
-    let covered = c.in_ok-cover.ensures ∙ c.loop-f.invariant.cover in
+    let covered = c.in_ok-cover.ensures ∙ (c.in_ok-turned.ensures ∙ c.loop-f.invariant.cover) in
     let t = taken_item c.args.index.now c.image.result.now c.functions-f-items.result.now c.loop-f.f-index c.f-item.result c.loop-f.spots c.check_function.new.spots marks_agree c.functions-f-items.ensures.sound c.image.ensures
     (c.functions-f-items.ensures.functions ∙ ap (λ (i : Image). i.functions) c.image.ensures) c.loop-f-test.true c.f-item.is c.loop-f.invariant.well c.loop-f.invariant.spots
     (subst (λ (i : Image). IsTaken i c.f-item.result c.loop-f.spots c.check_function.new.spots) covered c.in-Ok.ensures.taken) in

@@ -1,10 +1,11 @@
 use Rattle.std.proofs.Common.{[]}
+use Rattle.frame_scene.specs.Stretch.{IsStretch}
 use Rattle.frame_flow.specs.Framed.{framed_of}
 use Rattle.frame_flow.specs.Work.{IsSound, load}
 use Rattle.frame_flow.proofs.work.settle.Given as goal
 
 abbrev pub invariant-loop-place : goal.invariant-loop-place
-invariant-loop-place l = IsSound (framed_of l.x) l.facts.items l.work.items []
+invariant-loop-place l = record { sound : IsSound (framed_of l.x) l.facts.items l.work.items []; stretch : IsStretch l.x.scene l.stretch }
 
 abbrev pub decreases-loop-place : goal.decreases-loop-place
 decreases-loop-place l = load (framed_of l.x) l.facts.items l.work.items

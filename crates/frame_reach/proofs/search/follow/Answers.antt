@@ -4,6 +4,17 @@ use Rattle.frame_reach.specs.Search.{held}
 use Rattle.frame_reach.proofs.Found.{low, at_index, listed_reached, followed_more, all_marked, not_too_long}
 use Rattle.frame_reach.proofs.search.follow.Goals as goal
 
+pub stretch_on-requires-clause-place : goal.stretch_on-requires-clause-place
+stretch_on-requires-clause-place c =
+    let s = c.args.scene.now in
+    let h = held c.loop-next.found in
+    let l : c.loop-next.next < length h.places = omega (arith, c.len.ensures, c.loop-next-test.true) in
+    let is = at_index s h.places c.loop-next.next c.index-place.result.now l c.index-place.ensures in
+    let r : IsReached s c.index-place.result.now = subst (λ (x : ℕ). IsReached s x) (sym is) (listed_reached s h c.loop-next.next c.loop-next.invariant.sound l) in
+    let start : s.start < 2 ^ 32 = omega (arith, c.start-start.type_inv, c.start-start.ensures) in
+    let end : s.end < 2 ^ 32 = omega (arith, c.end-end.type_inv, c.end-end.ensures) in
+    low s c.index-place.result.now r start end
+
 pub visit-requires-clause-low : goal.visit-requires-clause-low
 visit-requires-clause-low c =
     let s = c.args.scene.now in
@@ -26,6 +37,7 @@ loop-next-preserved c =
     record {
       sound = now.0;
       entry = now.1.reached 0 i.entry;
+      stretch = c.in_ok-stretch.ensures.stretch;
       within = omega (arith, l, now.1.longer);
       visited = followed_more s h (held c.visit.new.found) c.loop-next.next c.index-place.result.now now.1 l is i.visited now.2;
     }

@@ -1,5 +1,6 @@
 use Rattle.std.proofs.Common.{ℕ, ◌<◌, ◌≤◌, ◌-◌, length}
 use Rattle.std.specs.Prelude.{slice_index}
+use Rattle.frame_scene.specs.Stretch.{IsStretch}
 use Rattle.frame_reach.specs.declared.marks.TheConstants.{MOST_REACHED}
 use Rattle.frame_reach.specs.Search.{IsSound, IsPut, IsVisited}
 use Rattle.frame_reach.proofs.search.follow.Given as goal
@@ -8,6 +9,7 @@ abbrev pub invariant-loop-next : goal.invariant-loop-next
 invariant-loop-next l = record {
   sound : IsSound l.scene l.found;
   entry : IsPut l.found 0;
+  stretch : IsStretch l.scene l.stretch;
   within : l.next ≤ length l.found.places.items;
   visited : (k : ℕ) → k < l.next → IsVisited l.scene l.found (slice_index l.found.places.items k);
 }

@@ -1,24 +1,21 @@
 use Rattle.std.proofs.Common.{◌∙◌}
 use Rattle.frame_reach.specs.Search.{held}
 use Rattle.frame_reach.proofs.Marking.{then}
-use Rattle.frame_reach.proofs.Found.{followed, straight_all, landings_all}
+use Rattle.frame_reach.proofs.Found.{followed, straight_all}
 use Rattle.frame_reach.proofs.search.visit.Goals as goal
 
 pub put_all-requires-clause-reached : goal.put_all-requires-clause-reached
 put_all-requires-clause-reached c = straight_all c.args.scene.now c.args.place c.deref.result.now c.requires.reached (c.deref.ensures.value ∙ c.in_ok-ways.ensures)
 
-pub land_all-requires-clause-pads : goal.land_all-requires-clause-pads
-land_all-requires-clause-pads c = landings_all c.args.scene.now c.args.place c.deref-2.result.now c.requires.reached (c.deref-2.ensures.value ∙ c.in_ok-landings.ensures)
-
 pub returns : goal.returns
 returns c =
     let a = held c.put_all.new.found in
-    let b = held c.land_all.new.found in
+    let b = held c.land_on.new.found in
     let d = held c.aim.new.found in
     let put = c.in_ok-put_all.ensures in
-    let landed = c.in_ok-land_all.ensures in (
+    let landed = c.in_ok-land_on.ensures in (
       c.aim.ensures.sound,
       then (held c.args.found.now) a d put.1 (then a b d landed.1 c.aim.ensures.grows),
-      followed c.args.scene.now a b d c.args.place c.deref.result.now c.deref-2.result.now c.branched_to.result
-          (c.deref.ensures.value ∙ c.in_ok-ways.ensures) (c.deref-2.ensures.value ∙ c.in_ok-landings.ensures) c.branched_to.ensures landed.1 c.aim.ensures.grows put.2 landed.2 c.aim.ensures.aimed,
+      followed c.args.scene.now a b d c.args.place c.deref.result.now c.branched_to.result
+          (c.deref.ensures.value ∙ c.in_ok-ways.ensures) c.branched_to.ensures landed.1 c.aim.ensures.grows put.2 landed.2 c.aim.ensures.aimed,
     )

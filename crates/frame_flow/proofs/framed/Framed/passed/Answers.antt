@@ -1,6 +1,7 @@
 use Rattle.std.proofs.Common.{false, Err, Ok, Some, None, sym, ◌∙◌, ap}
 use Rattle.frame_facts.specs.declared.cause.FrameCause.TheVariants.{Undecodable, BranchOut, CallNotFunction}
 use Rattle.frame_scene.specs.Ways.{instruction_of}
+use Rattle.frame_scene.specs.Sites.{site_at}
 use Rattle.frame_facts.specs.After.{after_of}
 use Rattle.frame_flow.specs.Framed.{Parts, framed_of}
 use Rattle.frame_flow.proofs.Passing.{IsFine, at_undecodable, at_branch, at_call, at_nothing, at_effect, at_site, at_fine_site, at_no_site, no_instruction, seen, agreed_seen}
@@ -48,6 +49,9 @@ returns-in-None c =
     let after = ap (λ a. after_of x.prologue false a c.in-Instruction.i c.args.fact.now) (sym c.address_of.ensures) ∙ sym c.after.ensures in
     seen x c.args.self.now c.args.place c.args.fact.now (Ok (Some c.in-Ok.next)) c.self.view_is
     (at_no_site (framed_of x) c.args.place c.args.fact.now c.in-Instruction.i c.in-Ok.next fine instruction (after ∙ c.in-Ok.is) (sym c.site_at.ensures ∙ c.in-None.is))
+
+pub agrees_at-requires : goal.agrees_at-requires
+agrees_at-requires c = c.requires.tells c.in-Some.site (ap (λ (a : Parts). site_at a.scene c.args.place) (sym c.self.view_is) ∙ (sym c.site_at.ensures ∙ c.in-Some.is))
 
 pub returns-in-Err-agrees_at : goal.returns-in-Err-agrees_at
 returns-in-Err-agrees_at c =
