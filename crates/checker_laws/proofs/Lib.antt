@@ -2,3 +2,5 @@ mod Covered
 mod Pads
 mod Ways
 mod Calls
+mod Scopes
+mod Common

@@ -1,2 +1,3 @@
 pub mod SiteLaws
 pub mod WayLaws
+pub mod MeetingLaws

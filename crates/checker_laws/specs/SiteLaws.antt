@@ -1,6 +1,6 @@
 -- What the checker and phase 2 say of one site is one: its scope, the entry that covers it, and the landing pads (IHI 0038; docs/scenes.md, "Sites";
 -- docs/phases.md).
-use Rattle.std.specs.Prelude.{◌≡◌, ℕ, true, false, Bool, Option, Some, None, Ok}
+use Rattle.std.specs.Prelude.{◌≡◌, ◌↔◌, ℕ, ◌+◌, ◌<◌, ◌≤◌, true, false, Bool, Option, Some, None, Ok}
 use Rattle.unwind_codes.specs.Cut.{cut}
 use Rattle.eh_bytecode.specs.declared.recipe.Recipe.{Recipe}
 use Rattle.eh_bytecode.specs.Recipe.{recipe}
@@ -17,9 +17,17 @@ use Rattle.frame_scene.specs.Scene.{Scene}
 use Rattle.frame_scene.specs.Sites.{covers, cleans, pad_for, items_at, unwinding_at}
 use Rattle.frame_scene.specs.Unwinding.{pop_once}
 
--- a descriptor has the same sites in its scope
-abbrev pub ScopesAreOne : Type 0
-ScopesAreOne = (site : ℕ) (d : Desc) → covers site d ≡ in_scope site d
+-- A scope is the sites from its start to below its end, so many bytes above the start. One whose end passes the last address has none.
+pub record IsInScope (site : ℕ) (d : Desc) : Type 0 where
+  pub from : d.start ≤ site
+  pub below : site < d.start + d.size
+  pub low : d.start + d.size < 4294967296
+
+-- a descriptor has the same sites in its scope, and these are they
+pub record ScopesAreOne : Type 0 where
+  pub same : (site : ℕ) (d : Desc) → covers site d ≡ in_scope site d
+  pub checker : (site : ℕ) (d : Desc) → d.start < 4294967296 → d.size < 4294967296 → (covers site d ≡ true) ↔ IsInScope site d
+  pub phases : (site : ℕ) (d : Desc) → d.start < 4294967296 → d.size < 4294967296 → (in_scope site d ≡ true) ↔ IsInScope site d
 
 -- ---- the covering entry
 

@@ -3,9 +3,10 @@
 #![tactic(auto)]
 
 ghost use Rattle.checker_laws.specs.SiteLaws.{ScopesAreOne, EntriesAreOne, PadsAreOne};
+ghost use Rattle.checker_laws.specs.MeetingLaws.{MeetingsAreCommon};
 ghost use Rattle.checker_laws.specs.WayLaws.{InstructionsGoTheirWays, WhatIsAheadIsAWay, CallsStandAtTheirSites};
 
-/// A descriptor has the same sites in its scope for the checker and for the phases.
+/// A descriptor has the same sites in its scope for the checker and for the phases: those from its start to below its end.
 pub fn scopes_are_one()
     ensures { ScopesAreOne }
 {}
@@ -33,4 +34,10 @@ pub fn what_is_ahead_is_a_way()
 /// A frame that has called stands at the site that the checker looked at.
 pub fn calls_stand_at_their_sites()
     ensures { CallsStandAtTheirSites }
+{}
+
+/// What two facts of one place have in common is what both say, of sp, of each save and of each register; they have something in common
+/// exactly where their depths are equal.
+pub fn meetings_are_common()
+    ensures { MeetingsAreCommon }
 {}

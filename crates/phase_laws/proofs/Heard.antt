@@ -45,13 +45,13 @@ outside site d h = go h.apart
 
 -- ---- phase 1
 
-silent : (m : Meeting) (f : Frame) (i : Result Desc DescFault) (more : List (Result Desc DescFault)) (outer : List Frame) (last : Cause) → heard m f.site i ≡ None
+pub silent : (m : Meeting) (f : Frame) (i : Result Desc DescFault) (more : List (Result Desc DescFault)) (outer : List Frame) (last : Cause) → heard m f.site i ≡ None
     → phase1 m (frames f (i ∷ more) outer last) ≡ phase1 m (frames f more outer last)
 unfolding phase1 first_some verdict_of
 silent m f i more outer last e =
     ap (λ o. unwrap_or (or_next (option_map (found_by f) o) (first_some (found_in m) outer)) (found.Terminate last)) (first_past (heard m f.site) i more e)
 
-spoken : (m : Meeting) (f : Frame) (i : Result Desc DescFault) (v : Verdict) (more : List (Result Desc DescFault)) (outer : List Frame) (last : Cause) → heard m f.site i ≡ Some v
+pub spoken : (m : Meeting) (f : Frame) (i : Result Desc DescFault) (v : Verdict) (more : List (Result Desc DescFault)) (outer : List Frame) (last : Cause) → heard m f.site i ≡ Some v
     → phase1 m (frames f (i ∷ more) outer last) ≡ found_by f v
 unfolding phase1 first_some verdict_of
 spoken m f i v more outer last e =
@@ -84,7 +84,7 @@ outside_is_passed f d more outer last h = record {
   advance = λ g. passed g f (Ok d) more outer last (ap (λ b. cond b (entered_by g f d d.kind) None) (outside f.site d h));
 }
 
-in_says : (m : Meeting) (f : Frame) (d : Desc) → IsInside f.site d → heard m f.site (Ok d) ≡ says_by m d.at d.kind
+pub in_says : (m : Meeting) (f : Frame) (d : Desc) → IsInside f.site d → heard m f.site (Ok d) ≡ says_by m d.at d.kind
 in_says m f d h = ap (λ b. cond b (says_by m d.at d.kind) None) (inside f.site d h)
 
 pub cleanups_are_entered : CleanupsAreEntered

@@ -1,5 +1,5 @@
 -- What the words of a type say.
-use Rattle.std.proofs.Common.{◌≡◌, ℕ, ◌+◌, ◌%◌, ◌^◌, ◌<◌, Bool, true, false, cond, List, length, map, get_or, Option, Some, None, refl, ap, sym, subst, ◌∙◌, arith, eq-eqb, ne_eqb}
+use Rattle.std.proofs.Common.{◌≡◌, ℕ, ◌+◌, ◌%◌, ◌^◌, Bool, true, false, cond, List, length, map, get_or, Option, Some, None, refl, ap, sym, subst, ◌∙◌, arith, eq-eqb, ne_eqb}
 use Rattle.std.specs.Prelude.{◌||◌, nat_lt, Result, Ok, Err, option_map}
 use Rattle.std.specs.List.{range_with_len}
 use Rattle.std.proofs.lemmas.List.FromFn.{get_or-map-range_with_len, length-map-range_with_len}
@@ -14,8 +14,7 @@ use Rattle.eh_types.specs.Graph.{Row}
 use Rattle.eh_types.specs.Words.{word, words_from, name_at}
 use Rattle.eh_types.specs.Vtables.{vtables_of, vtable_at, is_at, kind_by}
 use Rattle.eh_types.specs.Types.{type_at, kind_at, judged, row_named, bases_at, base_in, base_by, word_count}
-use Rattle.eh_types.proofs.Written.{words_are_fixed}
-use Rattle.phase_laws.specs.Types.{PointsInto, fundamental, class, single, many, pointer, KindsAreTold, VtablesTellKinds, KindsAreRead, words_of, WordsAreThere, SingleBases, IsBase, ManyBases, OthersHaveNoBases}
+use Rattle.phase_laws.specs.Types.{PointsInto, fundamental, class, single, many, pointer, KindsAreTold, VtablesTellKinds, KindsAreRead, words_of, SingleBases, IsBase, ManyBases, OthersHaveNoBases}
 
 -- ---- kinds
 
@@ -101,13 +100,10 @@ many_bases image a r h e =
 
 -- ---- words
 
-count_is : (image : Image) (a : ℕ) (kind : TypeKind) → words_of image a kind ≡ word_count image.segments a kind
+pub count_is : (image : Image) (a : ℕ) (kind : TypeKind) → words_of image a kind ≡ word_count image.segments a kind
 count_is image a Other = refl
 count_is image a Fundamental = refl
 count_is image a Class = refl
 count_is image a (Si base) = refl
 count_is image a Vmi = refl
 count_is image a (Pointer flags pointee) = refl
-
-pub words_are_there : WordsAreThere
-words_are_there image a k r h inside = words_are_fixed image a k r h (subst (λ n. k < n) (count_is image a r.kind) inside)

@@ -1,13 +1,15 @@
 -- What the words of a type say, and which types are equal (Itanium C++ ABI, "Run-Time Type Information (RTTI)"; docs/types.md): laws in digits
 -- above the graph of types.
-use Rattle.std.specs.Prelude.{◌≡◌, ◌≢◌, ◌↔◌, ◌⊎◌, ℕ, ◌+◌, ◌*◌, ◌/◌, ◌%◌, ◌<◌, ◌==◌, true, false, pos, List, [], ◌∷◌, length, slice_index_or, Some, Ok, codes}
+use Rattle.std.specs.Prelude.{◌≡◌, ◌≢◌, ◌↔◌, ◌⊎◌, ℕ, ◌+◌, ◌*◌, ◌/◌, ◌%◌, ◌<◌, ◌≤◌, ◌==◌, true, false, pos, List, [], ◌∷◌, ◌++◌, length, All, Any, slice_index_or, Some, Ok, codes}
+use Rattle.elf_image.specs.Segments.{Segment}
 use Rattle.elf_image.specs.Image.{Image, symbol_in}
 use Rattle.eh_types.specs.declared.kind.Base.{Base}
 use Rattle.eh_types.specs.declared.kind.TypeKind.{TypeKind}
 use Rattle.eh_types.specs.declared.kind.TypeKind.TheVariants.{Other, Fundamental, Class, Si, Vmi, Pointer}
 use Rattle.eh_types.specs.Graph.{Row, name_of, same_type}
-use Rattle.eh_types.specs.Words.{word, is_word, is_written}
+use Rattle.eh_types.specs.Words.{word}
 use Rattle.eh_types.specs.Types.{type_at, kind_at}
+use Rattle.eh_types.specs.Laws.{IsNamed}
 
 -- ---- equal types
 
@@ -76,11 +78,51 @@ words_of image a (Si base) = 3
 words_of image a Vmi = 4 + 2 * word image.segments (a + 12)
 words_of image a (Pointer flags pointee) = 4
 
--- of a type that is read these are there, and none of them may be written
+-- the four bytes of a word stand in a segment's bytes of the file, from an address to below the address and 4
+pub record HasWord (a : ℕ) (s : Segment) : Type 0 where
+  pub from : s.start ≤ a
+  pub to : a + 4 ≤ s.start + length s.bytes
+
+-- some segment has the word, and none that may be written has it
+pub record IsFixed (segments : List Segment) (a : ℕ) : Type 0 where
+  pub there : Any (HasWord a) segments
+  pub fixed : All (λ s. HasWord a s → s.write ≡ false) segments
+
+-- the words of a type that is read, from its own address on, are there, and none of them may be written
 abbrev pub WordsAreThere : Type 0
-WordsAreThere =
-    (image : Image) (a k : ℕ) (r : Row) → type_at image a ≡ Ok r → k < words_of image a r.kind
-    → (is_word image.segments (a + 4 * k) ≡ true) × (is_written image.segments (a + 4 * k) ≡ false)
+WordsAreThere = (image : Image) (a k : ℕ) (r : Row) → type_at image a ≡ Ok r → k < words_of image a r.kind → IsFixed image.segments (a + 4 * k)
+
+-- no other word is asked for: where these are there and none of them may be written, and the word from byte 4 on leads to a name, the type is
+-- read, with that name
+pub record IsReadAs (image : Image) (a : ℕ) (name : List ℕ) : Type 0 where
+  pub row : Row
+  pub read : type_at image a ≡ Ok row
+  pub named : row.name ≡ name
+
+abbrev pub NoOthersAreAsked : Type 0
+NoOthersAreAsked =
+    (image : Image) (a : ℕ) (name : List ℕ) → ((k : ℕ) → k < words_of image a (kind_at image a) → IsFixed image.segments (a + 4 * k))
+    → IsNamed image.segments (word image.segments (a + 4)) name → IsReadAs image a name
+
+-- a word is the number of its four bytes in the first segment that has them, the lowest byte first
+pub record StandsIn (segments : List Segment) (a : ℕ) (b0 b1 b2 b3 : ℕ) : Type 0 where
+  pub before : List Segment
+  pub segment : Segment
+  pub behind : List Segment
+  pub is : segments ≡ before ++ segment ∷ behind
+  pub first : All (λ s. ¬ (HasWord a s)) before
+  pub low : List ℕ
+  pub rest : List ℕ
+  pub bytes : segment.bytes ≡ low ++ (b0 ∷ b1 ∷ b2 ∷ b3 ∷ rest)
+  pub at : a ≡ segment.start + length low
+
+abbrev pub WordsAreFourBytes : Type 0
+WordsAreFourBytes =
+    (segments : List Segment) (a b0 b1 b2 b3 : ℕ) → StandsIn segments a b0 b1 b2 b3 → word segments a ≡ b0 + 256 * b1 + 65536 * b2 + 16777216 * b3
+
+-- where no segment has it, it counts as 0
+abbrev pub OtherWordsAreZero : Type 0
+OtherWordsAreZero = (segments : List Segment) (a : ℕ) → All (λ s. ¬ (HasWord a s)) segments → word segments a ≡ 0
 
 -- ---- bases
 

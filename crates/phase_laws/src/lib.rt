@@ -5,4 +5,5 @@
 pub mod catches;
 pub mod frame_ends;
 pub mod pointers;
+pub mod thrown;
 pub mod types;

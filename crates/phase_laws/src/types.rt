@@ -1,5 +1,5 @@
 //! What the words of a type say, and which types are equal (Itanium C++ ABI, "Run-Time Type Information (RTTI)"; docs/types.md).
-ghost use Rattle.phase_laws.specs.Types.{TypesAreEqual, VtablesTellKinds, KindsAreRead, WordsAreThere, SingleBases, ManyBases, OthersHaveNoBases};
+ghost use Rattle.phase_laws.specs.Types.{TypesAreEqual, VtablesTellKinds, KindsAreRead, WordsAreThere, NoOthersAreAsked, WordsAreFourBytes, OtherWordsAreZero, SingleBases, ManyBases, OthersHaveNoBases};
 
 /// Two types are equal exactly where they stand at one address or have one name, which isn't empty and doesn't begin with `*`.
 pub fn types_are_equal()
@@ -13,10 +13,14 @@ pub fn kinds_are_told()
     ensures read { KindsAreRead }
 {}
 
-/// A type that is read has the words of its kind: two, three with a single base, four of a pointer, four and two for each base with many;
-/// and none of them may be written.
+/// A type is read where the words of its kind are there and none of them may be written: two, three with a single base, four of a pointer,
+/// four and two for each base with many. All of these are asked for, and no other. A word is the number of the four bytes from its address
+/// on, and 0 where no segment's bytes of the file have them.
 pub fn words_are_there()
-    ensures { WordsAreThere }
+    ensures there { WordsAreThere }
+    ensures no_others { NoOthersAreAsked }
+    ensures bytes { WordsAreFourBytes }
+    ensures none { OtherWordsAreZero }
 {}
 
 /// A single base is public, not virtual and at the start. Many bases are counted in the word from byte 12 on and stand from byte 16 on;
