@@ -1,0 +1,110 @@
+//! Every first part of a file, and every byte of it changed, through `check`.
+use crate::command::{Came, checked};
+use crate::rules::{Rule, rules_of, said};
+use std::alloc::{AllocError, Global};
+use std::fs;
+use std::io::Error;
+
+/// What a byte is changed to.
+const VALUES: [u8; 6] = [0, 1, 127, 128, 254, 255];
+
+/// The statuses of an image that is accepted, and of one that is refused.
+const ACCEPTED: u8 = 0;
+
+const REFUSED: u8 = 3;
+
+/// What is asked, and how much of it is right.
+#[derive(Drop)]
+struct Score<'a> {
+    rules: Vec<Rule<'a>>,
+    asked: u32,
+    right: u32,
+}
+
+impl<'a> Score<'a> {
+    fn new(alloc: Global, text: &'a str) -> Result<Score<'a>, AllocError> {
+        Ok(Score {
+            rules: rules_of(alloc, text)?,
+            asked: 0,
+            right: 0,
+        })
+    }
+
+    /// Asks what comes of bytes. What differs from what is said of this place and value is written.
+    fn ask(
+        &mut self,
+        host: &HostRuntime,
+        place: usize,
+        value: u8,
+        bytes: &[u8],
+    ) -> Result<(), Error> {
+        let came = checked(host.alloc(), bytes)?;
+        let want = said(self.rules.as_slice(), place, value).unwrap_or("no row");
+        self.asked = self.asked.saturating_add(1);
+        if is_answer(&came, want) {
+            self.right = self.right.saturating_add(1);
+            return Ok(());
+        }
+        let Came { written, status } = came;
+        let got = String::from_utf8_lossy(host.alloc(), written.as_slice())?;
+        println!(host; "{place} {value} : {want}, but it is, with status {status}: {got}")
+    }
+}
+
+/// Whether what came is this line, with its status.
+fn is_line(came: &Came, line: &str) -> bool {
+    let status = if line.starts_with("accepted ") {
+        ACCEPTED
+    } else {
+        REFUSED
+    };
+    came.status == status && came.written.strip_suffix(b"\n") == Some(line.as_bytes())
+}
+
+/// Whether what came is an answer: a line, or one of lines with ` | ` between them.
+fn is_answer(came: &Came, answer: &str) -> bool {
+    answer.split(" | ").any(|line| is_line(came, line))
+}
+
+/// Checks each first part of a file, from none of it to all, and writes how many answers are right.
+pub fn run_parts(host: &HostRuntime, name: &str, file: &[u8]) -> Result<(), Error> {
+    let text = fs::read_to_string(host, name)?;
+    let mut score = Score::new(host.alloc(), text.as_str())?;
+    for count in 0..=file.len() {
+        if let Some((part, _rest)) = file.split_at_checked(count) {
+            score.ask(host, count, 0, part)?;
+        }
+    }
+    let Score { asked, right, .. } = score;
+    println!(host; "{name}: {right} of {asked}")
+}
+
+/// Checks a file with a byte changed.
+fn ask_changed(
+    host: &HostRuntime,
+    score: &mut Score,
+    file: &[u8],
+    place: usize,
+    value: u8,
+) -> Result<(), Error> {
+    let mut bytes = file.to_vec(host.alloc())?;
+    if let Some(byte) = bytes.get_mut(place) {
+        *byte = value;
+    }
+    score.ask(host, place, value, bytes.as_slice())
+}
+
+/// Checks a file with each byte changed to each of the values that it hasn't, and writes how many answers are right.
+pub fn run_changes(host: &HostRuntime, name: &str, file: &[u8]) -> Result<(), Error> {
+    let text = fs::read_to_string(host, name)?;
+    let mut score = Score::new(host.alloc(), text.as_str())?;
+    for (place, old) in file.iter().enumerate() {
+        for value in VALUES {
+            if value != *old {
+                ask_changed(host, &mut score, file, place, value)?;
+            }
+        }
+    }
+    let Score { asked, right, .. } = score;
+    println!(host; "{name}: {right} of {asked}")
+}

@@ -1,0 +1,182 @@
+//! How many calls of files, input and output a command makes, each of which fails in its turn.
+use crate::command::file;
+use case_rows::{Asked, Unanswered};
+use eh_port::{Bytes, CallNumbers, FileList, MemFiles, MemSink, MemSource};
+use ehabi_top::ehabi_main;
+use std::alloc::{AllocError, Global};
+use std::fs;
+
+/// The files that commands find, besides the image.
+const FILES: [&str; 4] = ["c.bin", "echo.bin", "a.s", "b.s"];
+
+/// The name of the image.
+const IMAGE: &str = "reading.elf";
+
+/// More calls than any command of a row makes of one port.
+const MANY: u64 = 64;
+
+const READ_FAILED: u8 = 7;
+
+const WRITE_FAILED: u8 = 8;
+
+/// Commands over the files of the folder where the program runs, and an image.
+#[derive(Drop)]
+pub struct Calls<'a> {
+    pub host: &'a HostRuntime,
+    pub image: &'a [u8],
+}
+
+/// The words of a command, and its input.
+#[derive(Drop)]
+struct Command<'a> {
+    words: Vec<&'a str>,
+    input: &'a str,
+}
+
+#[derive(Clone, Copy, PartialEq, Eq, Debug)]
+enum Port {
+    Files,
+    Input,
+    Output,
+}
+
+/// A port's call that fails, by its number.
+#[derive(Clone, Copy)]
+struct Fault {
+    port: Port,
+    number: u64,
+}
+
+/// What came of a command.
+#[derive(Drop)]
+struct Outcome {
+    written: Bytes,
+    status: u8,
+    /// How many calls failed.
+    faults: u64,
+}
+
+/// The numbers of a port's calls that fail.
+fn failing(alloc: Global, fault: Option<Fault>, port: Port) -> Result<CallNumbers, AllocError> {
+    let mut numbers = CallNumbers::new(alloc);
+    if let Some(fault) = fault {
+        if fault.port == port {
+            numbers.push(fault.number)?;
+        }
+    }
+    Ok(numbers)
+}
+
+/// The status of a command where a call of a port fails.
+fn status_of(port: Port) -> u8 {
+    match port {
+        Port::Files | Port::Input => READ_FAILED,
+        Port::Output => WRITE_FAILED,
+    }
+}
+
+impl Outcome {
+    /// Why this can't be what comes of a command of which a call of a port failed, where `whole` comes of it else.
+    fn wrong(&self, port: Port, whole: &Outcome) -> Option<&'static str> {
+        let part = self.written.as_slice();
+        let all = whole.written.as_slice();
+        if self.faults != 1 {
+            Some("a call behind the one that failed")
+        } else if self.status != status_of(port) {
+            Some("another status")
+        } else if part.len() >= all.len() || !all.starts_with(part) {
+            Some("no first part of what is written else")
+        } else if port == Port::Files && !part.is_empty() {
+            Some("something written in front of a file's fault")
+        } else {
+            None
+        }
+    }
+
+    fn is_same(&self, whole: &Outcome) -> bool {
+        self.status == whole.status && self.written.as_slice() == whole.written.as_slice()
+    }
+}
+
+impl Calls<'_> {
+    fn files(&self, alloc: Global) -> Result<FileList, Unanswered> {
+        let mut files = Vec::new(alloc);
+        for name in FILES {
+            let bytes = fs::read(self.host, name)?;
+            files.push(file(alloc, name, bytes.as_slice())?)?;
+        }
+        files.push(file(alloc, IMAGE, self.image)?)?;
+        Ok(FileList::of_vec(files))
+    }
+
+    /// What comes of a command of which a call fails.
+    fn perform(
+        &self,
+        alloc: Global,
+        command: &Command,
+        fault: Option<Fault>,
+    ) -> Result<Outcome, Unanswered> {
+        let mut files = MemFiles {
+            files: self.files(alloc)?,
+            next: 1,
+            failing: failing(alloc, fault, Port::Files)?,
+            faults: 0,
+        };
+        let mut input = MemSource {
+            left: Bytes::of_vec(command.input.as_bytes().to_vec(alloc)?),
+            next: 1,
+            failing: failing(alloc, fault, Port::Input)?,
+            faults: 0,
+        };
+        let mut out = MemSink {
+            written: Bytes::of_vec(Vec::new(alloc)),
+            next: 1,
+            failing: failing(alloc, fault, Port::Output)?,
+            faults: 0,
+        };
+        let words = command.words.as_slice();
+        let status = ehabi_main(alloc, words, &mut files, &mut input, &mut out);
+        let read_faults = files.faults.saturating_add(input.faults);
+        Ok(Outcome {
+            written: out.written,
+            status,
+            faults: read_faults.saturating_add(out.faults),
+        })
+    }
+
+    /// How many calls of a port a command makes: the first one that it doesn't make is the first that doesn't fail.
+    fn count(
+        &self,
+        alloc: Global,
+        command: &Command,
+        port: Port,
+        whole: &Outcome,
+    ) -> Result<u64, Unanswered> {
+        let mut made = 0;
+        for number in 1..MANY {
+            let outcome = self.perform(alloc, command, Some(Fault { port, number }))?;
+            if outcome.faults == 0 && outcome.is_same(whole) {
+                return Ok(made);
+            }
+            if let Some(why) = outcome.wrong(port, whole) {
+                return Err(Unanswered::Because(why));
+            }
+            made = number;
+        }
+        Err(Unanswered::Because("too many calls"))
+    }
+}
+
+impl Asked for Calls<'_> {
+    /// How many calls of each port `COMMAND < INPUT` makes.
+    fn answer(&self, alloc: Global, question: &str) -> Result<String, Unanswered> {
+        let (words, input) = question.split_once(" < ").unwrap_or((question, ""));
+        let words = words.split(' ').collect(alloc)?;
+        let command = Command { words, input };
+        let whole = self.perform(alloc, &command, None)?;
+        let files = self.count(alloc, &command, Port::Files, &whole)?;
+        let reads = self.count(alloc, &command, Port::Input, &whole)?;
+        let writes = self.count(alloc, &command, Port::Output, &whole)?;
+        Ok(format!(in alloc; "files {files}, input {reads}, output {writes}")?)
+    }
+}
