@@ -14,7 +14,7 @@ use case_file::run_file;
 use std::io::Error;
 
 /// The files of cases.
-const FILES: [&str; 13] = [
+const FILES: [&str; 14] = [
     "commands.txt",
     "sources.txt",
     "bytes.txt",
@@ -26,6 +26,7 @@ const FILES: [&str; 13] = [
     "throws.txt",
     "budgets.txt",
     "traps.txt",
+    "walks.txt",
     "generated.txt",
     "failing.txt",
 ];

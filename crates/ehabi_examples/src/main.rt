@@ -36,8 +36,8 @@ const EXAMPLES: [&str; 20] = [
     "check/split_entry.s",
 ];
 
-/// Those that throw, and one that would have spoilt what a throw needs.
-const THROWS: [&str; 11] = [
+/// Those that throw, one that would have spoilt what a throw needs, and one that is walked.
+const THROWS: [&str; 12] = [
     "throw.s",
     "cleanups.s",
     "rethrow.s",
@@ -49,6 +49,7 @@ const THROWS: [&str; 11] = [
     "uncaught.s",
     "throw_in_cleanup.s",
     "saved_slot.s",
+    "walk.s",
 ];
 
 /// What the head comment of an example says: the words of its command behind the program's name, its input, what it

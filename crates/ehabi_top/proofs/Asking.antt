@@ -4,6 +4,9 @@ use Rattle.std.specs.Str.{bytes_eq}
 use Rattle.std.proofs.Common.{◌≡◌, ◌≤◌, ℕ, List, [], ◌∷◌, Option, Some, None, Bool, true, false, IfSome, refl, sym, subst, leb-true, arith}
 use Rattle.eh_kit.specs.declared.program_text.TheConstants.{MAX_FUNCTIONS}
 use Rattle.ehabi_top.specs.Words.{Command, FlatFile, BuildSources, CheckFile, CheckSources, RunFile, RunSources, GenerateProgram, if_between, number_of, budget_of, program_number, program_functions, program_of, flat_command, are_sources, build_command, image_name, check_command, files_command, with_budget, run_command, gen_command, command_of}
+use Rattle.ehabi_top.specs.declared.words.Request.{Request}
+use Rattle.ehabi_top.specs.declared.words.Task.{Task}
+use Rattle.ehabi_top.specs.declared.words.Task.TheVariants as task
 use Rattle.ehabi_top.specs.declared.words.TheConstants.{MOST_FUNCTION_DIGITS}
 
 pub record AreAsked (functions : ℕ) : Type 0 where
@@ -17,8 +20,8 @@ IsAsked (Some (FlatFile name budget)) = Unit {0}
 IsAsked (Some (BuildSources names)) = Unit {0}
 IsAsked (Some (CheckFile name)) = Unit {0}
 IsAsked (Some (CheckSources names)) = Unit {0}
-IsAsked (Some (RunFile name budget)) = Unit {0}
-IsAsked (Some (RunSources names budget)) = Unit {0}
+IsAsked (Some (RunFile name request)) = Unit {0}
+IsAsked (Some (RunSources names request)) = Unit {0}
 IsAsked (Some (GenerateProgram number functions)) = AreAsked functions
 
 either : (b : Bool) (x y : Option Command) → IsAsked x → IsAsked y → IsAsked (if b then x else y)
@@ -48,18 +51,18 @@ check_asked : (words : List (List ℕ)) → IsAsked (check_command words)
 unfolding check_command
 check_asked words = either (are_sources words) (Some (CheckSources words)) _ tt (mapped CheckFile (image_name words) (all_some _ (image_name words) (λ _. tt)))
 
-files_asked : (names : List (List ℕ)) (budget : ℕ) → IsAsked (files_command names budget)
+files_asked : (names : List (List ℕ)) (request : Request) → IsAsked (files_command names request)
 unfolding files_command
-files_asked names budget =
-    either (are_sources names) (Some (RunSources names budget)) _ tt (mapped (λ name. RunFile name budget) (image_name names) (all_some _ (image_name names) (λ _. tt)))
+files_asked names request =
+    either (are_sources names) (Some (RunSources names request)) _ tt (mapped (λ name. RunFile name request) (image_name names) (all_some _ (image_name names) (λ _. tt)))
 
-with_asked : (names : List (List ℕ)) (budget : Option ℕ) → IsAsked (with_budget names budget)
-with_asked names None = tt
-with_asked names (Some budget) = files_asked names budget
+with_asked : (t : Task) (names : List (List ℕ)) (budget : Option ℕ) → IsAsked (with_budget t names budget)
+with_asked t names None = tt
+with_asked t names (Some budget) = files_asked names (record { task = t; budget = budget })
 
-run_asked : (words : List (List ℕ)) → IsAsked (run_command words)
+run_asked : (t : Task) (words : List (List ℕ)) → IsAsked (run_command t words)
 unfolding run_command
-run_asked words = either _ (with_budget _ _) None (with_asked _ _) tt
+run_asked t words = either _ (with_budget t _ _) None (with_asked t _ _) tt
 
 between : (low high n : ℕ) → IfSome (if_between low high (Some n)) (λ n. (low ≤ n) × (n ≤ high))
 between low high n = go (nat_le low n) (nat_le n high) refl refl
@@ -93,11 +96,14 @@ gen_asked (number ∷ functions ∷ []) = program_asked (program_number number) 
 gen_asked (number ∷ functions ∷ more ∷ rest) = tt
 
 -- the command by the first word, from one of the names on
+abbrev by_walk : List ℕ → List (List ℕ) → Option Command
+by_walk word rest = if bytes_eq word (codes "walk") then run_command task.Walk rest else None
+
 abbrev by_gen : List ℕ → List (List ℕ) → Option Command
-by_gen word rest = if bytes_eq word (codes "gen") then gen_command rest else None
+by_gen word rest = if bytes_eq word (codes "gen") then gen_command rest else by_walk word rest
 
 abbrev by_run : List ℕ → List (List ℕ) → Option Command
-by_run word rest = if bytes_eq word (codes "run") then run_command rest else by_gen word rest
+by_run word rest = if bytes_eq word (codes "run") then run_command task.Run rest else by_gen word rest
 
 abbrev by_check : List ℕ → List (List ℕ) → Option Command
 by_check word rest = if bytes_eq word (codes "check") then check_command rest else by_run word rest
@@ -109,8 +115,9 @@ pub asked : (words : List (List ℕ)) → IsAsked (command_of words)
 unfolding command_of
 asked [] = tt
 asked (word ∷ rest) =
-    let gen = either (bytes_eq word (codes "gen")) (gen_command rest) None (gen_asked rest) tt in
-    let run = either (bytes_eq word (codes "run")) (run_command rest) (by_gen word rest) (run_asked rest) gen in
+    let walk = either (bytes_eq word (codes "walk")) (run_command task.Walk rest) None (run_asked task.Walk rest) tt in
+    let gen = either (bytes_eq word (codes "gen")) (gen_command rest) (by_walk word rest) (gen_asked rest) walk in
+    let run = either (bytes_eq word (codes "run")) (run_command task.Run rest) (by_gen word rest) (run_asked task.Run rest) gen in
     let check = either (bytes_eq word (codes "check")) (check_command rest) (by_run word rest) (check_asked rest) run in
     let build = either (bytes_eq word (codes "build")) (build_command rest) (by_check word rest) (build_asked rest) check in
     either (bytes_eq word (codes "flat")) (flat_command rest) (by_build word rest) (flat_asked rest) build

@@ -9,6 +9,7 @@ mod Yielding
 mod FlatReports
 mod SameRuns
 mod RunReports
+mod WalkReports
 mod Checking
 mod Doing
 mod Runners

@@ -18,7 +18,7 @@ use Rattle.ehabi_top.specs.BothRuns.{bytes_run, recorded_run, bytes_events, reco
 use Rattle.ehabi_top.specs.Building.{built}
 use Rattle.ehabi_top.specs.CheckReport.{ImageReportsBy, BytesReportsBy, IsUnaccepted}
 use Rattle.ehabi_top.specs.GenerateReport.{CountsAccepted, CountsImage, GenerateReports, IsUnfitProgram, counted_report, generated, summary_report, recorded_summary}
-use Rattle.ehabi_top.specs.Loading.{status_of}
+use Rattle.ehabi_top.specs.Loading.{closing_of, status_of}
 use Rattle.ehabi_top.specs.Text.{end_line, summary}
 use Rattle.ehabi_top.specs.Writes.{Answers, AnswersOrLacks, AnswersRun, Stopped}
 use Rattle.ehabi_top.specs.declared.status.TheConstants.{REFUSED}
@@ -56,7 +56,7 @@ module _ (result : Result ℕ Stop) (before now : Option (List ℕ)) (f g : ℕ)
   pub accepted_counted : (a : Accepted) → RunSame a → (end : End) (new : State) (unspent : ℕ) (left dropped dropped' : Option (List ℕ))
       → Runs (machine_of (program_of a)) MOST_INSTRUCTIONS (start_of (program_of a)) [] end new unspent left dropped dropped'
       → (end ≡ ReadFault → Rose 0 0) → (end ≡ WriteFault → Rose 0 0)
-      → AnswersRun (summary (length a.image.functions) new.events) end result before now f g
+      → AnswersRun (closing_of (summary (length a.image.functions) new.events) end) end result before now f g
       → AnswersOrLacks (CountsAccepted a) ⊥ result before now f g
   accepted_counted a same end new unspent left dropped dropped' r read write answers = go (at_false (is_fault end) _ fine answers.fine)
     where

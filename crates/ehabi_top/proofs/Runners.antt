@@ -5,13 +5,14 @@ use Rattle.eh_port.specs.declared.FileAnswer.{FileAnswer}
 use Rattle.eh_port.specs.declared.FileAnswer.TheVariants.{Found, Missing, TooLong}
 use Rattle.ehabi_top.specs.declared.sources.TheConstants.{FILE_LIMIT}
 use Rattle.ehabi_top.specs.declared.status.TheConstants.{LACKING}
+use Rattle.ehabi_top.specs.declared.words.Request.{Request}
 use Rattle.ehabi_top.specs.BuildReport.{IsUnwritten, build_report, plain_report}
 use Rattle.ehabi_top.specs.Building.{built, files_of, image_bytes, bytes_of_built, bytes_of_found}
 use Rattle.ehabi_top.specs.CheckReport.{BytesReports, IsUnaccepted}
 use Rattle.ehabi_top.specs.Finding.{FoundReports, bytes_of_answer, file_bytes, found_report}
 use Rattle.ehabi_top.specs.FlatReport.{IsTooLarge, code_report, flat_report}
 use Rattle.ehabi_top.specs.Loading.{Report, SaysWhy, IsLacking}
-use Rattle.ehabi_top.specs.RunReport.{RunBytesReports}
+use Rattle.ehabi_top.specs.TaskReport.{RunBytesReports}
 use Rattle.ehabi_top.specs.Yields.{Only}
 use Rattle.ehabi_top.specs.Sources.{NamedText, Refusal}
 use Rattle.ehabi_top.specs.Unfit.{HoldsUnfit}
@@ -82,17 +83,17 @@ flat_runner name budget = record {
   tells = λ files input left before now result h. h;
 }
 
-run_asks : (name : List ℕ) (budget : ℕ) → Asks (Some (RunFile name budget)) (file_bytes name) IsUnaccepted
-run_asks name budget = record {
+run_asks : (name : List ℕ) (request : Request) → Asks (Some (RunFile name request)) (file_bytes name) IsUnaccepted
+run_asks name request = record {
   fits = λ held input bytes s e w. let v = file_fits IsUnaccepted name held bytes s e w in record { missing = v.missing; refused = v.refused };
   lacks = λ held input refusal e. let v = file_lacks IsUnaccepted name held refusal e in record { missing = v.missing; refused = v.refused };
   some = λ e. cc;
 }
 
-pub run_runner : (name : List ℕ) (budget : ℕ) → IsRunner (Some (RunFile name budget)) (file_bytes name) (RunBytesReports budget) IsUnaccepted
-run_runner name budget = record {
+pub run_runner : (name : List ℕ) (request : Request) → IsRunner (Some (RunFile name request)) (file_bytes name) (RunBytesReports request) IsUnaccepted
+run_runner name request = record {
   reports = λ held input r h. h;
-  asks = run_asks name budget;
+  asks = run_asks name request;
   tells = λ files input left before now result h. h;
 }
 
@@ -145,17 +146,17 @@ build_keeper names = record {
   tells = λ files input before now result h. (refl, h);
 }
 
-sources_asks : (names : List (List ℕ)) (budget : ℕ) → Asks (Some (RunSources names budget)) (image_bytes names) IsUnaccepted
-sources_asks names budget = record {
+sources_asks : (names : List (List ℕ)) (request : Request) → Asks (Some (RunSources names request)) (image_bytes names) IsUnaccepted
+sources_asks names request = record {
   fits = λ held input bytes s e w. let v = built_fits IsUnaccepted (files_of held names) bytes s (sym (bytes_is names held) ∙ e) w in record { missing = v.missing; refused = v.refused };
   lacks = λ held input refusal e. let v = built_refused IsUnaccepted (files_of held names) refusal (sym (bytes_is names held) ∙ e) in record { missing = v.missing; refused = v.refused };
   some = λ e. cc;
 }
 
-pub sources_runner : (names : List (List ℕ)) (budget : ℕ) → IsRunner (Some (RunSources names budget)) (image_bytes names) (RunBytesReports budget) IsUnaccepted
-sources_runner names budget = record {
+pub sources_runner : (names : List (List ℕ)) (request : Request) → IsRunner (Some (RunSources names request)) (image_bytes names) (RunBytesReports request) IsUnaccepted
+sources_runner names request = record {
   reports = λ held input r h. h;
-  asks = sources_asks names budget;
+  asks = sources_asks names request;
   tells = λ files input left before now result h. h;
 }
 

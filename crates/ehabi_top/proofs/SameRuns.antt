@@ -9,7 +9,9 @@ use Rattle.elf_image.specs.Image.{IsSound as IsImage}
 use Rattle.frame_check.specs.Accepts.{Accepted, IsSound}
 use Rattle.stands_for.specs.Stands.{IsProgram}
 use Rattle.machines_agree.specs.Turned.{RunsSame, RunsGuard}
+use Rattle.eh_walk.specs.Laws.{ReachesSame, WalksSame}
 use Rattle.ehabi_top.specs.BothRuns.{RunSame, SlotsStay}
+use Rattle.ehabi_top.specs.WalkReport.{WalkSame}
 
 pub program_here : (a : Accepted) (m : Memory) → IsImage a.image → IsSound a → IsMap m → m ≡ (start_of (program_of a)).memory → IsProgram a
 program_here a m image sound map e = record { image = image; sound = sound; map = subst (λ (n : Memory). IsMap n) e map }
@@ -21,3 +23,14 @@ run_same a is same budget input bytes =
 
 pub slots_stay : (a : Accepted) → IsProgram a → RunsGuard → SlotsStay a
 slots_stay a is guard input bytes count width at value slot = guard a count input is bytes width at value slot
+
+pub walk_same : (a : Accepted) → IsProgram a → ReachesSame → WalksSame → WalkSame a
+walk_same a is reaches walks budget input bytes =
+    let w = reaches a budget input is bytes in
+    record {
+      text = w.text;
+      end = w.end;
+      left = w.left;
+      spare = w.spare;
+      state = record { events = ap (λ (s : State). s.events) w.state.stands.same; walks = walks a _ _ is w.state.stands };
+    }

@@ -53,6 +53,9 @@ exit_of_run false = record {
   reported = record { reported = record { settled = refl; bounded = omega arith }; other = λ e. omega arith };
 }
 
+pub done_of_run : IsOfRun DONE
+done_of_run = exit_of_run true
+
 small_of_run : (status : ℕ) → is_settled status ≡ true → 3 < status → status < 10 → IsOfRun status
 small_of_run status settled low high = record {
   not_lacking = λ e. omega arith;

@@ -11,14 +11,18 @@ use Rattle.guest_gates.specs.Ends.{is_fault}
 use Rattle.thumb_core.specs.declared.ends.End.{End}
 use Rattle.thumb_core.specs.declared.ends.End.TheVariants.{Exit, Terminate, Trap, Budget, ReadFault, WriteFault}
 use Rattle.image_memory.specs.Start.{State}
+use Rattle.eh_gates.specs.State.{State as MachineState}
+use Rattle.eh_walk.specs.Reaching.{RunsToSite, at_left, most_events, site_machine}
+use Rattle.two_machines.specs.Machine.{machine_of}
+use Rattle.two_machines.specs.Program.{Program}
 use Rattle.plain_run.specs.Machine.{FlatRuns, flat_machine}
 use Rattle.ehabi_top.specs.declared.stop.Stop.{Stop}
 use Rattle.ehabi_top.specs.declared.stop.Stop.TheVariants.{Read, Write, Memory}
-use Rattle.ehabi_top.specs.Loading.{Report, SaysWhy, IsOfCommand, ran_report, status_of, stop_of_fault}
+use Rattle.ehabi_top.specs.Loading.{Report, Closing, SaysWhy, IsOfCommand, closing_of, closed_report, status_of, stop_of_fault}
 use Rattle.ehabi_top.specs.Text.{end_line}
 use Rattle.ehabi_top.specs.Writes.{Answers, AnswersEnd, AnswersRun, Stopped}
 use Rattle.ehabi_top.specs.Yields.{streams, Gives, Gave, given, nothing, Yields}
-use Rattle.ehabi_top.proofs.Statuses.{end_of_run, says_end, IsOfRun}
+use Rattle.ehabi_top.proofs.Statuses.{end_of_run, says_end, says_fine, IsOfRun}
 
 -- ---- a call that ended with a text
 
@@ -126,12 +130,16 @@ not_fault_write end fine e = let no : is_fault end ≡ true = rw e refl in cc
 same_stop : (result : Result ℕ Stop) (a b : Stop) → result ≡ Err a → result ≡ Err b → a ≡ b
 same_stop result a b e f = let g : ◌≡◌ {A = Result ℕ Stop} (Err a) (Err b) = sym e ∙ f in cc
 
-module _ (S : Type 0) (machine : Machine S End) (fault : (end : End) → machine.is_fault end ≡ is_fault end) (says : S → List ℕ) (n : ℕ) (state : S) where
+module _ (S : Type 0) (machine : Machine S End) (fault : (end : End) → machine.is_fault end ≡ is_fault end) (says : S → End → Closing) (n : ℕ) (state : S)
+    (of : (s : S) (end : End) → is_fault end ≡ false → IsOfRun (says s end).status) where
+  says_run : (s : S) (end : End) (unfit : Type 0) → is_fault end ≡ false → (unfit → ⊥) → SaysWhy (says s end).status ⊥ unfit
+  says_run s end unfit fine fit = let w = of s end fine in says_fine (says s end).status ⊥ unfit w.not_lacking w.not_refused (λ l. l) fit
+
   -- a run, and the text of its end
   gives_run : (input : List ℕ) (new : S) (unspent : ℕ) (end : End) (result : Result ℕ Stop) (left before mid now : Option (List ℕ)) (f g : ℕ)
       → is_fault end ≡ false
-      → Runs machine n state input end new unspent left before mid → Answers (says new ++ end_line end) (status_of end) result mid now f g
-      → Gives (ran_report says (ran_of machine n state input)) result left before now
+      → Runs machine n state input end new unspent left before mid → Answers (says new end).text (says new end).status result mid now f g
+      → Gives (closed_report says (ran_of machine n state input)) result left before now
   gives_run input new unspent end result left before mid now f g fine r a =
       let ran : Ran S End = ran_of machine n state input in
       let ok = fault end ∙ fine in
@@ -140,9 +148,9 @@ module _ (S : Type 0) (machine : Machine S End) (fault : (end : End) → machine
       let wrote : Appends before mid ran.text = at_false _ _ ok r.wrote in
       go result (rw (s, e) at a) (at_false _ _ ok r.leaves) wrote
     where
-      go : (result : Result ℕ Stop) → Answers (says (ran_of machine n state input).state ++ end_line (ran_of machine n state input).end) (status_of (ran_of machine n state input).end) result mid now f g
+      go : (result : Result ℕ Stop) → Answers (says (ran_of machine n state input).state (ran_of machine n state input).end).text (says (ran_of machine n state input).state (ran_of machine n state input).end).status result mid now f g
           → left ≡ Some (ran_of machine n state input).left → Appends before mid (ran_of machine n state input).text
-          → Gives (ran_report says (ran_of machine n state input)) result left before now
+          → Gives (closed_report says (ran_of machine n state input)) result left before now
       go (Ok s) a leaves wrote = record {
         part = part_then before mid now (ran_of machine n state input).text _ wrote a.part;
         status = a.status_is;
@@ -154,14 +162,14 @@ module _ (S : Type 0) (machine : Machine S End) (fault : (end : End) → machine
   -- a run that a fault stopped
   gives_fault : (stop : Stop) (input : List ℕ) (new : S) (unspent : ℕ) (end : End) (left before now : Option (List ℕ))
       → Runs machine n state input end new unspent left before now
-      → Gives (ran_report says (ran_of machine n state input)) (Err stop) left before now
+      → Gives (closed_report says (ran_of machine n state input)) (Err stop) left before now
   gives_fault stop input new unspent end left before now r =
       record { part = part_first before now (ran_of machine n state input).text _ r.part; status = tt; leaves = tt; wrote = tt }
 
   -- the whole call: a run from where nothing was done, and the text of its end
   pub yields_run : (Says : List ℕ → Report → Type 0) (unfit : Type 0) (head : List ℕ) (end : End) (result : Result ℕ Stop) (input left before mid now : Option (List ℕ)) (i j f g h : ℕ)
-      → ((b : List ℕ) → Says b (ran_report says (ran_of machine n state b)))
-      → ((s : S) → says s ≡ head) → (unfit → ⊥)
+      → ((b : List ℕ) → Says b (closed_report says (ran_of machine n state b)))
+      → ((s : S) (end : End) → says s end ≡ closing_of head end) → (unfit → ⊥)
       → IfSome input (λ b. (new : S) × ((unspent : ℕ) × Runs machine n state b end new unspent left before mid))
       → (end ≡ ReadFault → Rose i j) → (end ≡ WriteFault → Rose f g) → f ≤ g
       → AnswersEnd head end result mid now g h
@@ -172,7 +180,7 @@ module _ (S : Type 0) (machine : Machine S End) (fault : (end : End) → machine
           → IfSome input (λ b. (new : S) × ((unspent : ℕ) × Runs machine n state b end new unspent left before mid))
           → IfSome input (λ b. Gave (Says b) result left before now)
       told_fine None fine a r = tt
-      told_fine (Some b) fine a r = given _ (is b) (gives_run b r.0 r.1.0 end result left before mid now g h fine r.1.1 (rw (says_head r.0) a))
+      told_fine (Some b) fine a r = given _ (is b) (gives_run b r.0 r.1.0 end result left before mid now g h fine r.1.1 (rw (says_head r.0 end) a))
 
       told_stopped : (input : Option (List ℕ)) (stop : Stop) → result ≡ Err stop → now ≡ mid
           → IfSome input (λ b. (new : S) × ((unspent : ℕ) × Runs machine n state b end new unspent left before mid))
@@ -205,39 +213,39 @@ module _ (S : Type 0) (machine : Machine S End) (fault : (end : End) → machine
           }
 
   -- .. where what is said of the last state takes memory, which may be wanting behind a run that no fault stopped
-  pub yields_said : (Says : List ℕ → Report → Type 0) (unfit : Type 0) (new : S) (unspent : ℕ) (end : End) (result : Result ℕ Stop) (input left before mid now : Option (List ℕ)) (i j f g h : ℕ)
-      → ((b : List ℕ) → Says b (ran_report says (ran_of machine n state b))) → (unfit → ⊥)
-      → IfSome input (λ b. Runs machine n state b end new unspent left before mid)
+  pub yields_said : (Says : List ℕ → Report → Type 0) (unfit : Type 0) (new : S) (end : End) (result : Result ℕ Stop) (input left before mid now : Option (List ℕ)) (i j f g h : ℕ)
+      → ((b : List ℕ) → Says b (closed_report says (ran_of machine n state b))) → (unfit → ⊥)
+      → IfSome input (λ b. (unspent : ℕ) × Runs machine n state b end new unspent left before mid)
       → (end ≡ ReadFault → Rose i j) → (end ≡ WriteFault → Rose f g) → f ≤ g
       → ((end ≡ ReadFault → ⊥) → j ≡ i) → ((end ≡ WriteFault → ⊥) → g ≡ f)
-      → AnswersRun (says new) end result mid now g h
+      → AnswersRun (says new end) end result mid now g h
       → Yields Says unfit (streams input i before f) (streams left j now h) result
-  yields_said Says unfit new unspent end result input left before mid now i j f g h is fit runs read write later read_kept write_kept answers = go (is_fault end) refl
+  yields_said Says unfit new end result input left before mid now i j f g h is fit runs read write later read_kept write_kept answers = go (is_fault end) refl
     where
-      told_fine : (input : Option (List ℕ)) → is_fault end ≡ false → Answers (says new ++ end_line end) (status_of end) result mid now g h
-          → IfSome input (λ b. Runs machine n state b end new unspent left before mid)
+      told_fine : (input : Option (List ℕ)) → is_fault end ≡ false → Answers (says new end).text (says new end).status result mid now g h
+          → IfSome input (λ b. (unspent : ℕ) × Runs machine n state b end new unspent left before mid)
           → IfSome input (λ b. Gave (Says b) result left before now)
       told_fine None fine a r = tt
-      told_fine (Some b) fine a r = given _ (is b) (gives_run b new unspent end result left before mid now g h fine r a)
+      told_fine (Some b) fine a r = given _ (is b) (gives_run b new r.0 end result left before mid now g h fine r.1 a)
 
       told_stopped : (input : Option (List ℕ)) (stop : Stop) → result ≡ Err stop → now ≡ mid
-          → IfSome input (λ b. Runs machine n state b end new unspent left before mid)
+          → IfSome input (λ b. (unspent : ℕ) × Runs machine n state b end new unspent left before mid)
           → IfSome input (λ b. Gave (Says b) result left before now)
       told_stopped None stop e same r = tt
-      told_stopped (Some b) stop e same r = rw (e, same) (given _ (is b) (gives_fault stop b new unspent end left before mid r))
+      told_stopped (Some b) stop e same r = rw (e, same) (given _ (is b) (gives_fault stop b new r.0 end left before mid r.1))
 
-      fine_of : is_fault end ≡ false → Answers (says new ++ end_line end) (status_of end) result mid now g h ⊎ Stopped Memory result mid now g h
+      fine_of : is_fault end ≡ false → Answers (says new end).text (says new end).status result mid now g h ⊎ Stopped Memory result mid now g h
           → Yields Says unfit (streams input i before f) (streams left j now h) result
       fine_of fine (inl a) =
-          let text = says new ++ end_line end in
-          let status = status_of end in
+          let text = (says new end).text in
+          let status = (says new end).status in
           record {
             told = told_fine input fine a runs;
-            why = of_status (λ s. SaysWhy s ⊥ unfit) text status result mid now g h (says_end end unfit fine fit) a;
+            why = of_status (λ s. SaysWhy s ⊥ unfit) text status result mid now g h (says_run new end unfit fine fit) a;
             read = λ e. absurd (not_read Read refl (only_write text status result Read mid now g h a e).0);
             write = λ e. let rose = (only_write text status result Write mid now g h a e).1 in omega arith;
             memory = λ e. absurd (not_memory Memory refl (only_write text status result Memory mid now g h a e).0);
-            status = of_status IsOfCommand text status result mid now g h (IsOfRun.reported (end_of_run end fine)) a;
+            status = of_status IsOfCommand text status result mid now g h (IsOfRun.reported (of new end fine)) a;
           }
       fine_of fine (inr s) = record {
         told = told_stopped input Memory s.is s.same runs;
@@ -262,6 +270,18 @@ module _ (S : Type 0) (machine : Machine S End) (fault : (end : End) → machine
           }
 
 -- ---- runs, whatever they had to spare
+
+pub run_some : (p : Program) (budget : ℕ) (old : MachineState) (end : End) (new : MachineState) (unspent : ℕ) (told left before now : Option (List ℕ))
+    → IfSome told (λ b. Runs (machine_of p) budget old b end new unspent left before now)
+    → IfSome told (λ b. (spare : ℕ) × Runs (machine_of p) budget old b end new spare left before now)
+run_some p budget old end new unspent None left before now r = tt
+run_some p budget old end new unspent (Some b) left before now r = (unspent, r)
+
+pub site_some : (p : Program) (budget : ℕ) (old : MachineState) (end : End) (unspent : ℕ) (new : MachineState) (told left before now : Option (List ℕ))
+    → IfSome told (λ b. RunsToSite p budget old b end unspent new left before now)
+    → IfSome told (λ b. (spare : ℕ) × Runs (site_machine p) (most_events budget) (at_left budget old) b end (at_left unspent new) spare left before now)
+site_some p budget old end unspent new None left before now r = tt
+site_some p budget old end unspent new (Some b) left before now r = (r.spare, r.runs)
 
 pub flat_some : (budget : ℕ) (old : State) (end : End) (new : State) (told left before now : Option (List ℕ))
     → IfSome told (λ b. FlatRuns budget old b end new left before now)

@@ -1,3 +1,4 @@
+pub mod WalkReport
 pub mod Words
 pub mod Text
 pub mod Loading
@@ -8,6 +9,7 @@ pub mod BothRuns
 pub mod RunReport
 pub mod GenerateReport
 pub mod Sources
+pub mod TaskReport
 pub mod RefusalText
 pub mod Building
 pub mod Finding

@@ -64,6 +64,19 @@ stop_of_fault Budget = Read
 stop_of_fault ReadFault = Read
 stop_of_fault WriteFault = Write
 
--- the guest's bytes, what the last state says behind them, and the line of the end
+-- what stands behind the guest's bytes, and the status
+pub record Closing : Type 0 where
+  pub text : List ℕ
+  pub status : ℕ
+
+-- the line of the end, behind what stands before it
+abbrev pub closing_of : List ℕ → End → Closing
+closing_of head end = record { text = head ++ end_line end; status = status_of end }
+
+-- the guest's bytes, and what the last state and the end say behind them
+abbrev pub closed_report : {S : Type 0} → (S → End → Closing) → Ran S End → Report
+closed_report says ran = record { text = ran.text ++ (says ran.state ran.end).text; status = (says ran.state ran.end).status; left = ran.left }
+
+-- .. which is what the last state says, and the line of the end
 abbrev pub ran_report : {S : Type 0} → (S → List ℕ) → Ran S End → Report
-ran_report says ran = record { text = ran.text ++ (says ran.state ++ end_line ran.end); status = status_of ran.end; left = ran.left }
+ran_report says ran = closed_report (λ s end. closing_of (says s) end) ran

@@ -16,7 +16,7 @@ use Rattle.ehabi_top.specs.Building.{files_of}
 use Rattle.ehabi_top.specs.CheckReport.{CheckReports, CheckSourcesReports, IsUnaccepted}
 use Rattle.ehabi_top.specs.FlatReport.{flat_report, IsTooLarge}
 use Rattle.ehabi_top.specs.GenerateReport.{GenerateReports, IsUnfitProgram}
-use Rattle.ehabi_top.specs.RunReport.{RunReports, RunSourcesReports}
+use Rattle.ehabi_top.specs.TaskReport.{RunReports, RunSourcesReports}
 use Rattle.ehabi_top.specs.Text.{usage}
 use Rattle.ehabi_top.specs.Unfit.{HoldsUnfit, BuildsUnfit}
 use Rattle.ehabi_top.specs.Words.{Command, FlatFile, BuildSources, CheckFile, CheckSources, RunFile, RunSources, GenerateProgram}
@@ -31,8 +31,8 @@ Reports (Some (FlatFile name budget)) files input r = r ≡ flat_report name bud
 Reports (Some (BuildSources names)) files input r = r ≡ build_report names files input
 Reports (Some (CheckFile name)) files input r = CheckReports name files input r
 Reports (Some (CheckSources names)) files input r = CheckSourcesReports names files input r
-Reports (Some (RunFile name budget)) files input r = RunReports name budget files input r
-Reports (Some (RunSources names budget)) files input r = RunSourcesReports names budget files input r
+Reports (Some (RunFile name request)) files input r = RunReports name request files input r
+Reports (Some (RunSources names request)) files input r = RunSourcesReports names request files input r
 Reports (Some (GenerateProgram number functions)) files input r = GenerateReports number functions input r
 
 -- a file that the command names is missing or too long
@@ -42,8 +42,8 @@ LacksFile (Some (FlatFile name budget)) files = IsLacking (answer_of files name 
 LacksFile (Some (BuildSources names)) files = IsErr (files_of files names)
 LacksFile (Some (CheckFile name)) files = IsLacking (answer_of files name FILE_LIMIT)
 LacksFile (Some (CheckSources names)) files = IsErr (files_of files names)
-LacksFile (Some (RunFile name budget)) files = IsLacking (answer_of files name FILE_LIMIT)
-LacksFile (Some (RunSources names budget)) files = IsErr (files_of files names)
+LacksFile (Some (RunFile name request)) files = IsLacking (answer_of files name FILE_LIMIT)
+LacksFile (Some (RunSources names request)) files = IsErr (files_of files names)
 LacksFile (Some (GenerateProgram number functions)) files = ⊥
 
 -- What pins the status of a refusal. Of commands with files it is the files alone: they are there, and what they hold is
@@ -54,8 +54,8 @@ Refuses (Some (FlatFile name budget)) files input status = (status ≡ REFUSED) 
 Refuses (Some (BuildSources names)) files input status = (status ≡ REFUSED) ↔ BuildsUnfit IsUnwritten (files_of files names)
 Refuses (Some (CheckFile name)) files input status = (status ≡ REFUSED) ↔ HoldsUnfit IsUnaccepted (answer_of files name FILE_LIMIT)
 Refuses (Some (CheckSources names)) files input status = (status ≡ REFUSED) ↔ BuildsUnfit IsUnaccepted (files_of files names)
-Refuses (Some (RunFile name budget)) files input status = (status ≡ REFUSED) ↔ HoldsUnfit IsUnaccepted (answer_of files name FILE_LIMIT)
-Refuses (Some (RunSources names budget)) files input status = (status ≡ REFUSED) ↔ BuildsUnfit IsUnaccepted (files_of files names)
+Refuses (Some (RunFile name request)) files input status = (status ≡ REFUSED) ↔ HoldsUnfit IsUnaccepted (answer_of files name FILE_LIMIT)
+Refuses (Some (RunSources names request)) files input status = (status ≡ REFUSED) ↔ BuildsUnfit IsUnaccepted (files_of files names)
 Refuses (Some (GenerateProgram number functions)) files input status = (status ≡ REFUSED) ↔ IsUnfitProgram number functions
 
 -- Where what the command reads is told, with the files, the input, and what is left of the input. Words that are no command
@@ -67,8 +67,8 @@ IfTold (Some (FlatFile name budget)) files input left P = IfSome files (λ held.
 IfTold (Some (BuildSources names)) files input left P = (left ≡ input) × IfSome files (λ held. (bytes : List ℕ) → P held bytes (Some bytes))
 IfTold (Some (CheckFile name)) files input left P = (left ≡ input) × IfSome files (λ held. (bytes : List ℕ) → P held bytes (Some bytes))
 IfTold (Some (CheckSources names)) files input left P = (left ≡ input) × IfSome files (λ held. (bytes : List ℕ) → P held bytes (Some bytes))
-IfTold (Some (RunFile name budget)) files input left P = IfSome files (λ held. IfSome input (λ bytes. P held bytes left))
-IfTold (Some (RunSources names budget)) files input left P = IfSome files (λ held. IfSome input (λ bytes. P held bytes left))
+IfTold (Some (RunFile name request)) files input left P = IfSome files (λ held. IfSome input (λ bytes. P held bytes left))
+IfTold (Some (RunSources names request)) files input left P = IfSome files (λ held. IfSome input (λ bytes. P held bytes left))
 IfTold (Some (GenerateProgram number functions)) files input left P = (left ≡ input) × ((held : List (List ℕ × List ℕ)) (bytes : List ℕ) → P held bytes (Some bytes))
 
 -- ---- what a call does of a report

@@ -7,6 +7,9 @@ use Rattle.std.specs.Char.{is_ascii_digit}
 use Rattle.eh_kit.specs.declared.program_text.TheConstants.{MAX_FUNCTIONS}
 use Rattle.ehabi_top.specs.declared.words.TheConstants.{MOST_INSTRUCTIONS, MOST_SOURCES, MOST_DIGITS, MOST_NUMBER, MOST_FUNCTION_DIGITS}
 use Rattle.ehabi_top.specs.declared.words.Form.{Form}
+use Rattle.ehabi_top.specs.declared.words.Task.{Task}
+use Rattle.ehabi_top.specs.declared.words.Task.TheVariants as task
+use Rattle.ehabi_top.specs.declared.words.Request.{Request}
 use Rattle.ehabi_top.specs.declared.words.Form.TheVariants.{Flat, Build, Check, CheckSources as CheckOfSources, Run, RunSources as RunOfSources, Generate}
 
 -- a command and what it is given
@@ -19,10 +22,10 @@ pub data Command : Type 0 where
   CheckFile : (name : List ℕ) → Command
   -- `check FILE..` of sources
   CheckSources : (names : List (List ℕ)) → Command
-  -- `run FILE N` of one image
-  RunFile : (name : List ℕ) (budget : ℕ) → Command
-  -- `run FILE.. N` of sources
-  RunSources : (names : List (List ℕ)) (budget : ℕ) → Command
+  -- `run FILE N` and `walk FILE N` of one image
+  RunFile : (name : List ℕ) (request : Request) → Command
+  -- `run FILE.. N` and `walk FILE.. N` of sources
+  RunSources : (names : List (List ℕ)) (request : Request) → Command
   -- `gen K M`: the program of a number, and how many functions it is asked for
   GenerateProgram : (number functions : ℕ) → Command
 
@@ -36,8 +39,8 @@ command (Flat name budget) = FlatFile name.now budget
 command (Build names) = BuildSources (texts names.now)
 command (Check name) = CheckFile name.now
 command (CheckOfSources names) = CheckSources (texts names.now)
-command (Run name budget) = RunFile name.now budget
-command (RunOfSources names budget) = RunSources (texts names.now) budget
+command (Run name request) = RunFile name.now request
+command (RunOfSources names request) = RunSources (texts names.now) request
 command (Generate number functions) = GenerateProgram number functions
 
 -- the number that n and these digits write
@@ -87,17 +90,17 @@ unfoldable pub check_command : List (List ℕ) → Option Command
 check_command names = if are_sources names then Some (CheckSources names) else option_map CheckFile (image_name names)
 
 -- names of sources, or the name of an image
-unfoldable pub files_command : List (List ℕ) → ℕ → Option Command
-files_command names budget = if are_sources names then Some (RunSources names budget) else option_map (λ name. RunFile name budget) (image_name names)
+unfoldable pub files_command : List (List ℕ) → Request → Option Command
+files_command names request = if are_sources names then Some (RunSources names request) else option_map (λ name. RunFile name request) (image_name names)
 
-abbrev pub with_budget : List (List ℕ) → Option ℕ → Option Command
-with_budget names None = None
-with_budget names (Some budget) = files_command names budget
+abbrev pub with_budget : Task → List (List ℕ) → Option ℕ → Option Command
+with_budget t names None = None
+with_budget t names (Some budget) = files_command names (record { task = t; budget = budget })
 
--- the words behind `run`: names, and a budget as the last word
-unfoldable pub run_command : List (List ℕ) → Option Command
-run_command words =
-    if nat_le 1 (length words) then with_budget (take (length words - 1) words) (budget_of (slice_index_or words (length words - 1) [])) else None
+-- the words behind `run` and `walk`: names, and a budget as the last word
+unfoldable pub run_command : Task → List (List ℕ) → Option Command
+run_command t words =
+    if nat_le 1 (length words) then with_budget t (take (length words - 1) words) (budget_of (slice_index_or words (length words - 1) [])) else None
 
 -- the number of a program: at most 4,294,967,295
 unfoldable pub program_number : List ℕ → Option ℕ
@@ -124,5 +127,6 @@ command_of (word ∷ rest) =
     if bytes_eq word (codes "flat") then flat_command rest
     else (if bytes_eq word (codes "build") then build_command rest
     else (if bytes_eq word (codes "check") then check_command rest
-    else (if bytes_eq word (codes "run") then run_command rest
-    else (if bytes_eq word (codes "gen") then gen_command rest else None))))
+    else (if bytes_eq word (codes "run") then run_command task.Run rest
+    else (if bytes_eq word (codes "gen") then gen_command rest
+    else (if bytes_eq word (codes "walk") then run_command task.Walk rest else None)))))

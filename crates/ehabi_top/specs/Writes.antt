@@ -6,7 +6,7 @@ use Rattle.eh_port.specs.Causes.{Rose}
 use Rattle.eh_port.specs.Writing.{AppendsPart}
 use Rattle.eh_port.specs.declared.FileFault.{FileFault}
 use Rattle.eh_port.specs.declared.FileFault.TheVariants.{Failed, OutOfMemory}
-use Rattle.ehabi_top.specs.Loading.{Report, SaysWhy, IsOfCommand, status_of, stop_of_fault}
+use Rattle.ehabi_top.specs.Loading.{Report, Closing, SaysWhy, IsOfCommand, status_of, stop_of_fault}
 use Rattle.ehabi_top.specs.Text.{end_line}
 use Rattle.ehabi_top.specs.declared.status.TheConstants.{READ_FAILED, WRITE_FAILED, NO_MEMORY}
 use Rattle.ehabi_top.specs.declared.stop.Stop.{Stop}
@@ -42,10 +42,9 @@ pub record AnswersEnd (head : List ℕ) (end : End) (result : Result ℕ Stop) (
   pub fine : OnFalse (is_fault end) (Answers (head ++ end_line end) (status_of end) result before now faults_before faults_now)
   pub fault : OnTrue (is_fault end) (Stopped (stop_of_fault end) result before now faults_before faults_now)
 
--- a call that ends a run with what it says behind the guest's bytes and the line of the end, or found no memory for it; at a fault it
--- writes nothing
-pub record AnswersRun (said : List ℕ) (end : End) (result : Result ℕ Stop) (before now : Option (List ℕ)) (faults_before faults_now : ℕ) : Type 0 where
-  pub fine : OnFalse (is_fault end) (Answers (said ++ end_line end) (status_of end) result before now faults_before faults_now ⊎ Stopped Memory result before now faults_before faults_now)
+-- a call that ends a run with what stands behind the guest's bytes, or found no memory for it; at a fault it writes nothing
+pub record AnswersRun (closing : Closing) (end : End) (result : Result ℕ Stop) (before now : Option (List ℕ)) (faults_before faults_now : ℕ) : Type 0 where
+  pub fine : OnFalse (is_fault end) (Answers closing.text closing.status result before now faults_before faults_now ⊎ Stopped Memory result before now faults_before faults_now)
   pub fault : OnTrue (is_fault end) (Stopped (stop_of_fault end) result before now faults_before faults_now)
 
 -- a call that ends with a report that may be made, whatever the input, which it leaves whole

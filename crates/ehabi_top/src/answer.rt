@@ -1,10 +1,9 @@
 //! What the program says last.
 ghost use Rattle.std.specs.Prelude.{◌≡◌, ◌≢◌, ◌++◌, IfOk, IfErr, Ok, Err, true, false};
-ghost use Rattle.ehabi_top.specs.Loading.{status_of, stop_of_fault};
+ghost use Rattle.ehabi_top.specs.Loading.{closing_of, status_of, stop_of_fault};
 ghost use Rattle.ehabi_top.specs.Writes.{Answers, AnswersEnd, AnswersRun};
-ghost use Rattle.ehabi_top.specs.Text.{missing_line, too_long_line, trace_head, summary};
-ghost use Rattle.eh_trace.specs.Text.{trace_text};
-ghost use Rattle.eh_types.specs.Graph.{name_of};
+ghost use Rattle.ehabi_top.specs.Text.{missing_line, too_long_line, summary};
+ghost use Rattle.ehabi_top.specs.RunReport.{trace};
 ghost use Rattle.ehabi_top.specs.declared.status.TheConstants.{LACKING};
 ghost use Rattle.guest_gates.specs.Ends.{is_fault};
 
@@ -106,7 +105,7 @@ pub(crate) fn answer_run<O: Sink>(
     events: &Events,
     end: End,
 ) -> Result<u8, Stop>
-    ensures { AnswersRun (trace_head ++ trace_text accepted.now.image (name_of accepted.now.types) events.now) end result (O.written out.old) (O.written out.new) (O.faults out.old) (O.faults out.new) }
+    ensures { AnswersRun (closing_of (trace accepted.now events.now) end) end result (O.written out.old) (O.written out.new) (O.faults out.old) (O.faults out.new) }
 {
     let status = match status_of(end) {
         Ok(status) => status,
@@ -133,7 +132,7 @@ pub(crate) fn answer_summary<O: Sink>(
     events: &Events,
     end: End,
 ) -> Result<u8, Stop>
-    ensures { AnswersRun (summary functions events.now) end result (O.written out.old) (O.written out.new) (O.faults out.old) (O.faults out.new) }
+    ensures { AnswersRun (closing_of (summary functions events.now) end) end result (O.written out.old) (O.written out.new) (O.faults out.old) (O.faults out.new) }
 {
     let status = match status_of(end) {
         Ok(status) => status,

@@ -24,6 +24,7 @@ mod sources;
 pub mod status;
 mod stop;
 mod summary;
+mod walk;
 mod words;
 
 use answer::answer_text;
@@ -39,8 +40,10 @@ pub use sources::FILE_LIMIT;
 use status::{LACKING, NO_MEMORY, READ_FAILED, REFUSED, USAGE, WRITE_FAILED};
 use std::alloc::Global;
 pub use stop::Stop;
+pub use walk::MOST_FRAMES;
 pub use words::{
-    Form, MOST_DIGITS, MOST_FUNCTION_DIGITS, MOST_INSTRUCTIONS, MOST_NUMBER, MOST_SOURCES, form_of,
+    Form, MOST_DIGITS, MOST_FUNCTION_DIGITS, MOST_INSTRUCTIONS, MOST_NUMBER, MOST_SOURCES, Request,
+    Task, form_of,
 };
 
 // Does what the words ask for.
@@ -58,16 +61,16 @@ fn perform<F: Files, I: Source, O: Sink>(
     match form_of(words) {
         None => answer_text(
             out,
-            b"usage: ehabi_run flat FILE N | build FILE.. | check FILE.. | run FILE.. N | gen K M\n",
+            b"usage: ehabi_run flat FILE N | build FILE.. | check FILE.. | run FILE.. N | gen K M | walk FILE.. N\n",
             USAGE,
         ),
         Some(Form::Flat(name, budget)) => flat(alloc, name, budget, files, input, out),
         Some(Form::Build(names)) => build(alloc, names, files, out),
         Some(Form::Check(name)) => check_file(alloc, name, files, out),
         Some(Form::CheckSources(names)) => check_sources(alloc, names, files, out),
-        Some(Form::Run(name, budget)) => run(alloc, name, budget, files, input, out),
-        Some(Form::RunSources(names, budget)) => {
-            run_sources(alloc, names, budget, files, input, out)
+        Some(Form::Run(name, request)) => run(alloc, name, request, files, input, out),
+        Some(Form::RunSources(names, request)) => {
+            run_sources(alloc, names, request, files, input, out)
         }
         Some(Form::Generate(number, functions)) => count_program(alloc, number, functions, out),
     }
@@ -75,7 +78,7 @@ fn perform<F: Files, I: Source, O: Sink>(
 
 /// All that the program does. The words are those after the program's name, and the answer is its status:
 ///
-/// - 0: the guest exits with 0, `build` wrote the image, or `check` accepts it;
+/// - 0: the guest exits with 0, `build` wrote the image, `check` accepts it, or `walk` wrote the frames;
 /// - 1: the guest exits with another number;
 /// - 2: the words have no form;
 /// - 3: what the files hold, or a generated program, is refused, and the line says why;
@@ -92,7 +95,7 @@ pub fn ehabi_main<F: Files, I: Source, O: Sink>(
     out: &mut O,
 ) -> u8
     // Unless a read, a write or memory failed, it wrote all of the report, and answered its status. Of an accepted image that is run, the
-    // report is that of the machine with recorded activations too (`RunsImage`, `CountsImage`).
+    // report is that of the machine with recorded activations too (`RunsImage`, `CountsImage`); and so it is of one that is walked.
     ensures report { is_settled result ≡ true → IfTold (command_of (texts words.now)) (F.held files.old) (I.left input.old) (I.left input.new) (λ held bytes left.
         DoesWhole (command_of (texts words.now)) held bytes result left (O.written out.old) (O.written out.new)) }
 

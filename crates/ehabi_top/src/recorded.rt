@@ -3,8 +3,10 @@ ghost use Rattle.std.specs.Prelude.{◌≡◌};
 ghost use Rattle.two_machines.specs.Checked.{program_of};
 ghost use Rattle.two_machines.specs.Start.{start_of};
 ghost use Rattle.ehabi_top.specs.BothRuns.{RunSame, SlotsStay};
+ghost use Rattle.ehabi_top.specs.WalkReport.{WalkSame};
 
 use eh_bus::bus::Bus;
+use eh_walk::laws::{reaches_same, walks_same as all_walks_same};
 use frame_check::Accepted;
 use machines_agree::{runs_guard, runs_same as all_runs_same};
 
@@ -20,4 +22,17 @@ pub(crate) fn runs_same<B: Bus>(accepted: &Accepted, bus: &B)
     let _ = bus;
     all_runs_same();
     runs_guard();
+}
+
+/// From the start of an accepted image, over any bus that has its memory, the run to a site does the same in both machines, and the walks from
+/// where it comes to are the same.
+pub(crate) fn walks_same<B: Bus>(accepted: &Accepted, bus: &B)
+    requires start { B.memory bus.now ≡ (start_of (program_of accepted.now)).memory }
+    ensures { WalkSame accepted.now }
+{
+    accepted.holds();
+    let _ = accepted.image().functions();
+    let _ = bus;
+    reaches_same();
+    all_walks_same();
 }

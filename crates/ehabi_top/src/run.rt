@@ -1,10 +1,11 @@
-//! `run FILE N` and `run FILE.. N`: checks an image, or the one that sources are built to, and runs it where it is accepted
-//! (docs/command-line.md).
+//! `run FILE N`, `run FILE.. N`, and `walk` with these words: checks an image, or the one that sources are built to, and runs it where it is
+//! accepted (docs/command-line.md).
 ghost use Rattle.std.specs.Prelude.{Ok, Some};
 ghost use Rattle.frame_check.specs.Accepts.{IsAccepted};
 ghost use Rattle.ehabi_top.specs.CheckReport.{IsUnaccepted};
 ghost use Rattle.ehabi_top.specs.Report.{Does};
-ghost use Rattle.ehabi_top.specs.RunReport.{RunReportsOf, RunBytesReports, RunsAccepted};
+ghost use Rattle.ehabi_top.specs.RunReport.{RunsAccepted};
+ghost use Rattle.ehabi_top.specs.TaskReport.{RunReportsOf, RunBytesReports, DoesTask};
 ghost use Rattle.ehabi_top.specs.Words.{RunFile, RunSources, texts};
 ghost use Rattle.ehabi_top.specs.Yields.{Yields, shelf, streams};
 
@@ -17,6 +18,8 @@ use crate::refusal::answer_files_fault;
 use crate::sources::read_file;
 use crate::status::REFUSED;
 use crate::stop::Stop;
+use crate::walk::walk_accepted;
+use crate::words::{Request, Task};
 use eh_machine::Machine;
 use eh_port::{Files, Sink, Source};
 use elf_image::ImageFault;
@@ -46,22 +49,40 @@ fn run_accepted<I: Source, O: Sink>(
     answer_run(alloc, out, accepted, machine.events(), end)
 }
 
+// Does with an accepted image what is asked.
+fn do_task<I: Source, O: Sink>(
+    alloc: Global,
+    accepted: &Accepted,
+    request: Request,
+    input: &mut I,
+    out: &mut O,
+) -> Result<u8, Stop>
+    ensures { Yields (DoesTask request accepted.now) ⊥
+        (streams (I.left input.old) (I.faults input.old) (O.written out.old) (O.faults out.old))
+        (streams (I.left input.new) (I.faults input.new) (O.written out.new) (O.faults out.new)) result }
+{
+    match request.task {
+        Task::Run => run_accepted(alloc, accepted, request.budget, input, out),
+        Task::Walk => walk_accepted(alloc, accepted, request.budget, input, out),
+    }
+}
+
 // Checks an image, and runs it where it is accepted.
 fn run_image<I: Source, O: Sink>(
     alloc: Global,
     image: Image,
-    budget: u64,
+    request: Request,
     input: &mut I,
     out: &mut O,
 ) -> Result<u8, Stop>
-    ensures { Yields (RunReportsOf budget (Ok image.entry)) (¬ (IsAccepted image.entry))
+    ensures { Yields (RunReportsOf request (Ok image.entry)) (¬ (IsAccepted image.entry))
         (streams (I.left input.old) (I.faults input.old) (O.written out.old) (O.faults out.old))
         (streams (I.left input.new) (I.faults input.new) (O.written out.new) (O.faults out.new)) result }
 {
     match check(alloc, image) {
         Ok(accepted) => {
             accepted.holds();
-            run_accepted(alloc, &accepted, budget, input, out)
+            do_task(alloc, &accepted, request, input, out)
         }
         Err(fault) => answer_fault(alloc, out, &fault),
     }
@@ -71,16 +92,16 @@ fn run_image<I: Source, O: Sink>(
 fn run_bytes<I: Source, O: Sink>(
     alloc: Global,
     bytes: &[u8],
-    budget: u64,
+    request: Request,
     input: &mut I,
     out: &mut O,
 ) -> Result<u8, Stop>
-    ensures { Yields (RunBytesReports budget bytes.now) (IsUnaccepted bytes.now)
+    ensures { Yields (RunBytesReports request bytes.now) (IsUnaccepted bytes.now)
         (streams (I.left input.old) (I.faults input.old) (O.written out.old) (O.faults out.old))
         (streams (I.left input.new) (I.faults input.new) (O.written out.new) (O.faults out.new)) result }
 {
     match read_image(alloc, bytes) {
-        Ok(image) => run_image(alloc, image, budget, input, out),
+        Ok(image) => run_image(alloc, image, request, input, out),
         Err(fault) => {
             if fault == ImageFault::OutOfMemory {
                 return Err(Stop::Memory);
@@ -94,17 +115,17 @@ fn run_bytes<I: Source, O: Sink>(
 pub(crate) fn run<F: Files, I: Source, O: Sink>(
     alloc: Global,
     name: &str,
-    budget: u64,
+    request: Request,
     files: &mut F,
     input: &mut I,
     out: &mut O,
 ) -> Result<u8, Stop>
-    ensures { Does (Some (RunFile name.now budget)) (shelf (F.held files.old) (F.faults files.old)) (shelf (F.held files.new) (F.faults files.new))
+    ensures { Does (Some (RunFile name.now request)) (shelf (F.held files.old) (F.faults files.old)) (shelf (F.held files.new) (F.faults files.new))
         (streams (I.left input.old) (I.faults input.old) (O.written out.old) (O.faults out.old))
         (streams (I.left input.new) (I.faults input.new) (O.written out.new) (O.faults out.new)) result }
 {
     match read_file(alloc, name, files) {
-        Ok(Ok(bytes)) => run_bytes(alloc, bytes.as_slice(), budget, input, out),
+        Ok(Ok(bytes)) => run_bytes(alloc, bytes.as_slice(), request, input, out),
         Ok(Err(fault)) => answer_files_fault(out, &fault),
         Err(stop) => Err(stop),
     }
@@ -114,17 +135,17 @@ pub(crate) fn run<F: Files, I: Source, O: Sink>(
 pub(crate) fn run_sources<F: Files, I: Source, O: Sink>(
     alloc: Global,
     names: &[&str],
-    budget: u64,
+    request: Request,
     files: &mut F,
     input: &mut I,
     out: &mut O,
 ) -> Result<u8, Stop>
-    ensures { Does (Some (RunSources (texts names.now) budget)) (shelf (F.held files.old) (F.faults files.old)) (shelf (F.held files.new) (F.faults files.new))
+    ensures { Does (Some (RunSources (texts names.now) request)) (shelf (F.held files.old) (F.faults files.old)) (shelf (F.held files.new) (F.faults files.new))
         (streams (I.left input.old) (I.faults input.old) (O.written out.old) (O.faults out.old))
         (streams (I.left input.new) (I.faults input.new) (O.written out.new) (O.faults out.new)) result }
 {
     match built_files(alloc, names, files) {
-        Ok(Ok(bytes)) => run_bytes(alloc, bytes.as_slice(), budget, input, out),
+        Ok(Ok(bytes)) => run_bytes(alloc, bytes.as_slice(), request, input, out),
         Ok(Err(fault)) => answer_files_fault(out, &fault),
         Err(stop) => Err(stop),
     }

@@ -1,6 +1,6 @@
 //! The statuses of the program (docs/command-line.md).
 
-/// The guest exits with 0, `build` wrote the image, or `check` accepts it.
+/// The guest exits with 0, `build` wrote the image, `check` accepts it, or `walk` wrote the frames.
 pub const DONE: u8 = 0;
 /// The guest exits with another number.
 pub const EXITS: u8 = 1;

@@ -20,6 +20,23 @@ pub const MOST_NUMBER: u64 = 4_294_967_295;
 /// The most digits of how many functions a program is asked for.
 pub const MOST_FUNCTION_DIGITS: usize = 4;
 
+/// What the run of an accepted image is for.
+#[derive(Clone, Copy)]
+pub enum Task {
+    /// `run`: it is run, and no more.
+    Run,
+    /// `walk`: it goes on to a site, and a walk from there is written.
+    Walk,
+}
+
+/// What is asked of an accepted image.
+#[derive(Clone, Copy)]
+pub struct Request {
+    pub task: Task,
+    /// How many instructions may run, or before a walk at least do.
+    pub budget: u64,
+}
+
 /// What the words ask for.
 #[derive(Clone, Copy)]
 pub enum Form<'a> {
@@ -31,10 +48,10 @@ pub enum Form<'a> {
     Check(&'a str),
     /// `check FILE..`: the names of sources.
     CheckSources(&'a [&'a str]),
-    /// `run FILE N`: the name of an image, and how many instructions may run.
-    Run(&'a str, u64),
-    /// `run FILE.. N`: the names of sources, and how many instructions may run.
-    RunSources(&'a [&'a str], u64),
+    /// `run FILE N` and `walk FILE N`: the name of an image, and what is asked of it.
+    Run(&'a str, Request),
+    /// `run FILE.. N` and `walk FILE.. N`: the names of sources, and what is asked of the image that they are built to.
+    RunSources(&'a [&'a str], Request),
     /// `gen K M`: the number of a program, and how many functions it is asked for.
     Generate(u32, u32),
 }
@@ -141,25 +158,25 @@ fn check_form<'a>(names: &'a [&'a str]) -> Option<Form<'a>>
     Some(Form::Check(image_name(names)?))
 }
 
-// The files of `run`: sources, or one image.
+// The files of a run: sources, or one image.
 #[tactic(auto, unfolding(crate::specs::Words::files_command))]
-fn files_form<'a>(names: &'a [&'a str], budget: u64) -> Option<Form<'a>>
-    ensures { option_map command result ≡ files_command (texts names.now) budget }
+fn files_form<'a>(names: &'a [&'a str], request: Request) -> Option<Form<'a>>
+    ensures { option_map command result ≡ files_command (texts names.now) request }
 {
     if are_sources(names) {
-        return Some(Form::RunSources(names, budget));
+        return Some(Form::RunSources(names, request));
     }
-    Some(Form::Run(image_name(names)?, budget))
+    Some(Form::Run(image_name(names)?, request))
 }
 
-// `run FILE.. N`, without the first word.
+// `run FILE.. N` and `walk FILE.. N`, without the first word, which says the task.
 #[tactic(auto, unfolding(crate::specs::Words::run_command))]
-fn run_form<'a>(words: &'a [&'a str]) -> Option<Form<'a>>
-    ensures { option_map command result ≡ run_command (texts words.now) }
+fn run_form<'a>(task: Task, words: &'a [&'a str]) -> Option<Form<'a>>
+    ensures { option_map command result ≡ run_command task (texts words.now) }
 {
     let (number, names) = words.split_last()?;
     let budget = budget_of(number)?;
-    files_form(names, budget)
+    files_form(names, Request { task, budget })
 }
 
 // The number of a program.
@@ -210,8 +227,9 @@ pub fn form_of<'a>(words: &'a [&'a str]) -> Option<Form<'a>>
         "flat" => flat_form(rest),
         "build" => build_form(rest),
         "check" => check_form(rest),
-        "run" => run_form(rest),
+        "run" => run_form(Task::Run, rest),
         "gen" => gen_form(rest),
+        "walk" => run_form(Task::Walk, rest),
         _ => None,
     }
 }

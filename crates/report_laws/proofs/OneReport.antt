@@ -1,11 +1,21 @@
 -- A report of a run speaks of the program alone.
-use Rattle.std.proofs.Common.{◌≡◌, ℕ, List, [], ◌++◌, length, refl, sym, ap, ◌∙◌}
+use Rattle.std.proofs.Common.{◌≡◌, ℕ, List, [], ◌++◌, length, Option, refl, sym, ap, ◌∙◌}
+use Rattle.elf_image.specs.Image.{Image}
+use Rattle.eh_phase.specs.Phases.{Frames}
 use Rattle.eh_trace.specs.Text.{trace_text}
-use Rattle.eh_types.specs.Graph.{name_of}
+use Rattle.eh_trace.specs.Trace.{Trace}
+use Rattle.eh_types.specs.Graph.{Row, name_of}
+use Rattle.eh_walk.specs.Reaching.{Onward, run_to_site}
+use Rattle.eh_walk.specs.Text.{walk_text}
+use Rattle.eh_walk.specs.Walks.{frames_given, end_given, walk_of}
+use Rattle.eh_walk.specs.declared.walk.WalkEnd.{WalkEnd}
+use Rattle.eh_walk.specs.declared.walk.WalkEnd.TheVariants.{Root, NoUnwind, Most, NotSite}
+use Rattle.eh_walk.specs.declared.walk.WalkFrame.{WalkFrame}
 use Rattle.event_runs.specs.Runs.{Ran, ran_of}
 use Rattle.frame_check.specs.Accepts.{Accepted}
 use Rattle.eh_gates.specs.State.{State}
 use Rattle.thumb_core.specs.declared.ends.End.{End}
+use Rattle.thumb_core.specs.declared.ends.End.TheVariants.{Exit, Terminate, Trap, Budget, ReadFault, WriteFault}
 use Rattle.two_machines.specs.Checked.{program_of}
 use Rattle.two_machines.specs.Machine.{machine_of}
 use Rattle.two_machines.specs.Program.{Program}
@@ -13,9 +23,15 @@ use Rattle.two_machines.specs.Start.{start_of}
 use Rattle.accepted_laws.specs.OneReport.{ProgramsAreOne}
 use Rattle.ehabi_top.specs.BothRuns.{bytes_events}
 use Rattle.ehabi_top.specs.GenerateReport.{summary_report}
-use Rattle.ehabi_top.specs.Loading.{Report, ran_report, status_of}
-use Rattle.ehabi_top.specs.RunReport.{accepted_report}
+use Rattle.ehabi_top.specs.Loading.{Report, Closing, closing_of, ran_report, status_of}
+use Rattle.ehabi_top.specs.RunReport.{accepted_report, trace}
+use Rattle.ehabi_top.specs.TaskReport.{TaskReports}
 use Rattle.ehabi_top.specs.Text.{trace_head, end_line, summary}
+use Rattle.ehabi_top.specs.WalkReport.{accepted_walk, walk_closing, walk_report, walked, walked_by}
+use Rattle.ehabi_top.specs.declared.status.TheConstants.{DONE}
+use Rattle.ehabi_top.specs.declared.walk.TheConstants.{MOST_FRAMES}
+use Rattle.ehabi_top.specs.declared.words.Task.{Task}
+use Rattle.ehabi_top.specs.declared.words.Task.TheVariants.{Run, Walk}
 use Rattle.ehabi_top.specs.declared.words.TheConstants.{MOST_INSTRUCTIONS}
 use Rattle.report_laws.specs.OneReport.{ReportsAreOne, CountsAreOne}
 
@@ -28,10 +44,65 @@ is_by_program : (budget : ℕ) (a : Accepted) (input : List ℕ) → accepted_re
 unfolding accepted_report by_program
 is_by_program budget a input = refl
 
+-- .. and of a walk in it: what stands behind the guest's bytes rests on the image and its types
+module _ (a b : Accepted) (image : a.image ≡ b.image) (types : a.types ≡ b.types) (events : Trace) where
+  same_trace : trace a events ≡ trace b events
+  same_trace =
+      ap (λ (i : Image). trace_head ++ trace_text i (name_of a.types) events) image ∙ ap (λ (ts : List Row). trace_head ++ trace_text b.image (name_of ts) events) types
+
+  same_closing : (end : End) → closing_of (trace a events) end ≡ closing_of (trace b events) end
+  same_closing end = ap (λ (head : List ℕ). closing_of head end) same_trace
+
+  walk_behind : List ℕ → List ℕ → Closing
+  walk_behind head walk = record { text = head ++ walk; status = DONE }
+
+  same_walked : (frames : List WalkFrame) → walked a events frames ≡ walked b events frames
+  unfolding walk_behind
+  same_walked frames =
+      ap (λ (head : List ℕ). walk_behind head (walk_text a.image frames)) same_trace ∙ ap (λ (i : Image). walk_behind (trace b events) (walk_text i frames)) image
+
+  by_walk_end : (frames : List WalkFrame) (end : WalkEnd) → walked_by a events frames end ≡ walked_by b events frames end
+  by_walk_end frames NotSite = same_closing Budget
+  by_walk_end frames Root = same_walked frames
+  by_walk_end frames NoUnwind = same_walked frames
+  by_walk_end frames Most = same_walked frames
+
+  by_end : (walk : Option Frames) (end : End) → walk_closing a events walk end ≡ walk_closing b events walk end
+  by_end walk Budget = by_walk_end (frames_given MOST_FRAMES walk) (end_given MOST_FRAMES walk)
+  by_end walk (Exit number) = same_closing (Exit number)
+  by_end walk (Terminate cause) = same_closing (Terminate cause)
+  by_end walk (Trap kind value pc) = same_closing (Trap kind value pc)
+  by_end walk ReadFault = same_closing ReadFault
+  by_end walk WriteFault = same_closing WriteFault
+
+walk_by_program : ℕ → List ℕ → Accepted → Program → Report
+walk_by_program budget input a p = walk_report bytes_events (λ (s : State). walk_of p s.regs s.memory) a (run_to_site p budget (start_of p) input)
+
+is_walk_by_program : (budget : ℕ) (a : Accepted) (input : List ℕ) → accepted_walk budget a input ≡ walk_by_program budget input a (program_of a)
+unfolding accepted_walk walk_by_program
+is_walk_by_program budget a input = refl
+
+ended_by : List ℕ → List ℕ → Closing → Report
+ended_by text left c = record { text = text ++ c.text; status = c.status; left = left }
+
+-- .. but for what is told of the one that was accepted
+told_alike : (budget : ℕ) (input : List ℕ) (a b : Accepted) (p : Program) → a.image ≡ b.image → a.types ≡ b.types → walk_by_program budget input a p ≡ walk_by_program budget input b p
+unfolding walk_by_program ended_by
+told_alike budget input a b p i t =
+    let ran : Ran (Onward State) End = run_to_site p budget (start_of p) input in
+    ap (ended_by ran.text ran.left) (by_end a b i t (bytes_events ran.state.state) (walk_of p ran.state.state.regs ran.state.state.memory) ran.end)
+
+by_task : (task : Task) (budget : ℕ) (input : List ℕ) (a b : Accepted) (r q : Report) → program_of a ≡ program_of b → TaskReports task budget a input r → TaskReports task budget b input q → r ≡ q
+by_task Run budget input a b r q e x y =
+    x.is ∙ is_by_program budget a input ∙ ap (by_program budget input) e ∙ sym (is_by_program budget b input) ∙ sym y.is
+by_task Walk budget input a b r q e x y =
+    x.is ∙ is_walk_by_program budget a input ∙ ap (walk_by_program budget input a) e
+    ∙ told_alike budget input a b (program_of b) (ap (λ (p : Program). p.image) e) (ap (λ (p : Program). p.types) e)
+    ∙ sym (is_walk_by_program budget b input) ∙ sym y.is
+
 pub reports : ProgramsAreOne → ReportsAreOne
-reports one budget image input r q x y =
-    x.is ∙ is_by_program budget x.accepted input ∙ ap (by_program budget input) (one x.accepted y.accepted x.sound y.sound (x.same ∙ sym y.same))
-    ∙ sym (is_by_program budget y.accepted input) ∙ sym y.is
+reports one request image input r q x y =
+    by_task request.task request.budget input x.accepted y.accepted r q (one x.accepted y.accepted x.sound y.sound (x.same ∙ sym y.same)) x.does y.does
 
 -- .. of which the events are counted
 counted : List ℕ → Program → Report

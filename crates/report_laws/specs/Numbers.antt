@@ -3,8 +3,10 @@ use Rattle.std.specs.Prelude.{◌≡◌}
 use Rattle.ehabi_top.specs.declared.sources.TheConstants as ehabi_top-sources
 use Rattle.ehabi_top.specs.declared.words.TheConstants as ehabi_top-words
 use Rattle.ehabi_top.specs.declared.status.TheConstants as ehabi_top-status
+use Rattle.ehabi_top.specs.declared.walk.TheConstants as ehabi_top-walk
+use Rattle.eh_walk.specs.declared.reach.TheConstants as eh_walk-reach
 
--- the numbers that the definitions of ehabi_top cite
+-- the numbers that the definitions of ehabi_top and eh_walk cite
 pub record CommandNumbers : Type 0 where
   pub file_limit : ehabi_top-sources.FILE_LIMIT ≡ 4194304
   pub most_instructions : ehabi_top-words.MOST_INSTRUCTIONS ≡ 1000000000
@@ -12,6 +14,8 @@ pub record CommandNumbers : Type 0 where
   pub most_digits : ehabi_top-words.MOST_DIGITS ≡ 10
   pub most_number : ehabi_top-words.MOST_NUMBER ≡ 4294967295
   pub most_function_digits : ehabi_top-words.MOST_FUNCTION_DIGITS ≡ 4
+  pub most_frames : ehabi_top-walk.MOST_FRAMES ≡ 65536
+  pub most_further : eh_walk-reach.MOST_FURTHER ≡ 1000000
   pub done : ehabi_top-status.DONE ≡ 0
   pub exits : ehabi_top-status.EXITS ≡ 1
   pub usage : ehabi_top-status.USAGE ≡ 2

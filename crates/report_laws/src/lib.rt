@@ -6,7 +6,7 @@ ghost use Rattle.report_laws.specs.OneReport.{ReportsAreOne, CountsAreOne};
 
 use accepted_laws::programs_are_one;
 
-/// `run` has one report of an accepted image, a budget and an input.
+/// `run` has one report of an accepted image, a budget and an input, and so has `walk`.
 pub fn reports_are_one()
     ensures { ReportsAreOne }
 {

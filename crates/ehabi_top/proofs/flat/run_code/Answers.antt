@@ -5,11 +5,12 @@ use Rattle.eh_bus.specs.declared.map.TheConstants.{MAX_IMAGE_SIZE}
 use Rattle.elf_image.specs.declared.fault.ImageFault.TheVariants.{TooLarge}
 use Rattle.plain_run.specs.Machine.{flat_machine}
 use Rattle.ehabi_top.specs.FlatReport.{IsTooLarge, code_report, line_feed}
+use Rattle.ehabi_top.specs.Loading.{closing_of}
 use Rattle.ehabi_top.specs.Text.{image_fault_line}
 use Rattle.ehabi_top.specs.declared.status.TheConstants.{REFUSED}
 use Rattle.ehabi_top.specs.Yields.{Only}
 use Rattle.ehabi_top.proofs.FlatReports.{code_large, code_small}
-use Rattle.ehabi_top.proofs.Statuses.{says_unfit, refused_reported}
+use Rattle.ehabi_top.proofs.Statuses.{end_of_run, says_unfit, refused_reported}
 use Rattle.ehabi_top.proofs.Yielding.{yields_answer, yields_memory, yields_run, flat_some}
 use Rattle.ehabi_top.proofs.flat.run_code.Goals as goal
 
@@ -25,8 +26,8 @@ returns g c =
     let code = c.args.code.now in
     let small = c.if-code.false in
     let end = c.flat_run-end.result in
-    yields_run State flat_machine (λ _. refl) line_feed c.args.budget (code_start code) (Only (code_report c.args.budget code)) (MAX_IMAGE_SIZE < length code) (codes "\n") end _ _ _ _ _ _ _ _ _ _ _
-    (λ b. sym (code_small c.args.budget code b small)) (λ _. refl) (λ large. omega arith)
+    yields_run State flat_machine (λ _. refl) (λ s end. closing_of (line_feed s) end) c.args.budget (code_start code) (λ s end fine. end_of_run end fine) (Only (code_report c.args.budget code)) (MAX_IMAGE_SIZE < length code) (codes "\n") end _ _ _ _ _ _ _ _ _ _ _
+    (λ b. sym (code_small c.args.budget code b small)) (λ _ _. refl) (λ large. omega arith)
     (flat_some c.args.budget (code_start code) end _ _ _ _ _ (rw (c.start_regs-regs.ensures, c.in-Ok.ensures) at c.flat_run-end.ensures.told))
     c.flat_run-end.ensures.read c.flat_run-end.ensures.write c.flat_run-end.ensures.out_later c.answer_end.ensures
 

@@ -4,17 +4,19 @@ use Rattle.two_machines.specs.Checked.{program_of}
 use Rattle.two_machines.specs.Machine.{machine_of}
 use Rattle.two_machines.specs.Start.{start_of}
 use Rattle.ehabi_top.specs.BothRuns.{bytes_events}
+use Rattle.ehabi_top.specs.Loading.{closing_of}
 use Rattle.ehabi_top.specs.RunReport.{RunsAccepted, accepted_report, trace}
 use Rattle.ehabi_top.proofs.RunReports.{run_accepted}
-use Rattle.ehabi_top.proofs.Yielding.{yields_said, yields_memory}
+use Rattle.ehabi_top.proofs.Statuses.{end_of_run}
+use Rattle.ehabi_top.proofs.Yielding.{run_some, yields_said, yields_memory}
 use Rattle.ehabi_top.proofs.run.run_accepted.Goals as goal
 
 pub returns : goal.returns
 unfolding accepted_report
 returns g c =
     let a = c.args.accepted.now in
-    yields_said State (machine_of (program_of a)) (λ _. refl) (λ s. trace a (bytes_events s)) c.args.budget (start_of (program_of a)) (RunsAccepted c.args.budget a) ⊥ _ _ c.run-end.result _ _ _ _ _ _ _ _ _ _ _
-    (λ b. run_accepted c.args.budget a b c.runs_same.ensures.same c.runs_same.ensures.guarded) (λ l. l) (rw (c.in-Ok.ensures.program, c.in-Ok.ensures.budget, c.in-Ok.ensures.state) at c.run-end.ensures.told) c.run-end.ensures.faults.input.rose c.run-end.ensures.faults.out.rose
+    yields_said State (machine_of (program_of a)) (λ _. refl) (λ s end. closing_of (trace a (bytes_events s)) end) c.args.budget (start_of (program_of a)) (λ s end fine. end_of_run end fine) (RunsAccepted c.args.budget a) ⊥ _ c.run-end.result _ _ _ _ _ _ _ _ _ _ _
+    (λ b. run_accepted c.args.budget a b c.runs_same.ensures.same c.runs_same.ensures.guarded) (λ l. l) (run_some (program_of a) c.args.budget (start_of (program_of a)) c.run-end.result _ _ _ _ _ _ (rw (c.in-Ok.ensures.program, c.in-Ok.ensures.budget, c.in-Ok.ensures.state) at c.run-end.ensures.told)) c.run-end.ensures.faults.input.rose c.run-end.ensures.faults.out.rose
     c.run-end.ensures.faults.out.later c.run-end.ensures.faults.input.kept c.run-end.ensures.faults.out.kept (rw c.events.ensures at c.answer_run.ensures)
 
 pub returns-in-Err : goal.returns-in-Err
