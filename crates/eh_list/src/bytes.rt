@@ -43,16 +43,18 @@ pub fn push_zeros(out: &mut Vec<u8>, count: usize) -> Result<(), AllocError>
     }
 }
 
-/// Adds a number of two bytes at the end.
+/// Adds a number of two bytes at the end. Without memory nothing is added.
 pub fn push_half(out: &mut Vec<u8>, half: u16) -> Result<(), AllocError>
-    ensures { OnOk result (out.new.items ≡ out.old.items ++ little_bytes 2 half) }
+    ensures ok { OnOk result (out.new.items ≡ out.old.items ++ little_bytes 2 half) }
+    ensures err { OnErr result (out.new.items ≡ out.old.items) }
 {
     out.extend_from_slice(&half.to_le_bytes())
 }
 
-/// Adds a number of four bytes at the end.
+/// Adds a number of four bytes at the end. Without memory nothing is added.
 pub fn push_word(out: &mut Vec<u8>, word: u32) -> Result<(), AllocError>
-    ensures { OnOk result (out.new.items ≡ out.old.items ++ little_bytes 4 word) }
+    ensures ok { OnOk result (out.new.items ≡ out.old.items ++ little_bytes 4 word) }
+    ensures err { OnErr result (out.new.items ≡ out.old.items) }
 {
     out.extend_from_slice(&word.to_le_bytes())
 }
