@@ -27,7 +27,8 @@ use Rattle.steps_keep.proofs.eh_cxa.Pools.{object_small}
 use Rattle.steps_keep.proofs.eh_cxa.ThrowLaws.{FitThrow}
 use Rattle.steps_keep.proofs.eh_cxa.Zeros.{first_same}
 use Rattle.steps_keep.specs.eh_gates.Laws.{AreHeads}
-use Rattle.steps_keep.proofs.two_machines.CallGates.{allocate_keeps, left}
+use Rattle.steps_keep.proofs.two_machines.CallGates.{left}
+use Rattle.steps_keep.proofs.two_machines.WithLists.{allocate_keeps}
 use Rattle.steps_keep.proofs.two_machines.InStep.{same_slot, are_heads}
 use Rattle.steps_keep.specs.stands_for.Chain.{StandsAt, code}
 use Rattle.steps_keep.specs.stands_for.Cleanups.{goal_at, IsHeld, IsWithin, AreInProgress}

@@ -11,10 +11,10 @@ use Rattle.eh_cxa.specs.declared.globals.CxaFault.TheVariants.{TooBig}
 use Rattle.eh_cxa.specs.declared.layout.TheConstants.{SLOTS, STATE, COUNT, NEXT_CAUGHT, OBJECT_BYTES}
 use Rattle.eh_cxa.specs.declared.state.TheConstants.{FREE}
 use Rattle.eh_cxa.specs.States.{named, may_be_freed}
-use Rattle.eh_cxa.specs.Allocate.{first_slot, allocate_at, allocate_of, free_by, free_of}
+use Rattle.eh_cxa.specs.Allocate.{allocate_at, allocate_of, free_by, free_of}
 use Rattle.eh_cxa.specs.Catch.{catch_fault, catch_by, catch_at, catch_in, begin_catch_of, Fall, stays, falls, ends, leaves, fall, end_catch_by, end_catch_at, end_catch_of}
-use Rattle.eh_cxa.specs.ListCalls.{is_free, allocate_in, allocate_list, free_by_list, free_list, catch_by_list, catch_entry, catch_list, end_by_list, end_entry, end_from, end_list, fall_of}
-use Rattle.eh_cxa.specs.Lists.{Record, Entry, Free, OutOfUse, Live, Lists, entry, state_in, count_in}
+use Rattle.eh_cxa.specs.ListCalls.{allocate_list, free_list, end_list}
+use Rattle.eh_cxa.specs.Lists.{Lists, entry, count_in}
 use Rattle.eh_cxa.specs.Lists.{Outcome as Call}
 use Rattle.eh_cxa.specs.Stands.{Chain, Stands, Follows}
 use Rattle.eh_cxa.specs.Words.{Pool, Write, Done, Wrote, word, block, put_all, made, block_slot, object_slot}
@@ -31,60 +31,8 @@ use Rattle.two_machines.specs.Activations.{Recorded, reg_in, memory_of, words_in
 use Rattle.two_machines.specs.ActivationMachine as acts
 use Rattle.two_machines.specs.Corresponds.{Corresponds, GateMatches, WalksNone}
 use Rattle.two_machines.proofs.FirstEvent.{segments_alone}
-use Rattle.two_machines.proofs.WithLists.{lists_are, heads_same}
+use Rattle.two_machines.proofs.WithLists.{lists_are, heads_same, allocate_keeps, free_keeps, catch_keeps, end_keeps}
 use Rattle.two_machines.proofs.InStep.{catch_heads, end_heads, same_slot, same_count, heads_are, are_heads}
-
--- ---- the lists' cleanups stay
-
-pub allocate_keeps : (l : Lists) (size : ℕ) → (allocate_list l size).lists.cleanups ≡ l.cleanups
-allocate_keeps l size = by_size (nat_lt OBJECT_BYTES size)
-  where
-    by_slot : (o : Option ℕ) → (allocate_in l size o).lists.cleanups ≡ l.cleanups
-    by_slot None = refl
-    by_slot (Some s) = refl
-
-    by_size : (b : Bool) → (cond b (record { answer = Err TooBig; lists = l }) (allocate_in l size (first_slot (λ s. is_free (entry l s))))).lists.cleanups ≡ l.cleanups
-    by_size true = refl
-    by_size false = by_slot (first_slot (λ s. is_free (entry l s)))
-
-free_keeps : (l : Lists) (o : Option ℕ) → (free_list l o).lists.cleanups ≡ l.cleanups
-free_keeps l None = refl
-free_keeps l (Some s) = by (may_be_freed (state_in (entry l s)))
-  where
-    by : (b : Bool) → (free_by_list b l s).lists.cleanups ≡ l.cleanups
-    by true = refl
-    by false = refl
-
-catch_keeps : (given : ℕ → ℕ) (l : Lists) (o : Option ℕ) → (catch_list given l o).lists.cleanups ≡ l.cleanups
-catch_keeps given l None = refl
-catch_keeps given l (Some s) = by_entry (entry l s)
-  where
-    by_fault : (r : Record) (f : Option CxaFault) → (catch_by_list (given s) l s r f).lists.cleanups ≡ l.cleanups
-    by_fault r (Some why) = refl
-    by_fault r None = refl
-
-    by_entry : (e : Entry) → (catch_entry (given s) l s e).lists.cleanups ≡ l.cleanups
-    by_entry Free = refl
-    by_entry OutOfUse = refl
-    by_entry (Live r) = by_fault r _
-
-end_keeps : (l : Lists) → (end_list l).lists.cleanups ≡ l.cleanups
-end_keeps l = by_list l.caught
-  where
-    by_fall : (s : ℕ) (more : List ℕ) (r : Record) (f : Fall ℤ) → (end_by_list l s more r f).lists.cleanups ≡ l.cleanups
-    by_fall s more r stays = refl
-    by_fall s more r (falls n) = refl
-    by_fall s more r ends = refl
-    by_fall s more r leaves = refl
-
-    by_entry : (s : ℕ) (more : List ℕ) (e : Entry) → (end_entry l s more e).lists.cleanups ≡ l.cleanups
-    by_entry s more Free = refl
-    by_entry s more OutOfUse = refl
-    by_entry s more (Live r) = by_fall s more r (fall_of r.count)
-
-    by_list : (xs : List ℕ) → (end_from l xs).lists.cleanups ≡ l.cleanups
-    by_list [] = refl
-    by_list (s ∷ more) = by_entry s more (entry l s)
 
 -- ---- what a call writes by the words of lists it writes by the words that stand for them
 

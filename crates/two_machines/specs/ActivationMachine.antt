@@ -71,7 +71,7 @@ use Rattle.eh_gates.specs.Throwing.{handed, barrier_words, throw_event, barrier_
 use Rattle.eh_gates.specs.Resuming.{goal_in}
 use Rattle.two_machines.specs.Program.{Program, guide}
 use Rattle.two_machines.specs.Machine.{sp_end, way_end, fell_off, saved_words}
-use Rattle.two_machines.specs.Activations.{Caller, Activation, InProgress, Recorded, callee, with_caller, registers_of, released_in, freed_in, staying, with_slots, lists_of, reg_in, memory_of, words_in, heads, with_words, with_lists, first_place, frames_at}
+use Rattle.two_machines.specs.Activations.{Caller, Activation, InProgress, Recorded, callee, with_caller, registers_of, released_in, freed_in, staying, with_slots, lists_of, reg_in, memory_of, words_in, heads, with_words, with_lists, first_place, frames_at, cleanups_in}
 
 -- ---- what a gate does
 
@@ -369,7 +369,7 @@ way_end_of p s branches (Trap trap) regs = None
 
 abbrev pub tests : Program → Recorded → Stepped → Regs → Option End
 tests p s what regs =
-    option_or (sp_end (innermost_in (lists_of s).cleanups) s.home.0 s.regs.pc (reg_in s SP) (slice_index regs.r SP))
+    option_or (sp_end (innermost_in (cleanups_in s.cleanups)) s.home.0 s.regs.pc (reg_in s SP) (slice_index regs.r SP))
     (way_end_of p s (branches_some (instr_at (memory_of s) s.regs.pc) s.regs) what regs)
 
 -- the slots behind an instruction: a push adds those of its words that are saves to the first activation's, and where sp rose those below
