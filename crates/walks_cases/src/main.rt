@@ -1,0 +1,61 @@
+//! Asks walks of states that no run comes to: a machine stands behind so many events of a program, its registers are changed, and its frames
+//! are told from there (docs/walks.md). A row is a source of data/, commands, and the answer to the last of them, by hand from that page.
+#![tactic(auto)]
+
+mod desk;
+
+use case_rows::{Asked, Unanswered, first_word, numbers, run_file};
+use desk::{Desk, answer};
+use elf_image::read::read_image;
+use frame_check::check;
+use source_images::image_of_sources;
+use std::alloc::Global;
+use std::fs;
+use std::io::Error;
+
+/// What is asked of sources of data/.
+#[derive(Drop)]
+struct InSources<'h> {
+    host: &'h HostRuntime,
+}
+
+/// The bytes of the image of a source and of the stubs.
+fn built(host: &HostRuntime, name: &str) -> Result<Vec<u8>, Unanswered> {
+    let mut texts = Vec::new(host.alloc());
+    texts.push(fs::read_to_string(host, name)?)?;
+    match image_of_sources(host.alloc(), texts.as_slice()) {
+        Some(file) => Ok(file),
+        None => Err(Unanswered::NotKnown),
+    }
+}
+
+/// The answer to the last of some commands with `; ` between them, over an image that the checker accepts.
+fn over(alloc: Global, file: &[u8], commands: &str) -> Result<String, Unanswered> {
+    let Ok(image) = read_image(alloc, file) else {
+        return Err(Unanswered::Because("no image"));
+    };
+    let Ok(accepted) = check(alloc, image) else {
+        return Err(Unanswered::Because("refused"));
+    };
+    let mut desk = Desk::start(alloc, &accepted)?;
+    let mut said = String::new(alloc);
+    for command in commands.split("; ") {
+        let (what, rest) = first_word(command);
+        let given = numbers(alloc, rest)?;
+        said = answer(alloc, &mut desk, what, given.as_slice())?;
+    }
+    Ok(said)
+}
+
+impl<'h> Asked for InSources<'h> {
+    /// A source, and commands behind it.
+    fn answer(&self, alloc: Global, question: &str) -> Result<String, Unanswered> {
+        let (name, commands) = question.split_once("; ").unwrap_or((question, ""));
+        let file = built(self.host, name)?;
+        over(alloc, file.as_slice(), commands)
+    }
+}
+
+fn main(host: HostRuntime) -> Result<(), Error> {
+    run_file(&host, "states.txt", &InSources { host: &host })
+}
