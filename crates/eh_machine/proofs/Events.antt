@@ -1,9 +1,11 @@
 -- One event, from what the parts of a call have done.
 use Rattle.std.specs.Prelude.{MatchOption}
-use Rattle.std.proofs.Common.{◌≡◌, ℕ, nat_lt, List, [], Bool, true, false, Option, Some, None, IfSome, Result, Ok, Err, refl, sym, ap, subst, ◌∙◌, arith}
+use Rattle.std.proofs.Common.{◌≡◌, ℕ, ◌<◌, nat_lt, List, [], Bool, true, false, Option, Some, None, IfSome, Result, Ok, Err, refl, sym, ap, subst, ◌∙◌, arith}
 use Rattle.std.specs.Bool.{OnFalse, OnTrue}
 use Rattle.std.proofs.KnownBytes.{Appends-nil}
+use Rattle.std.proofs.lemmas.List.Elements.{All-nil}
 use Rattle.event_runs.specs.Runs.{Goes, GoesOn, Fails, EndsBy}
+use Rattle.given_input.specs.Given.{OnGiven}
 use Rattle.guest_gates.specs.declared.gates.TheConstants.{INPUT_GATE}
 use Rattle.guest_gates.specs.Ends.{is_fault}
 use Rattle.guest_gates.specs.Gates.{gate_event, gate_may_fail}
@@ -146,6 +148,39 @@ as_gate p s t what number is e = let one : Stepped → Passed = λ w. (Ok w, t) 
 pub ok_gate : (what : Stepped) (number : ℕ) → what ≡ Gate number → ◌≡◌ {A = Result Stepped End} (Ok what) (Ok (Gate number))
 ok_gate what number is = ap Ok is
 
+-- ---- on bytes that were given
+
+-- nothing was asked for
+given_none : (p : Program) (s : State) (result : Turned) (new : State) (before : Option (List ℕ)) → TurnedOnce p s [] result new (Some []) before before
+    → OnGiven (λ bytes left. TurnedOnce p s bytes result new left before before)
+given_none p s result new before t = record { bytes = []; left = []; are = All-nil (λ (b : ℕ). b < 256); done = t }
+
+pub given_end : (before : Option (List ℕ)) (p : Program) (s : State) (end : End) (new : State) → (Err end, new) ≡ passed p s → is_fault end ≡ false
+    → OnGiven (λ bytes left. TurnedOnce p s bytes (Ended end) new left before before)
+given_end before p s end new e fine = given_none p s (Ended end) new before (end_turned (Some []) before p s end new e fine)
+
+pub given_plain : (before : Option (List ℕ)) (p : Program) (s : State) (what : Stepped) (new : State) → (Ok what, new) ≡ passed p s
+    → ((number : ℕ) → what ≡ Gate number → ⊥) → OnGiven (λ bytes left. TurnedOnce p s bytes Went new left before before)
+given_plain before p s what new e h = given_none p s Went new before (plain_turned (Some []) before p s what new e h)
+
+pub given_gate_told : (before : Option (List ℕ)) (p : Program) (s t new back : State) (number : ℕ) (result : Turned) (image : Image) (types : List Row)
+    → (Ok (Gate number), t) ≡ passed p s → nat_lt INPUT_GATE number ≡ true → (result, new) ≡ gate_of (guide_of image types) number t.regs.pc back
+    → image ≡ p.image → types ≡ p.types → back ≡ s → ((end : End) → result ≡ Ended end → is_fault end ≡ false)
+    → OnGiven (λ bytes left. TurnedOnce p s bytes result new left before before)
+given_gate_told before p s t new back number result image types e high g ei et eb honest =
+    given_none p s result new before (gate_told (Some []) before p s t new back number result image types e high g ei et eb honest)
+
+-- a gate of every machine, which may be given a byte
+pub given_gate : (before now : Option (List ℕ)) (p : Program) (s t : State) (number pc : ℕ) (regs : Regs) (result : Option End) → (Ok (Gate number), t) ≡ passed p s
+    → nat_lt INPUT_GATE number ≡ false → with_pc_of t pc ≡ s
+    → OnGiven (λ bytes left. let old : Regs = record t.regs { pc = pc } in
+    MatchOption result (GoesOn (gate_event number old t.regs bytes) regs left before now)
+    (λ end. EndsBy is_fault (gate_may_fail number) (gate_event number old t.regs bytes) end old regs bytes left before now))
+    → OnGiven (λ bytes left. MatchOption result (TurnedOnce p s bytes Went (record t { regs = regs }) left before now)
+    (λ end. TurnedOnce p s bytes (Ended end) (record t { regs = regs }) left before now))
+given_gate before now p s t number pc regs result e low back g =
+    record { bytes = g.bytes; left = g.left; are = g.are; done = plain_gate_told (Some g.bytes) (Some g.left) before now p s t number pc regs result e low back g.done }
+
 -- ---- the counts of faults
 
 -- one that stayed, where no fault of it ended the call
@@ -157,6 +192,20 @@ pub calm : (IsEnd : End → Type 0) (read wrote : ℕ) → ((end : End) → IsEn
 calm IsEnd read wrote inside = record {
   input = stays (IsEnd ReadFault) read (λ e. let h = inside ReadFault e in cc);
   out = stays (IsEnd WriteFault) wrote (λ e. let h = inside WriteFault e in cc);
+}
+
+pub calm_end : (end : End) (read wrote : ℕ) → is_fault end ≡ false → CountsFaults (λ other. Ended end ≡ Ended other) read read wrote wrote
+calm_end end read wrote fine = calm (λ other. Ended end ≡ Ended other) read wrote (λ other e. subst (λ (x : End). is_fault x ≡ false) (ended_is end other e) fine)
+
+-- an end of an event is that of the run; the counts stood as at its start
+counted_from : (failed failed' : Type 0) (first before now : ℕ) → before ≡ first → (failed' → failed) → (failed → failed') → IsCounted failed before now → IsCounted failed' first now
+counted_from failed failed' first before now e there back w = subst (λ (n : ℕ). IsCounted failed' n now) e (record { rose = λ f. w.rose (there f); later = w.later; kept = λ never. w.kept (λ f. never (back f)) })
+
+pub ended_counts : (end : End) (read before read' wrote between wrote' : ℕ) → before ≡ read → between ≡ wrote
+    → CountsFaults (λ other. Ended end ≡ Ended other) before read' between wrote' → CountsFaults (λ other. end ≡ other) read read' wrote wrote'
+ended_counts end read before read' wrote between wrote' r o w = record {
+  input = counted_from (Ended end ≡ Ended ReadFault) (end ≡ ReadFault) read before read' r (λ e. ap Ended e) (ended_is end ReadFault) w.input;
+  out = counted_from (Ended end ≡ Ended WriteFault) (end ≡ WriteFault) wrote between wrote' o (λ e. ap Ended e) (ended_is end WriteFault) w.out;
 }
 
 pub calm_went : (read wrote : ℕ) → CountsFaults (λ end. Went ≡ Ended end) read read wrote wrote

@@ -17,7 +17,8 @@ use Rattle.eh_bus.specs.Memory.{Memory}
 use Rattle.eh_gates.specs.declared.state.Turned.{Turned}
 use Rattle.eh_gates.specs.declared.state.Turned.TheVariants.{Went, Ended}
 use Rattle.eh_gates.specs.State.{State}
-use Rattle.frame_check.specs.Accepts.{Accepted}
+use Rattle.elf_image.specs.Image.{IsSound as IsImage}
+use Rattle.frame_check.specs.Accepts.{Accepted, IsSound}
 use Rattle.two_machines.specs.Program.{Program}
 use Rattle.two_machines.specs.Machine as bytes
 use Rattle.two_machines.specs.Activations.{Recorded, reg_in, memory_of, bytes_of}
@@ -29,7 +30,7 @@ use Rattle.stands_for.specs.Stands.{Keeps, IsProgram, OnEvent}
 use Rattle.machines_agree.specs.Turned.{AreBytes}
 use Rattle.machines_agree.proofs.OneEvent.{turns}
 use Rattle.eh_machine.specs.Turns.{TurnedOnce}
-use Rattle.eh_machine.specs.Follows.{WentAlike, EndedAlike, TurnedAlike, FollowsOnce}
+use Rattle.eh_machine.specs.Follows.{StartsInMap, WentAlike, EndedAlike, TurnedAlike, FollowsOnce}
 
 -- ---- faults may come at the same events
 
@@ -157,11 +158,14 @@ module _ (x : Accepted) (s : Recorded) (is : IsProgram x) (k : Keeps x s) (input
   turned Went new t = went new t
   turned (Ended end) new t = ended end new (is_fault end) refl t
 
+-- what holds of every accepted image
+pub accepted_is : (x : Accepted) → IsImage x.image → IsSound x → StartsInMap x → IsProgram x
+accepted_is x image sound map = record { image = image; sound = sound; map = map }
+
 -- what is told of a call says it
-pub follows_once : (told left before now : Option (List ℕ)) (p : Program) (old new : State) (result : Turned)
-    → IfSome told (λ input. TurnedOnce p old input result new left before now) → IfSome told (λ input. FollowsOnce p old input result new left before now)
-follows_once None left before now p old new result t = tt
-follows_once (Some input) left before now p old new result t = λ fits x s is e r.
-    turned x s is r.keeps input fits left before now result new
-    (subst (λ (b : State). TurnedOnce (program_of x) b input result new left before now) r.same
-    (subst (λ (q : Program). TurnedOnce q old input result new left before now) e t))
+pub follows_once : (told left before now : Option (List ℕ)) (x : Accepted) (old new : State) (result : Turned) → IsImage x.image → IsSound x
+    → IfSome told (λ input. TurnedOnce (program_of x) old input result new left before now) → IfSome told (λ input. FollowsOnce x old input result new left before now)
+follows_once None left before now x old new result image sound t = tt
+follows_once (Some input) left before now x old new result image sound t = λ fits s map r.
+    turned x s (accepted_is x image sound map) r.keeps input fits left before now result new
+    (subst (λ (b : State). TurnedOnce (program_of x) b input result new left before now) r.same t)

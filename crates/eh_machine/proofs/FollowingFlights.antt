@@ -1,6 +1,6 @@
 -- The start of a run and a flight to a barrier, of an accepted image: the same with recorded activations.
 use Rattle.std.proofs.Common.{◌≡◌, ℕ, List, sym, ap, subst, ◌∙◌}
-use Rattle.elf_image.specs.Image.{Image}
+use Rattle.elf_image.specs.Image.{Image, IsSound as IsImage}
 use Rattle.eh_types.specs.Graph.{Row}
 use Rattle.eh_bus.specs.Memory.{Memory}
 use Rattle.eh_cxa.specs.Runs.{no_globals}
@@ -16,8 +16,8 @@ use Rattle.eh_gates.specs.declared.state.Turned.{Turned}
 use Rattle.eh_gates.specs.declared.state.Turned.TheVariants.{Went, Ended}
 use Rattle.eh_gates.specs.State.{State, Outcome, guide_of}
 use Rattle.eh_gates.specs.Throwing.{throw_to}
-use Rattle.frame_check.specs.Accepts.{Accepted}
-use Rattle.two_machines.specs.Program.{Program, guide}
+use Rattle.frame_check.specs.Accepts.{Accepted, IsSound}
+use Rattle.two_machines.specs.Program.{guide}
 use Rattle.two_machines.specs.Start.{start_of}
 use Rattle.two_machines.specs.Checked.{program_of}
 use Rattle.two_machines.specs.Activations.{Recorded, bytes_of}
@@ -27,24 +27,25 @@ use Rattle.stands_for.specs.Stands.{Keeps, IsProgram}
 use Rattle.resumes_keep.specs.Flying.{fly_from, CanFly}
 use Rattle.stands_for.proofs.First.{starts_stand}
 use Rattle.resumes_keep.proofs.FlyFrom.{gates_fly, flights_match}
+use Rattle.eh_bus.specs.Map.{IsMap}
 use Rattle.eh_machine.specs.Follows.{StartsAlike, FlownAlike, FollowsFlight}
+use Rattle.eh_machine.proofs.Following.{accepted_is}
 
-start_follows : (p : Program) (new : State) → new ≡ start_of p → StartsAlike p new
-start_follows p new e = λ x is q. record { same = e ∙ ap start_of q; keeps = starts_stand x is }
+start_follows : (x : Accepted) (new : State) → IsProgram x → new ≡ start_of (program_of x) → StartsAlike x new
+start_follows x new is e = record { map = is.map; stands = record { same = e; keeps = starts_stand x is } }
 
 -- as the call makes it: registers of the image's entry, and its memory
-pub start_told : (p : Program) (regs : Regs) (globals : Globals) (memory : Memory) (events : Trace) (entry : ℕ) (image index : Image)
+pub start_told : (x : Accepted) (regs : Regs) (globals : Globals) (memory : Memory) (events : Trace) (entry : ℕ) (image : Image) → IsImage x.image → IsSound x → IsMap memory
     → regs ≡ start_regs entry → entry ≡ image.entry → globals ≡ no_globals → memory ≡ (image_start image).memory → events ≡ no_events
-    → image ≡ index → index ≡ p.image → StartsAlike p (record { regs = regs; globals = globals; memory = memory; events = events })
-start_told p regs globals memory events entry image index r at g m e same is =
-    let whose : image ≡ p.image = same ∙ is in
-    let regs_are : regs ≡ start_regs p.image.entry = r ∙ ap start_regs (at ∙ ap (λ (i : Image). i.entry) whose) in
-    let memory_is : memory ≡ (image_start p.image).memory = m ∙ ap (λ (i : Image). (image_start i).memory) whose in
+    → image ≡ x.image → StartsAlike x (record { regs = regs; globals = globals; memory = memory; events = events })
+start_told x regs globals memory events entry image of sound map r at g m e whose =
+    let regs_are : regs ≡ start_regs x.image.entry = r ∙ ap start_regs (at ∙ ap (λ (i : Image). i.entry) whose) in
+    let memory_is : memory ≡ (image_start x.image).memory = m ∙ ap (λ (i : Image). (image_start i).memory) whose in
     let one : Regs → State = λ v. record { regs = v; globals = globals; memory = memory; events = events } in
-    let two : Globals → State = λ v. record { regs = start_regs p.image.entry; globals = v; memory = memory; events = events } in
-    let three : Memory → State = λ v. record { regs = start_regs p.image.entry; globals = no_globals; memory = v; events = events } in
-    let four : Trace → State = λ v. record { regs = start_regs p.image.entry; globals = no_globals; memory = (image_start p.image).memory; events = v } in
-    start_follows p _ (ap one regs_are ∙ ap two g ∙ ap three memory_is ∙ ap four e)
+    let two : Globals → State = λ v. record { regs = start_regs x.image.entry; globals = v; memory = memory; events = events } in
+    let three : Memory → State = λ v. record { regs = start_regs x.image.entry; globals = no_globals; memory = v; events = events } in
+    let four : Trace → State = λ v. record { regs = start_regs x.image.entry; globals = no_globals; memory = (image_start x.image).memory; events = v } in
+    start_follows x _ (accepted_is x of sound (subst (λ (n : Memory). IsMap n) memory_is map)) (ap one regs_are ∙ ap two g ∙ ap three memory_is ∙ ap four e)
 
 module _ (x : Accepted) (is : IsProgram x) (s : Recorded) (k : Keeps x s) (site slot : ℕ) (b : Barrier) (can : CanFly x s site slot b) where
   -- an outcome over bytes that matches one with recorded activations
@@ -65,18 +66,18 @@ module _ (x : Accepted) (is : IsProgram x) (s : Recorded) (k : Keeps x s) (site 
       let q = fly_from (guide (program_of x)) site (block slot) b s in
       alike result new q f (subst (λ (o : Outcome). OutcomesMatch o q) (sym e) w.same.same) w.keeps
 
-flight_follows : (p : Program) (old new : State) (site control : ℕ) (b : Barrier) (result : Turned)
-    → ◌≡◌ {A = Outcome} (result, new) (throw_to (guide p) old site control b) → FollowsFlight p old site control b result new
-flight_follows p old new site control b result e = λ x s is q r slot at can.
+flight_follows : (x : Accepted) (old new : State) (site control : ℕ) (b : Barrier) (result : Turned) → IsImage x.image → IsSound x
+    → ◌≡◌ {A = Outcome} (result, new) (throw_to (guide (program_of x)) old site control b) → FollowsFlight x old site control b result new
+flight_follows x old new site control b result image sound e = λ s map r slot at can.
     let is_block : control ≡ block slot = slot_block control slot at in
     let told : ◌≡◌ {A = Outcome} (result, new) (throw_to (guide (program_of x)) (bytes_of s) site (block slot) b) =
-    e ∙ ap (λ (c : Program). throw_to (guide c) old site control b) q ∙ ap (λ (o : State). throw_to (guide (program_of x)) o site control b) r.same
+    e ∙ ap (λ (o : State). throw_to (guide (program_of x)) o site control b) r.same
     ∙ ap (λ (c : ℕ). throw_to (guide (program_of x)) (bytes_of s) site c b) is_block in
-    subst (λ (c : ℕ). FlownAlike x s site c b result new) (sym is_block) (flown x is s r.keeps site slot b can result new told)
+    subst (λ (c : ℕ). FlownAlike x s site c b result new) (sym is_block) (flown x (accepted_is x image sound map) s r.keeps site slot b can result new told)
 
 -- as the call is made: the guide is that of the program
-pub flight_told : (p : Program) (old new : State) (site control : ℕ) (b : Barrier) (result : Turned) (image : Image) (types : List Row)
-    → ◌≡◌ {A = Outcome} (result, new) (throw_to (guide_of image types) old site control b) → image ≡ p.image → types ≡ p.types → FollowsFlight p old site control b result new
-flight_told p old new site control b result image types e i t =
-    flight_follows p old new site control b result
-    (e ∙ ap (λ (v : Image). throw_to (guide_of v types) old site control b) i ∙ ap (λ (v : List Row). throw_to (guide_of p.image v) old site control b) t)
+pub flight_told : (x : Accepted) (old new : State) (site control : ℕ) (b : Barrier) (result : Turned) (image : Image) (types : List Row) → IsImage x.image → IsSound x
+    → ◌≡◌ {A = Outcome} (result, new) (throw_to (guide_of image types) old site control b) → image ≡ x.image → types ≡ x.types → FollowsFlight x old site control b result new
+flight_told x old new site control b result image types of sound e i t =
+    flight_follows x old new site control b result of sound
+    (e ∙ ap (λ (v : Image). throw_to (guide_of v types) old site control b) i ∙ ap (λ (v : List Row). throw_to (guide_of x.image v) old site control b) t)

@@ -9,8 +9,8 @@ use Rattle.guest_gates.specs.Ends.{is_fault}
 use Rattle.thumb_core.specs.declared.ends.End.{End}
 use Rattle.thumb_core.specs.declared.ends.End.TheVariants.{Budget}
 use Rattle.eh_gates.specs.State.{State}
-use Rattle.frame_check.specs.Accepts.{Accepted}
-use Rattle.two_machines.specs.Program.{Program}
+use Rattle.elf_image.specs.Image.{IsSound as IsImage}
+use Rattle.frame_check.specs.Accepts.{Accepted, IsSound}
 use Rattle.two_machines.specs.Machine.{machine_event, machine_of, may_fail}
 use Rattle.two_machines.specs.Activations.{Recorded, bytes_of}
 use Rattle.two_machines.specs.ActivationMachine.{recorded_event, recorded_may_fail, recorded_machine}
@@ -21,7 +21,7 @@ use Rattle.machines_agree.specs.Turned.{AreBytes}
 use Rattle.machines_agree.proofs.RunsOn.{AlikeOn, same_on}
 use Rattle.machines_agree.proofs.WholeRuns.{alike}
 use Rattle.eh_machine.specs.Follows.{RanAlike, FollowsRun}
-use Rattle.eh_machine.proofs.Following.{may_same, at_false, at_true, if_false, if_true, no_false, no_true}
+use Rattle.eh_machine.proofs.Following.{accepted_is, may_same, at_false, at_true, if_false, if_true, no_false, no_true}
 
 -- ---- so many events that all went
 
@@ -129,10 +129,10 @@ module _ (x : Accepted) (is : IsProgram x) (n : ℕ) (s : Recorded) (k : Keeps x
   ran r = by_fault (is_fault end) refl r
 
 -- what is told of a call says it
-pub follows_run : (told left before now : Option (List ℕ)) (p : Program) (n : ℕ) (old new : State) (end : End) (unspent : ℕ)
-    → IfSome told (λ input. Runs (machine_of p) n old input end new unspent left before now) → IfSome told (λ input. FollowsRun p n old input end new unspent left before now)
-follows_run None left before now p n old new end unspent t = tt
-follows_run (Some input) left before now p n old new end unspent t = λ fits x s is e r.
-    ran x is n s r.keeps input fits end new unspent left before now
-    (subst (λ (b : State). Runs (machine_of (program_of x)) n b input end new unspent left before now) r.same
-    (subst (λ (q : Program). Runs (machine_of q) n old input end new unspent left before now) e t))
+pub follows_run : (told left before now : Option (List ℕ)) (x : Accepted) (n : ℕ) (old new : State) (end : End) (unspent : ℕ) → IsImage x.image → IsSound x
+    → IfSome told (λ input. Runs (machine_of (program_of x)) n old input end new unspent left before now)
+    → IfSome told (λ input. FollowsRun x n old input end new unspent left before now)
+follows_run None left before now x n old new end unspent image sound t = tt
+follows_run (Some input) left before now x n old new end unspent image sound t = λ fits s map r.
+    ran x (accepted_is x image sound map) n s r.keeps input fits end new unspent left before now
+    (subst (λ (b : State). Runs (machine_of (program_of x)) n b input end new unspent left before now) r.same t)

@@ -3,23 +3,29 @@ use Rattle.std.specs.Prelude.{◌≡◌, ℕ, List, Option, Some}
 use Rattle.event_runs.specs.Runs.{GoesOn, EndsBy, Runs}
 use Rattle.guest_gates.specs.Ends.{is_fault}
 use Rattle.thumb_core.specs.declared.ends.End.{End}
+use Rattle.eh_bus.specs.Map.{IsMap}
 use Rattle.eh_cxa.specs.Words.{block_slot}
 use Rattle.eh_phase.specs.declared.phase1.Barrier.{Barrier}
 use Rattle.eh_gates.specs.declared.state.Turned.{Turned}
 use Rattle.eh_gates.specs.declared.state.Turned.TheVariants.{Went, Ended}
 use Rattle.eh_gates.specs.State.{State}
 use Rattle.frame_check.specs.Accepts.{Accepted}
-use Rattle.two_machines.specs.Program.{Program, guide}
+use Rattle.image_memory.specs.Start.{image_start}
+use Rattle.two_machines.specs.Program.{guide}
 use Rattle.two_machines.specs.Checked.{program_of}
 use Rattle.two_machines.specs.Activations.{Recorded, recorded_start}
 use Rattle.two_machines.specs.ActivationMachine.{Outcome, recorded_event, recorded_may_fail, recorded_machine, throw_to}
-use Rattle.stands_for.specs.Stands.{StandsFor, IsProgram}
+use Rattle.stands_for.specs.Stands.{StandsFor}
 use Rattle.machines_agree.specs.Turned.{AreBytes}
 use Rattle.resumes_keep.specs.Flying.{CanFly}
 
--- for an accepted image of this program, from each state with recorded activations that this one stands for
-abbrev pub Follows : Program → State → (Accepted → Recorded → Type 0) → Type 0
-Follows p old Done = (x : Accepted) (s : Recorded) → IsProgram x → p ≡ program_of x → StandsFor x old s → Done x s
+-- the memory at the start is one that a bus may have; the start shows it
+abbrev pub StartsInMap : Accepted → Type 0
+StartsInMap x = IsMap (image_start x.image).memory
+
+-- from each state with recorded activations that this one stands for
+abbrev pub Follows : Accepted → State → (Recorded → Type 0) → Type 0
+Follows x old Done = (s : Recorded) → StartsInMap x → StandsFor x old s → Done s
 
 -- ---- one event
 
@@ -40,8 +46,8 @@ TurnedAlike x s input Went new left before now = WentAlike x s input new left be
 TurnedAlike x s input (Ended end) new left before now = EndedAlike x s input end new left before now
 
 -- on an input of bytes
-abbrev pub FollowsOnce : Program → State → List ℕ → Turned → State → Option (List ℕ) → Option (List ℕ) → Option (List ℕ) → Type 0
-FollowsOnce p old input result new left before now = AreBytes input → Follows p old (λ x s. TurnedAlike x s input result new left before now)
+abbrev pub FollowsOnce : Accepted → State → List ℕ → Turned → State → Option (List ℕ) → Option (List ℕ) → Option (List ℕ) → Type 0
+FollowsOnce x old input result new left before now = AreBytes input → Follows x old (λ s. TurnedAlike x s input result new left before now)
 
 -- ---- a run
 
@@ -52,13 +58,15 @@ pub record RanAlike (x : Accepted) (n : ℕ) (s : Recorded) (input : List ℕ)
   pub runs : Runs (recorded_machine (program_of x)) n s input end state unspent left before now
   pub stands : StandsFor x new state
 
-abbrev pub FollowsRun : Program → ℕ → State → List ℕ → End → State → ℕ → Option (List ℕ) → Option (List ℕ) → Option (List ℕ) → Type 0
-FollowsRun p n old input end new unspent left before now = AreBytes input → Follows p old (λ x s. RanAlike x n s input end new unspent left before now)
+abbrev pub FollowsRun : Accepted → ℕ → State → List ℕ → End → State → ℕ → Option (List ℕ) → Option (List ℕ) → Option (List ℕ) → Type 0
+FollowsRun x n old input end new unspent left before now = AreBytes input → Follows x old (λ s. RanAlike x n s input end new unspent left before now)
 
 -- ---- the start
 
-abbrev pub StartsAlike : Program → State → Type 0
-StartsAlike p new = (x : Accepted) → IsProgram x → p ≡ program_of x → StandsFor x new (recorded_start (program_of x))
+-- the state stands for the start with recorded activations
+pub record StartsAlike (x : Accepted) (new : State) : Type 0 where
+  pub map : StartsInMap x
+  pub stands : StandsFor x new (recorded_start (program_of x))
 
 -- ---- a flight to a barrier
 
@@ -68,6 +76,6 @@ pub record FlownAlike (x : Accepted) (s : Recorded) (site control : ℕ) (b : Ba
   pub is : ◌≡◌ {A = Outcome} (result, state) (throw_to (guide (program_of x)) site control b s)
   pub stands : StandsFor x new state
 
-abbrev pub FollowsFlight : Program → State → ℕ → ℕ → Barrier → Turned → State → Type 0
-FollowsFlight p old site control b result new =
-    Follows p old (λ x s. (slot : ℕ) → block_slot control ≡ Some slot → CanFly x s site slot b → FlownAlike x s site control b result new)
+abbrev pub FollowsFlight : Accepted → State → ℕ → ℕ → Barrier → Turned → State → Type 0
+FollowsFlight x old site control b result new =
+    Follows x old (λ s. (slot : ℕ) → block_slot control ≡ Some slot → CanFly x s site slot b → FlownAlike x s site control b result new)

@@ -1,29 +1,27 @@
-//! An accepted image is a checked program (docs/machine.md).
-use crate::checked::Checked;
+//! What the machine asks of an accepted image besides its look-ups (docs/machine.md).
+ghost use Rattle.std.specs.Prelude.{◌≡◌};
+ghost use Rattle.elf_image.specs.Image.{IsSound as IsImage};
+ghost use Rattle.frame_check.specs.Accepts.{IsSound};
+
 use eh_phase::Tables;
 use frame_check::Accepted;
 
-impl<'a> Checked for Accepted<'a> {
-    ghost use Rattle.two_machines.specs.Checked.{program_of};
-
-    ghost program = { program_of };
-
-    fn tables(&self) -> Tables<'_, '_> {
-        Tables {
-            index: self.index(),
-            types: self.types(),
-        }
+/// Its index and its types.
+pub fn tables<'b, 'a>(a: &'b Accepted<'a>) -> Tables<'b, 'a>
+    ensures index { result.index ≡ a.now.image }
+    ensures types { result.types.now ≡ a.now.types }
+{
+    Tables {
+        index: a.index(),
+        types: a.types(),
     }
+}
 
-    fn is_instr(&self, a: u32) -> bool {
-        Accepted::is_instr(self, a)
-    }
-
-    fn is_function(&self, a: u32) -> bool {
-        Accepted::is_function(self, a)
-    }
-
-    fn saves_at(&self, a: u32) -> u16 {
-        Accepted::saves_at(self, a)
-    }
+/// What holds of every accepted image and of what the checker found.
+pub(crate) fn holds(a: &Accepted)
+    ensures image { IsImage a.now.image }
+    ensures sound { IsSound a.now }
+{
+    a.holds();
+    let _ = a.image().functions();
 }

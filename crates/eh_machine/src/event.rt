@@ -1,15 +1,18 @@
 //! One event of the machine (docs/machine.md, "An event").
 ghost use Rattle.std.specs.Prelude.{◌≡◌, IfSome};
 ghost use Rattle.eh_gates.specs.State.{State, state_of};
+ghost use Rattle.given_input.specs.Given.{OnGiven};
+ghost use Rattle.two_machines.specs.Checked.{program_of};
 ghost use Rattle.eh_machine.specs.Turns.{TurnedOnce, CountsFaults};
 ghost use Rattle.eh_machine.specs.Follows.{FollowsOnce};
 
-use crate::checked::Checked;
+use crate::accepted::{holds, tables};
 use crate::pass::{found, goes_on, pass};
 use eh_bus::bus::Bus;
 use eh_gates::{Core, Turned, gate};
 use eh_port::{Sink, Source};
 use eh_trace::Events;
+use frame_check::Accepted;
 use guest_gates::INPUT_GATE;
 use step_ahead::look_ahead;
 use thumb_core::ends::End;
@@ -21,12 +24,12 @@ pub struct Shared<B> {
     pub bus: B,
 }
 
-/// One event of a run of a checked program: its instruction is done, and its gate. A trap, an exit and a fault leave registers, globals and
+/// One event of a run of an accepted image: its instruction is done, and its gate. A trap, an exit and a fault leave registers, globals and
 /// memory as they were; so does a terminate before the exception flies. `ReadFault` comes only at the input gate, and `WriteFault` only at
-/// the output gate, where the count of the source or of the sink rose in this call. Of an accepted image it does what the machine with recorded
-/// activations does. Takes no memory, and a constant time but for a throw.
-pub fn turn<C: Checked, B: Bus, I: Source, O: Sink>(
-    a: &C,
+/// the output gate, where the count of the source or of the sink rose in this call. All this holds of a source that tells nothing too, on bytes
+/// that it gave (`given`). It does what the machine with recorded activations does. Takes no memory, and a constant time but for a throw.
+pub fn turn<B: Bus, I: Source, O: Sink>(
+    a: &Accepted,
     core: &mut Core,
     shared: &mut Shared<B>,
     events: &mut Events,
@@ -36,21 +39,26 @@ pub fn turn<C: Checked, B: Bus, I: Source, O: Sink>(
     ensures told { IfSome (I.left input.old) (λ bytes.
         let old : State = state_of core.old (B.memory shared.old.bus) events.old in
         let new : State = state_of core.new (B.memory shared.new.bus) events.new in
-        TurnedOnce (C.program a.now) old bytes result new (I.left input.new) (O.written out.old) (O.written out.new)) }
+        TurnedOnce (program_of a.now) old bytes result new (I.left input.new) (O.written out.old) (O.written out.new)) }
+    ensures given { OnGiven (λ bytes left.
+        let old : State = state_of core.old (B.memory shared.old.bus) events.old in
+        let new : State = state_of core.new (B.memory shared.new.bus) events.new in
+        TurnedOnce (program_of a.now) old bytes result new left (O.written out.old) (O.written out.new)) }
     ensures recorded { IfSome (I.left input.old) (λ bytes.
         let old : State = state_of core.old (B.memory shared.old.bus) events.old in
         let new : State = state_of core.new (B.memory shared.new.bus) events.new in
-        FollowsOnce (C.program a.now) old bytes result new (I.left input.new) (O.written out.old) (O.written out.new)) }
+        FollowsOnce a.now old bytes result new (I.left input.new) (O.written out.old) (O.written out.new)) }
     ensures faults { CountsFaults (λ end. result ≡ Turned.Ended end) (I.faults input.old) (I.faults input.new) (O.faults out.old) (O.faults out.new) }
 {
+    holds(a);
     let mut known = a.is_instr(core.regs.pc);
     turn_from(a, &mut known, core, shared, events, input, out)
 }
 
 /// The same where it is known whether the checker reached an instruction at pc, and is told of the pc that the event leads to.
 #[inline(always)]
-pub(crate) fn turn_from<C: Checked, B: Bus, I: Source, O: Sink>(
-    a: &C,
+pub(crate) fn turn_from<B: Bus, I: Source, O: Sink>(
+    a: &Accepted,
     known: &mut bool,
     core: &mut Core,
     shared: &mut Shared<B>,
@@ -58,12 +66,16 @@ pub(crate) fn turn_from<C: Checked, B: Bus, I: Source, O: Sink>(
     input: &mut I,
     out: &mut O,
 ) -> Turned
-    requires known { known.old ≡ ((C.program a.now).look core.old.regs.pc).is_instr }
-    ensures known { known.new ≡ ((C.program a.now).look core.new.regs.pc).is_instr }
+    requires known { known.old ≡ ((program_of a.now).look core.old.regs.pc).is_instr }
+    ensures known { known.new ≡ ((program_of a.now).look core.new.regs.pc).is_instr }
     ensures told { IfSome (I.left input.old) (λ bytes.
         let old : State = state_of core.old (B.memory shared.old.bus) events.old in
         let new : State = state_of core.new (B.memory shared.new.bus) events.new in
-        TurnedOnce (C.program a.now) old bytes result new (I.left input.new) (O.written out.old) (O.written out.new)) }
+        TurnedOnce (program_of a.now) old bytes result new (I.left input.new) (O.written out.old) (O.written out.new)) }
+    ensures given { OnGiven (λ bytes left.
+        let old : State = state_of core.old (B.memory shared.old.bus) events.old in
+        let new : State = state_of core.new (B.memory shared.new.bus) events.new in
+        TurnedOnce (program_of a.now) old bytes result new left (O.written out.old) (O.written out.new)) }
     ensures faults { CountsFaults (λ end. result ≡ Turned.Ended end) (I.faults input.old) (I.faults input.new) (O.faults out.old) (O.faults out.new) }
 {
     let pc = core.regs.pc;
@@ -90,11 +102,11 @@ pub(crate) fn turn_from<C: Checked, B: Bus, I: Source, O: Sink>(
     if number > INPUT_GATE {
         let next = core.regs.pc;
         core.regs.pc = pc;
-        let turned = gate(&a.tables(), number, next, core, &mut shared.bus, events);
+        let turned = gate(&tables(a), number, next, core, &mut shared.bus, events);
         *known = a.is_instr(core.regs.pc);
         return turned;
     }
-    match guest_gates::gate(number, pc, &mut core.regs, input, out) {
+    match given_input::gate(number, pc, &mut core.regs, input, out) {
         None => {
             *known = a.is_instr(core.regs.pc);
             Turned::Went

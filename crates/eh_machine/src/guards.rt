@@ -2,10 +2,11 @@
 ghost use Rattle.std.specs.Prelude.{◌≡◌, ◌+◌, ◌*◌, ◌%◌, ◌<◌, ◌≤◌};
 ghost use Rattle.eh_bus.specs.Memory.{guard_all};
 ghost use Rattle.eh_bus.specs.declared.map.TheConstants.{STACK_START, STACK_END};
+ghost use Rattle.two_machines.specs.Checked.{program_of};
 ghost use Rattle.two_machines.specs.Machine.{saved_words, settled};
 
-use crate::checked::Checked;
 use eh_bus::bus::Bus;
+use frame_check::Accepted;
 
 /// Guards, of `count` words of the stack from `sp` on, those that the bits of `saves` name: the last first.
 fn guard_saves<B: Bus>(saves: u16, count: u32, sp: u32, bus: &mut B)
@@ -26,12 +27,12 @@ fn guard_saves<B: Bus>(saves: u16, count: u32, sp: u32, bus: &mut B)
 
 /// Guards the saves among the words that the push at `pc` left from `sp` on. Where none was pushed nothing is looked up.
 #[inline(always)]
-pub(crate) fn guard_pushed<C: Checked, B: Bus>(a: &C, pc: u32, count: u32, sp: u32, bus: &mut B)
+pub(crate) fn guard_pushed<B: Bus>(a: &Accepted, pc: u32, count: u32, sp: u32, bus: &mut B)
     requires few { count ≤ 16 }
     requires aligned { 0 < count → sp % 4 ≡ 0 }
     requires low { 0 < count → STACK_START ≤ sp }
     requires high { 0 < count → sp + 4 * count ≤ STACK_END }
-    ensures { B.memory bus.new ≡ guard_all (saved_words ((C.program a.now).look pc).saves count sp) (B.memory bus.old) }
+    ensures { B.memory bus.new ≡ guard_all (saved_words ((program_of a.now).look pc).saves count sp) (B.memory bus.old) }
 {
     if count == 0 {
         return;

@@ -3,7 +3,6 @@
 #![tactic(auto)]
 
 mod accepted;
-pub mod checked;
 mod event;
 mod guards;
 pub mod memory;
@@ -12,7 +11,7 @@ pub mod run;
 mod start;
 mod tests_of;
 
-pub use checked::Checked;
+pub use accepted::tables;
 pub use eh_gates::{Core, Turned};
 pub use event::{Shared, turn};
 pub use memory::MachineMemory;

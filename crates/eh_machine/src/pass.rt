@@ -4,15 +4,16 @@ ghost use Rattle.thumb_isa.specs.Range.{InRange};
 ghost use Rattle.thumb_core.specs.Step.{instr_at};
 ghost use Rattle.step_ahead.specs.Ahead.{IsAhead, IsJump, IsLevel, branches, pushed};
 ghost use Rattle.step_ahead.specs.Kept.{TakesBack};
+ghost use Rattle.two_machines.specs.Checked.{program_of};
 ghost use Rattle.two_machines.specs.Program.{Program};
 ghost use Rattle.eh_machine.specs.Passes.{Passes, Tried};
 
-use crate::checked::Checked;
 use crate::guards::{guard_pushed, settle};
 use crate::tests_of::{look_behind, passes_tests, refusal};
 use eh_bus::bus::Bus;
 use eh_cxa::innermost_sp;
 use eh_gates::Core;
+use frame_check::Accepted;
 use guest_gates::trap_end;
 use step_ahead::{Ahead, Kept, keep};
 use thumb_core::ends::{End, TrapKind};
@@ -44,21 +45,21 @@ pub(crate) fn found<B: Bus>(known: bool, core: &Core, bus: &B) -> Result<(Instr,
 /// where it doesn't trap. So there is nothing to keep. Else nothing is changed. `known` says whether the checker reached an instruction at pc,
 /// before it and behind it, so that each address is looked up once.
 #[inline(always)]
-pub(crate) fn goes_on<C: Checked, B: Bus>(
-    a: &C,
+pub(crate) fn goes_on<B: Bus>(
+    a: &Accepted,
     at: (Instr, u32),
     ahead: Ahead,
     known: &mut bool,
     core: &mut Core,
     bus: &mut B,
 ) -> bool
-    requires reached { ((C.program a.now).look core.old.regs.pc).is_instr ≡ true }
+    requires reached { ((program_of a.now).look core.old.regs.pc).is_instr ≡ true }
     requires known { known.old ≡ true }
     requires there { instr_at (B.memory bus.old) core.old.regs.pc ≡ Some at }
     requires range { InRange at.0 }
     requires told { IsAhead at.0 core.old.regs ahead }
-    ensures tried { Tried (C.program a.now) core.old (B.memory bus.old) result core.new (B.memory bus.new) }
-    ensures known { known.new ≡ ((C.program a.now).look core.new.regs.pc).is_instr }
+    ensures tried { Tried (program_of a.now) core.old (B.memory bus.old) result core.new (B.memory bus.new) }
+    ensures known { known.new ≡ ((program_of a.now).look core.new.regs.pc).is_instr }
 {
     match ahead {
         Ahead::Level => level(a, at, 0, known, core, bus),
@@ -70,21 +71,21 @@ pub(crate) fn goes_on<C: Checked, B: Bus>(
 
 /// An instruction `at` pc that goes straight on and pushes so many words.
 #[inline(always)]
-fn level<C: Checked, B: Bus>(
-    a: &C,
+fn level<B: Bus>(
+    a: &Accepted,
     at: (Instr, u32),
     pushes: u32,
     known: &mut bool,
     core: &mut Core,
     bus: &mut B,
 ) -> bool
-    requires reached { ((C.program a.now).look core.old.regs.pc).is_instr ≡ true }
+    requires reached { ((program_of a.now).look core.old.regs.pc).is_instr ≡ true }
     requires known { known.old ≡ true }
     requires there { instr_at (B.memory bus.old) core.old.regs.pc ≡ Some at }
     requires range { InRange at.0 }
     requires told { IsLevel at.0 core.old.regs pushes }
-    ensures tried { Tried (C.program a.now) core.old (B.memory bus.old) result core.new (B.memory bus.new) }
-    ensures known { known.new ≡ ((C.program a.now).look core.new.regs.pc).is_instr }
+    ensures tried { Tried (program_of a.now) core.old (B.memory bus.old) result core.new (B.memory bus.new) }
+    ensures known { known.new ≡ ((program_of a.now).look core.new.regs.pc).is_instr }
 {
     let (i, size) = at;
     let pc = core.regs.pc;
@@ -106,20 +107,20 @@ fn level<C: Checked, B: Bus>(
 
 /// A branch `at` pc that is taken, to an address. Where sp stands in the running stack no test forbids it.
 #[inline(always)]
-fn jump<C: Checked, B: Bus>(
-    a: &C,
+fn jump<B: Bus>(
+    a: &Accepted,
     at: (Instr, u32),
     to: u32,
     known: &mut bool,
     core: &mut Core,
     bus: &mut B,
 ) -> bool
-    requires reached { ((C.program a.now).look core.old.regs.pc).is_instr ≡ true }
+    requires reached { ((program_of a.now).look core.old.regs.pc).is_instr ≡ true }
     requires known { known.old ≡ true }
     requires there { instr_at (B.memory bus.old) core.old.regs.pc ≡ Some at }
     requires told { IsJump at.0 core.old.regs to }
-    ensures tried { Tried (C.program a.now) core.old (B.memory bus.old) result core.new (B.memory bus.new) }
-    ensures known { known.new ≡ ((C.program a.now).look core.new.regs.pc).is_instr }
+    ensures tried { Tried (program_of a.now) core.old (B.memory bus.old) result core.new (B.memory bus.new) }
+    ensures known { known.new ≡ ((program_of a.now).look core.new.regs.pc).is_instr }
 {
     let (low, _) = bus.home();
     if core.regs.r[SP as usize] < low {
@@ -133,18 +134,18 @@ fn jump<C: Checked, B: Bus>(
 /// The instruction `at` pc, done and then tested: what was done, or the end by what forbids it, which leaves everything as before the instruction
 /// and is no fault of the outside. A gate's instruction changes pc alone. One that is told to go on may store: what it may store over is kept.
 #[inline(always)]
-pub(crate) fn pass<C: Checked, B: Bus>(
-    a: &C,
+pub(crate) fn pass<B: Bus>(
+    a: &Accepted,
     at: (Instr, u32),
     ahead: Ahead,
     core: &mut Core,
     bus: &mut B,
 ) -> Result<Stepped, End>
-    requires reached { ((C.program a.now).look core.old.regs.pc).is_instr ≡ true }
+    requires reached { ((program_of a.now).look core.old.regs.pc).is_instr ≡ true }
     requires there { instr_at (B.memory bus.old) core.old.regs.pc ≡ Some at }
     requires range { InRange at.0 }
     requires told { IsAhead at.0 core.old.regs ahead }
-    ensures passes { Passes (C.program a.now) core.old (B.memory bus.old) result core.new (B.memory bus.new) }
+    ensures passes { Passes (program_of a.now) core.old (B.memory bus.old) result core.new (B.memory bus.new) }
 {
     are_words(&core.regs.r);
     match ahead {
@@ -158,22 +159,22 @@ pub(crate) fn pass<C: Checked, B: Bus>(
 /// The instruction `at` pc is done and then tested. `told` says whether it branches and how many words it pushes. Where a test ends the run the
 /// registers are put back, and what was kept of the memory.
 #[inline(always)]
-fn tested<C: Checked, B: Bus>(
-    a: &C,
+fn tested<B: Bus>(
+    a: &Accepted,
     at: (Instr, u32),
     told: (bool, u32),
     kept: &Kept,
     core: &mut Core,
     bus: &mut B,
 ) -> Result<Stepped, End>
-    requires reached { ((C.program a.now).look core.old.regs.pc).is_instr ≡ true }
+    requires reached { ((program_of a.now).look core.old.regs.pc).is_instr ≡ true }
     requires there { instr_at (B.memory bus.old) core.old.regs.pc ≡ Some at }
     requires range { InRange at.0 }
     requires taken { told.0 ≡ branches at.0 core.old.regs }
     requires pushes { told.1 ≡ length (pushed at.0) }
     requires few { told.1 ≤ 16 }
     requires back { TakesBack kept.now core.old.regs (B.memory bus.old) }
-    ensures passes { Passes (C.program a.now) core.old (B.memory bus.old) result core.new (B.memory bus.new) }
+    ensures passes { Passes (program_of a.now) core.old (B.memory bus.old) result core.new (B.memory bus.new) }
 {
     let (i, size) = at;
     let (branches, pushes) = told;
@@ -202,20 +203,20 @@ fn tested<C: Checked, B: Bus>(
 /// An instruction `at` pc that a test may forbid once it is done: what it may store over is kept.
 #[cold]
 #[inline(never)]
-fn kept<C: Checked, B: Bus>(
-    a: &C,
+fn kept<B: Bus>(
+    a: &Accepted,
     at: (Instr, u32),
     told: (bool, u32),
     core: &mut Core,
     bus: &mut B,
 ) -> Result<Stepped, End>
-    requires reached { ((C.program a.now).look core.old.regs.pc).is_instr ≡ true }
+    requires reached { ((program_of a.now).look core.old.regs.pc).is_instr ≡ true }
     requires there { instr_at (B.memory bus.old) core.old.regs.pc ≡ Some at }
     requires range { InRange at.0 }
     requires taken { told.0 ≡ branches at.0 core.old.regs }
     requires pushes { told.1 ≡ length (pushed at.0) }
     requires few { told.1 ≤ 16 }
-    ensures passes { Passes (C.program a.now) core.old (B.memory bus.old) result core.new (B.memory bus.new) }
+    ensures passes { Passes (program_of a.now) core.old (B.memory bus.old) result core.new (B.memory bus.new) }
 {
     let (i, size) = at;
     let kept = keep(i, size, &core.regs, bus);

@@ -2,22 +2,25 @@
 ghost use Rattle.std.specs.Prelude.{◌≡◌, IfSome};
 ghost use Rattle.event_runs.specs.Runs.{Runs};
 ghost use Rattle.eh_gates.specs.State.{State, state_of};
+ghost use Rattle.given_input.specs.Runs.{RunsGiven};
+ghost use Rattle.two_machines.specs.Checked.{program_of};
 ghost use Rattle.two_machines.specs.Machine.{machine_of};
 ghost use Rattle.eh_machine.specs.Turns.{CountsFaults};
 ghost use Rattle.eh_machine.specs.Follows.{FollowsRun};
 
-use crate::checked::Checked;
+use crate::accepted::holds;
 use crate::event::{Shared, turn_from};
 use eh_bus::bus::Bus;
 use eh_gates::{Core, Turned};
 use eh_port::{Sink, Source};
 use eh_trace::Events;
+use frame_check::Accepted;
 use thumb_core::ends::End;
 
-/// A run of a checked program: all that it has besides its input and output.
+/// A run of an accepted image: all that it has besides its input and output.
 #[derive(Drop)]
-pub struct Machine<'a, C: Checked, B: Bus> {
-    pub accepted: &'a C,
+pub struct Machine<'a, B: Bus> {
+    pub accepted: &'a Accepted<'a>,
     pub core: Core,
     pub shared: Shared<B>,
     pub events: Events,
@@ -25,22 +28,27 @@ pub struct Machine<'a, C: Checked, B: Bus> {
     pub left: u64,
 }
 
-impl<'a, C: Checked, B: Bus> Machine<'a, C, B> {
+impl<'a, B: Bus> Machine<'a, B> {
     /// Runs until an event ends the run or none is left of the budget; the event that ends it counts too. A further run goes on from where
-    /// this one came to. Of an accepted image it is a run with recorded activations. Takes no memory.
+    /// this one came to. Where the source tells nothing each event is on bytes that it gave (`given`). It is a run with recorded activations.
+    /// Takes no memory.
     pub fn run<I: Source, O: Sink>(&mut self, input: &mut I, out: &mut O) -> End
         ensures told { IfSome (I.left input.old) (λ bytes.
             let old : State = state_of self.old.core (B.memory self.old.shared.bus) self.old.events in
             let new : State = state_of self.new.core (B.memory self.new.shared.bus) self.new.events in
-            Runs (machine_of (C.program self.old.accepted.now)) self.old.left old bytes result new self.new.left (I.left input.new) (O.written out.old) (O.written out.new)) }
+            Runs (machine_of (program_of self.old.accepted.now)) self.old.left old bytes result new self.new.left (I.left input.new) (O.written out.old) (O.written out.new)) }
+        ensures given { let old : State = state_of self.old.core (B.memory self.old.shared.bus) self.old.events in
+            let new : State = state_of self.new.core (B.memory self.new.shared.bus) self.new.events in
+            RunsGiven (machine_of (program_of self.old.accepted.now)) self.old.left old result new self.new.left (O.written out.old) (O.written out.new) }
         ensures recorded { IfSome (I.left input.old) (λ bytes.
             let old : State = state_of self.old.core (B.memory self.old.shared.bus) self.old.events in
             let new : State = state_of self.new.core (B.memory self.new.shared.bus) self.new.events in
-            FollowsRun (C.program self.old.accepted.now) self.old.left old bytes result new self.new.left (I.left input.new) (O.written out.old) (O.written out.new)) }
+            FollowsRun self.old.accepted.now self.old.left old bytes result new self.new.left (I.left input.new) (O.written out.old) (O.written out.new)) }
         ensures faults { CountsFaults (λ end. result ≡ end) (I.faults input.old) (I.faults input.new) (O.faults out.old) (O.faults out.new) }
         ensures accepted { self.new.accepted ≡ self.old.accepted }
     {
         let accepted = self.accepted;
+        holds(accepted);
         let mut known = accepted.is_instr(self.core.regs.pc);
         while self.left > 0 {
             match turn_from(

@@ -5,11 +5,12 @@ ghost use Rattle.eh_cxa.specs.Words.{block_slot};
 ghost use Rattle.eh_gates.specs.State.{state_of};
 ghost use Rattle.eh_gates.specs.Throwing.{throw_to};
 ghost use Rattle.eh_trace.specs.Trace.{no_events};
+ghost use Rattle.two_machines.specs.Checked.{program_of};
 ghost use Rattle.two_machines.specs.Program.{guide};
 ghost use Rattle.two_machines.specs.Start.{start_of};
 ghost use Rattle.eh_machine.specs.Follows.{StartsAlike, FollowsFlight};
 
-use crate::checked::Checked;
+use crate::accepted::{holds, tables};
 use crate::event::Shared;
 use crate::memory::MachineMemory;
 use crate::run::Machine;
@@ -19,20 +20,21 @@ use eh_cxa::Globals;
 use eh_gates::{Core, Turned};
 use eh_phase::Barrier;
 use eh_trace::Events;
+use frame_check::Accepted;
 use image_memory::{image_memory, start_regs};
 use std::alloc::Global;
 
 /// The state at the start: the image's segments in memory with the stack and the pool, sp at the end of the stack, pc at the entry, no
 /// exceptions and no events, with room for those that are kept.
-pub fn start_parts<C: Checked>(
+pub fn start_parts(
     alloc: Global,
-    a: &C,
+    a: &Accepted,
 ) -> Result<(Core, Shared<PagedBus>, Events), MachineMemory>
-    ensures state { IfOk result (λ parts. state_of parts.0 (memory_of parts.1.bus) parts.2 ≡ start_of (C.program a.now)) }
-    ensures recorded { IfOk result (λ parts. StartsAlike (C.program a.now) (state_of parts.0 (memory_of parts.1.bus) parts.2)) }
+    ensures state { IfOk result (λ parts. state_of parts.0 (memory_of parts.1.bus) parts.2 ≡ start_of (program_of a.now)) }
+    ensures recorded { IfOk result (λ parts. StartsAlike a.now (state_of parts.0 (memory_of parts.1.bus) parts.2)) }
 {
-    let tables = a.tables();
-    let image = tables.index.image();
+    holds(a);
+    let image = a.image();
     let bus = image_memory(alloc, image)?;
     let core = Core {
         regs: start_regs(image.entry()),
@@ -42,11 +44,11 @@ pub fn start_parts<C: Checked>(
     Ok((core, Shared { bus }, events))
 }
 
-impl<'a, C: Checked> Machine<'a, C, PagedBus> {
+impl<'a> Machine<'a, PagedBus> {
     /// A run from the start, of at most `budget` events.
-    pub fn start(alloc: Global, a: &'a C, budget: u64) -> Result<Self, MachineMemory>
-        ensures state { IfOk result (λ m. state_of m.core (memory_of m.shared.bus) m.events ≡ start_of (C.program a.now)) }
-        ensures recorded { IfOk result (λ m. StartsAlike (C.program a.now) (state_of m.core (memory_of m.shared.bus) m.events)) }
+    pub fn start(alloc: Global, a: &'a Accepted<'a>, budget: u64) -> Result<Self, MachineMemory>
+        ensures state { IfOk result (λ m. state_of m.core (memory_of m.shared.bus) m.events ≡ start_of (program_of a.now)) }
+        ensures recorded { IfOk result (λ m. StartsAlike a.now (state_of m.core (memory_of m.shared.bus) m.events)) }
         ensures budget { IfOk result (λ m. m.left ≡ budget) }
         ensures program { IfOk result (λ m. m.accepted.now ≡ a.now) }
     {
@@ -61,11 +63,11 @@ impl<'a, C: Checked> Machine<'a, C, PagedBus> {
     }
 }
 
-impl<'a, C: Checked, B: Bus + Drop> Machine<'a, C, B> {
+impl<'a, B: Bus + Drop> Machine<'a, B> {
     /// A run from any registers, globals and memory, of at most `budget` events.
     pub fn from_parts(
         alloc: Global,
-        a: &'a C,
+        a: &'a Accepted<'a>,
         core: Core,
         shared: Shared<B>,
         budget: u64,
@@ -87,8 +89,8 @@ impl<'a, C: Checked, B: Bus + Drop> Machine<'a, C, B> {
 
 /// What a throw and a rethrow do once the exception of a control block flies, from the registers as they are and a site, to its barrier:
 /// see `eh_gates::throw_to`.
-pub fn throw_to<C: Checked, B: Bus>(
-    a: &C,
+pub fn throw_to<B: Bus>(
+    a: &Accepted,
     core: &mut Core,
     shared: &mut Shared<B>,
     events: &mut Events,
@@ -97,8 +99,9 @@ pub fn throw_to<C: Checked, B: Bus>(
     b: &Barrier,
 ) -> Turned
     requires { IsSome (block_slot ucb) }
-    ensures told { (result, state_of core.new (B.memory shared.new.bus) events.new) ≡ throw_to (guide (C.program a.now)) (state_of core.old (B.memory shared.old.bus) events.old) site ucb b.now }
-    ensures recorded { FollowsFlight (C.program a.now) (state_of core.old (B.memory shared.old.bus) events.old) site ucb b.now result (state_of core.new (B.memory shared.new.bus) events.new) }
+    ensures told { (result, state_of core.new (B.memory shared.new.bus) events.new) ≡ throw_to (guide (program_of a.now)) (state_of core.old (B.memory shared.old.bus) events.old) site ucb b.now }
+    ensures recorded { FollowsFlight a.now (state_of core.old (B.memory shared.old.bus) events.old) site ucb b.now result (state_of core.new (B.memory shared.new.bus) events.new) }
 {
-    eh_gates::throw_to(&a.tables(), core, &mut shared.bus, events, site, ucb, b)
+    holds(a);
+    eh_gates::throw_to(&tables(a), core, &mut shared.bus, events, site, ucb, b)
 }

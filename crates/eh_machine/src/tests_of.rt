@@ -3,10 +3,11 @@ ghost use Rattle.std.specs.Prelude.{◌≡◌, ◌≤◌, ◌+◌, ◌*◌, ◌%
 ghost use Rattle.guest_gates.specs.Ends.{is_fault};
 ghost use Rattle.step_ahead.specs.Kept.{lowest};
 ghost use Rattle.thumb_core.specs.Registers.{even, reg};
+ghost use Rattle.two_machines.specs.Checked.{program_of};
 ghost use Rattle.two_machines.specs.Machine.{leaves_cleanup, sp_end, fell_off, goes_behind, way_end, refusal};
 
-use crate::checked::Checked;
 use eh_gates::gates::{ALLOCATE_GATE, BEGIN_CATCH_GATE, END_CATCH_GATE, FREE_GATE, UNCAUGHT_GATE};
+use frame_check::Accepted;
 use guest_gates::{INPUT_GATE, NO_CALLER, OUTPUT_GATE};
 use thumb_core::ends::{End, TrapKind};
 use thumb_core::regs::{Regs, SP, Stepped};
@@ -38,8 +39,8 @@ fn sp_end(landing: Option<u32>, low: u32, pc: u32, old: u32, new: u32) -> Option
 
 /// The end of a run that goes on past the end of its function.
 #[inline(always)]
-fn fell_off<C: Checked>(a: &C, pc: u32, to: u32) -> Option<End>
-    ensures { result ≡ fell_off (C.program a.now) pc to }
+fn fell_off(a: &Accepted, pc: u32, to: u32) -> Option<End>
+    ensures { result ≡ fell_off (program_of a.now) pc to }
 {
     if a.is_function(to) {
         Some(End::Trap(TrapKind::FellOff, to, pc))
@@ -63,8 +64,8 @@ fn goes_behind(number: u8) -> bool
 
 /// The end by where the run would go on. The registers are those behind the instruction; `branches` says whether it took a branch.
 #[inline(always)]
-fn way_end<C: Checked>(a: &C, branches: bool, pc: u32, what: Stepped, regs: &Regs) -> Option<End>
-    ensures { result ≡ way_end (C.program a.now) branches pc what regs.now }
+fn way_end(a: &Accepted, branches: bool, pc: u32, what: Stepped, regs: &Regs) -> Option<End>
+    ensures { result ≡ way_end (program_of a.now) branches pc what regs.now }
 {
     match what {
         Stepped::Done => {
@@ -102,15 +103,15 @@ fn way_end<C: Checked>(a: &C, branches: bool, pc: u32, what: Stepped, regs: &Reg
 /// The end by a test: first of sp, then of where the run would go on. `stack` has the landing sp of the innermost cleanup and the start of the
 /// running stack, `at` pc and sp before the instruction.
 #[inline(always)]
-pub(crate) fn refusal<C: Checked>(
-    a: &C,
+pub(crate) fn refusal(
+    a: &Accepted,
     stack: (Option<u32>, u32),
     at: (u32, u32),
     branches: bool,
     what: Stepped,
     regs: &Regs,
 ) -> Option<End>
-    ensures is { result ≡ refusal (C.program a.now) stack at branches what regs.now }
+    ensures is { result ≡ refusal (program_of a.now) stack at branches what regs.now }
     ensures inside { IfSome result (λ end. is_fault end ≡ false) }
 {
     let (landing, low) = stack;
@@ -146,9 +147,9 @@ pub(crate) struct Behind {
 
 /// Looks behind an instruction of `size` bytes.
 #[inline(always)]
-pub(crate) fn look_behind<C: Checked>(a: &C, size: u32, regs: &Regs) -> Behind
-    ensures function { result.is_function ≡ ((C.program a.now).look (even ((regs.now.pc + size) % 2 ^ 32))).is_function }
-    ensures instr { result.is_instr ≡ ((C.program a.now).look (even ((regs.now.pc + size) % 2 ^ 32))).is_instr }
+pub(crate) fn look_behind(a: &Accepted, size: u32, regs: &Regs) -> Behind
+    ensures function { result.is_function ≡ ((program_of a.now).look (even ((regs.now.pc + size) % 2 ^ 32))).is_function }
+    ensures instr { result.is_instr ≡ ((program_of a.now).look (even ((regs.now.pc + size) % 2 ^ 32))).is_instr }
 {
     let next = regs.pc.wrapping_add(size);
     let next = next - next % 2;

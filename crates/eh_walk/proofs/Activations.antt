@@ -4,20 +4,18 @@ use Rattle.std.specs.Prelude.{option_map}
 use Rattle.std.proofs.lemmas.List.{length-map}
 use Rattle.eh_bus.specs.Memory.{Memory}
 use Rattle.thumb_core.specs.Registers.{all_of}
-use Rattle.thumb_core.specs.declared.regs.Regs.{Regs}
 use Rattle.eh_phase.specs.Calls.{stack_of}
-use Rattle.eh_phase.specs.Laws.{seen, seen_frames}
+use Rattle.eh_phase.specs.Laws.{seen}
 use Rattle.eh_phase.specs.Phases.{Frame, Frames}
 use Rattle.eh_phase.specs.Frames.{frames_of}
 use Rattle.eh_gates.specs.declared.state.Core.{Core}
 use Rattle.eh_gates.specs.State.{State, state_of}
-use Rattle.eh_trace.specs.Trace.{Trace}
-use Rattle.frame_check.specs.Accepts.{Accepted}
+use Rattle.elf_image.specs.Image.{IsSound as IsImage}
+use Rattle.frame_check.specs.Accepts.{Accepted, IsSound}
 use Rattle.two_machines.specs.Activations.{Recorded, memory_of, frames_at}
 use Rattle.two_machines.specs.Agreeing.{handed_on, Agree}
-use Rattle.two_machines.specs.Program.{Program}
 use Rattle.two_machines.specs.Checked.{program_of}
-use Rattle.stands_for.specs.Stands.{Keeps, IsProgram, StandsFor}
+use Rattle.stands_for.specs.Stands.{Keeps, IsProgram}
 use Rattle.frames_same.proofs.FramesSame.{frames_are_same}
 use Rattle.eh_walk.specs.declared.walk.Backtrace.{Backtrace}
 use Rattle.eh_walk.specs.Laws.{WalksActivations, SameWalks, WalksSame}
@@ -61,8 +59,8 @@ module _ (x : Accepted) (is : IsProgram x) (s : Recorded) (k : Keeps x s) where
 pub walks_are_same : WalksSame
 walks_are_same x b s is r = subst (λ (c : State). SameWalks (walk_of (program_of x) c.regs c.memory) (recorded_walk (program_of x) s)) (sym r.same) (recorded x is s r.keeps)
 
-pub walks_activations : (p : Program) (core : Core) (m : Memory) (most : ℕ) (t : Backtrace) → IsWalk most (walk_of p core.regs m) t → WalksActivations p core m most t
-walks_activations p core m most t w events x s is e r =
-    let same = walks_are_same x (state_of core m events) s is r in
-    let here = subst (λ (q : Program). IsWalk most (walk_of q core.regs m) t) e w in
-    record { frames = here.frames ∙ same.frames most; end = here.end ∙ same.end most }
+pub walks_activations : (x : Accepted) (core : Core) (m : Memory) (most : ℕ) (t : Backtrace) → IsImage x.image → IsSound x → IsWalk most (walk_of (program_of x) core.regs m) t
+    → WalksActivations x core m most t
+walks_activations x core m most t image sound w events s map r =
+    let same = walks_are_same x (state_of core m events) s (record { image = image; sound = sound; map = map }) r in
+    record { frames = w.frames ∙ same.frames most; end = w.end ∙ same.end most }

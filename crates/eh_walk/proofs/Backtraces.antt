@@ -2,11 +2,13 @@
 use Rattle.std.proofs.Common.{◌≡◌, ℕ, Option, Some, None, Result, Ok, Err, sym, subst}
 use Rattle.std.specs.Prelude.{IfOk, option_map}
 use Rattle.eh_bus.specs.Memory.{Memory}
-use Rattle.elf_image.specs.Image.{Image}
+use Rattle.elf_image.specs.Image.{Image, IsSound as IsImage}
 use Rattle.thumb_core.specs.Registers.{all_of}
 use Rattle.eh_phase.specs.Calls.{stack_of}
 use Rattle.eh_phase.specs.Frames.{frames_of}
 use Rattle.eh_gates.specs.declared.state.Core.{Core}
+use Rattle.frame_check.specs.Accepts.{Accepted, IsSound}
+use Rattle.two_machines.specs.Checked.{program_of}
 use Rattle.two_machines.specs.Program.{Program}
 use Rattle.eh_walk.specs.declared.walk.Backtrace.{Backtrace}
 use Rattle.eh_walk.specs.declared.walk.WalkMemory.{WalkMemory}
@@ -27,6 +29,7 @@ module _ (p : Program) (core : Core) (m : Memory) (most : ℕ) where
   walked_from (Ok t) site image e same w = from_site t site image e same w
   walked_from (Err why) site image e same w = tt
 
-  pub activations : (r : Result Backtrace WalkMemory) → IfOk r (λ t. IsWalk most (walk_of p core.regs m) t) → IfOk r (λ t. WalksActivations p core m most t)
-  activations (Ok t) w = walks_activations p core m most t w
-  activations (Err why) w = tt
+pub activations : (x : Accepted) (core : Core) (m : Memory) (most : ℕ) (r : Result Backtrace WalkMemory) → IsImage x.image → IsSound x
+    → IfOk r (λ t. IsWalk most (walk_of (program_of x) core.regs m) t) → IfOk r (λ t. WalksActivations x core m most t)
+activations x core m most (Ok t) image sound w = walks_activations x core m most t image sound w
+activations x core m most (Err why) image sound w = tt

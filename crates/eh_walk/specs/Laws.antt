@@ -8,7 +8,6 @@ use Rattle.eh_gates.specs.declared.state.Core.{Core}
 use Rattle.eh_gates.specs.State.{State, state_of}
 use Rattle.frame_check.specs.Accepts.{Accepted}
 use Rattle.two_machines.specs.Activations.{Recorded, recorded_start}
-use Rattle.two_machines.specs.Program.{Program}
 use Rattle.two_machines.specs.Checked.{program_of}
 use Rattle.two_machines.specs.Start.{start_of}
 use Rattle.stands_for.specs.Stands.{IsProgram, StandsFor}
@@ -22,8 +21,8 @@ use Rattle.eh_walk.specs.Walks.{IsWalk, frames_given, end_given, walk_of, record
 
 -- From each state with recorded activations that the registers, globals and memory stand for, whatever its events are, the walk is the one
 -- over its activations.
-abbrev pub WalksActivations : Program → Core → Memory → ℕ → Backtrace → Type 0
-WalksActivations p core m most t = (events : Trace) → Follows p (state_of core m events) (λ x s. IsWalk most (recorded_walk (program_of x) s) t)
+abbrev pub WalksActivations : Accepted → Core → Memory → ℕ → Backtrace → Type 0
+WalksActivations x core m most t = (events : Trace) → Follows x (state_of core m events) (λ s. IsWalk most (recorded_walk (program_of x) s) t)
 
 -- two lists of frames of which every walk gives the same
 pub record SameWalks (one two : Option Frames) : Type 0 where

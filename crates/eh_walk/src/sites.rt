@@ -1,9 +1,11 @@
 //! Where the innermost frame of a state stands in its function (docs/walks.md, "Sites").
 ghost use Rattle.std.specs.Prelude.{◌≡◌};
+ghost use Rattle.two_machines.specs.Checked.{program_of};
 ghost use Rattle.eh_walk.specs.Sites.{site_by, site_state};
 
 use eh_bus::bus::Bus;
-use eh_machine::{Checked, Core, Shared};
+use eh_machine::{Core, Shared};
+use frame_check::Accepted;
 use thumb_core::step::fetch;
 use thumb_isa::instr::Instr;
 
@@ -26,8 +28,8 @@ fn site_by(pc: u32, i: Instr) -> Option<u32>
 /// The site at which a state stands. None where the checker reached no instruction at pc, and where the one that the memory has there is no
 /// gate and no call.
 #[tactic(auto, unfolding(crate::specs::Sites::site_state))]
-pub fn site<C: Checked, B: Bus>(a: &C, core: &Core, shared: &Shared<B>) -> Option<u32>
-    ensures { result ≡ site_state (C.program a.now) core.now.regs (B.memory shared.now.bus) }
+pub fn site<B: Bus>(a: &Accepted, core: &Core, shared: &Shared<B>) -> Option<u32>
+    ensures { result ≡ site_state (program_of a.now) core.now.regs (B.memory shared.now.bus) }
 {
     if !a.is_instr(core.regs.pc) {
         return None;

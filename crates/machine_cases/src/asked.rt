@@ -1,21 +1,22 @@
 //! What can be asked of a machine, one command behind the other. A number is hexadecimal, the name of a symbol, or A/N: the address of word
 //! N of the table that covers A.
-use crate::code::Code;
+use crate::code::{symbol, table_of};
 use crate::desk::Desk;
-use crate::{answers, hostile, landing, stacks, stops};
+use crate::{answers, hostile, landing, stacks, stops, witness};
 use case_rows::{Unanswered, first_word, number};
 use eh_cxa::Globals;
 use eh_machine::Turned;
+use frame_check::Accepted;
 use std::alloc::Global;
 
 /// The number that a word stands for.
-fn value(code: &Code, word: &str) -> Result<u32, Unanswered> {
+fn value(code: &Accepted, word: &str) -> Result<u32, Unanswered> {
     if word.starts_with('_') {
-        return code.symbol(word);
+        return symbol(code, word);
     }
     match word.split_once('/') {
         Some((site, place)) => {
-            let table = code.table_of(number(site)?)?;
+            let table = table_of(code, number(site)?)?;
             Ok(table.wrapping_add(number(place)?.wrapping_mul(4)))
         }
         None => number(word),
@@ -23,7 +24,7 @@ fn value(code: &Code, word: &str) -> Result<u32, Unanswered> {
 }
 
 /// The numbers that words stand for.
-fn values(alloc: Global, code: &Code, words: &str) -> Result<Vec<u32>, Unanswered> {
+fn values(alloc: Global, code: &Accepted, words: &str) -> Result<Vec<u32>, Unanswered> {
     let mut values = Vec::new(alloc);
     if words.is_empty() {
         return Ok(values);
@@ -37,7 +38,7 @@ fn values(alloc: Global, code: &Code, words: &str) -> Result<Vec<u32>, Unanswere
 /// The answers to commands with `; ` between them, over a machine of this code at its start.
 pub fn answer_all<'c>(
     alloc: Global,
-    code: &'c Code<'c>,
+    code: &'c Accepted<'c>,
     commands: &str,
 ) -> Result<String, Unanswered> {
     let mut desk = Desk::start(alloc, code)?;
@@ -66,6 +67,8 @@ fn answer(alloc: Global, desk: &mut Desk, what: &str, given: &[u32]) -> Result<S
         "any-word" => hostile::any_word(alloc, desk, given),
         "any-head" => hostile::any_head(alloc, desk, given),
         "stops" => stops::stops(alloc, desk, given),
+        "saved" => witness::saved(alloc, desk),
+        "stands" => witness::stands(alloc, desk, given),
         "stacks" => stacks::stacks(alloc, desk, given),
         _ => told(alloc, desk, what, given),
     }

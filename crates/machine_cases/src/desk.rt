@@ -1,5 +1,4 @@
 //! A machine that something is put into and that goes on, with what it wrote. No function here says anything of a run in a clause.
-use crate::code::Code;
 use bus_memories::paged::PagedBus;
 use case_rows::Unanswered;
 use eh_bus::bus::Bus;
@@ -7,13 +6,14 @@ use eh_cxa::layout::{SLOT_WORDS, SLOTS};
 use eh_cxa::pool;
 use eh_machine::{Core, Machine, Turned, start_parts, turn};
 use eh_port::{Bytes, CallNumbers, MemSink, SureSource};
+use frame_check::Accepted;
 use std::alloc::{AllocError, Global};
 use thumb_core::ends::End;
 
 /// How its last run ended, if it did, and the registers and heads before that run.
 #[derive(Drop)]
 pub struct Desk<'c> {
-    pub machine: Machine<'c, Code<'c>, PagedBus>,
+    pub machine: Machine<'c, PagedBus>,
     pub out: MemSink,
     pub end: End,
     pub before: Core,
@@ -37,11 +37,7 @@ fn sink(alloc: Global) -> MemSink {
 }
 
 /// One event of a machine.
-fn turn_once(
-    machine: &mut Machine<Code, PagedBus>,
-    input: &mut SureSource,
-    out: &mut MemSink,
-) -> Turned {
+fn turn_once(machine: &mut Machine<PagedBus>, input: &mut SureSource, out: &mut MemSink) -> Turned {
     turn(
         machine.accepted,
         &mut machine.core,
@@ -53,7 +49,7 @@ fn turn_once(
 }
 
 impl<'c> Desk<'c> {
-    fn of(alloc: Global, machine: Machine<'c, Code<'c>, PagedBus>) -> Desk<'c> {
+    pub fn of(alloc: Global, machine: Machine<'c, PagedBus>) -> Desk<'c> {
         let before = machine.core;
         Desk {
             machine,
@@ -64,7 +60,7 @@ impl<'c> Desk<'c> {
     }
 
     /// A machine at its start.
-    pub fn start(alloc: Global, code: &'c Code<'c>) -> Result<Desk<'c>, Unanswered> {
+    pub fn start(alloc: Global, code: &'c Accepted<'c>) -> Result<Desk<'c>, Unanswered> {
         match Machine::start(alloc, code, 0) {
             Ok(machine) => Ok(Desk::of(alloc, machine)),
             Err(_fault) => Err(Unanswered::from(AllocError)),
@@ -72,7 +68,7 @@ impl<'c> Desk<'c> {
     }
 
     /// A machine from the parts of its start.
-    pub fn from_parts(alloc: Global, code: &'c Code<'c>) -> Result<Desk<'c>, Unanswered> {
+    pub fn from_parts(alloc: Global, code: &'c Accepted<'c>) -> Result<Desk<'c>, Unanswered> {
         let Ok((core, shared, _events)) = start_parts(alloc, code) else {
             return Err(Unanswered::from(AllocError));
         };

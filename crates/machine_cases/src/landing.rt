@@ -1,15 +1,16 @@
 //! A throw from where its gate stands: what comes first of it, and where it goes to a barrier that is handed in.
 use crate::answers;
-use crate::code::Code;
+use crate::code::table_of;
 use crate::desk::Desk;
 use bus_memories::paged::PagedBus;
 use case_rows::{Unanswered, number_at};
 use eh_bytecode::Vrs;
 use eh_cxa::pool::slot_of_block;
-use eh_machine::{Checked, Machine, Turned, throw_to};
+use eh_machine::{Machine, Turned, tables, throw_to};
 use eh_match::Match;
 use eh_phase::joined::{First, first_landing};
 use eh_phase::{Barrier, Entered, Found, Thrown};
+use frame_check::Accepted;
 use std::alloc::{AllocError, Global};
 use thumb_core::regs::Regs;
 
@@ -33,7 +34,7 @@ fn first_of(desk: &Desk, ty: u32, limit: Option<u32>) -> First {
     let machine = &desk.machine;
     let regs = &machine.core.regs;
     first_landing(
-        &machine.accepted.tables(),
+        &tables(machine.accepted),
         &machine.shared.bus,
         &frame_of(regs),
         regs.pc,
@@ -54,8 +55,8 @@ fn changed(alloc: Global, before: &Vrs, behind: &Vrs) -> Result<String, AllocErr
 }
 
 /// The number of the word of a table at which an address stands; the table covers a site.
-fn place_in(code: &Code, site: u32, at: u32) -> Result<u32, Unanswered> {
-    Ok(at.wrapping_sub(code.table_of(site)?) / 4)
+fn place_in(code: &Accepted, site: u32, at: u32) -> Result<u32, Unanswered> {
+    Ok(at.wrapping_sub(table_of(code, site)?) / 4)
 }
 
 /// A match in words.
@@ -69,7 +70,7 @@ fn hit_text(alloc: Global, hit: Match) -> Result<String, AllocError> {
 }
 
 /// A barrier: its sp, the word of the table that is its descriptor, its site and its match.
-fn barrier_text(alloc: Global, code: &Code, barrier: &Barrier) -> Result<String, Unanswered> {
+fn barrier_text(alloc: Global, code: &Accepted, barrier: &Barrier) -> Result<String, Unanswered> {
     let Barrier {
         sp,
         desc,
@@ -84,7 +85,7 @@ fn barrier_text(alloc: Global, code: &Code, barrier: &Barrier) -> Result<String,
 /// What is entered: its pad and the registers that aren't those of the throw; of a cleanup its site and the word of the next descriptor too.
 fn entered_text(
     alloc: Global,
-    code: &Code,
+    code: &Accepted,
     from: &Vrs,
     entered: &Entered,
 ) -> Result<String, Unanswered> {
@@ -109,7 +110,7 @@ fn entered_text(
 }
 
 /// Why nothing is entered.
-fn found_text(alloc: Global, code: &Code, found: &Found) -> Result<String, Unanswered> {
+fn found_text(alloc: Global, code: &Accepted, found: &Found) -> Result<String, Unanswered> {
     match found {
         Found::Barrier(barrier) => barrier_text(alloc, code, barrier),
         Found::Terminate(cause) => Ok(format!(in alloc; "terminate {cause:?}")?),
@@ -141,7 +142,7 @@ pub fn place(alloc: Global, desk: &Desk, given: &[u32]) -> Result<String, Unansw
 }
 
 /// The exception of the first slot flies to a barrier, from where the throw's gate stands.
-fn flies(machine: &mut Machine<Code, PagedBus>, barrier: &Barrier) -> Option<Turned> {
+fn flies(machine: &mut Machine<PagedBus>, barrier: &Barrier) -> Option<Turned> {
     let site = machine.core.regs.pc;
     if let Some(_slot) = slot_of_block(BLOCK) {
         Some(throw_to(

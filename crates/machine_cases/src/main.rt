@@ -1,4 +1,4 @@
-//! Runs the cases of data/ over the machine that unwinds, through public calls alone: whole programs from their sources, single gates and
+//! Runs the cases of data/ over the machine that unwinds, through public calls alone: whole programs from their sources, which the checker accepts, single gates and
 //! events over any registers, pools and stacks, runs in parts. A line is a question, ` : ` and the answer to it, by hand from docs/machine.md,
 //! docs/phases.md and docs/exceptions.md.
 #![tactic(auto)]
@@ -12,11 +12,9 @@ mod hostile;
 mod landing;
 mod stacks;
 mod stops;
+mod witness;
 
-use case_rows::{Asked, Unanswered, first_word, number, run_file};
-use code::{Code, Unchecked};
-use eh_index::Index;
-use eh_types::TypeGraph;
+use case_rows::{Asked, Unanswered, run_file};
 use elf_image::image::Image;
 use elf_image::read::read_image;
 use frame_check::check;
@@ -29,81 +27,33 @@ struct InMachine<'h> {
     host: &'h HostRuntime,
 }
 
-/// The answers to commands over an image that the checker accepts.
+/// The answers to commands over an image, where the checker accepts it.
 fn over_checked(alloc: Global, image: Image, commands: &str) -> Result<String, Unanswered> {
     match check(alloc, image) {
-        Ok(accepted) => asked::answer_all(alloc, &Code::Accepted(&accepted), commands),
+        Ok(accepted) => asked::answer_all(alloc, &accepted, commands),
         Err(fault) => Ok(format!(in alloc; "refused: {fault:?}")?),
     }
 }
 
-/// The answers to commands over an image whose code is taken as checked, where its index and its types are read; the words of the push at
-/// 8000 that the bits of `saves` name are saved.
-fn over_open(
-    alloc: Global,
-    image: &Image,
-    saves: u16,
-    commands: &str,
-) -> Result<String, Unanswered> {
-    let Ok(types) = TypeGraph::read(alloc, image, image.type_symbols()) else {
-        return Ok(format!(in alloc; "types refused")?);
-    };
-    if Index::read(image).is_err() {
-        return Ok(format!(in alloc; "index refused")?);
-    }
-    let code = Code::Open(Unchecked {
-        image,
-        types: &types,
-        push: 0x8000,
-        saves,
-    });
-    asked::answer_all(alloc, &code, commands)
-}
-
-/// The answers to commands over an image, where the words that were given in front of its sources say how it is taken.
-fn over(
-    alloc: Global,
-    file: &[u8],
-    saves: Option<u32>,
-    commands: &str,
-) -> Result<String, Unanswered> {
-    let Ok(image) = read_image(alloc, file) else {
-        return Ok(format!(in alloc; "no image")?);
-    };
-    match saves {
-        None => over_checked(alloc, image, commands),
-        Some(saves) => {
-            let saves = u16::try_from(saves).unwrap_or(0);
-            over_open(alloc, &image, saves, commands)
-        }
-    }
-}
-
-/// How the image of a question is taken, and the names of its sources: `checked SOURCES..` or `open SAVES SOURCES..`.
-fn program_of(program: &str) -> Result<(Option<u32>, &str), Unanswered> {
-    let (how, rest) = first_word(program);
-    match how {
-        "checked" => Ok((None, rest)),
-        "open" => {
-            let (saves, names) = first_word(rest);
-            Ok((Some(number(saves)?), names))
-        }
-        _ => Err(Unanswered::NotKnown),
+/// The answers to commands over the image that these bytes stand for.
+fn over(alloc: Global, file: &[u8], commands: &str) -> Result<String, Unanswered> {
+    match read_image(alloc, file) {
+        Ok(image) => over_checked(alloc, image, commands),
+        Err(_) => Ok(format!(in alloc; "no image")?),
     }
 }
 
 impl<'h> Asked for InMachine<'h> {
-    /// A program, and commands behind it.
+    /// The names of a program's sources, and commands behind them.
     fn answer(&self, alloc: Global, question: &str) -> Result<String, Unanswered> {
-        let (program, commands) = question.split_once("; ").unwrap_or((question, ""));
-        let (saves, names) = program_of(program)?;
+        let (names, commands) = question.split_once("; ").unwrap_or((question, ""));
         let file = build::built(self.host, names)?;
-        over(alloc, file.as_slice(), saves, commands)
+        over(alloc, file.as_slice(), commands)
     }
 }
 
 /// The files of cases.
-const FILES: [&str; 7] = [
+const FILES: [&str; 8] = [
     "programs.txt",
     "parts.txt",
     "rethrown.txt",
@@ -111,6 +61,7 @@ const FILES: [&str; 7] = [
     "gates.txt",
     "hostile.txt",
     "stacks.txt",
+    "witness.txt",
 ];
 
 fn main(host: HostRuntime) -> Result<(), Error> {

@@ -2,6 +2,7 @@
 use Rattle.std.specs.Prelude.{ℕ, Bool, List, [], Option}
 use Rattle.event_runs.specs.Runs.{Event, Goes, Ends, Machine, Ran, Runs, ran_of}
 use Rattle.eh_bus.specs.Memory.{Memory}
+use Rattle.given_input.specs.Runs.{RunsGiven}
 use Rattle.guest_gates.specs.Ends.{is_fault, trap_end}
 use Rattle.guest_gates.specs.Gates.{gate_event, gate_fails, return_event}
 use Rattle.image_memory.specs.Start.{State}
@@ -52,3 +53,7 @@ flat_ran budget state input = ran_of flat_machine budget state input
 -- a run was done, or a part of it up to a fault, whatever it had to spare
 abbrev pub FlatRuns : ℕ → State → List ℕ → End → State → Option (List ℕ) → Option (List ℕ) → Option (List ℕ) → Type 0
 FlatRuns budget old input end new left before now = (unspent : ℕ) × Runs flat_machine budget old input end new unspent left before now
+
+-- .. each event on bytes that it was given, which the source need not tell
+abbrev pub FlatRunsGiven : ℕ → State → End → State → Option (List ℕ) → Option (List ℕ) → Type 0
+FlatRunsGiven budget old end new before now = (unspent : ℕ) × RunsGiven flat_machine budget old end new unspent before now

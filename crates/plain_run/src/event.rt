@@ -2,6 +2,7 @@
 ghost use Rattle.std.specs.Prelude.{◌≡◌, ◌≤◌, Some, IfSome, MatchOption};
 ghost use Rattle.eh_port.specs.Causes.{Rose};
 ghost use Rattle.event_runs.specs.Runs.{GoesOn, EndsBy};
+ghost use Rattle.given_input.specs.Given.{OnGiven};
 ghost use Rattle.guest_gates.specs.Ends.{is_fault};
 ghost use Rattle.guest_gates.specs.Gates.{gate_fails};
 ghost use Rattle.image_memory.specs.Start.{State};
@@ -9,7 +10,8 @@ ghost use Rattle.plain_run.specs.Machine.{went_event, flat_event, may_fail};
 
 use eh_bus::bus::Bus;
 use eh_port::{Sink, Source};
-use guest_gates::{NO_CALLER, gate, trap_end};
+use given_input::gate;
+use guest_gates::{NO_CALLER, trap_end};
 use thumb_core::ends::End;
 use thumb_core::regs::{Regs, Stepped};
 use thumb_core::step::step;
@@ -25,6 +27,9 @@ fn went<I: Source, O: Sink>(
     ensures told { IfSome (I.left input.old) (λ bytes.
         MatchOption result (GoesOn (went_event what before.now regs.old bytes) regs.new (I.left input.new) (O.written out.old) (O.written out.new))
         (λ end. EndsBy is_fault (gate_fails what) (went_event what before.now regs.old bytes) end before.now regs.new bytes (I.left input.new) (O.written out.old) (O.written out.new))) }
+    ensures given { OnGiven (λ bytes left.
+        MatchOption result (GoesOn (went_event what before.now regs.old bytes) regs.new left (O.written out.old) (O.written out.new))
+        (λ end. EndsBy is_fault (gate_fails what) (went_event what before.now regs.old bytes) end before.now regs.new bytes left (O.written out.old) (O.written out.new))) }
     ensures read { result ≡ Some End.ReadFault → Rose (I.faults input.old) (I.faults input.new) }
     ensures write { result ≡ Some End.WriteFault → Rose (O.faults out.old) (O.faults out.new) }
     ensures input_later { I.faults input.old ≤ I.faults input.new }
@@ -66,6 +71,11 @@ pub(crate) fn turn<B: Bus, I: Source, O: Sink>(
         let new : State = record { regs = regs.new; memory = B.memory bus.new } in
         MatchOption result (GoesOn (flat_event old bytes) new (I.left input.new) (O.written out.old) (O.written out.new))
         (λ end. EndsBy is_fault (may_fail old) (flat_event old bytes) end old new bytes (I.left input.new) (O.written out.old) (O.written out.new))) }
+    ensures given { OnGiven (λ bytes left.
+        let old : State = record { regs = regs.old; memory = B.memory bus.old } in
+        let new : State = record { regs = regs.new; memory = B.memory bus.new } in
+        MatchOption result (GoesOn (flat_event old bytes) new left (O.written out.old) (O.written out.new))
+        (λ end. EndsBy is_fault (may_fail old) (flat_event old bytes) end old new bytes left (O.written out.old) (O.written out.new))) }
     ensures read { result ≡ Some End.ReadFault → Rose (I.faults input.old) (I.faults input.new) }
     ensures write { result ≡ Some End.WriteFault → Rose (O.faults out.old) (O.faults out.new) }
     ensures input_later { I.faults input.old ≤ I.faults input.new }

@@ -2,7 +2,7 @@
 ghost use Rattle.std.specs.Prelude.{◌≡◌, ◌≤◌, IfSome};
 ghost use Rattle.eh_port.specs.Causes.{Rose};
 ghost use Rattle.image_memory.specs.Start.{State};
-ghost use Rattle.plain_run.specs.Machine.{FlatRuns};
+ghost use Rattle.plain_run.specs.Machine.{FlatRuns, FlatRunsGiven};
 
 use crate::event::turn;
 use eh_bus::bus::Bus;
@@ -13,7 +13,8 @@ use thumb_core::regs::Regs;
 /// Runs at most `budget` instructions of raw code from these registers and this memory.
 ///
 /// A trap, an exit or a fault leaves registers and memory as before its instruction. `ReadFault` comes only at the input
-/// gate, and `WriteFault` only at the output gate, where the count of the source or of the sink rose in this call.
+/// gate, and `WriteFault` only at the output gate, where the count of the source or of the sink rose in this call. All this holds of a source
+/// that tells nothing too, on bytes that it gave (`given`).
 pub fn flat_run<B: Bus, I: Source, O: Sink>(
     regs: &mut Regs,
     bus: &mut B,
@@ -25,6 +26,9 @@ pub fn flat_run<B: Bus, I: Source, O: Sink>(
         let old : State = record { regs = regs.old; memory = B.memory bus.old } in
         let new : State = record { regs = regs.new; memory = B.memory bus.new } in
         FlatRuns budget old bytes result new (I.left input.new) (O.written out.old) (O.written out.new)) }
+    ensures given { let old : State = record { regs = regs.old; memory = B.memory bus.old } in
+        let new : State = record { regs = regs.new; memory = B.memory bus.new } in
+        FlatRunsGiven budget old result new (O.written out.old) (O.written out.new) }
     ensures read { result ≡ End.ReadFault → Rose (I.faults input.old) (I.faults input.new) }
     ensures write { result ≡ End.WriteFault → Rose (O.faults out.old) (O.faults out.new) }
     ensures input_later { I.faults input.old ≤ I.faults input.new }

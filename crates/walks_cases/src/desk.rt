@@ -1,6 +1,6 @@
 //! A machine whose registers are changed, and walks from where it stands. Numbers are hexadecimal.
+use bus_memories::paged::PagedBus;
 use case_rows::{Unanswered, number_at};
-use eh_bus::paged::PagedBus;
 use eh_machine::Machine;
 use eh_port::{Bytes, CallNumbers, MemSink, SureSource};
 use eh_walk::{Backtrace, WalkFrame, backtrace};

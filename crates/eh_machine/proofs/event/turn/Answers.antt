@@ -7,4 +7,4 @@ returns-clause-recorded g c =
     let old : State = state_of c.args.core.now (g.B.Bus.memory c.args.shared.now.bus) c.args.events.now in
     let new : State = state_of c.turn_from.new.core (g.B.Bus.memory c.turn_from.new.shared.bus) c.turn_from.new.events in
     follows_once (g.I.Source.left c.args.input.now) (g.I.Source.left c.turn_from.new.input) (g.O.Sink.written c.args.out.now) (g.O.Sink.written c.turn_from.new.out)
-    (g.C.Checked.program c.args.a.now) old new c.turn_from.result c.turn_from.ensures.told
+    c.args.a.now old new c.turn_from.result c.holds.ensures.image c.holds.ensures.sound c.turn_from.ensures.told

@@ -1,6 +1,7 @@
 use Rattle.std.proofs.Common.{ℕ, refl, sym, ap, ◌∙◌, arith}
 use Rattle.thumb_core.specs.declared.regs.Stepped.TheVariants.{Done}
 use Rattle.eh_gates.specs.State.{State, state_of}
+use Rattle.two_machines.specs.Checked.{program_of}
 use Rattle.eh_machine.proofs.Passing.{went_on, was_done, tested_passes, guarded_is, at_step, pushes_there, in_stack, straight, no_test, as_done}
 use Rattle.eh_machine.proofs.pass.level.Goals as goal
 
@@ -26,7 +27,7 @@ guard_pushed-requires g c =
 
 pub returns-clause-tried : goal.returns-clause-tried
 returns-clause-tried g c =
-    let p = g.C.Checked.program c.args.a.now in
+    let p = program_of c.args.a.now in
     let old = g.B.Bus.memory c.args.bus.now in
     let what = c.execute-what.result in
     let regs = c.execute-what.new.regs in
@@ -47,4 +48,4 @@ pub returns-clause-known : goal.returns-clause-known
 returns-clause-known g c =
     let on = straight c.args.core.now.regs (g.B.Bus.memory c.args.bus.now) c.args.at c.args.pushes c.execute-what.result c.execute-what.new.regs (g.B.Bus.memory c.execute-what.new.bus)
     c.requires.told c.requires.range (omega arith) c.are_words.ensures (c.if-not-passes_tests.ensures.room refl) c.execute-what.ensures.effect c.in_default.not-Trap in
-    c.look_behind-behind.ensures.instr ∙ ap (λ (a : ℕ). ((g.C.Checked.program c.args.a.now).look a).is_instr) (sym on.pc)
+    c.look_behind-behind.ensures.instr ∙ ap (λ (a : ℕ). ((program_of c.args.a.now).look a).is_instr) (sym on.pc)

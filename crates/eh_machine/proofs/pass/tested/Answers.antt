@@ -1,5 +1,6 @@
 use Rattle.std.proofs.Common.{ℕ, slice_index, refl, sym, ap, ◌∙◌, arith}
 use Rattle.eh_gates.specs.State.{State, state_of}
+use Rattle.two_machines.specs.Checked.{program_of}
 use Rattle.eh_machine.proofs.Passing.{ended, went_on, by_trap, trap_passes, stopped, tested_passes, kept_back, left_as_it_was, tests_are, settled_is, gate_done, gate_passes, above_low, at_step, branches_there, pushes_there, leaves_there, in_stack}
 use Rattle.eh_machine.proofs.pass.tested.Goals as goal
 
@@ -7,8 +8,8 @@ pub returns-in-Trap : goal.returns-in-Trap
 returns-in-Trap g c =
     let m = g.B.Bus.memory c.args.bus.now in
     record {
-      passes = ended (g.C.Checked.program c.args.a.now) c.args.core.now m _ _ c.trap_end.result
-          (λ events. trap_passes (g.C.Checked.program c.args.a.now) (state_of c.args.core.now m events) c.in-Trap.trap c.execute-what.new.regs
+      passes = ended (program_of c.args.a.now) c.args.core.now m _ _ c.trap_end.result
+          (λ events. trap_passes (program_of c.args.a.now) (state_of c.args.core.now m events) c.in-Trap.trap c.execute-what.new.regs
           (g.B.Bus.memory c.execute-what.new.bus) c.trap_end.result c.requires.reached (at_step c.args.core.now.regs m c.args.at _ c.requires.there c.in-Trap.ensures.effect)
           c.in-Trap.ensures.trap.0 c.in-Trap.ensures.trap.1 c.trap_end.ensures)
           (by_trap c.in-Trap.trap _ c.trap_end.result c.trap_end.ensures);
@@ -16,7 +17,7 @@ returns-in-Trap g c =
 
 pub returns-in-Done : goal.returns-in-Done
 returns-in-Done g c =
-    let p = g.C.Checked.program c.args.a.now in
+    let p = program_of c.args.a.now in
     let old = g.B.Bus.memory c.args.bus.now in
     let m = g.B.Bus.memory c.execute-what.new.bus in
     let back = g.B.Bus.memory c.put_back.new.bus in
@@ -33,7 +34,7 @@ returns-in-Done g c =
 
 pub returns-in_default-what : goal.returns-in_default-what
 returns-in_default-what g c =
-    let p = g.C.Checked.program c.args.a.now in
+    let p = program_of c.args.a.now in
     let old = g.B.Bus.memory c.args.bus.now in
     let m = g.B.Bus.memory c.execute-what.new.bus in
     record {
@@ -49,7 +50,7 @@ returns-in_default-what g c =
 
 pub settle-requires : goal.settle-requires
 settle-requires g c =
-    let p = g.C.Checked.program c.args.a.now in
+    let p = program_of c.args.a.now in
     let old = g.B.Bus.memory c.args.bus.now in
     let m = g.B.Bus.memory c.execute-what.new.bus in
     let regs = c.execute-what.new.regs in
@@ -69,7 +70,7 @@ settle-requires g c =
 
 pub returns : goal.returns
 returns g c =
-    let p = g.C.Checked.program c.args.a.now in
+    let p = program_of c.args.a.now in
     let old = g.B.Bus.memory c.args.bus.now in
     let what = c.execute-what.result in
     let regs = c.execute-what.new.regs in
@@ -82,7 +83,7 @@ returns g c =
           let t = tests_are p s what regs c.innermost_sp-landing.result c.home-low.result.0 c.args.told.0 c.refusal.result
           c.innermost_sp-landing.ensures.words (ap (λ (h : ℕ × ℕ). h.0) c.home-low.ensures) (branches_there s.regs old c.args.at c.args.told.0 c.requires.there c.requires.taken) c.refusal.ensures.is in
           tested_passes p s what regs m c.requires.reached did c.in_default.not-Trap new (t ∙ c.in_default-refusal.is)
-          (settled_is p s regs m new c.saves_at.result c.args.told.1 _ _ c.saves_at.ensures (pushes_there s.regs old c.args.at c.args.told.1 c.requires.there c.requires.pushes) refl refl c.settle.ensures))
+          (settled_is p s regs m new c.saves_at.result c.args.told.1 _ _ c.saves_at.ensures.spot (pushes_there s.regs old c.args.at c.args.told.1 c.requires.there c.requires.pushes) refl refl c.settle.ensures))
           (λ number events is.
           let s : State = state_of c.args.core.now old events in
           gate_passes what c.saves_at.result c.args.told.1 _ _ number s regs m new

@@ -1,11 +1,12 @@
 use Rattle.std.proofs.Common.{refl, sym, ◌∙◌, arith}
 use Rattle.eh_gates.specs.State.{state_of}
+use Rattle.two_machines.specs.Checked.{program_of}
 use Rattle.eh_walk.proofs.Reaching.{starts_onward, turn_goes_on, turn_ends, stands, runs_out}
 use Rattle.eh_walk.proofs.reach.run_to_site.Goals as goal
 
 pub loop-events-init : goal.loop-events-init
 loop-events-init g c = record {
-  progress = starts_onward (g.C.Checked.program c.args.machine.now.accepted.now) c.args.machine.now.left
+  progress = starts_onward (program_of c.args.machine.now.accepted.now) c.args.machine.now.left
       (state_of c.args.machine.now.core (g.B.Bus.memory c.args.machine.now.shared.bus) c.args.machine.now.events) (g.I.Source.left c.args.input.now)
       (g.O.Sink.written c.args.out.now) _ c.most_events-events.ensures;
   input_kept = refl;
@@ -15,7 +16,7 @@ loop-events-init g c = record {
 
 pub loop-events-preserved : goal.loop-events-preserved
 loop-events-preserved g c = record {
-  progress = turn_goes_on (g.C.Checked.program c.args.machine.now.accepted.now) c.args.machine.now.left
+  progress = turn_goes_on (program_of c.args.machine.now.accepted.now) c.args.machine.now.left
       (state_of c.args.machine.now.core (g.B.Bus.memory c.args.machine.now.shared.bus) c.args.machine.now.events) (g.I.Source.left c.args.input.now)
       c.loop-events.events c.loop-events.machine.left
       (state_of c.loop-events.machine.core (g.B.Bus.memory c.loop-events.machine.shared.bus) c.loop-events.machine.events) (g.I.Source.left c.loop-events.input) (g.O.Sink.written c.args.out.now)
@@ -28,21 +29,21 @@ loop-events-preserved g c = record {
 
 pub returns-then-stands_there-clause-told : goal.returns-then-stands_there-clause-told
 returns-then-stands_there-clause-told g c =
-    stands (g.C.Checked.program c.args.machine.now.accepted.now) c.args.machine.now.left
+    stands (program_of c.args.machine.now.accepted.now) c.args.machine.now.left
     (state_of c.args.machine.now.core (g.B.Bus.memory c.args.machine.now.shared.bus) c.args.machine.now.events) (g.I.Source.left c.args.input.now) c.loop-events.events c.loop-events.machine.left
     (state_of c.loop-events.machine.core (g.B.Bus.memory c.loop-events.machine.shared.bus) c.loop-events.machine.events) (g.I.Source.left c.loop-events.input) (g.O.Sink.written c.args.out.now)
     (g.O.Sink.written c.loop-events.out) c.loop-events.invariant.progress (omega arith) (sym c.stands_there.ensures ∙ c.if-stands_there.true)
 
 pub returns-in-Ended-clause-told : goal.returns-in-Ended-clause-told
 returns-in-Ended-clause-told g c =
-    turn_ends (g.C.Checked.program c.args.machine.now.accepted.now) c.args.machine.now.left
+    turn_ends (program_of c.args.machine.now.accepted.now) c.args.machine.now.left
     (state_of c.args.machine.now.core (g.B.Bus.memory c.args.machine.now.shared.bus) c.args.machine.now.events) (g.I.Source.left c.args.input.now) c.loop-events.events c.loop-events.machine.left
     (state_of c.loop-events.machine.core (g.B.Bus.memory c.loop-events.machine.shared.bus) c.loop-events.machine.events) (g.I.Source.left c.loop-events.input) (g.O.Sink.written c.args.out.now)
     (g.O.Sink.written c.loop-events.out) c.loop-events.invariant.progress c.in-Ended.end _ _ _ (omega arith) (sym c.stands_there.ensures ∙ c.if-stands_there.false) c.in-Ended.ensures.told
 
 pub returns-clause-told : goal.returns-clause-told
 returns-clause-told g c =
-    runs_out (g.C.Checked.program c.args.machine.now.accepted.now) c.args.machine.now.left
+    runs_out (program_of c.args.machine.now.accepted.now) c.args.machine.now.left
     (state_of c.args.machine.now.core (g.B.Bus.memory c.args.machine.now.shared.bus) c.args.machine.now.events) (g.I.Source.left c.args.input.now) c.loop-events.events c.loop-events.machine.left
     (state_of c.loop-events.machine.core (g.B.Bus.memory c.loop-events.machine.shared.bus) c.loop-events.machine.events) (g.I.Source.left c.loop-events.input) (g.O.Sink.written c.args.out.now)
     (g.O.Sink.written c.loop-events.out) c.loop-events.invariant.progress (omega arith)

@@ -1,5 +1,6 @@
+use Rattle.std.proofs.Common.{Some, []}
 use Rattle.image_memory.specs.Start.{State}
-use Rattle.plain_run.proofs.Turns.{went_on, done_goes}
+use Rattle.plain_run.proofs.Turns.{went_on, done_goes, given_on, given_none}
 use Rattle.plain_run.proofs.event.turn.Goals as goal
 
 pub returns-in-Done-clause-told : goal.returns-in-Done-clause-told
@@ -11,3 +12,13 @@ pub returns-clause-told : goal.returns-clause-told
 returns-clause-told g c =
     let old : State = record { regs = c.args.regs.now; memory = g.B.Bus.memory c.args.bus.now } in
     went_on old _ _ _ c.step-what.ensures.effect _ _ _ _ _ _ c.step-what.ensures.leaves_memory c.went.ensures.told
+
+pub returns-in-Done-clause-given : goal.returns-in-Done-clause-given
+returns-in-Done-clause-given g c =
+    let old : State = record { regs = c.args.regs.now; memory = g.B.Bus.memory c.args.bus.now } in
+    given_none _ (done_goes old c.step-what.result c.step-what.new.regs (g.B.Bus.memory c.step-what.new.bus) c.step-what.ensures.effect (Some []) _ c.in-Done.is)
+
+pub returns-clause-given : goal.returns-clause-given
+returns-clause-given g c =
+    let old : State = record { regs = c.args.regs.now; memory = g.B.Bus.memory c.args.bus.now } in
+    given_on old _ _ _ c.step-what.ensures.effect _ _ _ _ c.step-what.ensures.leaves_memory c.went.ensures.given

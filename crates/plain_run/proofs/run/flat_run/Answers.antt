@@ -1,5 +1,6 @@
 use Rattle.std.proofs.Common.{arith, refl}
 use Rattle.event_runs.proofs.Progress.{starts, goes_on, ends, spent}
+use Rattle.given_input.proofs.Loops.{given_starts, given_goes_on, given_ends, given_spent}
 use Rattle.image_memory.specs.Start.{State}
 use Rattle.plain_run.specs.Machine.{flat_machine}
 use Rattle.plain_run.proofs.Turns.{some_unspent}
@@ -7,11 +8,12 @@ use Rattle.thumb_core.specs.declared.ends.End.{End}
 use Rattle.plain_run.proofs.run.flat_run.Goals as goal
 
 pub loop-left-init : goal.loop-left-init
-loop-left-init g c = record { progress = starts State End flat_machine _ _ _ _; input_later = omega arith; out_later = omega arith }
+loop-left-init g c = record { progress = starts State End flat_machine _ _ _ _; given = given_starts State End flat_machine _ _ _; input_later = omega arith; out_later = omega arith }
 
 pub loop-left-preserved : goal.loop-left-preserved
 loop-left-preserved g c = record {
   progress = goes_on State End flat_machine _ _ _ _ _ _ _ _ _ _ _ (omega arith) c.loop-left.invariant.progress c.in-None.ensures.told;
+  given = given_goes_on State End flat_machine _ _ _ _ _ _ _ _ (omega arith) c.loop-left.invariant.given c.in-None.ensures.given;
   input_later = omega arith;
   out_later = omega arith;
 }
@@ -23,3 +25,10 @@ returns-in-Some-clause-told g c =
 pub returns-clause-told : goal.returns-clause-told
 returns-clause-told g c =
     some_unspent _ _ _ _ _ _ _ _ _ (spent State End flat_machine _ _ _ _ _ _ _ _ (omega arith) refl c.loop-left.invariant.progress)
+
+pub returns-in-Some-clause-given : goal.returns-in-Some-clause-given
+returns-in-Some-clause-given g c =
+    (_, given_ends State End flat_machine _ _ _ _ _ _ _ _ _ (omega arith) c.loop-left.invariant.given c.in-Some.ensures.given)
+
+pub returns-clause-given : goal.returns-clause-given
+returns-clause-given g c = (_, given_spent State End flat_machine _ _ _ _ _ _ (omega arith) c.loop-left.invariant.given)

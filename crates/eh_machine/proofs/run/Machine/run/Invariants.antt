@@ -1,20 +1,25 @@
 use Rattle.std.proofs.Common.{◌≡◌, IfSome}
 use Rattle.event_runs.proofs.Progress.{Progress}
+use Rattle.given_input.proofs.Loops.{GivenProgress}
 use Rattle.eh_gates.specs.State.{State, state_of}
 use Rattle.two_machines.specs.Machine.{machine_of}
 use Rattle.thumb_core.specs.declared.ends.End.{End}
+use Rattle.two_machines.specs.Checked.{program_of}
 use Rattle.eh_machine.proofs.run.Machine.run.Given as goal
 
 -- what was done and what is left are the whole run, no count has changed, and what is known is of pc
 abbrev pub invariant-loop-self : goal.invariant-loop-self
 invariant-loop-self g l = record {
-  progress : IfSome (g.I.Source.left l.initial.input) (λ bytes. Progress State End (machine_of (g.C.Checked.program l.initial.self.accepted.now)) l.initial.self.left
+  progress : IfSome (g.I.Source.left l.initial.input) (λ bytes. Progress State End (machine_of (program_of l.initial.self.accepted.now)) l.initial.self.left
       (state_of l.initial.self.core (g.B.Bus.memory l.initial.self.shared.bus) l.initial.self.events) bytes
       l.self.left (state_of l.self.core (g.B.Bus.memory l.self.shared.bus) l.self.events) (g.I.Source.left l.input) (g.O.Sink.written l.initial.out) (g.O.Sink.written l.out));
+  given : GivenProgress State End (machine_of (program_of l.initial.self.accepted.now)) l.initial.self.left
+      (state_of l.initial.self.core (g.B.Bus.memory l.initial.self.shared.bus) l.initial.self.events)
+      l.self.left (state_of l.self.core (g.B.Bus.memory l.self.shared.bus) l.self.events) (g.O.Sink.written l.initial.out) (g.O.Sink.written l.out);
   input_kept : g.I.Source.faults l.input ≡ g.I.Source.faults l.initial.input;
   out_kept : g.O.Sink.faults l.out ≡ g.O.Sink.faults l.initial.out;
   same : l.self.accepted ≡ l.initial.self.accepted;
-  known : l.known ≡ ((g.C.Checked.program l.initial.self.accepted.now).look l.self.core.regs.pc).is_instr;
+  known : l.known ≡ ((program_of l.initial.self.accepted.now).look l.self.core.regs.pc).is_instr;
 }
 
 abbrev pub decreases-loop-self : goal.decreases-loop-self

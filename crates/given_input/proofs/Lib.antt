@@ -1,0 +1,2 @@
+mod Inputs
+pub mod Loops

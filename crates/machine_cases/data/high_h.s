@@ -1,0 +1,9 @@
+@ h stores to the second word of main's frame.
+.global h
+.type h, %function
+h: .fnstart
+mov r0, sp
+movs r1, #0
+strb r1, [r0, #7]
+bx lr
+.fnend
