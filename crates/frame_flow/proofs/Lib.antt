@@ -9,3 +9,4 @@ pub mod Conditions
 pub mod Pads
 pub mod Standing
 pub mod Edges
+pub mod Slots

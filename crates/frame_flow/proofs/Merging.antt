@@ -1,6 +1,5 @@
 -- What an edge makes of the facts and the work list.
-use Rattle.std.proofs.Common.{ℕ, ◌≡◌, ◌<◌, ◌+◌, map, List, [], ◌∷◌, ◌++◌, length, Option, Some, None, Result, Ok, Err, IfOk, IfErr, sym, ◌∙◌, subst, ⊎_elim, arith, set, get_or, drop, drop-cons, add-one}
-use Rattle.std.proofs.lemmas.List.{get_or_read}
+use Rattle.std.proofs.Common.{ℕ, ◌≡◌, ◌<◌, ◌+◌, map, List, [], ◌∷◌, ◌++◌, length, Option, Some, None, Result, Ok, Err, IfOk, IfErr, sym, subst, ⊎_elim, arith, set, get_or, drop, drop-cons, add-one}
 use Rattle.thumb_core.specs.Words.{listed}
 use Rattle.frame_facts.specs.declared.cause.FrameCause.{FrameCause}
 use Rattle.frame_facts.specs.declared.facts.Fact.{Fact}
@@ -18,12 +17,12 @@ use Rattle.frame_flow.specs.Work.{IsSound, top_of, Keeps, Merged, fresh, same, v
 use Rattle.frame_flow.proofs.Instance.{laws, falls, inside, parting_is}
 
 pub put_fresh : (x : Framed) (facts : List (Option Fact)) (work : List ℕ) (q : ℕ) (g : Fact) (facts' : List (Option Fact)) (work' : List ℕ) (r : Result (Unit {0}) FrameFault)
-    → fact_at facts q ≡ None → facts' ≡ set facts q (Some g) → IfOk r (λ _. work' ≡ work ++ q ∷ []) → IfErr r (λ e. e ≡ OutOfMemory) → Merged x facts work q g facts' work' r
+    → fact_at facts q ≡ None → IfOk r (λ _. facts' ≡ set facts q (Some g)) → IfOk r (λ _. work' ≡ work ++ q ∷ []) → IfErr r (λ e. e ≡ OutOfMemory) → Merged x facts work q g facts' work' r
 put_fresh x facts work q g facts' work' (Ok u) none is more e = fresh none is more
 put_fresh x facts work q g facts' work' (Err y) none is more e = subst (λ y. Merged x facts work q g facts' work' (Err y)) (sym e) spent
 
 pub put_vaguer : (x : Framed) (facts : List (Option Fact)) (work : List ℕ) (q : ℕ) (g h k : Fact) (facts' : List (Option Fact)) (work' : List ℕ) (r : Result (Unit {0}) FrameFault)
-    → fact_at facts q ≡ Some h → join_of h g ≡ Some k → (k ≡ h → ⊥) → facts' ≡ set facts q (Some k) → IfOk r (λ _. work' ≡ work ++ q ∷ []) → IfErr r (λ e. e ≡ OutOfMemory) → Merged x facts work q g facts' work' r
+    → fact_at facts q ≡ Some h → join_of h g ≡ Some k → (k ≡ h → ⊥) → IfOk r (λ _. facts' ≡ set facts q (Some k)) → IfOk r (λ _. work' ≡ work ++ q ∷ []) → IfErr r (λ e. e ≡ OutOfMemory) → Merged x facts work q g facts' work' r
 put_vaguer x facts work q g h k facts' work' (Ok u) held met ne is more e = vaguer h k held met ne is more
 put_vaguer x facts work q g h k facts' work' (Err y) held met ne is more e = subst (λ y. Merged x facts work q g facts' work' (Err y)) (sym e) spent
 
@@ -48,9 +47,6 @@ merged_keeps x facts work q g facts' work' todo _ (vaguer h k held met ne is mor
 merged_keeps x facts work q g facts' work' todo _ (parts h held met) s =
     merge_apart Fact FrameCause (flow_of x) IsAtMost (laws x) (count_of x.scene) (inside x) height (top_of x) (falls x) facts work todo q g h (parting x q) s held met (parting_is x q)
 merged_keeps x facts work q g facts' work' todo _ spent s = tt
-
-pub at_place : (facts : List (Option Fact)) (q : ℕ) (x o : Option Fact) → q < length facts → x ≡ get_or facts q x → x ≡ o → fact_at facts q ≡ o
-at_place facts q x o l e is = sym (get_or_read facts q x l e None) ∙ is
 
 -- the next edge comes in hand
 pub next_edge : (x : Framed) (facts : List (Option Fact)) (work : List ℕ) (f : Fact) (ways : List Way) (i : ℕ) (d : Way) (g : Fact) → i < length ways → g ≡ forgotten (listed (get_or ways i d).forgets) f

@@ -3,6 +3,7 @@
 #![tactic(auto)]
 
 pub mod causes;
+mod facts;
 pub mod framed;
 pub mod laws;
 pub mod work;

@@ -1,14 +1,15 @@
 //! A work list that finds the facts of a function. docs/acceptance.md, "The facts of a function".
-ghost use Rattle.std.specs.Prelude.{◌≡◌, ℕ, ◌+◌, ◌*◌, ◌<◌, ◌≤◌, ◌^◌, ◌++◌, ◌∷◌, [], List, Option, map, length, IfOk, IfErr, vec_len, slice_set, replicate};
+ghost use Rattle.std.specs.Prelude.{◌≡◌, ℕ, ◌+◌, ◌*◌, ◌<◌, ◌≤◌, ◌^◌, ◌++◌, ◌∷◌, [], List, Option, map, length, IfOk, IfErr, slice_set};
 ghost use Rattle.frame_scene.specs.Stretch.{TellsOn};
 ghost use Rattle.frame_flow.specs.Framed.{framed_of};
 ghost use Rattle.frame_flow.specs.Flows.{edge_of, count_of, HasFacts, NoneStands};
 ghost use Rattle.frame_flow.specs.Work.{IsSound, FaultStands, LacksFacts, Keeps, Merged};
 
+use crate::facts::Facts;
 use crate::framed::Framed;
 use frame_facts::{Fact, FrameCause, entry_fact, forget, is_same, join};
 use frame_scene::{Stretch, Way};
-use std::alloc::{AllocError, Global};
+use std::alloc::Global;
 
 /// Why a function has no valid facts, or why none were found.
 #[derive(Clone, Copy, PartialEq, Eq, Debug)]
@@ -20,18 +21,16 @@ pub enum FrameFault {
 }
 
 /// Writes the fact of a place, which is then to be visited.
-fn put(
-    facts: &mut Vec<Option<Fact>>,
-    work: &mut Vec<u32>,
-    to: u32,
-    fact: Fact,
-) -> Result<(), FrameFault>
-    requires { to < vec_len facts.old }
-    ensures facts { facts.new.items ≡ slice_set facts.old.items to (Some fact) }
+fn put(facts: &mut Facts, work: &mut Vec<u32>, to: u32, fact: Fact) -> Result<(), FrameFault>
+    requires { to < length facts.old }
+    ensures facts { IfOk result (λ _. facts.new ≡ slice_set facts.old to (Some fact)) }
     ensures work { IfOk result (λ _. work.new.items ≡ work.old.items ++ to ∷ []) }
     ensures spent { IfErr result (λ e. e ≡ FrameFault.OutOfMemory) }
 {
-    facts[to as usize] = Some(fact);
+    match facts.put(to, fact) {
+        Ok(()) => {}
+        Err(_) => return Err(FrameFault::OutOfMemory),
+    }
     match work.push(to) {
         Ok(()) => Ok(()),
         Err(_) => Err(FrameFault::OutOfMemory),
@@ -41,15 +40,15 @@ fn put(
 /// Takes an edge to a place, with the fact there.
 fn merge(
     x: &Framed,
-    facts: &mut Vec<Option<Fact>>,
+    facts: &mut Facts,
     work: &mut Vec<u32>,
     to: u32,
     fact: &Fact,
 ) -> Result<(), FrameFault>
-    requires { to < vec_len facts.old }
-    ensures { Merged (framed_of x.now) facts.old.items work.old.items to fact.now facts.new.items work.new.items result }
+    requires { to < length facts.old }
+    ensures { Merged (framed_of x.now) facts.old work.old.items to fact.now facts.new work.new.items result }
 {
-    match facts[to as usize] {
+    match facts.get(to) {
         None => put(facts, work, to, *fact),
         Some(held) => match join(&held, fact) {
             None => Err(FrameFault::Stands(to, x.parting(to))),
@@ -67,13 +66,13 @@ fn merge(
 /// Takes all edges of a place, where `fact` stands behind it.
 fn spread(
     x: &Framed,
-    facts: &mut Vec<Option<Fact>>,
+    facts: &mut Facts,
     work: &mut Vec<u32>,
     ways: &[Way],
     fact: &Fact,
 ) -> Result<(), FrameFault>
-    requires { IsSound (framed_of x.now) facts.old.items work.old.items (map (edge_of fact.now) ways.now) }
-    ensures { Keeps (framed_of x.now) facts.old.items work.old.items facts.new.items work.new.items [] result }
+    requires { IsSound (framed_of x.now) facts.old work.old.items (map (edge_of fact.now) ways.now) }
+    ensures { Keeps (framed_of x.now) facts.old work.old.items facts.new work.new.items [] result }
 {
     for way in ways {
         let next = forget(fact, way.forgets);
@@ -89,17 +88,17 @@ fn spread(
 fn visit(
     alloc: Global,
     x: &Framed,
-    facts: &mut Vec<Option<Fact>>,
+    facts: &mut Facts,
     work: &mut Vec<u32>,
     stretch: &Stretch,
     place: u32,
 ) -> Result<(), FrameFault>
     requires short { x.now.scene.end < 2 ^ 32 }
-    requires sound { IsSound (framed_of x.now) facts.old.items (work.old.items ++ place ∷ []) [] }
+    requires sound { IsSound (framed_of x.now) facts.old (work.old.items ++ place ∷ []) [] }
     requires tells { TellsOn x.now.scene stretch.now place }
-    ensures { Keeps (framed_of x.now) facts.old.items work.old.items facts.new.items work.new.items [] result }
+    ensures { Keeps (framed_of x.now) facts.old work.old.items facts.new work.new.items [] result }
 {
-    match facts[place as usize] {
+    match facts.get(place) {
         None => Ok(()),
         Some(fact) => match x.passed(stretch, place, &fact) {
             Err(cause) => Err(FrameFault::Stands(place, cause)),
@@ -110,17 +109,6 @@ fn visit(
             },
         },
     }
-}
-
-/// A table for so many places, in which none has a fact.
-fn no_facts(alloc: Global, count: u32) -> Result<Vec<Option<Fact>>, AllocError>
-    ensures { IfOk result (λ facts. facts.items ≡ replicate count None) }
-{
-    let mut facts = Vec::with_capacity(alloc, count as usize)?;
-    for i in 0..count {
-        facts.push(None)?;
-    }
-    Ok(facts)
 }
 
 /// Finds the facts of a function whose entry lies below its end.
@@ -135,7 +123,7 @@ pub fn settle(alloc: Global, x: &Framed) -> Result<(), FrameFault>
     ensures lacks { IfErr result (LacksFacts (framed_of x.now)) }
 {
     let count = (x.scene.end() - x.scene.start()).div_ceil(2);
-    let Ok(mut facts) = no_facts(alloc, count) else {
+    let Ok(mut facts) = Facts::new(alloc, count) else {
         return Err(FrameFault::OutOfMemory);
     };
     let mut work = Vec::new(alloc);

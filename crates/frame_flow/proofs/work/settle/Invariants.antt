@@ -5,7 +5,7 @@ use Rattle.frame_flow.specs.Work.{IsSound, load}
 use Rattle.frame_flow.proofs.work.settle.Given as goal
 
 abbrev pub invariant-loop-place : goal.invariant-loop-place
-invariant-loop-place l = record { sound : IsSound (framed_of l.x) l.facts.items l.work.items []; stretch : IsStretch l.x.scene l.stretch }
+invariant-loop-place l = record { sound : IsSound (framed_of l.x) l.facts l.work.items []; stretch : IsStretch l.x.scene l.stretch }
 
 abbrev pub decreases-loop-place : goal.decreases-loop-place
-decreases-loop-place l = load (framed_of l.x) l.facts.items l.work.items
+decreases-loop-place l = load (framed_of l.x) l.facts l.work.items

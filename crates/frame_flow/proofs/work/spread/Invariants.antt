@@ -6,6 +6,6 @@ use Rattle.frame_flow.proofs.work.spread.Given as goal
 
 abbrev pub invariant-loop-way : goal.invariant-loop-way
 invariant-loop-way l = record {
-  sound : IsSound (framed_of l.x) l.facts.items l.work.items (map (edge_of l.fact) (drop l.way-index l.ways));
-  lighter : load (framed_of l.x) l.facts.items l.work.items ≤ load (framed_of l.x) l.initial.facts.items l.initial.work.items;
+  sound : IsSound (framed_of l.x) l.facts l.work.items (map (edge_of l.fact) (drop l.way-index l.ways));
+  lighter : load (framed_of l.x) l.facts l.work.items ≤ load (framed_of l.x) l.initial.facts l.initial.work.items;
 }

@@ -1,49 +1,44 @@
 use Rattle.std.proofs.Common.{◌≡◌, Ok, arith, ap, sym, subst, ◌∙◌}
 use Rattle.frame_scene.specs.Stretch.{TellsOn}
 use Rattle.frame_flow.specs.Framed.{Parts, framed_of}
-use Rattle.frame_flow.proofs.Merging.{at_place}
 use Rattle.frame_flow.proofs.Edges.{same_ways}
 use Rattle.frame_flow.proofs.Visiting.{visit_none, visit_cause, visit_ends, visit_leads, place_within}
 use Rattle.frame_flow.proofs.work.visit.Goals as goal
 
-pub index-requires : goal.index-requires
-index-requires c = omega (arith, c.args.facts.now.ok.0, (place_within (framed_of c.args.x.now) c.args.facts.now.items c.args.work.now.items c.args.place c.requires.sound).1)
+pub get-requires : goal.get-requires
+get-requires c = (place_within (framed_of c.args.x.now) c.args.facts.now c.args.work.now.items c.args.place c.requires.sound).1
 
 pub passed-requires-clause-low : goal.passed-requires-clause-low
-passed-requires-clause-low c = omega (arith, c.requires.short, (place_within (framed_of c.args.x.now) c.args.facts.now.items c.args.work.now.items c.args.place c.requires.sound).0)
+passed-requires-clause-low c = omega (arith, c.requires.short, (place_within (framed_of c.args.x.now) c.args.facts.now c.args.work.now.items c.args.place c.requires.sound).0)
 
 pub ways_on-requires-clause-place : goal.ways_on-requires-clause-place
 ways_on-requires-clause-place c =
     let start : c.x.inside.scene.now.start ≡ c.args.x.now.scene.start = ap (λ (a : Parts). a.scene.start) c.x.view_is in
-    omega (arith, start, c.requires.short, (place_within (framed_of c.args.x.now) c.args.facts.now.items c.args.work.now.items c.args.place c.requires.sound).0)
+    omega (arith, start, c.requires.short, (place_within (framed_of c.args.x.now) c.args.facts.now c.args.work.now.items c.args.place c.requires.sound).0)
 
 pub ways_on-requires-clause-tells : goal.ways_on-requires-clause-tells
 ways_on-requires-clause-tells c = subst (λ (a : Parts). TellsOn a.scene c.args.stretch.now c.args.place) (sym c.x.view_is) c.requires.tells
 
 pub spread-requires : goal.spread-requires
 spread-requires c =
-    let l = (place_within (framed_of c.args.x.now) c.args.facts.now.items c.args.work.now.items c.args.place c.requires.sound).1 in
     let passed = sym c.in-Ok-Some.ensures ∙ ap Ok c.in-Ok-Some.field-0-is in
     let ways = same_ways c.deref.result.now c.in-Ok.ways.items c.x.inside.scene.now c.args.x.now.scene c.args.place c.deref.ensures.value (ap (λ (a : Parts). a.scene) c.x.view_is) c.in-Ok.ensures in
-    visit_leads (framed_of c.args.x.now) c.args.facts.now.items c.args.work.now.items c.args.place c.in-Some.fact c.in-Ok-Some.next c.deref.result.now c.requires.sound
-    (at_place c.args.facts.now.items c.args.place _ _ l c.index.ensures c.in-Some.is) passed ways
+    visit_leads (framed_of c.args.x.now) c.args.facts.now c.args.work.now.items c.args.place c.in-Some.fact c.in-Ok-Some.next c.deref.result.now c.requires.sound
+    (sym c.get.ensures ∙ c.in-Some.is) passed ways
 
 pub returns-in-None : goal.returns-in-None
 returns-in-None c =
-    let l = (place_within (framed_of c.args.x.now) c.args.facts.now.items c.args.work.now.items c.args.place c.requires.sound).1 in
-    (visit_none (framed_of c.args.x.now) c.args.facts.now.items c.args.work.now.items c.args.place c.requires.sound (at_place c.args.facts.now.items c.args.place _ _ l c.index.ensures c.in-None.is), omega arith)
+    (visit_none (framed_of c.args.x.now) c.args.facts.now c.args.work.now.items c.args.place c.requires.sound (sym c.get.ensures ∙ c.in-None.is), omega arith)
 
 pub returns-in-Err : goal.returns-in-Err
 returns-in-Err c =
-    let l = (place_within (framed_of c.args.x.now) c.args.facts.now.items c.args.work.now.items c.args.place c.requires.sound).1 in
-    visit_cause (framed_of c.args.x.now) c.args.facts.now.items c.args.work.now.items c.args.place c.in-Some.fact c.in-Err.cause c.requires.sound
-    (at_place c.args.facts.now.items c.args.place _ _ l c.index.ensures c.in-Some.is) (sym c.in-Err.ensures)
+    visit_cause (framed_of c.args.x.now) c.args.facts.now c.args.work.now.items c.args.place c.in-Some.fact c.in-Err.cause c.requires.sound
+    (sym c.get.ensures ∙ c.in-Some.is) (sym c.in-Err.ensures)
 
 pub returns-in-Ok-None : goal.returns-in-Ok-None
 returns-in-Ok-None c =
-    let l = (place_within (framed_of c.args.x.now) c.args.facts.now.items c.args.work.now.items c.args.place c.requires.sound).1 in
     let passed = sym c.in-Ok-None.ensures ∙ ap Ok c.in-Ok-None.field-0-is in (
-      visit_ends (framed_of c.args.x.now) c.args.facts.now.items c.args.work.now.items c.args.place c.in-Some.fact c.requires.sound
-          (at_place c.args.facts.now.items c.args.place _ _ l c.index.ensures c.in-Some.is) passed,
+      visit_ends (framed_of c.args.x.now) c.args.facts.now c.args.work.now.items c.args.place c.in-Some.fact c.requires.sound
+          (sym c.get.ensures ∙ c.in-Some.is) passed,
       omega arith,
     )

@@ -1,0 +1,88 @@
+//! The facts of a function's places while they are found. docs/acceptance.md, "The facts of a function".
+ghost use Rattle.std.specs.Prelude.{◌≡◌, ◌<◌, List, Option, Some, None, length, replicate, slice_set, slice_index_or, IfOk, OnOk};
+ghost use Rattle.flow.specs.Flow.{fact_at};
+
+use frame_facts::Fact;
+use std::alloc::{AllocError, Global};
+use std::marker::Model;
+
+/// A place with its fact.
+#[derive(Clone, Copy)]
+pub(crate) struct Known {
+    place: u32,
+    fact: Fact,
+}
+
+/// A table with at most one fact a place. Contracts see it place by place. Where a place has no fact it takes the room of a number alone.
+#[derive(Drop)]
+pub(crate) struct Facts {
+    slots: Vec<Option<u32>>,
+    known: Vec<Known>,
+}
+
+impl Model for Facts {
+    ghost use Rattle.std.specs.Prelude.{List, Option};
+    ghost use Rattle.frame_facts.specs.declared.facts.Fact.{Fact as AFact};
+    ghost use Rattle.frame_flow.specs.Table.{table, IsTable};
+
+    ghost Value = { List (Option AFact) };
+
+    ghost view = { λ f. table f.slots.items f.known.items };
+
+    ghost invariant = { λ f. IsTable f.slots.items f.known.items };
+}
+
+/// Slots of so many places, none of which leads to a fact.
+fn no_slots(alloc: Global, count: u32) -> Result<Vec<Option<u32>>, AllocError>
+    ensures { IfOk result (λ slots. slots.items ≡ replicate count None) }
+{
+    let mut slots = Vec::with_capacity(alloc, count as usize)?;
+    for i in 0..count {
+        slots.push(None)?;
+    }
+    Ok(slots)
+}
+
+impl Facts {
+    /// A table for so many places, in which none has a fact.
+    pub(crate) fn new(alloc: Global, count: u32) -> Result<Facts, AllocError>
+        ensures { IfOk result (λ facts. facts ≡ replicate count None) }
+    {
+        Ok(Facts {
+            slots: no_slots(alloc, count)?,
+            known: Vec::new(alloc),
+        })
+    }
+
+    /// The fact of a place.
+    pub(crate) fn get(&self, place: u32) -> Option<Fact>
+        requires { place < length self.now }
+        ensures { result ≡ fact_at self.now place }
+    {
+        match self.slots[place as usize] {
+            None => None,
+            Some(slot) => Some(self.known[slot as usize].fact),
+        }
+    }
+
+    /// Writes the fact of a place.
+    pub(crate) fn put(&mut self, place: u32, fact: Fact) -> Result<(), AllocError>
+        requires { place < length self.old }
+        ensures { OnOk result (self.new ≡ slice_set self.old place (Some fact)) }
+    {
+        match self.slots[place as usize] {
+            Some(slot) => {
+                self.known[slot as usize] = Known { place, fact };
+                Ok(())
+            }
+            None => {
+                let Ok(slot) = u32::try_from(self.known.len()) else {
+                    return Err(AllocError);
+                };
+                self.known.push(Known { place, fact })?;
+                self.slots[place as usize] = Some(slot);
+                Ok(())
+            }
+        }
+    }
+}
