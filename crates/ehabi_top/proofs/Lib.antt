@@ -15,3 +15,4 @@ mod Runners
 mod Programs
 mod Asking
 mod Telling
+mod Ended

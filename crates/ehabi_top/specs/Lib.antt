@@ -17,3 +17,4 @@ pub mod CheckReport
 pub mod Laws
 pub mod Unfit
 pub mod Report
+pub mod Answered
