@@ -2,17 +2,16 @@
 //! are those of docs/command-line.md; how the system's files and streams are taken is in docs/outside.md.
 #![tactic(auto)]
 
-ghost use Rattle.std.specs.Prelude.{◌≡◌, ◌≤◌, ◌↔◌, ◌⊎◌, None, true, drop, map, IfOk, IfSome, OnErr, MatchResult, string_bytes};
+ghost use Rattle.std.specs.Prelude.{◌≡◌, drop, map, IfOk, OnErr, MatchResult, string_bytes};
 ghost use Rattle.std.specs.Process.{exit_status};
 ghost use Rattle.std.specs.Vec.Iter.{into_iter_items};
-ghost use Rattle.ehabi_top.specs.Words.{texts, command_of};
-ghost use Rattle.ehabi_top.specs.Loading.{is_settled};
-ghost use Rattle.ehabi_top.specs.Report.{DoesWhole, DoesPart, IfTold, LacksFile, Refuses};
-ghost use Rattle.eh_port.specs.Causes.{Rose};
+ghost use Rattle.ehabi_top.specs.Answered.{IsAnswer};
+ghost use Rattle.ehabi_top.specs.Words.{texts};
+ghost use Rattle.ehabi_top.specs.Yields.{shelf, streams};
 
 use eh_port::{Files, HostFiles, HostSink, HostSource, Sink, Source};
 use ehabi_top::ehabi_main;
-use ehabi_top::status::{LACKING, NO_MEMORY, READ_FAILED, USAGE, WRITE_FAILED};
+use ehabi_top::status::NO_MEMORY;
 use std::alloc::{AllocError, Global};
 use std::io::ErrorKind;
 use std::process::ExitCode;
@@ -58,25 +57,11 @@ pub fn run_words<F: Files, I: Source, O: Sink>(
     input: &mut I,
     out: &mut O,
 ) -> Result<u8, AllocError>
-    // Where there is memory for the words, each clause of `ehabi_main` holds of them.
-    ensures report { IfOk result (λ status. is_settled status ≡ true → IfTold (command_of (map string_bytes words.now)) (F.held files.old) (I.left input.old) (I.left input.new) (λ held bytes left.
-        DoesWhole (command_of (map string_bytes words.now)) held bytes status left (O.written out.old) (O.written out.new))) }
-    ensures part { IfOk result (λ _. IfTold (command_of (map string_bytes words.now)) (F.held files.old) (I.left input.old) (I.left input.new) (λ held bytes _.
-        DoesPart (command_of (map string_bytes words.now)) held bytes (O.written out.old) (O.written out.new))) }
-    ensures read { IfOk result (λ status. status ≡ READ_FAILED → Rose (F.faults files.old) (F.faults files.new) ⊎ Rose (I.faults input.old) (I.faults input.new)) }
-    ensures write { IfOk result (λ status. status ≡ WRITE_FAILED → Rose (O.faults out.old) (O.faults out.new)) }
-    ensures memory { IfOk result (λ status. status ≡ NO_MEMORY → (F.faults files.new ≡ F.faults files.old) × (I.faults input.new ≡ I.faults input.old) × (O.faults out.new ≡ O.faults out.old)) }
-    ensures usage { IfOk result (λ status. is_settled status ≡ true → (status ≡ USAGE) ↔ ((command_of (map string_bytes words.now)) ≡ None)) }
-    ensures missing { IfOk result (λ status. is_settled status ≡ true → IfSome (F.held files.old) (λ held.
-        (status ≡ LACKING) ↔ LacksFile (command_of (map string_bytes words.now)) held)) }
-    ensures refused { IfOk result (λ status. is_settled status ≡ true → IfSome (F.held files.old) (λ held.
-        Refuses (command_of (map string_bytes words.now)) held (I.left input.old) status)) }
-    ensures complete { IfOk result (λ status. (Rose (F.faults files.old) (F.faults files.new) → ⊥)
-        → (Rose (I.faults input.old) (I.faults input.new) → ⊥)
-        → (Rose (O.faults out.old) (O.faults out.new) → ⊥)
-        → (status ≡ NO_MEMORY) ⊎ IfTold (command_of (map string_bytes words.now)) (F.held files.old) (I.left input.old) (I.left input.new) (λ held bytes left.
-        DoesWhole (command_of (map string_bytes words.now)) held bytes status left (O.written out.old) (O.written out.new))) }
-    ensures bounded { IfOk result (λ status. status ≤ LACKING) }
+    // Where there is memory for the words, all that is promised of `ehabi_main` holds of them.
+    ensures answer { IfOk result (IsAnswer (map string_bytes words.now)
+        (shelf (F.held files.old) (F.faults files.old)) (shelf (F.held files.new) (F.faults files.new))
+        (streams (I.left input.old) (I.faults input.old) (O.written out.old) (O.faults out.old))
+        (streams (I.left input.new) (I.faults input.new) (O.written out.new) (O.faults out.new))) }
     ensures nothing { OnErr result ((I.left input.new ≡ I.left input.old) × (O.written out.new ≡ O.written out.old)) }
 {
     let texts = texts_of(alloc, words)?;

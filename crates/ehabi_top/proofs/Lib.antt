@@ -16,3 +16,4 @@ mod Runners
 mod Programs
 mod Asking
 mod Telling
+mod Ended

@@ -19,3 +19,4 @@ pub mod CheckReport
 pub mod Laws
 pub mod Unfit
 pub mod Report
+pub mod Answered

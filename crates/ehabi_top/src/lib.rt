@@ -1,10 +1,8 @@
 //! All that the program does, over any files, source and sink (docs/command-line.md).
 #![tactic(auto)]
 
-ghost use Rattle.std.specs.Prelude.{◌≡◌, ◌≤◌, ◌↔◌, ◌⊎◌, true, None, IfSome};
-ghost use Rattle.eh_port.specs.Causes.{Rose};
-ghost use Rattle.ehabi_top.specs.Loading.{is_settled};
-ghost use Rattle.ehabi_top.specs.Report.{Does, DoesWhole, DoesPart, IfTold, LacksFile, Refuses};
+ghost use Rattle.ehabi_top.specs.Answered.{IsAnswer};
+ghost use Rattle.ehabi_top.specs.Report.{Does};
 ghost use Rattle.ehabi_top.specs.Words.{texts, command_of};
 ghost use Rattle.ehabi_top.specs.Yields.{shelf, streams};
 
@@ -37,7 +35,7 @@ pub use line::{Line, end_line};
 pub use plain_run::flat_run;
 use run::{run, run_sources};
 pub use sources::FILE_LIMIT;
-use status::{LACKING, NO_MEMORY, READ_FAILED, REFUSED, USAGE, WRITE_FAILED};
+use status::USAGE;
 use std::alloc::Global;
 pub use stop::Stop;
 pub use walk::MOST_FRAMES;
@@ -94,36 +92,11 @@ pub fn ehabi_main<F: Files, I: Source, O: Sink>(
     input: &mut I,
     out: &mut O,
 ) -> u8
-    // Unless a read, a write or memory failed, it wrote all of the report, and answered its status. Of an accepted image that is run, the
-    // report is that of the machine with recorded activations too (`RunsImage`, `CountsImage`); and so it is of one that is walked.
-    ensures report { is_settled result ≡ true → IfTold (command_of (texts words.now)) (F.held files.old) (I.left input.old) (I.left input.new) (λ held bytes left.
-        DoesWhole (command_of (texts words.now)) held bytes result left (O.written out.old) (O.written out.new)) }
-
-    // In any case it wrote a part of the report.
-    ensures part { IfTold (command_of (texts words.now)) (F.held files.old) (I.left input.old) (I.left input.new) (λ held bytes _.
-        DoesPart (command_of (texts words.now)) held bytes (O.written out.old) (O.written out.new)) }
-
-    // A fault has a cause, and want of memory hides none.
-    ensures read { result ≡ READ_FAILED → Rose (F.faults files.old) (F.faults files.new) ⊎ Rose (I.faults input.old) (I.faults input.new) }
-    ensures write { result ≡ WRITE_FAILED → Rose (O.faults out.old) (O.faults out.new) }
-    ensures memory { result ≡ NO_MEMORY → (F.faults files.new ≡ F.faults files.old) × (I.faults input.new ≡ I.faults input.old) × (O.faults out.new ≡ O.faults out.old) }
-
-    // Whatever the objects tell, the status of words that are no command is 2, and 2 is of no other.
-    ensures usage { is_settled result ≡ true → (result ≡ USAGE) ↔ (command_of (texts words.now) ≡ None) }
-
-    // 10 is of a file that is missing or too long, and 3 of a refusal, as the command says.
-    ensures missing { is_settled result ≡ true → IfSome (F.held files.old) (λ held.
-        (result ≡ LACKING) ↔ LacksFile (command_of (texts words.now)) held) }
-    ensures refused { is_settled result ≡ true → IfSome (F.held files.old) (λ held.
-        Refuses (command_of (texts words.now)) held (I.left input.old) result) }
-
-    // With no fault, it did all of the report, or found no memory.
-    ensures complete { (Rose (F.faults files.old) (F.faults files.new) → ⊥)
-        → (Rose (I.faults input.old) (I.faults input.new) → ⊥)
-        → (Rose (O.faults out.old) (O.faults out.new) → ⊥)
-        → (result ≡ NO_MEMORY) ⊎ IfTold (command_of (texts words.now)) (F.held files.old) (I.left input.old) (I.left input.new) (λ held bytes left.
-        DoesWhole (command_of (texts words.now)) held bytes result left (O.written out.old) (O.written out.new)) }
-    ensures bounded { result ≤ LACKING }
+    // What is promised stands in the fields of `IsAnswer`: that it wrote the whole report and answered its status, or a first part of it with a
+    // cause, and when exactly the status is 2, 3 and 10.
+    ensures { IsAnswer (texts words.now) (shelf (F.held files.old) (F.faults files.old)) (shelf (F.held files.new) (F.faults files.new))
+        (streams (I.left input.old) (I.faults input.old) (O.written out.old) (O.faults out.old))
+        (streams (I.left input.new) (I.faults input.new) (O.written out.new) (O.faults out.new)) result }
 {
     match perform(alloc, words, files, input, out) {
         Ok(status) => status,
