@@ -56,7 +56,7 @@ fn answer_frames<O: Sink>(
 fn answer_walk<B: Bus, O: Sink>(
     alloc: Global,
     out: &mut O,
-    machine: &Machine<Accepted, B>,
+    machine: &Machine<B>,
     end: End,
 ) -> Result<u8, Stop>
     ensures { AnswersRun (walk_closing machine.now.accepted.now machine.now.events (bytes_walk machine.now.accepted.now (state_of machine.now.core (B.memory machine.now.shared.bus) machine.now.events)) end) end

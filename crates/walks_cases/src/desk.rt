@@ -9,13 +9,13 @@ use std::alloc::{AllocError, Global};
 
 /// A machine of an accepted image.
 #[derive(Drop)]
-pub struct Desk<'c, 'a> {
-    machine: Machine<'c, Accepted<'a>, PagedBus>,
+pub struct Desk<'c> {
+    machine: Machine<'c, PagedBus>,
 }
 
-impl<'c, 'a> Desk<'c, 'a> {
+impl<'c> Desk<'c> {
     /// At the start of a run.
-    pub fn start(alloc: Global, accepted: &'c Accepted<'a>) -> Result<Desk<'c, 'a>, Unanswered> {
+    pub fn start(alloc: Global, accepted: &'c Accepted<'c>) -> Result<Desk<'c>, Unanswered> {
         match Machine::start(alloc, accepted, 0) {
             Ok(machine) => Ok(Desk { machine }),
             Err(_fault) => Err(Unanswered::from(AllocError)),
