@@ -30,7 +30,8 @@ use Rattle.stands_for.specs.Stands.{Keeps, IsProgram, OnEvent}
 use Rattle.machines_agree.specs.Turned.{AreBytes}
 use Rattle.machines_agree.proofs.OneEvent.{turns}
 use Rattle.eh_machine.specs.Turns.{TurnedOnce}
-use Rattle.eh_machine.specs.Follows.{StartsInMap, WentAlike, EndedAlike, TurnedAlike, FollowsOnce}
+use Rattle.eh_machine.proofs.StartMaps.{starts_in_map}
+use Rattle.eh_machine.specs.Follows.{WentAlike, EndedAlike, TurnedAlike, FollowsOnce}
 
 -- ---- faults may come at the same events
 
@@ -159,13 +160,13 @@ module _ (x : Accepted) (s : Recorded) (is : IsProgram x) (k : Keeps x s) (input
   turned (Ended end) new t = ended end new (is_fault end) refl t
 
 -- what holds of every accepted image
-pub accepted_is : (x : Accepted) → IsImage x.image → IsSound x → StartsInMap x → IsProgram x
-accepted_is x image sound map = record { image = image; sound = sound; map = map }
+pub accepted_is : (x : Accepted) → IsImage x.image → IsSound x → IsProgram x
+accepted_is x image sound = record { image = image; sound = sound; map = starts_in_map x.image image sound.bytes }
 
 -- what is told of a call says it
 pub follows_once : (told left before now : Option (List ℕ)) (x : Accepted) (old new : State) (result : Turned) → IsImage x.image → IsSound x
     → IfSome told (λ input. TurnedOnce (program_of x) old input result new left before now) → IfSome told (λ input. FollowsOnce x old input result new left before now)
 follows_once None left before now x old new result image sound t = tt
-follows_once (Some input) left before now x old new result image sound t = λ fits s map r.
-    turned x s (accepted_is x image sound map) r.keeps input fits left before now result new
+follows_once (Some input) left before now x old new result image sound t = λ fits s r.
+    turned x s (accepted_is x image sound) r.keeps input fits left before now result new
     (subst (λ (b : State). TurnedOnce (program_of x) b input result new left before now) r.same t)

@@ -27,25 +27,24 @@ use Rattle.stands_for.specs.Stands.{Keeps, IsProgram}
 use Rattle.resumes_keep.specs.Flying.{fly_from, CanFly}
 use Rattle.stands_for.proofs.First.{starts_stand}
 use Rattle.resumes_keep.proofs.FlyFrom.{gates_fly, flights_match}
-use Rattle.eh_bus.specs.Map.{IsMap}
 use Rattle.eh_machine.specs.Follows.{StartsAlike, FlownAlike, FollowsFlight}
 use Rattle.eh_machine.proofs.Following.{accepted_is}
 
 start_follows : (x : Accepted) (new : State) → IsProgram x → new ≡ start_of (program_of x) → StartsAlike x new
-start_follows x new is e = record { map = is.map; stands = record { same = e; keeps = starts_stand x is } }
+start_follows x new is e = record { same = e; keeps = starts_stand x is }
 
 -- as the call makes it: registers of the image's entry, and its memory
-pub start_told : (x : Accepted) (regs : Regs) (globals : Globals) (memory : Memory) (events : Trace) (entry : ℕ) (image : Image) → IsImage x.image → IsSound x → IsMap memory
+pub start_told : (x : Accepted) (regs : Regs) (globals : Globals) (memory : Memory) (events : Trace) (entry : ℕ) (image : Image) → IsImage x.image → IsSound x
     → regs ≡ start_regs entry → entry ≡ image.entry → globals ≡ no_globals → memory ≡ (image_start image).memory → events ≡ no_events
     → image ≡ x.image → StartsAlike x (record { regs = regs; globals = globals; memory = memory; events = events })
-start_told x regs globals memory events entry image of sound map r at g m e whose =
+start_told x regs globals memory events entry image of sound r at g m e whose =
     let regs_are : regs ≡ start_regs x.image.entry = r ∙ ap start_regs (at ∙ ap (λ (i : Image). i.entry) whose) in
     let memory_is : memory ≡ (image_start x.image).memory = m ∙ ap (λ (i : Image). (image_start i).memory) whose in
     let one : Regs → State = λ v. record { regs = v; globals = globals; memory = memory; events = events } in
     let two : Globals → State = λ v. record { regs = start_regs x.image.entry; globals = v; memory = memory; events = events } in
     let three : Memory → State = λ v. record { regs = start_regs x.image.entry; globals = no_globals; memory = v; events = events } in
     let four : Trace → State = λ v. record { regs = start_regs x.image.entry; globals = no_globals; memory = (image_start x.image).memory; events = v } in
-    start_follows x _ (accepted_is x of sound (subst (λ (n : Memory). IsMap n) memory_is map)) (ap one regs_are ∙ ap two g ∙ ap three memory_is ∙ ap four e)
+    start_follows x _ (accepted_is x of sound) (ap one regs_are ∙ ap two g ∙ ap three memory_is ∙ ap four e)
 
 module _ (x : Accepted) (is : IsProgram x) (s : Recorded) (k : Keeps x s) (site slot : ℕ) (b : Barrier) (can : CanFly x s site slot b) where
   -- an outcome over bytes that matches one with recorded activations
@@ -68,12 +67,12 @@ module _ (x : Accepted) (is : IsProgram x) (s : Recorded) (k : Keeps x s) (site 
 
 flight_follows : (x : Accepted) (old new : State) (site control : ℕ) (b : Barrier) (result : Turned) → IsImage x.image → IsSound x
     → ◌≡◌ {A = Outcome} (result, new) (throw_to (guide (program_of x)) old site control b) → FollowsFlight x old site control b result new
-flight_follows x old new site control b result image sound e = λ s map r slot at can.
+flight_follows x old new site control b result image sound e = λ s r slot at can.
     let is_block : control ≡ block slot = slot_block control slot at in
     let told : ◌≡◌ {A = Outcome} (result, new) (throw_to (guide (program_of x)) (bytes_of s) site (block slot) b) =
     e ∙ ap (λ (o : State). throw_to (guide (program_of x)) o site control b) r.same
     ∙ ap (λ (c : ℕ). throw_to (guide (program_of x)) (bytes_of s) site c b) is_block in
-    subst (λ (c : ℕ). FlownAlike x s site c b result new) (sym is_block) (flown x (accepted_is x image sound map) s r.keeps site slot b can result new told)
+    subst (λ (c : ℕ). FlownAlike x s site c b result new) (sym is_block) (flown x (accepted_is x image sound) s r.keeps site slot b can result new told)
 
 -- as the call is made: the guide is that of the program
 pub flight_told : (x : Accepted) (old new : State) (site control : ℕ) (b : Barrier) (result : Turned) (image : Image) (types : List Row) → IsImage x.image → IsSound x

@@ -133,6 +133,6 @@ pub follows_run : (told left before now : Option (List ℕ)) (x : Accepted) (n :
     → IfSome told (λ input. Runs (machine_of (program_of x)) n old input end new unspent left before now)
     → IfSome told (λ input. FollowsRun x n old input end new unspent left before now)
 follows_run None left before now x n old new end unspent image sound t = tt
-follows_run (Some input) left before now x n old new end unspent image sound t = λ fits s map r.
-    ran x (accepted_is x image sound map) n s r.keeps input fits end new unspent left before now
+follows_run (Some input) left before now x n old new end unspent image sound t = λ fits s r.
+    ran x (accepted_is x image sound) n s r.keeps input fits end new unspent left before now
     (subst (λ (b : State). Runs (machine_of (program_of x)) n b input end new unspent left before now) r.same t)

@@ -3,14 +3,12 @@ use Rattle.std.specs.Prelude.{◌≡◌, ℕ, List, Option, Some}
 use Rattle.event_runs.specs.Runs.{GoesOn, EndsBy, Runs}
 use Rattle.guest_gates.specs.Ends.{is_fault}
 use Rattle.thumb_core.specs.declared.ends.End.{End}
-use Rattle.eh_bus.specs.Map.{IsMap}
 use Rattle.eh_cxa.specs.Words.{block_slot}
 use Rattle.eh_phase.specs.declared.phase1.Barrier.{Barrier}
 use Rattle.eh_gates.specs.declared.state.Turned.{Turned}
 use Rattle.eh_gates.specs.declared.state.Turned.TheVariants.{Went, Ended}
 use Rattle.eh_gates.specs.State.{State}
 use Rattle.frame_check.specs.Accepts.{Accepted}
-use Rattle.image_memory.specs.Start.{image_start}
 use Rattle.two_machines.specs.Program.{guide}
 use Rattle.two_machines.specs.Checked.{program_of}
 use Rattle.two_machines.specs.Activations.{Recorded, recorded_start}
@@ -19,13 +17,9 @@ use Rattle.stands_for.specs.Stands.{StandsFor}
 use Rattle.machines_agree.specs.Turned.{AreBytes}
 use Rattle.resumes_keep.specs.Flying.{CanFly}
 
--- the memory at the start is one that a bus may have; the start shows it
-abbrev pub StartsInMap : Accepted → Type 0
-StartsInMap x = IsMap (image_start x.image).memory
-
 -- from each state with recorded activations that this one stands for
 abbrev pub Follows : Accepted → State → (Recorded → Type 0) → Type 0
-Follows x old Done = (s : Recorded) → StartsInMap x → StandsFor x old s → Done s
+Follows x old Done = (s : Recorded) → StandsFor x old s → Done s
 
 -- ---- one event
 
@@ -64,9 +58,8 @@ FollowsRun x n old input end new unspent left before now = AreBytes input → Fo
 -- ---- the start
 
 -- the state stands for the start with recorded activations
-pub record StartsAlike (x : Accepted) (new : State) : Type 0 where
-  pub map : StartsInMap x
-  pub stands : StandsFor x new (recorded_start (program_of x))
+abbrev pub StartsAlike : Accepted → State → Type 0
+StartsAlike x new = StandsFor x new (recorded_start (program_of x))
 
 -- ---- a flight to a barrier
 

@@ -16,6 +16,7 @@ use Rattle.two_machines.specs.Activations.{Recorded, memory_of, frames_at}
 use Rattle.two_machines.specs.Agreeing.{handed_on, Agree}
 use Rattle.two_machines.specs.Checked.{program_of}
 use Rattle.stands_for.specs.Stands.{Keeps, IsProgram}
+use Rattle.eh_machine.proofs.Following.{accepted_is}
 use Rattle.frames_same.proofs.FramesSame.{frames_are_same}
 use Rattle.eh_walk.specs.declared.walk.Backtrace.{Backtrace}
 use Rattle.eh_walk.specs.Laws.{WalksActivations, SameWalks, WalksSame}
@@ -61,6 +62,6 @@ walks_are_same x b s is r = subst (λ (c : State). SameWalks (walk_of (program_o
 
 pub walks_activations : (x : Accepted) (core : Core) (m : Memory) (most : ℕ) (t : Backtrace) → IsImage x.image → IsSound x → IsWalk most (walk_of (program_of x) core.regs m) t
     → WalksActivations x core m most t
-walks_activations x core m most t image sound w events s map r =
-    let same = walks_are_same x (state_of core m events) s (record { image = image; sound = sound; map = map }) r in
+walks_activations x core m most t image sound w events s r =
+    let same = walks_are_same x (state_of core m events) s (accepted_is x image sound) r in
     record { frames = w.frames ∙ same.frames most; end = w.end ∙ same.end most }

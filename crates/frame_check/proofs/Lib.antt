@@ -9,3 +9,4 @@ pub mod Judging
 pub mod Walking
 pub mod Saving
 pub mod Entries
+mod Bytes

@@ -2,6 +2,7 @@
 use Rattle.std.specs.Prelude.{ℕ, ◌≡◌, ◌<◌, ◌↔◌, true, List, ◌∷◌, ◌++◌, All, Contains, Some, None}
 use Rattle.elf_image.specs.Functions.{Function, is_inside}
 use Rattle.elf_image.specs.Image.{Image}
+use Rattle.elf_image.specs.Segments.{Segment}
 use Rattle.image_memory.specs.Start.{begins_function}
 use Rattle.eh_index.specs.Refusal.{index_refusal}
 use Rattle.eh_types.specs.Graph.{Row}
@@ -123,7 +124,12 @@ pub record Accepted : Type 0 where
   pub types : List Row
   pub spots : Table
 
+-- the numbers that stand in segments are bytes
+abbrev pub AreBytes : List Segment → Type 0
+AreBytes segments = All (λ (s : Segment). All (λ (b : ℕ). b < 256) s.bytes) segments
+
 pub record IsSound (x : Accepted) : Type 0 where
+  pub bytes : AreBytes x.image.segments
   pub index : index_refusal x.image ≡ None
   pub functions : AreWell x.image x.image.functions
   pub graph : IsGraph x.image (roots_of x.image) x.types

@@ -1,9 +1,9 @@
 //! Checking an image. docs/checking.md.
-ghost use Rattle.std.specs.Prelude.{◌≡◌, ◌≢◌, IfOk, IfErr, OnOk};
+ghost use Rattle.std.specs.Prelude.{◌≡◌, ◌≢◌, ◌<◌, All, IfOk, IfErr, OnOk};
 ghost use Rattle.eh_types.specs.Meant.{IsGraph};
 ghost use Rattle.frame_check.specs.declared.fault.CheckFault.TheVariants.{OutOfMemory as NoMemory};
 ghost use Rattle.frame_check.specs.Roots.{scene_of, roots_of};
-ghost use Rattle.frame_check.specs.Accepts.{AreWell, AreSpots, IsSound, IsAccepted, Refuses};
+ghost use Rattle.frame_check.specs.Accepts.{AreBytes, AreWell, AreSpots, IsSound, IsAccepted, Refuses};
 ghost use Rattle.frame_check.specs.Judged.{IsJudged, RefusesOne, RefusesFunctions, RefusesTypes, IsTaken, IsPlaced};
 
 use crate::accepted::Accepted;
@@ -17,6 +17,7 @@ use eh_types::{TypeFault, TypeGraph};
 use eh_word::Name;
 use elf_image::function::Function;
 use elf_image::image::Image;
+use elf_image::segment::Segment;
 use frame_flow::FrameFault;
 use frame_scene::{Cover, Scene};
 use std::alloc::Global;
@@ -99,6 +100,29 @@ fn check_types(alloc: Global, index: &Index) -> Result<TypeGraph, CheckFault>
     }
 }
 
+/// The numbers of these bytes are bytes.
+fn are_bytes(bytes: &[u8])
+    ensures { All (λ b. b < 256) bytes.now }
+{
+    let _count = bytes.len();
+}
+
+/// So are those of the bytes of a segment.
+fn holds_bytes(segment: &Segment)
+    ensures { All (λ b. b < 256) segment.now.bytes }
+{
+    are_bytes(segment.bytes());
+}
+
+/// So are those of all segments.
+fn hold_bytes(segments: &[Segment])
+    ensures { AreBytes segments.now }
+{
+    for segment in segments {
+        holds_bytes(segment);
+    }
+}
+
 /// What a run asks of an image, where it is accepted.
 fn checked(alloc: Global, image: &Image) -> Result<Parts, CheckFault>
     ensures sound { IfOk result (λ c. IsSound (record { image = image.now; types = c.types; spots = c.spots })) }
@@ -109,6 +133,7 @@ fn checked(alloc: Global, image: &Image) -> Result<Parts, CheckFault>
         Ok(index) => {
             let spots = check_functions(alloc, &index)?;
             let types = check_types(alloc, &index)?;
+            hold_bytes(image.segments());
             Ok(Parts { types, spots })
         }
     }

@@ -30,7 +30,7 @@ module _ (x : Accepted) (n : ℕ) (old new : State) (end : End) (unspent : ℕ) 
     (read : end ≡ ReadFault → Rose 0 0) (write : end ≡ WriteFault → Rose 0 0) where
   stood_at : FollowsRun x n old [] end new unspent left before now → Stood x n new
   stood_at follows =
-      let w = follows (All-nil (λ (b : ℕ). b < 256)) (recorded_start (program_of x)) starts.map starts.stands in
+      let w = follows (All-nil (λ (b : ℕ). b < 256)) (recorded_start (program_of x)) starts in
       subst (StandsFor x new) (at_false (is_fault end) _ (no_fault end read write) w.runs.state_is) w.stands
 
   pub stood_by : (bytes : List ℕ) → bytes ≡ [] → FollowsRun x n old bytes end new unspent left before now → Stood x n new
