@@ -1,7 +1,7 @@
 //! Codes of instructions, and the faults of those that have none. No text stands for most of the latter, so they are rows here.
 use thumb_encode::code::Code;
-use thumb_isa::encode_fault::EncodeFault;
 use thumb_encode::encode::encode;
+use thumb_isa::encode_fault::EncodeFault;
 use thumb_isa::instr::Instr;
 
 /// The codes are those of LLVM 14's assembler for thumbv6m.

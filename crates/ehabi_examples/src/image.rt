@@ -1,11 +1,11 @@
 //! What `build` writes, beside the parts that the sources link to.
 use asm_object::assemble;
-use relocatable_object::Object;
 use asm_read::read_source;
 use eh_kit::stubs;
 use eh_link::link;
 use elf_image::{Image, Segment, read_image};
 use elf_write::{ImageParts, OwnSegment, OwnSymbol, SymbolKind};
+use relocatable_object::Object;
 use std::alloc::Global;
 
 fn object_of(alloc: Global, text: &[u8]) -> Option<Object> {

@@ -4,11 +4,11 @@
 #![tactic(auto)]
 
 use asm_object::assemble;
-use relocatable_object::Object;
 use asm_read::read_source;
 use eh_kit::stubs;
 use eh_link::link;
 use elf_write::write_image;
+use relocatable_object::Object;
 use std::alloc::Global;
 
 fn object_of(alloc: Global, text: &[u8]) -> Option<Object> {

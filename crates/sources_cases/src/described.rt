@@ -1,9 +1,12 @@
 //! Objects that no source has, described line by line: `object` begins one, `text`, `rodata`, `tables` and `data` give bytes,
 //! `zeros COUNT`, `label NAME SECTION OFFSET WHAT`, `field SECTION OFFSET KIND NAME ADDEND` and `row OFFSET ENTRY WORD`.
 //! A function answers None where a line is none of these, or memory is wanting.
-use relocatable_object::{IndexRow, IndexRows, Marks, ObjSymbol, ObjSymbols, Object, Octets, Reloc, Relocs, RowEntry, Section};
 use case_rows::first_word;
 use eh_word::Name;
+use relocatable_object::{
+    IndexRow, IndexRows, Marks, ObjSymbol, ObjSymbols, Object, Octets, Reloc, Relocs, RowEntry,
+    Section,
+};
 use std::alloc::Global;
 
 /// The bytes of each label.

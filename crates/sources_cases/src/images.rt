@@ -1,10 +1,10 @@
 //! What objects are linked to (docs/linking.md; IHI 0044).
 use crate::described::objects_of;
 use crate::texts::{push_bytes, push_text};
-use relocatable_object::Object;
 use case_rows::{Asked, Unanswered, first_word};
 use eh_link::{LinkFault, link};
 use elf_write::{ImageParts, OwnSegment, OwnSymbol};
+use relocatable_object::Object;
 use std::alloc::{AllocError, Global};
 use std::fs;
 

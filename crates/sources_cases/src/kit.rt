@@ -1,11 +1,11 @@
 //! Sources that no user writes: the stubs (docs/stubs.md), and generated programs (docs/generated-programs.md).
 use crate::objects::object_of;
 use crate::texts::text_of;
-use relocatable_object::Object;
 use case_rows::{Asked, Unanswered, first_word};
 use eh_kit::{MAX_FUNCTIONS, generate, stubs};
 use eh_link::link;
 use elf_write::{ImageParts, SymbolKind};
+use relocatable_object::Object;
 use std::alloc::{AllocError, Global};
 use std::fs;
 use std::str::from_utf8;

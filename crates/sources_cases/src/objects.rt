@@ -2,10 +2,10 @@
 use crate::statements::push_place;
 use crate::texts::{push_bytes, push_text, text_of};
 use asm_object::{AsmFault, assemble};
-use relocatable_object::{IndexRow, ObjSymbol, Object, Reloc, RowEntry};
 use asm_read::read_source;
 use asm_statements::Stmt;
 use case_rows::{Asked, Unanswered, first_word};
+use relocatable_object::{IndexRow, ObjSymbol, Object, Reloc, RowEntry};
 use std::alloc::{AllocError, Global};
 use std::fs;
 
