@@ -6,8 +6,9 @@ mod desk;
 
 use case_rows::{Asked, Unanswered, first_word, numbers, run_file};
 use desk::{Desk, answer};
+use elf_image::image::Image;
 use elf_image::read::read_image;
-use frame_check::check;
+use frame_check::{Accepted, check};
 use source_images::image_of_sources;
 use std::alloc::Global;
 use std::fs;
@@ -29,15 +30,9 @@ fn built(host: &HostRuntime, name: &str) -> Result<Vec<u8>, Unanswered> {
     }
 }
 
-/// The answer to the last of some commands with `; ` between them, over an image that the checker accepts.
-fn over(alloc: Global, file: &[u8], commands: &str) -> Result<String, Unanswered> {
-    let Ok(image) = read_image(alloc, file) else {
-        return Err(Unanswered::Because("no image"));
-    };
-    let Ok(accepted) = check(alloc, image) else {
-        return Err(Unanswered::Because("refused"));
-    };
-    let mut desk = Desk::start(alloc, &accepted)?;
+/// The answer to the last of some commands with `; ` between them, at the start of a run of an accepted image.
+fn last_answer(alloc: Global, accepted: &Accepted, commands: &str) -> Result<String, Unanswered> {
+    let mut desk = Desk::start(alloc, accepted)?;
     let mut said = String::new(alloc);
     for command in commands.split("; ") {
         let (what, rest) = first_word(command);
@@ -45,6 +40,22 @@ fn over(alloc: Global, file: &[u8], commands: &str) -> Result<String, Unanswered
         said = answer(alloc, &mut desk, what, given.as_slice())?;
     }
     Ok(said)
+}
+
+/// The same over an image, where the checker accepts it.
+fn over_checked(alloc: Global, image: Image, commands: &str) -> Result<String, Unanswered> {
+    match check(alloc, image) {
+        Ok(accepted) => last_answer(alloc, &accepted, commands),
+        Err(_fault) => Err(Unanswered::Because("refused")),
+    }
+}
+
+/// The same over the image that these bytes stand for.
+fn over(alloc: Global, file: &[u8], commands: &str) -> Result<String, Unanswered> {
+    match read_image(alloc, file) {
+        Ok(image) => over_checked(alloc, image, commands),
+        Err(_fault) => Err(Unanswered::Because("no image")),
+    }
 }
 
 impl<'h> Asked for InSources<'h> {
