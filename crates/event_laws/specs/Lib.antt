@@ -4,3 +4,4 @@ pub mod Saves
 pub mod Refused
 pub mod Ends
 pub mod Heads
+pub mod Tests

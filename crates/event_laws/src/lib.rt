@@ -2,6 +2,7 @@
 #![tactic(auto)]
 
 ghost use Rattle.event_laws.specs.Stack.{RisesAreRefused, OnlyRisesAreRefused};
+ghost use Rattle.event_laws.specs.Tests.{TestsEndSo};
 ghost use Rattle.event_laws.specs.Ways.{GatesGoOn, GatesFallOff};
 ghost use Rattle.event_laws.specs.Saves.{PushesGuardTheirSaves};
 ghost use Rattle.event_laws.specs.Refused.{RefusedStoresEnd};
@@ -16,6 +17,12 @@ pub fn rises_are_refused()
 /// SpInCleanup comes only there: not where sp rises to the landing sp, and not where it stays below it.
 pub fn only_rises_are_refused()
     ensures { OnlyRisesAreRefused }
+{}
+
+/// Where the checker reached no instruction the event is FellOff with pc; where sp falls below the running stack StackLimit with the new sp;
+/// a call to where no function begins BadCallTarget with the target; and a return to FFFFFFFF, with no cleanup in progress, exits with r0.
+pub fn tests_end_so()
+    ensures { TestsEndSo }
 {}
 
 /// A gate that goes on, but for 18, 21 and 22, goes on at the next address.

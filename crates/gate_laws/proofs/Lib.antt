@@ -5,3 +5,5 @@ pub mod Refusals
 pub mod Resumes
 pub mod Throws
 pub mod Pointers
+pub mod PadEvents
+pub mod CallAnswers

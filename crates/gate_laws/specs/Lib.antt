@@ -3,3 +3,5 @@ pub mod Refusals
 pub mod Throws
 pub mod Pointers
 pub mod Resumes
+pub mod PadEvents
+pub mod CallAnswers

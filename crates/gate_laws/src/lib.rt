@@ -2,6 +2,8 @@
 #![tactic(auto)]
 
 ghost use Rattle.gate_laws.specs.Landings.{LandingsAreAsTold, ThrowsLand, GatesGoBehind};
+ghost use Rattle.gate_laws.specs.CallAnswers.{CallsAnswer};
+ghost use Rattle.gate_laws.specs.PadEvents.{LandingsHaveTheirEvent};
 ghost use Rattle.gate_laws.specs.Refusals.{GatesEndAsTold, OtherGatesAreNone};
 ghost use Rattle.gate_laws.specs.Resumes.{CleanupsGoOnFromTheKept};
 ghost use Rattle.gate_laws.specs.Throws.{ThrowsAddTheirEvent, FailedSearchesAddOne};
@@ -11,6 +13,12 @@ ghost use Rattle.gate_laws.specs.Pointers.{PointersCanBeLoaded, ObjectsAreGiven,
 /// bit 0 clear. A cleanup's answer is 0; a handler and a violated specification are given the control block.
 pub fn landings_are_as_told()
     ensures { LandingsAreAsTold }
+{}
+
+/// Each landing adds one event: of a cleanup, of a handler with the object that it is given, or of a violated specification, with the pad and
+/// the frame's sp.
+pub fn landings_have_their_event()
+    ensures { LandingsHaveTheirEvent }
 {}
 
 /// Where a throw, a rethrow or the end of a cleanup goes on, it stands at a landing.
@@ -62,4 +70,10 @@ pub fn objects_are_given()
 /// Where a handler's catch begins, r0 is the address that it is given.
 pub fn catches_give()
     ensures { CatchesGive }
+{}
+
+/// Where they go on, gate 16 answers the new object in r0, gate 20 an object to be destroyed in r0 and its destructor in r1, and gate 25 the
+/// number of uncaught exceptions in r0.
+pub fn calls_answer()
+    ensures { CallsAnswer }
 {}

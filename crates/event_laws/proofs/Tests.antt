@@ -1,0 +1,74 @@
+-- The ends that the tests of an event give.
+use Rattle.std.proofs.Common.{◌≡◌, ℕ, ◌<◌, ◌≤◌, Bool, false, cond, Option, Some, None, List, slice_index, refl, ap, ◌∙◌, arith}
+use Rattle.std.specs.Option.{option_or}
+use Rattle.std.proofs.lemmas.Bool.{lt-ltb, le-ltb}
+use Rattle.event_runs.specs.Runs.{Ends}
+use Rattle.eh_bus.specs.Memory.{Memory}
+use Rattle.eh_cxa.specs.Words.{word, block_slot}
+use Rattle.eh_cxa.specs.Cleanup.{innermost_of, innermost_at}
+use Rattle.step_ahead.specs.Ahead.{branches_some}
+use Rattle.thumb_core.specs.Step.{instr_at}
+use Rattle.thumb_core.specs.declared.regs.TheConstants.{SP}
+use Rattle.thumb_core.specs.declared.regs.Regs.{Regs}
+use Rattle.thumb_core.specs.declared.regs.Stepped.{Stepped}
+use Rattle.thumb_core.specs.declared.regs.Stepped.TheVariants.{Call, Return}
+use Rattle.thumb_core.specs.declared.ends.TrapKind.TheVariants as kind
+use Rattle.thumb_core.specs.declared.ends.End.{End}
+use Rattle.thumb_core.specs.declared.ends.End.TheVariants as the_end
+use Rattle.eh_gates.specs.State.{State, reg}
+use Rattle.two_machines.specs.Program.{Program}
+use Rattle.two_machines.specs.Machine.{sp_end, way_end, tests, tested, checked, passed, onward, machine_event}
+use Rattle.event_laws.specs.Stack.{Does}
+use Rattle.event_laws.specs.Tests.{TestsEndSo}
+use Rattle.event_laws.proofs.Stack.{does_is}
+
+module _ (p : Program) (s : State) (input : List ℕ) where
+  unreached : (p.look s.regs.pc).is_instr ≡ false → machine_event p s input ≡ Ends (the_end.Trap kind.FellOff s.regs.pc s.regs.pc) s
+  unfolding machine_event passed
+  unreached h = ap (λ (b : Bool). onward p s (checked p s b) input) h
+
+  abbrev inner : Option ℕ
+  inner = innermost_of (word s.memory) s.globals
+
+  abbrev way : Stepped → Regs → Option End
+  way what after = way_end p (branches_some (instr_at s.memory s.regs.pc) s.regs) s.regs.pc what after
+
+  -- an event ends as its tests do
+  ends : (what : Stepped) (after : Regs) (m : Memory) (end : End) → Does p s what after m → tests p s what after ≡ Some end → machine_event p s input ≡ Ends end s
+  ends what after m end d is = does_is p s input what after m d ∙ ap (λ (o : Option End). onward p s (tested p s what after m o) input) is
+
+  falls : (o : Option ℕ) (low pc old new : ℕ) → new ≤ old → new < low → sp_end o low pc old new ≡ Some (the_end.Trap kind.StackLimit new pc)
+  falls None low pc old new f h = rw (lt-ltb new low h) refl
+  falls (Some landing) low pc old new f h = rw (le-ltb old new f, lt-ltb new low h) refl
+
+  stays : (o : Option ℕ) (low pc old new : ℕ) → new ≤ old → low ≤ new → sp_end o low pc old new ≡ None
+  stays None low pc old new f h = rw (le-ltb new low h) refl
+  stays (Some landing) low pc old new f h = rw (le-ltb old new f, le-ltb new low h) refl
+
+  low : (what : Stepped) (after : Regs) (m : Memory) → Does p s what after m → slice_index after.r 13 ≤ reg s 13 → slice_index after.r 13 < s.memory.home.0
+      → machine_event p s input ≡ Ends (the_end.Trap kind.StackLimit (slice_index after.r 13) s.regs.pc) s
+  low what after m d f h =
+      ends what after m (the_end.Trap kind.StackLimit (slice_index after.r 13) s.regs.pc) d
+      (ap (λ (o : Option End). option_or o (way what after)) (falls inner s.memory.home.0 s.regs.pc (reg s SP) (slice_index after.r SP) f h))
+
+  nowhere : (target ret : ℕ) (after : Regs) (m : Memory) → Does p s (Call target ret) after m → slice_index after.r 13 ≡ reg s 13 → s.memory.home.0 ≤ reg s 13
+      → (p.look target).is_function ≡ false → machine_event p s input ≡ Ends (the_end.Trap kind.BadCallTarget target s.regs.pc) s
+  nowhere target ret after m d same high none =
+      ends (Call target ret) after m (the_end.Trap kind.BadCallTarget target s.regs.pc) d
+      (ap (λ (o : Option End). option_or o (way (Call target ret) after)) (stays inner s.memory.home.0 s.regs.pc (reg s SP) (slice_index after.r SP) (omega (arith, same)) (omega (arith, same, high)))
+      ∙ ap (λ (b : Bool). cond b None (Some (the_end.Trap kind.BadCallTarget target s.regs.pc))) none)
+
+  -- no cleanup is in progress
+  no_landing : (o : Option ℕ) (low pc old new : ℕ) → o ≡ None → low ≤ new → sp_end o low pc old new ≡ None
+  no_landing None low pc old new e h = rw (le-ltb new low h) refl
+  no_landing (Some landing) low pc old new e h = absurd (cc)
+
+  exits : (after : Regs) (m : Memory) → Does p s (Return 0xFFFFFFFF) after m → block_slot s.globals.cleanup ≡ None → s.memory.home.0 ≤ slice_index after.r 13
+      → machine_event p s input ≡ Ends (the_end.Exit (slice_index after.r 0)) s
+  exits after m d none high =
+      ends (Return 0xFFFFFFFF) after m (the_end.Exit (slice_index after.r 0)) d
+      (ap (λ (o : Option End). option_or o (way (Return 0xFFFFFFFF) after))
+      (no_landing inner s.memory.home.0 s.regs.pc (reg s SP) (slice_index after.r SP) (ap (innermost_at (word s.memory)) none) high))
+
+pub end_so : TestsEndSo
+end_so p s input = record { unreached = unreached p s input; low = low p s input; nowhere = nowhere p s input; exits = exits p s input }
