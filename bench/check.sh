@@ -63,7 +63,7 @@ measure_check() {
     say_time "$1, $(cat "$work/said")"
 }
 
-# $1 names the image and $2 the tool; $3 is in its text at least as often as $4 says where it can read the image, and behind these
+# $1 names the image and $2 the tool; $3 is in its text at least as often as $4 says where it can read the image, and after these
 # stands the command
 measure_tool() {
     local name="$1, $5 $6" tool=$2 pattern=$3 least=$4

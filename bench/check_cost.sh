@@ -2,7 +2,7 @@
 # What `check` costs on images that are made to cost it much, each at a size and at twice the size: gates under descriptors of which none
 # is in scope, calls under cleanups in scope that have one landing pad, an executable segment of zeros, functions under one table of
 # descriptors, gates under an entry of many code bytes, and types that overlap. Prints a line each, with the answer, seconds and
-# megabytes. The larger ones are near the limits of docs/elf.md and docs/scenes.md, or at them. A run is cut off after
+# megabytes. The larger ones are near the limits of docs/elf.md and docs/flow-graphs.md, or at them. A run is cut off after
 # 300 seconds. How long it takes and what it holds is said of the build that is measured: one from `rt try` has run-time checks
 # and takes many times as long. Needs GNU time and python3. `EHABI_RUN=PROGRAM bench/check_cost.sh` measures another build of the program.
 set -eu
@@ -40,7 +40,7 @@ def call(at, to):
     j1, j2 = ((1 - (off >> k & 1)) ^ s for k in (23, 22))
     return halfwords(0xF000 | s << 10 | (off >> 12) & 0x3FF, 0xD000 | j1 << 13 | j2 << 11 | (off >> 1) & 0x7FF)
 
-# a table's first words, with personality 1 or 2: two codes stand in the first word, the rest behind it
+# a table's first words, with personality 1 or 2: two codes stand in the first word, the rest after it
 def code_words(personality, codes):
     more = max(0, (len(codes) - 2 + 3) // 4)
     codes = codes + [0xB0] * (2 + 4 * more - len(codes))
@@ -121,7 +121,7 @@ def codes(count, code_bytes):
     code = halfwords(PUSH, *[GATE] * count, POP)
     return one_function(code, code_words(1, [0x00, 0x40] * ((code_bytes - 1) // 2) + POPS) + words(0))
 
-# each type has 255 bases, which are the words of the types behind it: its own words are so chosen that all these are one class, which
+# each type has 255 bases, which are the words of the types after it: its own words are so chosen that all these are one class, which
 # stands where a vtable's pointer leads
 def types(count):
     vmi, one = TYPES, TYPES + 0x40
@@ -141,7 +141,7 @@ def types(count):
 sys.stdout.buffer.write(globals()[sys.argv[1]](*map(int, sys.argv[2:])))
 PYTHON
 
-# $1 names the image; behind it stand the maker's words
+# $1 names the image; after it stand the maker's words
 measure() {
     local name=$1 begun status=0
     shift

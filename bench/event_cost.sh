@@ -11,7 +11,7 @@ trap 'rm -rf "$work"' EXIT
 "$top/ehabi_run" >/dev/null || true
 write_loops "$work"
 
-# the loop $1 runs to its budget $2, behind the words that follow
+# the loop $1 runs to its budget $2, after the words that follow
 run() {
     local loop=$1 budget=$2
     shift 2

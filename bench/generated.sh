@@ -2,7 +2,7 @@
 # What the generated programs of number 1 (docs/generated-programs.md) with 500, 1,000, 2,000 and 4,000 functions take: `build` of
 # the source, `check` and `run` of the image, and `gen`, which does all of it. Times are the least of ten. How many events a run has
 # is found by halving its budget, and how many it does a second is by how much longer `run` takes than `check`. Memory is the most
-# that `gen` has. Prints a line each, behind the date. Needs GNU time and awk.
+# that `gen` has. Prints a line each, after the date. Needs GNU time and awk.
 set -eu
 top=$(cd "$(dirname "$0")/.." && pwd)
 work=$(mktemp -d)

@@ -5,7 +5,7 @@
 # that disagree about one file, more than 2 s of a processor, or more than 200 MB. The file that shows it is kept, and its name is
 # printed. With --past-slow it keeps files that take too long, and goes on. At the end it prints how many inputs it made, and how
 # often each kind of answer came. With the same SEED it makes the same inputs as far as it gets. What is accepted is changed
-# further, so that faults behind the first test are met too. Needs Python 3, as rt does.
+# further, so that faults after the first test are met too. Needs Python 3, as rt does.
 #
 #     bench/mutate.sh [--past-slow] FILE SECONDS [SEED [PROGRAM]]
 #

@@ -70,7 +70,7 @@ is_first_part() {
     [ "$size" -ge "${#guest}" ] && cmp -s -n "$size" said report
 }
 
-# $1 is what the guest writes, and behind it stands the command
+# $1 is what the guest writes, and after it stands the command
 refuse_each() {
     guest=$1
     shift

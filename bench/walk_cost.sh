@@ -1,7 +1,8 @@
 #!/usr/bin/env bash
-# What a frame of a walk costs the host: host instructions by valgrind's callgrind, as the difference of a walk of so many frames and one
-# of a single frame, so that neither the start of the program nor the check of the image plays a part. The frames are those of the
-# program walks_cases, of a function that lowers sp by 4 and whose caller is itself: each has two code bytes. Prints a line for each number.
+# What a frame of a walk, and one on the way of a forced unwinding to its stop, costs the host: host instructions by valgrind's callgrind, as the
+# difference of one over so many frames and one of a single frame, so that neither the start of the program nor the check of the image plays a
+# part. The frames are those of the program walks_cases, of a function that lowers sp by 4 and whose caller is itself: each has two code bytes
+# and no descriptor, so the unwinding is refused in the last frame. Prints a line for each number and kind.
 set -eu
 top=$(cd "$(dirname "$0")/.." && pwd)
 work=$(mktemp -d)
@@ -11,19 +12,26 @@ trap 'rm -rf "$work"' EXIT
 [ -x "$top/crates/walks_cases/out/walks_cases" ] || { tail -n 20 "$work/said" >&2; exit 1; }
 cp "$top/crates/walks_cases/data/tower.s" "$work/"
 
-# host instructions of a walk of so many frames
+# host instructions of a walk of so many frames, or of a forced unwinding to the last of them
 instructions() {
     local last
-    last=$(printf '%X' $((0x3FFC0000 + 4 * ($1 - 1))))
-    printf 'tower.s; run 5; reg E 800D; reg D 3FFC0000; count %X : %X, 800A sp %s r4 0, Most\n' "$1" "$1" "$last" >"$work/states.txt"
+    last=$(printf '%X' $((0x3FFC0000 + 4 * ($2 - 1))))
+    : >"$work/forcings.txt"
+    if [ "$1" = walk ]; then
+        printf 'tower.s; run 5; reg E 800D; reg D 3FFC0000; count %X : %X, 800A sp %s r4 0, Most\n' "$2" "$2" "$last" >"$work/states.txt"
+    else
+        printf 'tower.s; run 5; reg E 800D; reg D 3FFC0000; force %X : NoStop\n' $(($2 - 1)) >"$work/states.txt"
+    fi
     (cd "$work" && valgrind --tool=callgrind --callgrind-out-file="$work/callgrind" \
         "$top/crates/walks_cases/out/walks_cases" >"$work/out" 2>"$work/err")
-    grep -qx "states.txt: 1 of 1" "$work/out" || { echo "$1 frames: not walked" >&2; exit 1; }
+    grep -qx "states.txt: 1 of 1" "$work/out" || { echo "$1, $2 frames: another answer" >&2; exit 1; }
     awk '/Collected/ { print $4 }' "$work/err"
 }
 
-one=$(instructions 1)
-for frames in 8192 32768 65536; do
-    all=$(instructions "$frames")
-    awk -v frames="$frames" -v cost=$((all - one)) 'BEGIN { printf "%d frames: %.1f host instructions a frame\n", frames, cost / (frames - 1) }'
+for kind in walk force; do
+    one=$(instructions "$kind" 1)
+    for frames in 8192 32768 65536; do
+        all=$(instructions "$kind" "$frames")
+        awk -v kind="$kind" -v frames="$frames" -v cost=$((all - one)) 'BEGIN { printf "%s, %d frames: %.1f host instructions a frame\n", kind, frames, cost / (frames - 1) }'
+    done
 done

@@ -5,11 +5,11 @@ use Rattle.machine_parts.specs.thumb_isa.Rows.{Row, fits, first_fit, rows, decod
 use Rattle.machine_parts.specs.thumb_isa.declared.instr.Instr.{Instr}
 use Rattle.machine_parts.specs.thumb_isa.declared.instr.Decoded.TheVariants.{Is, Undefined, Unpredictable, NotInProfile}
 use Rattle.machine_parts.specs.thumb_isa.declared.instr.Decoded.{Decoded}
-use Rattle.machine_parts.specs.frame_scene.declared.places.Standing.TheVariants.{Instruction, Udf}
-use Rattle.machine_parts.specs.frame_scene.Scene.{Scene}
-use Rattle.machine_parts.specs.frame_scene.Places.{of_decoded, wide_of, standing_by, standing_at, is_udf, halfword_of}
+use Rattle.machine_parts.specs.frame_graph.declared.places.Standing.TheVariants.{Instruction, Udf}
+use Rattle.machine_parts.specs.frame_graph.FlowGraph.{FlowGraph}
+use Rattle.machine_parts.specs.frame_graph.Places.{of_decoded, wide_of, standing_by, standing_at, is_udf, halfword_of}
 use Rattle.machine_parts.specs.frame_check.Accepts.{Accepted}
-use Rattle.machine_parts.specs.frame_check.Roots.{scene_of}
+use Rattle.machine_parts.specs.frame_check.Roots.{flow_graph_of}
 use Rattle.machine_parts.specs.thumb_isa.declared.instr.Instr.TheVariants.{ShiftImm, AddSubReg, AddSubImm3, Imm8, Alu, Adr, AddRdSp, Extend, Rev}
 use Rattle.machine_parts.specs.frame_facts.Machine.{works_on}
 use Rattle.accepted_code.specs.Bounds.{Bounds, AreInRange}
@@ -27,7 +27,7 @@ decoded_bounds : (f s : ℕ) (i : Instr) (n : ℕ) → decoded_of f s ≡ Is i n
 unfolding decoded_of
 decoded_bounds f s i n e = found rows rows_mean f s i n e
 
-pub standing_bounds : (s : Scene) (p : ℕ) (i : Instr) (size : ℕ) → standing_at s p ≡ Instruction i size → Bounds i
+pub standing_bounds : (s : FlowGraph) (p : ℕ) (i : Instr) (size : ℕ) → standing_at s p ≡ Instruction i size → Bounds i
 unfolding standing_at
 standing_bounds s p i size e = by_halves (halfword_of s p) (halfword_of s (p + 1)) e
   where
@@ -48,7 +48,7 @@ standing_bounds s p i size e = by_halves (halfword_of s p) (halfword_of s (p + 1
     by_halves (Some first) w g = by_size (is_udf first) (nat_le 0xe800 first) first w g
 
 pub are_in_range : (x : Accepted) → AreInRange x
-are_in_range x f p i size c e = standing_bounds (scene_of x.image f) p i size e
+are_in_range x f p i size c e = standing_bounds (flow_graph_of x.image f) p i size e
 
 -- the register that an instruction of the data group works on is a low one
 to_low : (e d : ℕ) → (let o : Option ℕ = Some e in o) ≡ Some d → e < 8 → d < 8

@@ -7,14 +7,14 @@ use Rattle.std.proofs.lemmas.Bool.{and_parts, cases_eq, cases_lt}
 use Rattle.std.specs.Prelude.{◌+ℤ◌, ◌-ℤ◌, slice_index_or, slice_set, unwrap_or, Ok, Err, is_some}
 use Rattle.std.proofs.lemmas.Int.{ints}
 use Rattle.std.proofs.lemmas.List.{get_or-set_same, get_or-set_other, get_or_past, length-set}
-use Rattle.machine_parts.specs.unwind_codes.Cut.{Item, Is, Bad, cut_behind, cut_from, cut}
+use Rattle.machine_parts.specs.unwind_codes.Cut.{Item, Is, Bad, cut_after, cut_from, cut}
 use Rattle.machine_parts.specs.unwind_codes.Meaning.{effect, Effect, Rises, Falls, Pops, Takes, Refuses, Finishes}
 use Rattle.machine_parts.specs.unwind_codes.declared.code.Code.{Code}
 use Rattle.machine_parts.specs.unwind_codes.Table.{code_front}
 use Rattle.machine_parts.specs.eh_bus.Lists.{Has}
 use Rattle.machine_parts.specs.eh_bytecode.Once.{popped, popped_first}
 use Rattle.machine_parts.specs.eh_cxa.Lists.{Once}
-use Rattle.machine_parts.specs.frame_scene.Unwinding.{are_distinct, pop_once}
+use Rattle.machine_parts.specs.frame_graph.Unwinding.{are_distinct, pop_once}
 use Rattle.machine_parts.specs.eh_bytecode.declared.recipe.Src.{Src}
 use Rattle.machine_parts.specs.eh_bytecode.declared.recipe.Src.TheVariants.{Same, FromSp, FromBase}
 use Rattle.machine_parts.specs.eh_bytecode.Recipe.{from, filled, recipe_of, is_same, Goes, Ends, sum_after, sums_on, sums, recipe, nothing_summed}
@@ -32,13 +32,13 @@ AreTame [] = Unit {0}
 AreTame (Is code ∷ more) = IsTame (effect code) × AreTame more
 AreTame (Bad place ∷ more) = Unit {0}
 
-cut_tame : (inside place : ℕ) (bytes : List ℕ) → Bytes bytes → AreTame (cut_behind inside place bytes)
+cut_tame : (inside place : ℕ) (bytes : List ℕ) → Bytes bytes → AreTame (cut_after inside place bytes)
 cut_tame inside place [] b = tt
 cut_tame (suc inside) place (x ∷ more) b = cut_tame inside (place + 1) more b.1
 cut_tame zero place (x ∷ more) b = go (code_front x more) refl (λ n. cut_tame (n - 1) (place + 1) more b.1)
   where
-    go : (o : Option (Code × ℕ)) → code_front x more ≡ o → ((n : ℕ) → AreTame (cut_behind (n - 1) (place + 1) more))
-        → AreTame (option_map_or (λ (found : Code × ℕ). Is found.0 ∷ cut_behind (found.1 - 1) (place + 1) more) o (Bad place ∷ []))
+    go : (o : Option (Code × ℕ)) → code_front x more ≡ o → ((n : ℕ) → AreTame (cut_after (n - 1) (place + 1) more))
+        → AreTame (option_map_or (λ (found : Code × ℕ). Is found.0 ∷ cut_after (found.1 - 1) (place + 1) more) o (Bad place ∷ []))
     go None is later = tt
     go (Some (code, n)) is later = (front_tame x more code n b.0 b.1 is, later n)
 

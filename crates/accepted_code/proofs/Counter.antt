@@ -3,7 +3,7 @@ use Rattle.std.proofs.Common.{ℕ, List, [], ◌∷◌, ◌≡◌, true, refl}
 use Rattle.std.specs.Prelude.{Ok}
 use Rattle.machine_parts.specs.unwind_codes.Cut.{cut, cut_from}
 use Rattle.machine_parts.specs.unwind_codes.Table.{code_front}
-use Rattle.machine_parts.specs.frame_scene.Unwinding.{pop_once}
+use Rattle.machine_parts.specs.frame_graph.Unwinding.{pop_once}
 use Rattle.machine_parts.specs.eh_bytecode.Recipe.{recipe}
 use Rattle.machine_parts.specs.eh_bytecode.declared.recipe.Recipe.{Recipe}
 use Rattle.accepted_code.specs.Recipes.{IsRecipe}

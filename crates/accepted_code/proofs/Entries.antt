@@ -6,18 +6,18 @@ use Rattle.std.proofs.lemmas.Bool.{leb-true, leb-false}
 use Rattle.machine_parts.specs.unwind_codes.declared.row.Entry.{Entry}
 use Rattle.machine_parts.specs.eh_index.Covering.{covering}
 use Rattle.machine_parts.specs.eh_index.Rows.{entries_of}
-use Rattle.machine_parts.specs.frame_scene.Scene.{Scene}
-use Rattle.machine_parts.specs.frame_scene.Sites.{entry_at, site_at, unwinding_by, unwinding_at, items_by, items_at}
-use Rattle.machine_parts.specs.frame_scene.Reach.{IsReached}
+use Rattle.machine_parts.specs.frame_graph.FlowGraph.{FlowGraph}
+use Rattle.machine_parts.specs.frame_graph.Sites.{entry_at, site_at, unwinding_by, unwinding_at, items_by, items_at}
+use Rattle.machine_parts.specs.frame_graph.Reach.{IsReached}
 use Rattle.machine_parts.specs.frame_check.Accepts.{IsWell}
 use Rattle.machine_parts.proofs.frame_check.Entries.{well_functions}
 use Rattle.machine_parts.specs.eh_bytecode.declared.recipe.Recipe.{Recipe}
-use Rattle.machine_parts.specs.frame_scene.declared.unwinding.Unwinding.TheVariants.{Finds, Refused}
+use Rattle.machine_parts.specs.frame_graph.declared.unwinding.Unwinding.TheVariants.{Finds, Refused}
 use Rattle.machine_parts.specs.unwind_codes.Cut.{cut}
 use Rattle.machine_parts.specs.unwind_codes.declared.row.EntryBody.{EntryBody}
 use Rattle.machine_parts.specs.eh_bytecode.Recipe.{recipe}
 use Rattle.machine_parts.specs.eh_phase.Frames.{codes_of, covered_at, with_items, covered_by}
-use Rattle.machine_parts.specs.frame_scene.Unwinding.{pop_once, by_recipe, of_fault, of_read, of_body}
+use Rattle.machine_parts.specs.frame_graph.Unwinding.{pop_once, by_recipe, of_fault, of_read, of_body}
 use Rattle.machine_parts.specs.eh_bytecode.declared.recipe.RecipeFault.TheVariants.{Refuses, BadCode, NotStatic}
 use Rattle.machine_parts.specs.eh_bytecode.declared.recipe.RecipeFault.{RecipeFault}
 use Rattle.machine_parts.specs.eh_bytecode.declared.codes.CodesFault.{CodesFault}
@@ -53,22 +53,22 @@ module _ (at site : ℕ) (low : at ≤ site) where
   covering_shared entries = shared entries None None (inl refl)
 
 -- the entry of a reached site is that of the start
-pub entry_of_start : (s : Scene) (p site : ℕ) → IsWell s → IsReached s p → site_at s p ≡ Some site → s.start ≤ site → entry_at s site ≡ entry_at s s.start
+pub entry_of_start : (s : FlowGraph) (p site : ℕ) → IsWell s → IsReached s p → site_at s p ≡ Some site → s.start ≤ site → entry_at s site ≡ entry_at s s.start
 entry_of_start s p site w r is low = elim (covering_shared s.start site low (entries_of s.image)) [
   | inl same ↦ same
   | inr above ↦ (let e = above.0 in let here = above.1 in absurd (omega (arith, above.2, well_functions.sites s p site e w r is here)))
 ]
 
-pub unwinding_of_start : (s : Scene) (p site : ℕ) → IsWell s → IsReached s p → site_at s p ≡ Some site → s.start ≤ site → unwinding_at s site ≡ unwinding_at s s.start
+pub unwinding_of_start : (s : FlowGraph) (p site : ℕ) → IsWell s → IsReached s p → site_at s p ≡ Some site → s.start ≤ site → unwinding_at s site ≡ unwinding_at s s.start
 unfolding unwinding_at
 unwinding_of_start s p site w r is low = ap (unwinding_by s) (entry_of_start s p site w r is low)
 
-pub items_of_start : (s : Scene) (p site : ℕ) → IsWell s → IsReached s p → site_at s p ≡ Some site → s.start ≤ site → items_at s site ≡ items_at s s.start
+pub items_of_start : (s : FlowGraph) (p site : ℕ) → IsWell s → IsReached s p → site_at s p ≡ Some site → s.start ≤ site → items_at s site ≡ items_at s s.start
 unfolding items_at
 items_of_start s p site w r is low = ap (items_by s) (entry_of_start s p site w r is low)
 
 -- so its codes give a recipe, or nothing unwinds there
-pub site_unwinds : (s : Scene) (p site : ℕ) → IsWell s → IsReached s p → site_at s p ≡ Some site → s.start ≤ site → ((r : Recipe) × (unwinding_at s site ≡ Finds r)) ⊎ (unwinding_at s site ≡ Refused)
+pub site_unwinds : (s : FlowGraph) (p site : ℕ) → IsWell s → IsReached s p → site_at s p ≡ Some site → s.start ≤ site → ((r : Recipe) × (unwinding_at s site ≡ Finds r)) ⊎ (unwinding_at s site ≡ Refused)
 site_unwinds s p site w r is low = elim (well_functions.codes s w) [
   | inl finds ↦ inl (finds.0, unwinding_of_start s p site w r is low ∙ finds.1)
   | inr refused ↦ inr (unwinding_of_start s p site w r is low ∙ refused)
@@ -140,7 +140,7 @@ body_refused (Table a) (Some bytes) e = go (table_codes bytes) refl e
     go (Err fault) is e = absurd (fault_refused fault e)
 
 -- what covers a site whose codes give a recipe
-pub record IsCovered (s : Scene) (site : ℕ) (of : Recipe) : Type 0 where
+pub record IsCovered (s : FlowGraph) (site : ℕ) (of : Recipe) : Type 0 where
   pub entry : Entry
   pub at : entry_at s site ≡ Some entry
   pub has : HasCodes entry.body (table_of s.image entry) of
@@ -149,7 +149,7 @@ pub record IsCovered (s : Scene) (site : ℕ) (of : Recipe) : Type 0 where
   pub codes : covered.codes ≡ has.codes
   pub descs : covered.descs ≡ items_at s site
 
-pub finds_covered : (s : Scene) (site : ℕ) (of : Recipe) → unwinding_at s site ≡ Finds of → IsCovered s site of
+pub finds_covered : (s : FlowGraph) (site : ℕ) (of : Recipe) → unwinding_at s site ≡ Finds of → IsCovered s site of
 unfolding unwinding_at covered_at items_at
 finds_covered s site of e = go (entry_at s site) refl e
   where
@@ -173,7 +173,7 @@ pub record IsStuck (image : Image) (site : ℕ) : Type 0 where
   pub covers : covered_at image site ≡ Some covered
   pub refuses : recipe (cut covered.codes) ≡ Err Refuses
 
-pub refused_covered : (s : Scene) (site : ℕ) → unwinding_at s site ≡ Refused → (covered_at s.image site ≡ None) ⊎ IsStuck s.image site
+pub refused_covered : (s : FlowGraph) (site : ℕ) → unwinding_at s site ≡ Refused → (covered_at s.image site ≡ None) ⊎ IsStuck s.image site
 unfolding unwinding_at covered_at
 refused_covered s site e = go (entry_at s site) refl e
   where

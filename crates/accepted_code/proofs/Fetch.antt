@@ -27,12 +27,12 @@ use Rattle.machine_parts.specs.thumb_isa.declared.instr.Decoded.TheVariants.{Is,
 use Rattle.machine_parts.specs.thumb_isa.Rows.{decoded_of}
 use Rattle.machine_parts.specs.thumb_core.declared.regs.Regs.{Regs}
 use Rattle.machine_parts.specs.thumb_core.Step.{step_of, effect, instr_at, outcome_of, instr_of}
-use Rattle.machine_parts.specs.frame_scene.declared.places.Standing.TheVariants.{Instruction, Udf}
-use Rattle.machine_parts.specs.frame_scene.Places.{of_decoded, wide_of, standing_by, standing_at, is_udf, address_of, is_place, halfword_in, halfword_at, halfword_of}
+use Rattle.machine_parts.specs.frame_graph.declared.places.Standing.TheVariants.{Instruction, Udf}
+use Rattle.machine_parts.specs.frame_graph.Places.{of_decoded, wide_of, standing_by, standing_at, is_udf, address_of, is_place, halfword_in, halfword_at, halfword_of}
 use Rattle.machine_parts.proofs.frame_reach.Stands.{stands_inside, stands_size}
-use Rattle.machine_parts.specs.frame_scene.Scene.{Scene}
+use Rattle.machine_parts.specs.frame_graph.FlowGraph.{FlowGraph}
 use Rattle.machine_parts.specs.frame_check.Judged.{IsPlaced}
-use Rattle.machine_parts.specs.frame_check.Roots.{scene_of}
+use Rattle.machine_parts.specs.frame_check.Roots.{flow_graph_of}
 use Rattle.machine_parts.proofs.frame_check.Wells.{placed_at}
 use Rattle.machine_parts.specs.elf_image.Segments as loaded
 
@@ -141,8 +141,8 @@ two_bytes s a =
 -- ---- fetching
 
 module _ (image : Image) (f : Function) (ss : List Segment) (sound : IsImage image) (c : Contains image.functions f) (same : SameMap (image_start image).memory.segments ss) where
-  abbrev scene : Scene
-  scene = scene_of image f
+  abbrev flow_graph : FlowGraph
+  flow_graph = flow_graph_of image f
 
   placed : IsPlaced f
   placed = subst IsPlaced c.2 (placed_at image c.0 f sound c.1)
@@ -168,10 +168,10 @@ module _ (image : Image) (f : Function) (ss : List Segment) (sound : IsImage ima
         data_misses (zeros_at POOL_START POOL_SIZE) POOL_START POOL_SIZE a 2 (zeros_data POOL_START POOL_SIZE) (omega (arith, low)),
       ) w.number
 
-  pub code_fetch : (p h : ℕ) → halfword_of scene p ≡ Some h → fetches ss (address_of scene p) ≡ Ok h
+  pub code_fetch : (p h : ℕ) → halfword_of flow_graph p ≡ Some h → fetches ss (address_of flow_graph p) ≡ Ok h
   code_fetch p h e =
-      let a = address_of scene p in
-      let w = if_some (is_place scene p) (halfword_at image a) h e in
+      let a = address_of flow_graph p in
+      let w = if_some (is_place flow_graph p) (halfword_at image a) h e in
       let two = and_parts (nat_le f.start a && nat_lt a f.end) ((a == f.start) || is_code_in image a) w.0 in
       let below : a < f.end = ltb-true a f.end (and_parts (nat_le f.start a) (nat_lt a f.end) two.0).1 in
       let at_f = same_segment 0 f.start a image.segments home sound.rise within.holder (omega arith) (omega (arith, below, within.within)) in
@@ -192,23 +192,23 @@ module _ (image : Image) (f : Function) (ss : List Segment) (sound : IsImage ima
     pub step : step_of regs m ≡ effect i size regs m
     pub stands : instr_at m regs.pc ≡ Some (i, size)
 
-  pub fetched : (p : ℕ) (i : Instr) (size : ℕ) (regs : Regs) (m : Memory) → m.segments ≡ ss → regs.pc ≡ address_of scene p → standing_at scene p ≡ Instruction i size → IsFetched i size regs m
+  pub fetched : (p : ℕ) (i : Instr) (size : ℕ) (regs : Regs) (m : Memory) → m.segments ≡ ss → regs.pc ≡ address_of flow_graph p → standing_at flow_graph p ≡ Instruction i size → IsFetched i size regs m
   unfolding standing_at
-  fetched p i size regs m is at e = by_halves (halfword_of scene p) (halfword_of scene (p + 1)) refl refl e
+  fetched p i size regs m is at e = by_halves (halfword_of flow_graph p) (halfword_of flow_graph (p + 1)) refl refl e
     where
-      first_at : (first : ℕ) → halfword_of scene p ≡ Some first → fetch m regs.pc ≡ Ok first
+      first_at : (first : ℕ) → halfword_of flow_graph p ≡ Some first → fetch m regs.pc ≡ Ok first
       first_at first h = rw (is, at) (code_fetch p first h)
 
-      next_at : (regs.pc + 2) % 2 ^ 32 ≡ address_of scene (p + 1)
-      next_at = let low = stands_inside scene p i size e in let four = two_or_more in omega (arith, at, low, placed.low, four)
+      next_at : (regs.pc + 2) % 2 ^ 32 ≡ address_of flow_graph (p + 1)
+      next_at = let low = stands_inside flow_graph p i size e in let four = two_or_more in omega (arith, at, low, placed.low, four)
         where
           two_or_more : 2 ≤ size
-          two_or_more = elim (stands_size scene p i size e) [
+          two_or_more = elim (stands_size flow_graph p i size e) [
             | inl two ↦ omega (arith, two)
             | inr wide ↦ omega (arith, wide)
           ]
 
-      second_at : (second : ℕ) → halfword_of scene (p + 1) ≡ Some second → fetch m ((regs.pc + 2) % 2 ^ 32) ≡ Ok second
+      second_at : (second : ℕ) → halfword_of flow_graph (p + 1) ≡ Some second → fetch m ((regs.pc + 2) % 2 ^ 32) ≡ Ok second
       second_at second h = rw (is, next_at) (code_fetch (p + 1) second h)
 
       narrow : (first : ℕ) (d : Decoded) → of_decoded d ≡ Instruction i size → (outcome_of d first regs m ≡ effect i size regs m) × (instr_of d ≡ Some (i, size))
@@ -221,7 +221,7 @@ module _ (image : Image) (f : Function) (ss : List Segment) (sound : IsImage ima
       narrow first Unpredictable h = absurd cc
       narrow first NotInProfile h = absurd cc
 
-      by_size : (u b : Bool) (first : ℕ) (w : Option ℕ) → nat_le 0xe800 first ≡ b → halfword_of scene p ≡ Some first → halfword_of scene (p + 1) ≡ w
+      by_size : (u b : Bool) (first : ℕ) (w : Option ℕ) → nat_le 0xe800 first ≡ b → halfword_of flow_graph p ≡ Some first → halfword_of flow_graph (p + 1) ≡ w
           → cond u Udf (cond ((cond b 4 2) == 2) (of_decoded (decoded_of first 0)) (wide_of first w)) ≡ Instruction i size → IsFetched i size regs m
       by_size true b first w is_wide h k g = absurd cc
       by_size false false first w is_wide h k g =
@@ -231,6 +231,6 @@ module _ (image : Image) (f : Function) (ss : List Segment) (sound : IsImage ima
           let n = narrow first (decoded_of first second) g in
           record { step = rw (first_at first h, is_wide, second_at second k) n.0; stands = rw (first_at first h, is_wide, second_at second k) n.1 }
 
-      by_halves : (o w : Option ℕ) → halfword_of scene p ≡ o → halfword_of scene (p + 1) ≡ w → standing_by o w ≡ Instruction i size → IsFetched i size regs m
+      by_halves : (o w : Option ℕ) → halfword_of flow_graph p ≡ o → halfword_of flow_graph (p + 1) ≡ w → standing_by o w ≡ Instruction i size → IsFetched i size regs m
       by_halves None w h k g = absurd cc
       by_halves (Some first) w h k g = by_size (is_udf first) (nat_le 0xe800 first) first w refl h k g

@@ -10,7 +10,7 @@ use Rattle.machine_parts.specs.eh_bus.Segment.{Segment}
 use Rattle.machine_parts.specs.eh_bytecode.declared.frame.Unwinding.{Unwinding}
 use Rattle.machine_parts.specs.eh_bytecode.declared.recipe.Src.TheVariants.{Same, FromSp, FromBase}
 use Rattle.machine_parts.specs.eh_bytecode.declared.recipe.Sum.{Sum}
-use Rattle.machine_parts.specs.eh_bytecode.Recipe.{is_same, IsNear, sums_on, within, is_far, Goes, Ends, sum_after, sums, recipe_of, filled, recipe, nothing_summed}
+use Rattle.machine_parts.specs.eh_bytecode.Recipe.{is_same, IsNear, sums_on, unless_far, is_far, Goes, Ends, sum_after, sums, recipe_of, filled, recipe, nothing_summed}
 use Rattle.machine_parts.proofs.eh_bytecode.Near.{near_low, near_high}
 use Rattle.machine_parts.specs.eh_bytecode.declared.recipe.Recipe.{Recipe}
 use Rattle.machine_parts.specs.eh_bytecode.declared.recipe.RecipeFault.{RecipeFault}
@@ -20,7 +20,7 @@ use Rattle.machine_parts.specs.eh_bus.declared.fault.BusFault.{BusFault}
 use Rattle.machine_parts.specs.thumb_core.Words.{load_words, loads_from}
 use Rattle.machine_parts.specs.unwind_codes.Cut.{Item, Is, Bad}
 use Rattle.machine_parts.specs.unwind_codes.Meaning.{Effect, Rises, Falls, Pops, Takes, Refuses, Finishes, effect}
-use Rattle.machine_parts.specs.eh_bytecode.Meaning.{after, pops, goes_on, runs, finished, begins, unwound}
+use Rattle.machine_parts.specs.eh_bytecode.Meaning.{after, pops, continued, runs, finished, begins, unwound}
 use Rattle.machine_parts.proofs.eh_bytecode.RecipeLaws.{loads_first}
 use Rattle.machine_parts.specs.eh_bytecode.declared.recipe.RecipeFault.TheVariants as fault
 use Rattle.accepted_code.proofs.Sources.{Meant, same_place, takes_meant, says, fill, other_filled}
@@ -47,12 +47,12 @@ vsp_falls b v n off low high last e = grind (arith, ints)
 pub at_base : (b : ℕ) → b < 2 ^ 32 → b ≡ moved b (pos 0)
 at_base b h = grind (arith, ints)
 
-pub with_near : (s : Sum) (of : Recipe) (f : Sum → Result Recipe RecipeFault) (P : Type 0) → sums_on f (within s) ≡ Ok of → (IsNear s.vsp → f s ≡ Ok of → P) → P
+pub with_near : (s : Sum) (of : Recipe) (f : Sum → Result Recipe RecipeFault) (P : Type 0) → sums_on f (unless_far s) ≡ Ok of → (IsNear s.vsp → f s ≡ Ok of → P) → P
 with_near s of f P h each = near_cases (is_far s.vsp) refl
   where
     near_cases : (far : Bool) → is_far s.vsp ≡ far → P
     near_cases true e =
-        let none : ◌≡◌ {A = Result Recipe RecipeFault} (sums_on f (within s)) (Ok of) = h in
+        let none : ◌≡◌ {A = Result Recipe RecipeFault} (sums_on f (unless_far s)) (Ok of) = h in
         absurd (grind (arith, e, none))
     near_cases false e = each e (let some : f s ≡ Ok of = grind (arith, e, h) in some)
 
@@ -175,7 +175,7 @@ module _ (m : List Segment) (old : List ℕ) (wide : length old ≡ 16) (small :
   abbrev Further : List Item → Type 0
   Further more = (s : Sum) (t : Unwinding) → Told m old s t → sums s more ≡ Ok of → runs m t more ≡ Ok new → Gives m old of new
 
-  effect_on : (more : List Item) (s : Sum) (t : Unwinding) (e : Effect) → Told m old s t → sums_on (λ n. sums n more) (sum_after s e) ≡ Ok of → goes_on (λ n. runs m n more) (after m t e) ≡ Ok new
+  effect_on : (more : List Item) (s : Sum) (t : Unwinding) (e : Effect) → Told m old s t → sums_on (λ n. sums n more) (sum_after s e) ≡ Ok of → continued (λ n. runs m n more) (after m t e) ≡ Ok new
       → Further more → Gives m old of new
   effect_on more s t (Rises by) h is u each =
       let next : Sum = record s { vsp = s.vsp +ℤ pos by } in
@@ -223,7 +223,7 @@ module _ (m : List Segment) (old : List ℕ) (wide : length old ≡ 16) (small :
       next : Sum
       next = record s { vsp = s.vsp +ℤ pos (4 * length registers); src = filled (is_some s.base) s.vsp registers s.src }
 
-      go : (o : Result (List ℕ) BusFault) → load_words m t.vsp (loads_from 0 registers) t.r ≡ o → goes_on (λ n. runs m n more) (pops t registers o) ≡ Ok new → IsNear next.vsp → sums next more ≡ Ok of → Gives m old of new
+      go : (o : Result (List ℕ) BusFault) → load_words m t.vsp (loads_from 0 registers) t.r ≡ o → continued (λ n. runs m n more) (pops t registers o) ≡ Ok new → IsNear next.vsp → sums next more ≡ Ok of → Gives m old of new
       go (Err f) e w near further = absurd cc
       go (Ok r) e w near further =
           let loaded : load_words m (slice_index old (unwrap_or s.base 13)) (loads_at s.vsp registers) t.r ≡ Ok r = sym (loads_first m (slice_index old (unwrap_or s.base 13)) t.vsp s.vsp registers t.r h.near h.place) ∙ e in

@@ -2,7 +2,7 @@ pub use Rattle.machine_parts.proofs.two_machines
 pub use Rattle.machine_parts.proofs.frame_check
 pub use Rattle.machine_parts.proofs.frame_flow
 pub use Rattle.machine_parts.proofs.frame_reach
-pub use Rattle.machine_parts.proofs.frame_scene
+pub use Rattle.machine_parts.proofs.frame_graph
 pub use Rattle.machine_parts.proofs.frame_facts
 pub use Rattle.machine_parts.proofs.flow
 pub use Rattle.machine_parts.proofs.eh_phase

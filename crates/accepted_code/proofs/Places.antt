@@ -1,4 +1,4 @@
--- Where a run goes on: from a place of a function to one that its ways lead to.
+-- Where a run goes on: from a place of a function to one that its edges lead to.
 use Rattle.std.proofs.Common.{ℕ, ◌<◌, ◌≤◌, inl, inr, List, [], ◌∷◌, sym, ap, subst, arith, ◌≡◌, ◌⊎◌, ◌∙◌, ◌==◌, true, Bool, false, Some, None, refl, ◌%◌, ◌&&◌, ◌||◌, ◌-◌, ◌/◌, nat_le, nat_lt, ◌+◌, Option, ⊎_elim}
 use Rattle.std.specs.Prelude.{Contains, if◌then◌else◌, option_and_then, Ok, Err}
 use Rattle.std.proofs.lemmas.Bool.Decides.{nat_tests}
@@ -13,24 +13,24 @@ use Rattle.machine_parts.specs.image_memory.Start.{begins_function}
 use Rattle.machine_parts.specs.elf_image.Image.{Image, is_code_in, IsSound as IsImage}
 use Rattle.machine_parts.specs.elf_image.Marks.{marked}
 use Rattle.machine_parts.specs.elf_image.Segments.{holds}
-use Rattle.machine_parts.specs.frame_scene.Scene.{Scene}
-use Rattle.machine_parts.specs.frame_scene.Places.{address_of, place_of, is_place, is_code_of, standing_at}
-use Rattle.machine_parts.specs.frame_scene.declared.ways.Way.{Way}
-use Rattle.machine_parts.specs.frame_scene.declared.places.Standing.{Standing}
-use Rattle.machine_parts.specs.frame_scene.declared.places.Standing.TheVariants.{Instruction, Udf, Nothing}
-use Rattle.machine_parts.specs.frame_scene.declared.unwinding.Unwinding.{Unwinding}
-use Rattle.machine_parts.specs.frame_scene.Ways.{goes_on, branch_target, ways_to, onward, straight_by, straight_ways}
-use Rattle.machine_parts.specs.frame_scene.Unwinding.{landing_changes}
-use Rattle.machine_parts.specs.frame_scene.Sites.{Item, cleans, pad_for, pad_ways, ways_from, site_at, unwinding_at, items_at, ways_of}
-use Rattle.machine_parts.specs.frame_scene.Reach.{IsReached, entry, along}
+use Rattle.machine_parts.specs.frame_graph.FlowGraph.{FlowGraph}
+use Rattle.machine_parts.specs.frame_graph.Places.{address_of, place_of, is_place, is_code_of, standing_at}
+use Rattle.machine_parts.specs.frame_graph.declared.edges.Edge.{Edge}
+use Rattle.machine_parts.specs.frame_graph.declared.places.Standing.{Standing}
+use Rattle.machine_parts.specs.frame_graph.declared.places.Standing.TheVariants.{Instruction, Udf, Nothing}
+use Rattle.machine_parts.specs.frame_graph.declared.unwinding.Unwinding.{Unwinding}
+use Rattle.machine_parts.specs.frame_graph.Edges.{reaches_next, branch_target, edges_to, onward, straight_by, straight_edges}
+use Rattle.machine_parts.specs.frame_graph.Unwinding.{landing_changes}
+use Rattle.machine_parts.specs.frame_graph.Sites.{Item, cleans, pad_for, pad_edges, edges_from, site_at, unwinding_at, items_at, edges_of}
+use Rattle.machine_parts.specs.frame_graph.Reach.{IsReached, entry, along}
 use Rattle.machine_parts.specs.thumb_isa.declared.instr.Instr.{Instr}
-use Rattle.machine_parts.proofs.frame_scene.Inside.{places_have_their_address}
+use Rattle.machine_parts.proofs.frame_graph.Inside.{places_have_their_address}
 use Rattle.machine_parts.proofs.frame_reach.Found.{inside}
-use Rattle.machine_parts.proofs.frame_reach.Runs.{onward_way}
+use Rattle.machine_parts.proofs.frame_reach.Runs.{onward_edge}
 use Rattle.machine_parts.proofs.frame_reach.Stands.{stands_inside, stands_size}
 use Rattle.machine_parts.specs.frame_check.Accepts.{IsInstr}
 use Rattle.machine_parts.specs.frame_check.Judged.{IsPlaced}
-use Rattle.machine_parts.specs.frame_check.Roots.{scene_of}
+use Rattle.machine_parts.specs.frame_check.Roots.{flow_graph_of}
 use Rattle.machine_parts.proofs.frame_check.Wells.{placed_at}
 
 -- ---- functions lie apart
@@ -75,8 +75,8 @@ even_code image start a h e = go (a == start) refl (a % 2 == 0) refl e
     go false is true d f = eqb-true (a % 2) 0 d
     go false is false d f = absurd cc
 
--- what stands behind a place of an address is that address
-code_place : (s : Scene) (a p : ℕ) → s.start % 2 ≡ 0 → place_of s a ≡ Some p → is_place s p ≡ true
+-- what stands after a place of an address is that address
+code_place : (s : FlowGraph) (a p : ℕ) → s.start % 2 ≡ 0 → place_of s a ≡ Some p → is_place s p ≡ true
 code_place s a p h e =
     let w = opened (is_code_of s a) ((a - s.start) / 2) p e in
     let two = and_parts (nat_le s.start a && nat_lt a s.end) ((a == s.start) || is_code_in s.image a) w.0 in
@@ -86,68 +86,68 @@ code_place s a p h e =
     let same : a ≡ address_of s p = omega (arith, low, even, half, h) in
     subst (λ x. is_code_of s x ≡ true) same w.0
 
-IsCodeWay : Scene → Way → Type 0
-IsCodeWay s w = is_place s w.to ≡ true
+IsCodeEdge : FlowGraph → Edge → Type 0
+IsCodeEdge s w = is_place s w.to ≡ true
 
-module _ (s : Scene) (h : s.start % 2 ≡ 0) (w : Way) where
-  to_place : (forgets : ℕ) (o : Option ℕ) → ((p : ℕ) → o ≡ Some p → is_place s p ≡ true) → Contains (ways_to forgets o) w → is_place s w.to ≡ true
-  to_place forgets None f c = absurd (contains_none w c)
-  to_place forgets (Some p) f c = subst (λ (y : Way). is_place s y.to ≡ true) (sym (contains_one w (record { to = p; forgets = forgets }) c)) (f p refl)
+module _ (s : FlowGraph) (h : s.start % 2 ≡ 0) (w : Edge) where
+  to_place : (clobbers : ℕ) (o : Option ℕ) → ((p : ℕ) → o ≡ Some p → is_place s p ≡ true) → Contains (edges_to clobbers o) w → is_place s w.to ≡ true
+  to_place clobbers None f c = absurd (contains_none w c)
+  to_place clobbers (Some p) f c = subst (λ (y : Edge). is_place s y.to ≡ true) (sym (contains_one w (record { to = p; clobbers = clobbers }) c)) (f p refl)
 
-  to_address : (forgets a : ℕ) → Contains (ways_to forgets (place_of s a)) w → is_place s w.to ≡ true
-  to_address forgets a c = to_place forgets (place_of s a) (λ p e. code_place s a p h e) c
+  to_address : (clobbers a : ℕ) → Contains (edges_to clobbers (place_of s a)) w → is_place s w.to ≡ true
+  to_address clobbers a c = to_place clobbers (place_of s a) (λ p e. code_place s a p h e) c
 
-  to_target : (forgets : ℕ) (o : Option ℕ) → Contains (ways_to forgets (option_and_then (place_of s) o)) w → is_place s w.to ≡ true
-  to_target forgets None c = absurd (contains_none w c)
-  to_target forgets (Some a) c = to_address forgets a c
+  to_target : (clobbers : ℕ) (o : Option ℕ) → Contains (edges_to clobbers (option_and_then (place_of s) o)) w → is_place s w.to ≡ true
+  to_target clobbers None c = absurd (contains_none w c)
+  to_target clobbers (Some a) c = to_address clobbers a c
 
-  if_goes : (b : Bool) (a : ℕ) → Contains (if b then ways_to 0 (place_of s a) else []) w → is_place s w.to ≡ true
+  if_goes : (b : Bool) (a : ℕ) → Contains (if b then edges_to 0 (place_of s a) else []) w → is_place s w.to ≡ true
   if_goes true a c = to_address 0 a c
   if_goes false a c = absurd (contains_none w c)
 
   straight : (a : ℕ) (t : Standing) → Contains (straight_by s a t) w → is_place s w.to ≡ true
   straight a (Instruction i size) c = ⊎_elim
-      (λ (l : Contains (onward s a i size) w). if_goes (goes_on i) (a + size) l)
-      (λ (r : Contains (ways_to 0 (option_and_then (place_of s) (branch_target a i))) w). to_target 0 (branch_target a i) r)
-      (Contains-append_cases (onward s a i size) (ways_to 0 (option_and_then (place_of s) (branch_target a i))) w c)
+      (λ (l : Contains (onward s a i size) w). if_goes (reaches_next i) (a + size) l)
+      (λ (r : Contains (edges_to 0 (option_and_then (place_of s) (branch_target a i))) w). to_target 0 (branch_target a i) r)
+      (Contains-append_cases (onward s a i size) (edges_to 0 (option_and_then (place_of s) (branch_target a i))) w c)
   straight a Udf c = absurd (contains_none w c)
   straight a Nothing c = absurd (contains_none w c)
 
-  pads : (site : ℕ) (u : Unwinding) (resumed : Bool) (items : List Item) → Contains (pad_ways s site u resumed items) w → is_place s w.to ≡ true
+  pads : (site : ℕ) (u : Unwinding) (resumed : Bool) (items : List Item) → Contains (pad_edges s site u resumed items) w → is_place s w.to ≡ true
   pads site u resumed [] c = absurd (contains_none w c)
   pads site u resumed (Err fault ∷ more) c = pads site u resumed more c
   pads site u resumed (Ok d ∷ more) c = ⊎_elim
-      (λ (l : Contains (ways_to (landing_changes u resumed) (option_and_then (place_of s) (pad_for site d))) w). to_target (landing_changes u resumed) (pad_for site d) l)
-      (λ (r : Contains (pad_ways s site u (resumed || cleans site d) more) w). pads site u (resumed || cleans site d) more r)
-      (Contains-append_cases (ways_to (landing_changes u resumed) (option_and_then (place_of s) (pad_for site d))) (pad_ways s site u (resumed || cleans site d) more) w c)
+      (λ (l : Contains (edges_to (landing_changes u resumed) (option_and_then (place_of s) (pad_for site d))) w). to_target (landing_changes u resumed) (pad_for site d) l)
+      (λ (r : Contains (pad_edges s site u (resumed || cleans site d) more) w). pads site u (resumed || cleans site d) more r)
+      (Contains-append_cases (edges_to (landing_changes u resumed) (option_and_then (place_of s) (pad_for site d))) (pad_edges s site u (resumed || cleans site d) more) w c)
 
-  from_site : (site : Option ℕ) → Contains (ways_from s site) w → is_place s w.to ≡ true
+  from_site : (site : Option ℕ) → Contains (edges_from s site) w → is_place s w.to ≡ true
   from_site None c = absurd (contains_none w c)
   from_site (Some site) c = pads site (unwinding_at s site) false (items_at s site) c
 
-  pub way_place : (place : ℕ) → Contains (ways_of s place) w → is_place s w.to ≡ true
-  unfolding ways_of
-  way_place place c = ⊎_elim
-      (λ (l : Contains (straight_ways s place) w). straight (address_of s place) (standing_at s place) l)
-      (λ (r : Contains (ways_from s (site_at s place)) w). from_site (site_at s place) r)
-      (Contains-append_cases (straight_ways s place) (ways_from s (site_at s place)) w c)
+  pub edge_place : (place : ℕ) → Contains (edges_of s place) w → is_place s w.to ≡ true
+  unfolding edges_of
+  edge_place place c = ⊎_elim
+      (λ (l : Contains (straight_edges s place) w). straight (address_of s place) (standing_at s place) l)
+      (λ (r : Contains (edges_from s (site_at s place)) w). from_site (site_at s place) r)
+      (Contains-append_cases (straight_edges s place) (edges_from s (site_at s place)) w c)
 
-start_place : (s : Scene) → s.start < s.end → is_place s 0 ≡ true
+start_place : (s : FlowGraph) → s.start < s.end → is_place s 0 ≡ true
 start_place s h = grind (arith, nat_tests)
 
-pub reached_place : (s : Scene) (p : ℕ) → s.start % 2 ≡ 0 → s.start < s.end → IsReached s p → is_place s p ≡ true
+pub reached_place : (s : FlowGraph) (p : ℕ) → s.start % 2 ≡ 0 → s.start < s.end → IsReached s p → is_place s p ≡ true
 reached_place s _ h l entry = start_place s l
-reached_place s _ h l (along {p} {w} r c) = way_place s h w p c
+reached_place s _ h l (along {p} {w} r c) = edge_place s h w p c
 
 -- ---- the next instruction
 
 module _ (image : Image) (f : Function) (p : ℕ) (i : Instr) (size : ℕ) (sound : IsImage image) (c : Contains image.functions f) (even : f.start % 2 ≡ 0)
-    (e : standing_at (scene_of image f) p ≡ Instruction i size) where
-  abbrev s : Scene
-  s = scene_of image f
+    (e : standing_at (flow_graph_of image f) p ≡ Instruction i size) where
+  abbrev s : FlowGraph
+  s = flow_graph_of image f
 
-  -- what is reached behind an instruction is the function's own, unless a function begins there
-  own : (h : Function) (q : ℕ) → Contains image.functions h → IsReached (scene_of image h) q → address_of s p + size ≡ address_of (scene_of image h) q
+  -- what is reached after an instruction is the function's own, unless a function begins there
+  own : (h : Function) (q : ℕ) → Contains image.functions h → IsReached (flow_graph_of image h) q → address_of s p + size ≡ address_of (flow_graph_of image h) q
       → begins_function image.functions (address_of s p + size) ≡ false → f ≡ h
   own h q d r at fresh = go (apart 0 image.functions f h sound.functions c d)
     where
@@ -161,7 +161,7 @@ module _ (image : Image) (f : Function) (p : ℕ) (i : Instr) (size : ℕ) (soun
       ]
 
       ends : address_of s p + size < h.end
-      ends = elim (inside (scene_of image h) q r) [
+      ends = elim (inside (flow_graph_of image h) q r) [
         | inl zero_place ↦ absurd (omega (arith, at, above, zero_place))
         | inr low ↦ omega (arith, at, low)
       ]
@@ -175,17 +175,17 @@ module _ (image : Image) (f : Function) (p : ℕ) (i : Instr) (size : ℕ) (soun
         | inl two ↦ omega (arith, before, above, even, even_h, two, stands_inside s p i size e)
         | inr wide ↦ omega (arith, before, above, even, even_h, wide, stands_inside s p i size e)
       ])
-      go (inr (inr behind)) = absurd (omega (arith, behind, ends))
+      go (inr (inr after)) = absurd (omega (arith, after, ends))
 
-  -- Behind an instruction that goes on a run comes to a place of the function, by a way, unless no checked instruction stands there or a
+  -- After an instruction that goes on a run comes to a place of the function, by an edge, unless no checked instruction stands there or a
   -- function begins there.
-  pub next_way : goes_on i ≡ true → IsInstr image image.functions (address_of s p + size) → begins_function image.functions (address_of s p + size) ≡ false
-      → Contains (ways_of s p) (record { to = p + size / 2; forgets = 0 }) × (address_of s (p + size / 2) ≡ address_of s p + size)
-  unfolding ways_of
-  next_way g there fresh = (Contains-append_left (straight_ways s p) (ways_from s (site_at s p)) w straight_one, a)
+  pub next_edge : reaches_next i ≡ true → IsInstr image image.functions (address_of s p + size) → begins_function image.functions (address_of s p + size) ≡ false
+      → Contains (edges_of s p) (record { to = p + size / 2; clobbers = 0 }) × (address_of s (p + size / 2) ≡ address_of s p + size)
+  unfolding edges_of
+  next_edge g there fresh = (Contains-append_left (straight_edges s p) (edges_from s (site_at s p)) w straight_one, a)
     where
-      w : Way
-      w = record { to = p + size / 2; forgets = 0 }
+      w : Edge
+      w = record { to = p + size / 2; clobbers = 0 }
 
       a : address_of s (p + size / 2) ≡ address_of s p + size
       a = elim (stands_size s p i size e) [
@@ -197,10 +197,10 @@ module _ (image : Image) (f : Function) (p : ℕ) (i : Instr) (size : ℕ) (soun
       same = own there.function there.place there.among there.reached there.address fresh
 
       reached : IsReached s there.place
-      reached = subst (λ (h : Function). IsReached (scene_of image h) there.place) (sym same) there.reached
+      reached = subst (λ (h : Function). IsReached (flow_graph_of image h) there.place) (sym same) there.reached
 
       half : there.place ≡ p + size / 2
-      half = let at = there.address in let at_f : address_of s p + size ≡ address_of s there.place = subst (λ (h : Function). address_of s p + size ≡ address_of (scene_of image h) there.place) (sym same) at in
+      half = let at = there.address in let at_f : address_of s p + size ≡ address_of s there.place = subst (λ (h : Function). address_of s p + size ≡ address_of (flow_graph_of image h) there.place) (sym same) at in
           elim (stands_size s p i size e) [
             | inl two ↦ omega (arith, two, at_f)
             | inr four ↦ omega (arith, four, at_f)
@@ -212,6 +212,6 @@ module _ (image : Image) (f : Function) (p : ℕ) (i : Instr) (size : ℕ) (soun
       to : place_of s (address_of s p + size) ≡ Some (p + size / 2)
       to = subst (λ (x : ℕ). place_of s x ≡ Some (p + size / 2)) a (places_have_their_address s (p + size / 2) at_place)
 
-      straight_one : Contains (straight_ways s p) w
+      straight_one : Contains (straight_edges s p) w
       straight_one = subst (λ (t : Standing). Contains (straight_by s (address_of s p) t) w) (sym e)
-          (Contains-append_left (onward s (address_of s p) i size) (ways_to 0 (option_and_then (place_of s) (branch_target (address_of s p) i))) w (onward_way s (address_of s p) i size (p + size / 2) g to))
+          (Contains-append_left (onward s (address_of s p) i size) (edges_to 0 (option_and_then (place_of s) (branch_target (address_of s p) i))) w (onward_edge s (address_of s p) i size (p + size / 2) g to))

@@ -21,7 +21,7 @@ use Rattle.machine_parts.specs.thumb_core.Words.{load_words, ◌>>=◌, loads_fr
 use Rattle.machine_parts.specs.thumb_core.Registers.{put}
 use Rattle.machine_parts.specs.eh_bytecode.RecipeLaw.{loads_at, Small}
 use Rattle.machine_parts.specs.eh_bytecode.declared.frame.Unwinding.{Unwinding}
-use Rattle.machine_parts.specs.eh_bytecode.Meaning.{after, pops, goes_on, runs, finished, begins, unwound}
+use Rattle.machine_parts.specs.eh_bytecode.Meaning.{after, pops, continued, runs, finished, begins, unwound}
 use Rattle.machine_parts.proofs.eh_bytecode.RecipeLaws.{loads_first}
 use Rattle.machine_parts.proofs.eh_bytecode.Near.{near_high, near_low}
 use Rattle.machine_parts.specs.eh_bytecode.declared.recipe.RecipeFault.TheVariants as fault
@@ -29,7 +29,7 @@ use Rattle.accepted_code.proofs.Folding.{with_near, Told, vsp_rises, vsp_falls, 
 use Rattle.accepted_code.specs.Recipes.{Loadable, CanRead}
 use Rattle.accepted_code.proofs.Sources.{fill, other_filled, Meant}
 
--- ---- sources behind pops
+-- ---- sources after pops
 
 filled_long : (based : Bool) (off : ℤ) (registers : List ℕ) (src : List Src) → length src ≡ 16 → length (filled based off registers src) ≡ 16
 filled_long based off [] src h = h
@@ -169,7 +169,7 @@ module _ (m : List Segment) (old : List ℕ) (wide : length old ≡ 16) (small :
           (subst (λ n. Loadable m (slice_index old n) o) base (subst (λ (q : Option ℕ). CanRead m old of.base (from (is_some q) o)) f c))
 
   effect_reads : (more : List Item) (s : Sum) (t : Unwinding) (e : Effect) → Told m old s t → sums_on (λ n. sums n more) (sum_after s e) ≡ Ok of → Once (popped_first e (popped more))
-      → ((k : ℕ) → Has (popped_first e (popped more)) k → k < 16) → Finishes_in more → (new : List ℕ) × (goes_on (λ n. runs m n more) (after m t e) ≡ Ok new)
+      → ((k : ℕ) → Has (popped_first e (popped more)) k → k < 16) → Finishes_in more → (new : List ℕ) × (continued (λ n. runs m n more) (after m t e) ≡ Ok new)
   effect_reads more s t (Rises by) h is once low each =
       with_near (record s { vsp = s.vsp +ℤ pos by }) of (λ n. sums n more) _ is (λ near further. each (record s { vsp = s.vsp +ℤ pos by }) (record t { vsp = (t.vsp + by) % 2 ^ 32 })
       (record { place = vsp_rises (slice_index old (unwrap_or s.base 13)) t.vsp by s.vsp h.near h.place; near = near; wide = h.wide; sources = h.sources; meant = h.meant; pc = h.pc }) further once low)
@@ -195,7 +195,7 @@ module _ (m : List Segment) (old : List ℕ) (wide : length old ≡ 16) (small :
         meant = f.meant;
         pc = ap (λ b. b || list_any (λ (k : ℕ). k == 15) registers) h.pc ∙ sym (other_filled registers (is_some s.base) s.vsp s.src h.sources);
       }) further (once_right registers (popped more) once) (λ k i. low k (has_right registers (popped more) k i)) in
-      (rest.0, ap (λ (o : Result (List ℕ) BusFault). goes_on (λ n. runs m n more) (pops t registers o)) loaded ∙ rest.1))
+      (rest.0, ap (λ (o : Result (List ℕ) BusFault). continued (λ n. runs m n more) (pops t registers o)) loaded ∙ rest.1))
   effect_reads more s t Refuses h is once low each = absurd cc
   effect_reads more s t Finishes h is once low each = (finished t, refl)
 

@@ -11,14 +11,14 @@ use Rattle.machine_parts.specs.eh_bus.Memory.{loads}
 use Rattle.machine_parts.specs.eh_bus.declared.fault.BusFault.{BusFault}
 use Rattle.machine_parts.specs.thumb_core.Words.{Load, load_words, ◌>>=◌, loads_from}
 use Rattle.machine_parts.specs.eh_bytecode.declared.frame.Unwinding.{Unwinding}
-use Rattle.machine_parts.specs.eh_bytecode.Meaning.{finished, after, pops, goes_on, runs, begins, unwound}
+use Rattle.machine_parts.specs.eh_bytecode.Meaning.{finished, after, pops, continued, runs, begins, unwound}
 use Rattle.machine_parts.specs.unwind_codes.Cut.{Item, Is, Bad}
 use Rattle.machine_parts.specs.unwind_codes.Meaning.{Effect, Rises, Falls, Pops, Takes, Refuses, Finishes, effect}
 use Rattle.machine_parts.specs.eh_bytecode.declared.recipe.Recipe.{Recipe}
 use Rattle.machine_parts.specs.eh_bytecode.declared.recipe.RecipeFault.{RecipeFault}
 use Rattle.machine_parts.specs.eh_bytecode.declared.recipe.Src.TheVariants.{Same}
 use Rattle.machine_parts.specs.eh_bytecode.declared.recipe.Sum.{Sum}
-use Rattle.machine_parts.specs.eh_bytecode.Recipe.{Goes, Ends, sum_after, sums_on, sums, within, is_same, is_far, filled, recipe, nothing_summed}
+use Rattle.machine_parts.specs.eh_bytecode.Recipe.{Goes, Ends, sum_after, sums_on, sums, unless_far, is_same, is_far, filled, recipe, nothing_summed}
 use Rattle.machine_parts.specs.eh_bytecode.declared.recipe.RecipeFault.TheVariants as fault
 use Rattle.accepted_code.specs.Recipes.{AreRegisters}
 
@@ -64,12 +64,12 @@ module _ (m : List Segment) (new : List ℕ) where
   abbrev Further : List Item → Type 0
   Further more = (t : Unwinding) → IsState t → runs m t more ≡ Ok new → AreRegisters new
 
-  effect_on : (more : List Item) (t : Unwinding) (e : Effect) → IsState t → goes_on (λ n. runs m n more) (after m t e) ≡ Ok new → Further more → AreRegisters new
+  effect_on : (more : List Item) (t : Unwinding) (e : Effect) → IsState t → continued (λ n. runs m n more) (after m t e) ≡ Ok new → Further more → AreRegisters new
   effect_on more t (Rises by) h u each = each (record t { vsp = (t.vsp + by) % 2 ^ 32 }) (record { registers = h.registers; vsp = omega arith }) u
   effect_on more t (Falls by) h u each = each (record t { vsp = (t.vsp + (2 ^ 32 - by)) % 2 ^ 32 }) (record { registers = h.registers; vsp = omega arith }) u
   effect_on more t (Pops registers) h u each = go (load_words m t.vsp (loads_from 0 registers) t.r) refl u
     where
-      go : (o : Result (List ℕ) BusFault) → load_words m t.vsp (loads_from 0 registers) t.r ≡ o → goes_on (λ n. runs m n more) (pops t registers o) ≡ Ok new → AreRegisters new
+      go : (o : Result (List ℕ) BusFault) → load_words m t.vsp (loads_from 0 registers) t.r ≡ o → continued (λ n. runs m n more) (pops t registers o) ≡ Ok new → AreRegisters new
       go (Err f) e u = absurd cc
       go (Ok r) e u =
           each (record { vsp = (t.vsp + 4 * length registers) % 2 ^ 32; r = r; popped_pc = t.popped_pc || list_any (λ (k : ℕ). k == 15) registers })
@@ -94,14 +94,14 @@ module _ (m : List Segment) (new : List ℕ) where
   abbrev Never : List Item → Type 0
   Never more = (s : Sum) (t : Unwinding) → sums s more ≡ Err fault.Refuses → runs m t more ≡ Ok new → ⊥
 
-  near : (next : Sum) (f : Sum → Result Recipe RecipeFault) (P : Type 0) → sums_on f (within next) ≡ Err fault.Refuses → (f next ≡ Err fault.Refuses → P) → P
+  near : (next : Sum) (f : Sum → Result Recipe RecipeFault) (P : Type 0) → sums_on f (unless_far next) ≡ Err fault.Refuses → (f next ≡ Err fault.Refuses → P) → P
   near next f P e each = go (is_far next.vsp) e
     where
       go : (b : Bool) → sums_on f (cond b (Ends (Err fault.NotStatic)) (Goes next)) ≡ Err fault.Refuses → P
       go true e = absurd cc
       go false e = each e
 
-  refuses_on : (more : List Item) (s : Sum) (t : Unwinding) (e : Effect) → sums_on (λ n. sums n more) (sum_after s e) ≡ Err fault.Refuses → goes_on (λ n. runs m n more) (after m t e) ≡ Ok new → Never more → ⊥
+  refuses_on : (more : List Item) (s : Sum) (t : Unwinding) (e : Effect) → sums_on (λ n. sums n more) (sum_after s e) ≡ Err fault.Refuses → continued (λ n. runs m n more) (after m t e) ≡ Ok new → Never more → ⊥
   refuses_on more s t (Rises by) is u each = near (record s { vsp = s.vsp +ℤ pos by }) (λ n. sums n more) ⊥ is (λ w. each (record s { vsp = s.vsp +ℤ pos by }) (record t { vsp = (t.vsp + by) % 2 ^ 32 }) w u)
   refuses_on more s t (Falls by) is u each = near (record s { vsp = s.vsp -ℤ pos by }) (λ n. sums n more) ⊥ is (λ w. each (record s { vsp = s.vsp -ℤ pos by }) (record t { vsp = (t.vsp + (2 ^ 32 - by)) % 2 ^ 32 }) w u)
   refuses_on more s t (Pops registers) is u each =
@@ -110,7 +110,7 @@ module _ (m : List Segment) (new : List ℕ) where
       next : Sum
       next = record s { vsp = s.vsp +ℤ pos (4 * length registers); src = filled (is_some s.base) s.vsp registers s.src }
 
-      go : (o : Result (List ℕ) BusFault) → goes_on (λ n. runs m n more) (pops t registers o) ≡ Ok new → sums next more ≡ Err fault.Refuses → ⊥
+      go : (o : Result (List ℕ) BusFault) → continued (λ n. runs m n more) (pops t registers o) ≡ Ok new → sums next more ≡ Err fault.Refuses → ⊥
       go (Err f) u w = absurd cc
       go (Ok r) u w = each next (record { vsp = (t.vsp + 4 * length registers) % 2 ^ 32; r = r; popped_pc = t.popped_pc || list_any (λ (k : ℕ). k == 15) registers }) w u
   refuses_on more s t (Takes k) is u each = go (is_some s.base || not (is_same (slice_index_or s.src k Same))) is

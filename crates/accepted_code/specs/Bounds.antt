@@ -4,10 +4,10 @@ use Rattle.machine_parts.specs.thumb_isa.Range.{IsForward}
 use Rattle.machine_parts.specs.thumb_isa.declared.instr.Instr.{Instr}
 use Rattle.machine_parts.specs.thumb_isa.declared.instr.Instr.TheVariants.{ShiftImm, AddSubReg, AddSubImm3, Imm8, Alu, AddHigh, MovHigh, LdrLit, MemReg, MemImm, MemSp, Adr, AddRdSp, AddSp, SubSp, Extend, Rev, Push, Pop, Stm, Ldm}
 use Rattle.machine_parts.specs.elf_image.Functions.{Function}
-use Rattle.machine_parts.specs.frame_scene.declared.places.Standing.TheVariants.{Instruction}
-use Rattle.machine_parts.specs.frame_scene.Places.{standing_at}
+use Rattle.machine_parts.specs.frame_graph.declared.places.Standing.TheVariants.{Instruction}
+use Rattle.machine_parts.specs.frame_graph.Places.{standing_at}
 use Rattle.machine_parts.specs.frame_check.Accepts.{Accepted}
-use Rattle.machine_parts.specs.frame_check.Roots.{scene_of}
+use Rattle.machine_parts.specs.frame_check.Roots.{flow_graph_of}
 
 abbrev pub Bounds : Instr → Type 0
 Bounds (ShiftImm op d m n) = d < 8
@@ -35,4 +35,4 @@ Bounds i = Unit {0}
 
 -- every instruction that the checker decoded has its fields in range
 abbrev pub AreInRange : Accepted → Type 0
-AreInRange x = (f : Function) (p : ℕ) (i : Instr) (size : ℕ) → Contains x.image.functions f → standing_at (scene_of x.image f) p ≡ Instruction i size → Bounds i
+AreInRange x = (f : Function) (p : ℕ) (i : Instr) (size : ℕ) → Contains x.image.functions f → standing_at (flow_graph_of x.image f) p ≡ Instruction i size → Bounds i

@@ -9,13 +9,13 @@ use Rattle.machine_parts.specs.image_memory.Start.{image_start}
 use Rattle.machine_parts.specs.thumb_isa.declared.instr.Instr.{Instr}
 use Rattle.machine_parts.specs.thumb_core.Step.{step_of, effect, instr_at}
 use Rattle.machine_parts.specs.thumb_core.declared.regs.Regs.{Regs}
-use Rattle.machine_parts.specs.frame_scene.declared.places.Standing.TheVariants.{Instruction}
-use Rattle.machine_parts.specs.frame_scene.Places.{address_of, standing_at}
-use Rattle.machine_parts.specs.frame_scene.Scene.{Scene}
-use Rattle.machine_parts.specs.frame_scene.Sites.{entry_at, site_at}
-use Rattle.machine_parts.specs.frame_scene.Reach.{IsReached}
+use Rattle.machine_parts.specs.frame_graph.declared.places.Standing.TheVariants.{Instruction}
+use Rattle.machine_parts.specs.frame_graph.Places.{address_of, standing_at}
+use Rattle.machine_parts.specs.frame_graph.FlowGraph.{FlowGraph}
+use Rattle.machine_parts.specs.frame_graph.Sites.{entry_at, site_at}
+use Rattle.machine_parts.specs.frame_graph.Reach.{IsReached}
 use Rattle.machine_parts.specs.frame_check.Accepts.{Accepted, IsWell}
-use Rattle.machine_parts.specs.frame_check.Roots.{scene_of}
+use Rattle.machine_parts.specs.frame_check.Roots.{flow_graph_of}
 use Rattle.accepted_code.specs.Bounds.{AreInRange}
 
 abbrev pub FieldsAreInRange : Type 0
@@ -24,9 +24,9 @@ FieldsAreInRange = (x : Accepted) → AreInRange x
 -- Over segments in which nothing read-only was changed, a step at an instruction that the checker saw has that instruction's effect.
 abbrev pub CodeIsFetched : Type 0
 CodeIsFetched = (image : Image) (f : Function) (ss : List Segment) → IsSound image → Contains image.functions f → SameMap (image_start image).memory.segments ss
-    → (p : ℕ) (i : Instr) (size : ℕ) (regs : Regs) (m : Memory) → m.segments ≡ ss → regs.pc ≡ address_of (scene_of image f) p → standing_at (scene_of image f) p ≡ Instruction i size
+    → (p : ℕ) (i : Instr) (size : ℕ) (regs : Regs) (m : Memory) → m.segments ≡ ss → regs.pc ≡ address_of (flow_graph_of image f) p → standing_at (flow_graph_of image f) p ≡ Instruction i size
     → (step_of regs m ≡ effect i size regs m) × (instr_at m regs.pc ≡ Some (i, size))
 
 -- Every reached site of a function that is well is covered by the entry that covers the function's start.
 abbrev pub SitesShareAnEntry : Type 0
-SitesShareAnEntry = (s : Scene) (p site : ℕ) → IsWell s → IsReached s p → site_at s p ≡ Some site → s.start ≤ site → entry_at s site ≡ entry_at s s.start
+SitesShareAnEntry = (s : FlowGraph) (p site : ℕ) → IsWell s → IsReached s p → site_at s p ≡ Some site → s.start ≤ site → entry_at s site ≡ entry_at s s.start

@@ -2,7 +2,7 @@ pub use Rattle.machine_parts.specs.two_machines
 pub use Rattle.machine_parts.specs.frame_check
 pub use Rattle.machine_parts.specs.frame_flow
 pub use Rattle.machine_parts.specs.frame_reach
-pub use Rattle.machine_parts.specs.frame_scene
+pub use Rattle.machine_parts.specs.frame_graph
 pub use Rattle.machine_parts.specs.frame_facts
 pub use Rattle.machine_parts.specs.flow
 pub use Rattle.machine_parts.specs.eh_gates

@@ -3,7 +3,7 @@ use Rattle.std.specs.Prelude.{◌≡◌, ◌<◌, ℕ, true, List, length, Ok, s
 use Rattle.machine_parts.specs.eh_bus.Lists.{Has}
 use Rattle.machine_parts.specs.eh_bus.Segment.{Segment}
 use Rattle.machine_parts.specs.eh_cxa.Lists.{Once}
-use Rattle.machine_parts.specs.frame_scene.Unwinding.{pop_once}
+use Rattle.machine_parts.specs.frame_graph.Unwinding.{pop_once}
 use Rattle.machine_parts.specs.unwind_codes.Cut.{Item, cut}
 use Rattle.machine_parts.specs.eh_bytecode.declared.recipe.Recipe.{Recipe}
 use Rattle.machine_parts.specs.eh_bytecode.declared.recipe.Src.TheVariants.{Same}

@@ -9,9 +9,9 @@ use Rattle.eh_types.specs.Laws.{GraphsAreOne}
 use Rattle.eh_types.specs.Meant.{IsGraph}
 use Rattle.image_memory.specs.Start.{begins_function}
 use Rattle.frame_reach.specs.Laws.{MarksExist}
-use Rattle.frame_check.specs.Accepts.{AreSpots}
-use Rattle.frame_check.specs.Roots.{scene_of, roots_of}
-use Rattle.frame_check.specs.Spots.{Table, look}
+use Rattle.frame_check.specs.Accepts.{AreRoles}
+use Rattle.frame_check.specs.Roots.{flow_graph_of, roots_of}
+use Rattle.frame_check.specs.Roles.{Table, look}
 use Rattle.accepted_laws.specs.OneReport.{AnswersAreOne, ProgramsAreOne}
 
 -- two tests that hold exactly where a third thing does
@@ -34,11 +34,11 @@ holder (g ∷ more) a = go (is_inside a g) refl (holder more a)
     go false e (inl some) = inl (some.0, Contains-append_right (g ∷ []) more some.0 some.1, some.2)
     go false e (inr none) = inr (All-cons (λ (f : Function). is_inside a f ≡ false) g more e none)
 
-module _ (exist : MarksExist) (image : Image) (s t : Table) (u : AreSpots image image.functions s) (v : AreSpots image image.functions t) (a : ℕ) where
+module _ (exist : MarksExist) (image : Image) (s t : Table) (u : AreRoles image image.functions s) (v : AreRoles image image.functions t) (a : ℕ) where
   same_saves : (look s a).saves ≡ (look t a).saves
   same_saves = elim (holder image.functions a) [
     | inl some ↦
-        let m = exist (scene_of image some.0) in
+        let m = exist (flow_graph_of image some.0) in
         u.saves some.0 m.0 a some.1 m.1 some.2 ∙ sym (v.saves some.0 m.0 a some.1 m.1 some.2)
     | inr none ↦
         let outside : (f : Function) → Contains image.functions f → is_inside a f ≡ true → ⊥ =
@@ -46,8 +46,8 @@ module _ (exist : MarksExist) (image : Image) (s t : Table) (u : AreSpots image 
         u.blank a outside ∙ sym (v.blank a outside)
   ]
 
-  same_spot : look s a ≡ look t a
-  same_spot =
+  same_role : look s a ≡ look t a
+  same_role =
       let instr = same_test (look s a).is_instr (look t a).is_instr (u.instr a) (v.instr a) in
       let starts = u.starts a ∙ sym (v.starts a) in
       let saves = same_saves in
@@ -56,19 +56,19 @@ module _ (exist : MarksExist) (image : Image) (s t : Table) (u : AreSpots image 
 pub answers : GraphsAreOne → MarksExist → AnswersAreOne
 answers graphs exist x y sx sy e =
     let graph : IsGraph x.image (roots_of x.image) y.types = subst (λ (image : Image). IsGraph image (roots_of image) y.types) (sym e) sy.graph in
-    let spots : AreSpots x.image x.image.functions y.spots = subst (λ (image : Image). AreSpots image image.functions y.spots) (sym e) sy.spots in
+    let roles : AreRoles x.image x.image.functions y.roles = subst (λ (image : Image). AreRoles image image.functions y.roles) (sym e) sy.roles in
     record {
       types = graphs x.image (roots_of x.image) x.types y.types sx.graph graph;
-      spots = λ a. same_spot exist x.image x.spots y.spots sx.spots spots a;
+      roles = λ a. same_role exist x.image x.roles y.roles sx.roles roles a;
     }
 
 pub programs : AnswersAreOne → ProgramsAreOne
 programs one x y sx sy e =
     let is = one x y sx sy e in
     let types = is.types in
-    let spots = is.spots in
+    let roles = is.roles in
     λ i. record {
       image = e i;
       types = types i;
-      look = λ a. record { is_instr = (spots a i).is_instr; is_function = begins_function (e i).functions a; saves = (spots a i).saves };
+      look = λ a. record { is_instr = (roles a i).is_instr; is_function = begins_function (e i).functions a; saves = (roles a i).saves };
     }

@@ -8,13 +8,13 @@ use Rattle.std.proofs.lemmas.Bool.Decides.{nat_tests}
 use Rattle.std.proofs.lemmas.List.{get_or-set_other, get_or-take, get_or_past, get_or_append_left, length-take}
 use Rattle.std.proofs.lemmas.Nat.Bits.{bit_at_above}
 use Rattle.steps_keep.specs.frame_facts.declared.facts.Fact.{Fact}
-use Rattle.steps_keep.specs.frame_facts.Facts.{lost, forgotten, with_source}
+use Rattle.steps_keep.specs.frame_facts.Facts.{lost, clobbered, with_source}
 use Rattle.steps_keep.specs.eh_bus.Segment.{Segment}
 use Rattle.steps_keep.specs.thumb_core.Registers.{reg, base, put, word_in, all_of, with_reg, with_next, with_all}
 use Rattle.steps_keep.specs.thumb_core.declared.regs.Regs.{Regs}
 use Rattle.steps_keep.specs.frame_facts.declared.saves.Prologue.{Prologue}
 use Rattle.steps_keep.specs.frame_facts.Saves.{saves_of, stack_word}
-use Rattle.steps_keep.proofs.frame_facts.Described.{forgetting_described}
+use Rattle.steps_keep.proofs.frame_facts.Described.{clobbering_described}
 use Rattle.steps_keep.specs.two_machines.Activations.{Activation, Recorded, reg_in, memory_of}
 use Rattle.steps_keep.specs.thumb_core.Words.{numbers, listed, loads_from, load_words, ◌>>=◌}
 use Rattle.steps_keep.specs.eh_bus.Memory.{loads, Memory, load, store, store_run}
@@ -30,10 +30,10 @@ use Rattle.steps_keep.specs.thumb_core.declared.regs.Stepped.TheVariants.{Done}
 use Rattle.steps_keep.specs.frame_facts.declared.facts.Source.TheVariants.{Other}
 use Rattle.steps_keep.specs.frame_facts.After.{after_of}
 use Rattle.steps_keep.specs.frame_facts.Machine.{Means}
-use Rattle.steps_keep.specs.frame_scene.declared.places.Standing.TheVariants.{Instruction}
-use Rattle.steps_keep.specs.frame_scene.Places.{address_of, standing_at}
+use Rattle.steps_keep.specs.frame_graph.declared.places.Standing.TheVariants.{Instruction}
+use Rattle.steps_keep.specs.frame_graph.Places.{address_of, standing_at}
 use Rattle.steps_keep.specs.frame_check.Accepts.{Accepted}
-use Rattle.steps_keep.specs.frame_check.Roots.{scene_of}
+use Rattle.steps_keep.specs.frame_check.Roots.{flow_graph_of}
 use Rattle.steps_keep.specs.thumb_isa.declared.instr.Instr.TheVariants.{LdrLit, MemReg, MemImm, MemSp, Stm, Ldm}
 use Rattle.steps_keep.specs.thumb_core.Data.{forward}
 use Rattle.steps_keep.specs.stands_for.Holds.{Holds}
@@ -46,26 +46,26 @@ use Rattle.steps_keep.proofs.stands_for.Onward.{IsOn, next_pc, next_even, on_tur
 use Rattle.steps_keep.specs.accepted_code.Bounds.{Bounds}
 use Rattle.accesses_keep.specs.Events.{IsAccess}
 
--- ---- registers that a fact forgets
+-- ---- registers that a fact clobbers
 
-forgotten_depth : (ks : List ℕ) (f : Fact) → (forgotten ks f).depth ≡ f.depth
-forgotten_depth [] f = refl
-forgotten_depth (k ∷ more) f = forgotten_depth more (lost k f)
+clobbered_depth : (ks : List ℕ) (f : Fact) → (clobbered ks f).depth ≡ f.depth
+clobbered_depth [] f = refl
+clobbered_depth (k ∷ more) f = clobbered_depth more (lost k f)
 
-forgotten_kept : (ks : List ℕ) (f : Fact) → (forgotten ks f).kept ≡ f.kept
-forgotten_kept [] f = refl
-forgotten_kept (k ∷ more) f = forgotten_kept more (lost k f)
+clobbered_kept : (ks : List ℕ) (f : Fact) → (clobbered ks f).kept ≡ f.kept
+clobbered_kept [] f = refl
+clobbered_kept (k ∷ more) f = clobbered_kept more (lost k f)
 
-pub forgotten_holds : (p : Prologue) (f : Fact) (a : Activation) (segments : List Segment) (regs new : Regs) (ks : List ℕ) → Holds p f a segments regs
-    → ((k : ℕ) → list_any (λ j. j == k) ks ≡ false → reg new k ≡ reg regs k) → list_any (λ j. j == 13) ks ≡ false → Holds p (forgotten ks f) a segments new
-forgotten_holds p f a segments regs new ks h same sp = record {
+pub clobbered_holds : (p : Prologue) (f : Fact) (a : Activation) (segments : List Segment) (regs new : Regs) (ks : List ℕ) → Holds p f a segments regs
+    → ((k : ℕ) → list_any (λ j. j == k) ks ≡ false → reg new k ≡ reg regs k) → list_any (λ j. j == 13) ks ≡ false → Holds p (clobbered ks f) a segments new
+clobbered_holds p f a segments regs new ks h same sp = record {
   entry = h.entry;
   saved = h.saved;
   link = h.link;
-  describes = forgetting_described h.entry a.caller.sp ks f regs new h.describes same sp;
-  lower = omega (arith, h.lower, same 13 sp, forgotten_depth ks f);
-  saves = λ v c. let kept = h.saves v (subst (λ n. Contains (take n (saves_of p)) v) (forgotten_kept ks f) c) in
-      record { low = kept.low; deep = omega (arith, kept.deep, forgotten_depth ks f); holds = kept.holds; slot = kept.slot };
+  describes = clobbering_described h.entry a.caller.sp ks f regs new h.describes same sp;
+  lower = omega (arith, h.lower, same 13 sp, clobbered_depth ks f);
+  saves = λ v c. let kept = h.saves v (subst (λ n. Contains (take n (saves_of p)) v) (clobbered_kept ks f) c) in
+      record { low = kept.low; deep = omega (arith, kept.deep, clobbered_depth ks f); holds = kept.holds; slot = kept.slot };
 }
 
 -- ---- register lists
@@ -108,7 +108,7 @@ same_ok : (a b : Fact) → ◌≡◌ {A = Result Fact FrameCause} (Ok a) (Ok b) 
 same_ok a b e = cc
 
 module _ (x : Accepted) (is : IsProgram x) (s : Recorded) (k : Keeps x s) (at : StandsAt x s.first s.segments s.regs s.regs.pc) (i : Instr) (size : ℕ)
-    (stands : standing_at (scene_of x.image at.function) at.place ≡ Instruction i size) where
+    (stands : standing_at (flow_graph_of x.image at.function) at.place ≡ Instruction i size) where
   abbrev f : Fact
   f = at.fact
 
@@ -116,13 +116,13 @@ module _ (x : Accepted) (is : IsProgram x) (s : Recorded) (k : Keeps x s) (at : 
   P = (code x at.function at.marks).prologue
 
   abbrev place : ℕ
-  place = address_of (scene_of x.image at.function) at.place
+  place = address_of (flow_graph_of x.image at.function) at.place
 
   abbrev pub On : Stepping → Type 0
   On = IsOn x is s k at i size stands
 
-  pub pc_behind : (s.regs.pc + size) % 2 ^ 32 - (s.regs.pc + size) % 2 ^ 32 % 2 ≡ s.regs.pc + size
-  pc_behind = omega (arith, next_pc x is s k at i size stands, next_even x is s k at i size stands)
+  pub pc_after : (s.regs.pc + size) % 2 ^ 32 - (s.regs.pc + size) % 2 ^ 32 % 2 ≡ s.regs.pc + size
+  pc_after = omega (arith, next_pc x is s k at i size stands, next_even x is s k at i size stands)
 
   pub top : s.first.caller.sp < 2 ^ 32
   top = let home = k.corresponds.map.home in let above = chain_top x s.segments s.home s.first.caller s.outer k.chain in omega (arith, above, home.high)
@@ -131,7 +131,7 @@ module _ (x : Accepted) (is : IsProgram x) (s : Recorded) (k : Keeps x s) (at : 
   pub plain_on : (regs : Regs) (h : Fact) → after_of P false place i f ≡ Ok h → regs.pc ≡ s.regs.pc → Holds P h s.first s.segments (with_next size regs) → On (Done, with_next size regs, memory_of s)
   plain_on regs h e same holds = record {
     map = k.corresponds.map;
-    pc = ap (λ n. (n + size) % 2 ^ 32 - (n + size) % 2 ^ 32 % 2) same ∙ pc_behind;
+    pc = ap (λ n. (n + size) % 2 ^ 32 - (n + size) % 2 ^ 32 % 2) same ∙ pc_after;
     holds = λ g e'. subst (λ y. Holds P y s.first s.segments (with_next size regs)) (same_ok h g (sym e ∙ e')) holds;
   }
 
@@ -151,7 +151,7 @@ module _ (x : Accepted) (is : IsProgram x) (s : Recorded) (k : Keeps x s) (at : 
       go (Err fault, m) w = tt
       go (Ok tt, m) w = record {
         map = store_is_map n (memory_of s) a v m w k.corresponds.map;
-        pc = pc_behind;
+        pc = pc_after;
         holds = λ g e'. subst (λ y. Holds P y s.first s.segments (with_next size s.regs)) (same_ok f g (sym e ∙ e'))
             (moved_holds P f s.first s.segments s.regs (with_next size s.regs) at.holds (λ j. inr refl) refl);
       }
@@ -164,7 +164,7 @@ module _ (x : Accepted) (is : IsProgram x) (s : Recorded) (k : Keeps x s) (at : 
       go (Err fault, m) w = tt
       go (Ok tt, m) w = record {
         map = run_is_map (memory_of s) a ws m w k.corresponds.map;
-        pc = pc_behind;
+        pc = pc_after;
         holds = λ g e'. subst (λ y. Holds P y s.first s.segments (with_next size (with_reg s.regs n v))) (same_ok (lost n f) g (sym e ∙ e'))
             (written_holds P f s.first s.segments s.regs (with_next size (with_reg s.regs n v)) n (word_in n v) Other at.holds low k.sound.words.count refl tt);
       }
@@ -224,7 +224,7 @@ module _ (x : Accepted) (is : IsProgram x) (s : Recorded) (k : Keeps x s) (at : 
       low_word d v l = let no : (d == 13) ≡ false = grind (arith, nat_tests) in ap (λ b. cond b (v % 2 ^ 32 - v % 2 ^ 32 % 4) (v % 2 ^ 32)) no
 
   -- LDM
-  module _ (n list : ℕ) (low : n < 8) (few : list < 2 ^ 8) (e : after_of P false place i f ≡ Ok (lost n (forgotten (listed list) f))) where
+  module _ (n list : ℕ) (low : n < 8) (few : list < 2 ^ 8) (e : after_of P false place i f ≡ Ok (lost n (clobbered (listed list) f))) where
     abbrev a : ℕ
     a = reg s.regs n
 
@@ -236,11 +236,11 @@ module _ (x : Accepted) (is : IsProgram x) (s : Recorded) (k : Keeps x s) (at : 
         | inr l ↦ get_or_past (take 15 r) j 0 (omega (arith, length-take 15 r, l)) ∙ sym (get_or_past s.regs.r j 0 (let c = k.sound.words.count in let m : length s.regs.r ≤ j = omega (arith, l, c) in m))
       ]
 
-      first : Holds P (forgotten (listed list) f) s.first s.segments (with_next size (with_all s.regs r))
-      first = forgotten_holds P f s.first s.segments s.regs (with_next size (with_all s.regs r)) (listed list) at.holds others (not_listed list 13 (bit_at_above list 8 13 few (omega arith)))
+      first : Holds P (clobbered (listed list) f) s.first s.segments (with_next size (with_all s.regs r))
+      first = clobbered_holds P f s.first s.segments s.regs (with_next size (with_all s.regs r)) (listed list) at.holds others (not_listed list 13 (bit_at_above list 8 13 few (omega arith)))
 
-      based : (b : Bool) → Holds P (lost n (forgotten (listed list) f)) s.first s.segments (with_next size (with_all s.regs (cond b r (put r n (a + bytes_of list)))))
-      based b = forgotten_holds P (forgotten (listed list) f) s.first s.segments (with_next size (with_all s.regs r)) (with_next size (with_all s.regs (cond b r (put r n (a + bytes_of list))))) (n ∷ []) first
+      based : (b : Bool) → Holds P (lost n (clobbered (listed list) f)) s.first s.segments (with_next size (with_all s.regs (cond b r (put r n (a + bytes_of list)))))
+      based b = clobbered_holds P (clobbered (listed list) f) s.first s.segments (with_next size (with_all s.regs r)) (with_next size (with_all s.regs (cond b r (put r n (a + bytes_of list))))) (n ∷ []) first
           (λ j h. same b j h) (let no : (n == 13) ≡ false = grind (arith, nat_tests) in ap (λ c. c || false) no)
         where
           same : (b : Bool) (j : ℕ) → ((n == j) || false) ≡ false → get_or (take 15 (cond b r (put r n (a + bytes_of list)))) j 0 ≡ get_or (take 15 r) j 0
@@ -258,7 +258,7 @@ module _ (x : Accepted) (is : IsProgram x) (s : Recorded) (k : Keeps x s) (at : 
       where
         go : (o : Result (List ℕ) BusFault) → load_list list a s.regs (memory_of s) ≡ o → On (ldm_end o n list size s.regs (memory_of s))
         go (Err fault) w = tt
-        go (Ok r) w = plain_on (with_all s.regs (cond (bit_at list n == 1) r (put r n (a + bytes_of list)))) (lost n (forgotten (listed list) f)) e refl (based r w (bit_at list n == 1))
+        go (Ok r) w = plain_on (with_all s.regs (cond (bit_at list n == 1) r (put r n (a + bytes_of list)))) (lost n (clobbered (listed list) f)) e refl (based r w (bit_at list n == 1))
 
 -- ---- whole
 

@@ -1,5 +1,5 @@
 -- A return, whichever instruction does it: where the registers that it leaves are those that the activation recorded, both machines do the same,
--- and what every event keeps is kept: the caller's activation stands behind its call.
+-- and what every event keeps is kept: the caller's activation stands after its call.
 use Rattle.std.proofs.Common.{◌≡◌, ℕ, inl, List, [], ◌∷◌, refl, ◌+◌, ◌<◌, ◌≤◌, ◌&&◌, inr, nat_lt, Bool, true, false, cond, ◌++◌, filter, Option, Some, None, slice_index, sym, ap, subst, ◌∙◌, arith}
 use Rattle.std.proofs.lemmas.Bool.{cases_lt, lt-ltb}
 use Rattle.steps_keep.specs.eh_bus.Lists.{Has}
@@ -23,17 +23,17 @@ use Rattle.steps_keep.specs.thumb_core.declared.regs.Regs.{Regs}
 use Rattle.steps_keep.specs.thumb_core.declared.regs.Stepped.TheVariants.{Return}
 use Rattle.steps_keep.specs.thumb_core.declared.ends.End.{End}
 use Rattle.steps_keep.specs.step_ahead.Ahead.{pushes_some}
-use Rattle.steps_keep.specs.frame_scene.declared.places.Standing.TheVariants.{Instruction}
-use Rattle.steps_keep.specs.frame_scene.Places.{address_of, standing_at}
+use Rattle.steps_keep.specs.frame_graph.declared.places.Standing.TheVariants.{Instruction}
+use Rattle.steps_keep.specs.frame_graph.Places.{address_of, standing_at}
 use Rattle.steps_keep.proofs.frame_reach.Stands.{stands_inside}
 use Rattle.steps_keep.specs.frame_check.Accepts.{Accepted}
 use Rattle.steps_keep.specs.frame_check.Judged.{IsPlaced}
-use Rattle.steps_keep.specs.frame_check.Roots.{scene_of}
-use Rattle.steps_keep.specs.frame_check.Spots.{look}
+use Rattle.steps_keep.specs.frame_check.Roots.{flow_graph_of}
+use Rattle.steps_keep.specs.frame_check.Roles.{look}
 use Rattle.steps_keep.proofs.frame_check.Wells.{placed_at}
 use Rattle.steps_keep.specs.two_machines.Machine.{sp_end, leaves_cleanup}
 use Rattle.steps_keep.specs.two_machines.Activations.{Caller, Activation, Recorded, reg_in, memory_of, guarded_of, heads, lists_of, cleanups_in, InProgress}
-use Rattle.steps_keep.specs.two_machines.ActivationMachine.{settled_in, returned}
+use Rattle.steps_keep.specs.two_machines.ActivationMachine.{reguarded_in, returned}
 use Rattle.steps_keep.specs.two_machines.RecordedSlots.{FindsCaller}
 use Rattle.steps_keep.specs.two_machines.Checked.{program_of}
 use Rattle.steps_keep.proofs.two_machines.CallEvents.{knows}
@@ -44,9 +44,9 @@ use Rattle.steps_keep.specs.two_machines.ActivationMachine as acts
 use Rattle.steps_keep.specs.stands_for.Chain.{StandsAt, StandsAtCall, Chain}
 use Rattle.steps_keep.specs.stands_for.Cleanups.{goal_at, IsHeld, IsWithin, AreInProgress}
 use Rattle.steps_keep.specs.stands_for.Stands.{Keeps, IsProgram, OnEvent, Turns}
-use Rattle.accesses_keep.proofs.Left.{stands_behind}
+use Rattle.accesses_keep.proofs.Left.{stands_after}
 use Rattle.steps_keep.proofs.stands_for.Slots.{first_slots, none_or}
-use Rattle.steps_keep.proofs.stands_for.Onward.{settled_is, map_left}
+use Rattle.steps_keep.proofs.stands_for.Onward.{reguarded_is, map_left}
 use Rattle.accesses_keep.proofs.Returns.{caller_same}
 use Rattle.steps_keep.proofs.stands_for.Written.{SameClosed, AreSmall, with_gs, same_word, same_goal, linked_small, landings_rise}
 
@@ -55,7 +55,7 @@ none_there [] h = refl
 none_there (g ∷ more) h = absurd (h g (inl refl))
 
 module _ (x : Accepted) (is : IsProgram x) (s : Recorded) (k : Keeps x s) (at : StandsAt x s.first s.segments s.regs s.regs.pc) (i : Instr) (size : ℕ)
-    (stands : standing_at (scene_of x.image at.function) at.place ≡ Instruction i size)
+    (stands : standing_at (flow_graph_of x.image at.function) at.place ≡ Instruction i size)
     (regs : Regs) (step : step_of s.regs (memory_of s) ≡ (Return s.first.caller.back, regs, memory_of s)) (sp_is : slice_index regs.r SP ≡ s.first.caller.sp)
     (saved_is : (j : ℕ) → j < 8 → slice_index regs.r (j + 4) ≡ slice_index s.first.caller.saved j) (pc_is : regs.pc ≡ even s.first.caller.back)
     (none : pushes_some (instr_at (memory_of s) s.regs.pc) ≡ 0) where
@@ -80,7 +80,7 @@ module _ (x : Accepted) (is : IsProgram x) (s : Recorded) (k : Keeps x s) (at : 
   called_low a more e f =
       let out : StandsAtCall x s.segments caller a = (subst (Chain x s.segments s.home caller) e k.chain).0 in
       let placed : IsPlaced out.function = subst IsPlaced out.of.among.2 (placed_at x.image out.of.among.0 out.function is.image out.of.among.1) in
-      let inside = stands_inside (scene_of x.image out.function) out.place out.instr out.size out.stands in
+      let inside = stands_inside (flow_graph_of x.image out.function) out.place out.instr out.size out.stands in
       omega (arith, out.back, placed.low, inside, f)
 
   pub finds : FindsCaller s caller.back regs
@@ -144,10 +144,10 @@ module _ (x : Accepted) (is : IsProgram x) (s : Recorded) (k : Keeps x s) (at : 
         go true e false f z = elim (cases_lt d.cleanup.sp new) [ inl w ↦ absurd (let t = lt-ltb d.cleanup.sp new w in cc) | inr w ↦ w ]
         go false e b f z = elim (cases_lt (reg_in s SP) new) [ inl w ↦ absurd (let t = lt-ltb (reg_in s SP) new w in cc) | inr w ↦ omega (arith, w, h.0) ]
 
-    pc : regs.pc ≡ address_of (scene_of x.image links.0.function) links.0.place + links.0.size
+    pc : regs.pc ≡ address_of (flow_graph_of x.image links.0.function) links.0.place + links.0.size
     pc =
         let placed : IsPlaced links.0.function = subst IsPlaced links.0.of.among.2 (placed_at x.image links.0.of.among.0 links.0.function is.image links.0.of.among.1) in
-        let inside = stands_inside (scene_of x.image links.0.function) links.0.place links.0.instr links.0.size links.0.stands in
+        let inside = stands_inside (flow_graph_of x.image links.0.function) links.0.place links.0.instr links.0.size links.0.stands in
         omega (arith, pc_is, links.0.back, placed.low, inside, k.whole.odd)
 
     left_keeps : leaves_cleanup (innermost_in (cleanups_in s.cleanups)) (reg_in s SP) new ≡ false → begins_function x.image.functions regs.pc ≡ false → Keeps x t
@@ -163,7 +163,7 @@ module _ (x : Accepted) (is : IsProgram x) (s : Recorded) (k : Keeps x s) (at : 
       high = let room = links.0.room in omega (arith, room, sp_is);
       whole = links.0.whole;
       slots = subst (λ n. (g : ℕ) → Has a.slots g → (n ≤ g) × (g + 4 ≤ a.caller.sp)) (sym sp_is) links.0.slots;
-      first = λ reached. stands_behind x is s.segments caller a links.0 regs k.whole.count sound.words.count saved_is sp_is pc reached fresh;
+      first = λ reached. stands_after x is s.segments caller a links.0 regs k.whole.count sound.words.count saved_is sp_is pc reached fresh;
       beyond = k.beyond;
       chain = links.1;
       cleanups = in_progress (reg_in s SP) new s.cleanups (linked_small _ _ (cleanups_in s.cleanups) k.corresponds.stands.shows.cleanups) (omega arith)
@@ -176,15 +176,15 @@ module _ (x : Accepted) (is : IsProgram x) (s : Recorded) (k : Keeps x s) (at : 
   base = record s { regs = regs; segments = s.segments }
 
   abbrev moved : Recorded
-  moved = acts.activations_behind (Return caller.back) (acts.settled_at (program_of x) s regs base)
+  moved = acts.activations_after (Return caller.back) (acts.reguarded_at (program_of x) s regs base)
 
   moved_keeps : (outer : List Activation) → s.outer ≡ outer → leaves_cleanup (innermost_in (cleanups_in s.cleanups)) (reg_in s SP) new ≡ false → acts.return_end (program_of x) s.regs.pc outer regs ≡ None → Keeps x moved
   moved_keeps [] e l h = absurd cc
   moved_keeps (a ∷ more) e l h =
       let fell : begins_function x.image.functions regs.pc ≡ false = go (begins_function x.image.functions regs.pc) h in
-      let settled : acts.settled_at (program_of x) s regs base ≡ u =
-      ap (λ (n : ℕ). settled_in (look x.spots s.regs.pc).saves n (reg_in s SP) new base) none ∙ settled_is x is s k at i size stands regs (memory_of s) keeps_map k.corresponds.map high (look x.spots s.regs.pc).saves in
-      subst (Keeps x) (sym (ap (acts.activations_behind (Return caller.back)) settled ∙ ap (λ (o : List Activation). acts.left_by o u) e)) (left_keeps a more e l fell)
+      let reguarded : acts.reguarded_at (program_of x) s regs base ≡ u =
+      ap (λ (n : ℕ). reguarded_in (look x.roles s.regs.pc).saves n (reg_in s SP) new base) none ∙ reguarded_is x is s k at i size stands regs (memory_of s) keeps_map k.corresponds.map high (look x.roles s.regs.pc).saves in
+      subst (Keeps x) (sym (ap (acts.activations_after (Return caller.back)) reguarded ∙ ap (λ (o : List Activation). acts.left_by o u) e)) (left_keeps a more e l fell)
     where
       go : (b : Bool) → cond b (Some (the_end.Trap kind.FellOff regs.pc s.regs.pc)) None ≡ None → b ≡ false
       go true h = absurd cc
@@ -210,12 +210,12 @@ module _ (x : Accepted) (is : IsProgram x) (s : Recorded) (k : Keeps x s) (at : 
         (subst (λ (r : Regs). OnEvent x (acts.onward (program_of x) s (acts.with_tests (program_of x) s (Return caller.back) r (memory_of s)) input)) (sym same_regs)
         (tested (acts.tests (program_of x) s (Return caller.back) regs) refl))
 
-    keeps : (look x.spots s.regs.pc).is_instr ≡ true → OnEvent x (acts.recorded_event (program_of x) s input)
+    keeps : (look x.roles s.regs.pc).is_instr ≡ true → OnEvent x (acts.recorded_event (program_of x) s input)
     unfolding acts.recorded_event acts.passed
     keeps reached = subst (λ (b : Bool). OnEvent x (acts.onward (program_of x) s (acts.checked (program_of x) s b) input)) (sym reached) checked
 
     -- Such a return is the same in both machines, and keeps.
-    pub back_turns : (look x.spots s.regs.pc).is_instr ≡ true → Turns x s input
+    pub back_turns : (look x.roles s.regs.pc).is_instr ≡ true → Turns x s input
     back_turns reached = record {
       same = returns_match (program_of x) s input caller.back regs (memory_of s) (knows s k.corresponds) k.sound.words step finds;
       keeps = keeps reached;

@@ -25,7 +25,7 @@ use Rattle.steps_keep.specs.thumb_core.Words.{listed}
 use Rattle.steps_keep.specs.frame_facts.declared.facts.TheConstants.{DEEPEST}
 use Rattle.steps_keep.specs.frame_facts.declared.straight.Straight.{Straight}
 use Rattle.steps_keep.specs.frame_facts.After.{effect}
-use Rattle.steps_keep.specs.frame_scene.Scene.{Scene}
+use Rattle.steps_keep.specs.frame_graph.FlowGraph.{FlowGraph}
 use Rattle.steps_keep.specs.frame_reach.Marks.{Marks}
 use Rattle.steps_keep.specs.frame_reach.Prologue.{lines, places, prologue}
 use Rattle.steps_keep.specs.thumb_core.declared.regs.TheConstants.{LR, SP}
@@ -115,7 +115,7 @@ run_only (line ∷ more) run h = go (taken run line.0 line.1) refl (λ t e. run_
     go None e later = h
     go (Some t) e later = later t e
 
-pub only_callers : (s : Scene) (m : Marks) → OnlyCallers (prologue s m)
+pub only_callers : (s : FlowGraph) (m : Marks) → OnlyCallers (prologue s m)
 unfolding prologue
 only_callers s m = run_only (lines s m.target (places s) 0) (begun s.start) (λ v c. absurd (contains_none v c))
 

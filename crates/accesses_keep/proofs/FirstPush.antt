@@ -24,10 +24,10 @@ use Rattle.steps_keep.specs.frame_facts.Facts.{source}
 use Rattle.steps_keep.specs.frame_facts.Machine.{Means}
 use Rattle.steps_keep.specs.frame_facts.Prologues.{is_callers}
 use Rattle.steps_keep.specs.frame_facts.Saves.{saves_of, saves_within, moved_to}
-use Rattle.steps_keep.specs.frame_scene.declared.places.Standing.TheVariants.{Instruction}
-use Rattle.steps_keep.specs.frame_scene.Places.{address_of, standing_at}
-use Rattle.steps_keep.specs.frame_scene.Reach.{IsReached}
-use Rattle.steps_keep.specs.frame_scene.Scene.{Scene}
+use Rattle.steps_keep.specs.frame_graph.declared.places.Standing.TheVariants.{Instruction}
+use Rattle.steps_keep.specs.frame_graph.Places.{address_of, standing_at}
+use Rattle.steps_keep.specs.frame_graph.Reach.{IsReached}
+use Rattle.steps_keep.specs.frame_graph.FlowGraph.{FlowGraph}
 use Rattle.steps_keep.specs.frame_reach.Laws.{IsRun, takes}
 use Rattle.steps_keep.specs.frame_reach.Marks.{Marks}
 use Rattle.steps_keep.proofs.frame_reach.Runs.{prologue_is_the_longest_run}
@@ -35,7 +35,7 @@ use Rattle.steps_keep.proofs.frame_reach.Stands.{stands_inside, stands_size}
 use Rattle.steps_keep.proofs.frame_flow.Reaching.{state_reached}
 use Rattle.steps_keep.specs.frame_check.Accepts.{Accepted, framed, saves_at}
 use Rattle.steps_keep.specs.frame_check.Judged.{IsPlaced}
-use Rattle.steps_keep.specs.frame_check.Roots.{scene_of}
+use Rattle.steps_keep.specs.frame_check.Roots.{flow_graph_of}
 use Rattle.steps_keep.proofs.frame_check.Saving.{saves_are_words}
 use Rattle.steps_keep.proofs.frame_check.Wells.{placed_at}
 use Rattle.steps_keep.specs.two_machines.Activations.{Activation, Recorded, memory_of}
@@ -57,12 +57,12 @@ use Rattle.accesses_keep.proofs.PushedSaves.{RunAt, run_at, IsNew, pushed_new, t
 use Rattle.accesses_keep.proofs.Pushing as push
 
 module _ (x : Accepted) (is : IsProgram x) (ranges : AreInRange x) (s : Recorded) (k : Keeps x s) (list : ℕ) (does : DoesAt x s (Push list))
-    (there : nat_lt (address_of (scene_of x.image does.at.function) does.at.place) (code x does.at.function does.at.marks).prologue.end ≡ true) where
+    (there : nat_lt (address_of (flow_graph_of x.image does.at.function) does.at.place) (code x does.at.function does.at.marks).prologue.end ≡ true) where
   abbrev at : StandsAt x s.first s.segments s.regs s.regs.pc
   at = does.at
 
-  abbrev scene : Scene
-  scene = scene_of x.image at.function
+  abbrev flow_graph : FlowGraph
+  flow_graph = flow_graph_of x.image at.function
 
   abbrev marks : Marks
   marks = at.marks
@@ -79,43 +79,43 @@ module _ (x : Accepted) (is : IsProgram x) (ranges : AreInRange x) (s : Recorded
   placed : IsPlaced at.function
   placed = subst IsPlaced at.of.among.2 (placed_at x.image at.of.among.0 at.function is.image at.of.among.1)
 
-  even : scene.start % 2 ≡ 0
+  even : flow_graph.start % 2 ≡ 0
   even = placed.even
 
-  low : scene.end + 4 ≤ 2 ^ 32
+  low : flow_graph.end + 4 ≤ 2 ^ 32
   low = omega (arith, placed.low)
 
-  down : (p : ℕ) (i : Instr) (size : ℕ) → standing_at scene p ≡ Instruction i size → IsDown i
+  down : (p : ℕ) (i : Instr) (size : ℕ) → standing_at flow_graph p ≡ Instruction i size → IsDown i
   down p i size e = range_down i (ranges at.function p i size at.of.among e)
 
-  reached : IsReached scene at.place
-  reached = state_reached (framed scene marks) at.place f at.state
+  reached : IsReached flow_graph at.place
+  reached = state_reached (framed flow_graph marks) at.place f at.state
 
-  comes : RunAt scene marks at.place
+  comes : RunAt flow_graph marks at.place
   comes =
-      let last = prologue_is_the_longest_run scene marks in
-      let known = knows scene marks even low last.0 last.1 last.2 in
-      let ends : P.end ≡ scene.start + 2 * last.0 = ap (λ (p : Prologue). p.end) last.4 ∙ known.ends in
-      let before = ltb-true (address_of scene at.place) P.end there in
-      run_at scene marks at.of.are last.0 last.1 last.2 at.place reached (omega (arith, ends, before))
+      let last = prologue_is_the_longest_run flow_graph marks in
+      let known = knows flow_graph marks even low last.0 last.1 last.2 in
+      let ends : P.end ≡ flow_graph.start + 2 * last.0 = ap (λ (p : Prologue). p.end) last.4 ∙ known.ends in
+      let before = ltb-true (address_of flow_graph at.place) P.end there in
+      run_at flow_graph marks at.of.are last.0 last.1 last.2 at.place reached (omega (arith, ends, before))
 
-  it : Takes scene marks at.place list
-  it = takes_it scene marks at.place list does.size does.stands comes
+  it : Takes flow_graph marks at.place list
+  it = takes_it flow_graph marks at.place list does.size does.stands comes
 
   run_fact : f ≡ it.run.fact
-  run_fact = states scene marks at.of.are even (effects_agree scene marks even low at.of.are) at.place f at.state it.run it.from (Push list, it.size, it.next, it.stands, it.free, it.takes)
+  run_fact = states flow_graph marks at.of.are even (effects_agree flow_graph marks even low at.of.are) at.place f at.state it.run it.from (Push list, it.size, it.next, it.stands, it.free, it.takes)
 
-  behind_run : IsRun scene marks (at.place + it.size / 2) it.next
-  behind_run = takes it.from it.stands it.free it.takes
+  after_run : IsRun flow_graph marks (at.place + it.size / 2) it.next
+  after_run = takes it.from it.stands it.free it.takes
 
   before_it : Exact it.run
-  before_it = exact scene marks even low down at.place it.run it.from
+  before_it = exact flow_graph marks even low down at.place it.run it.from
 
-  behind_it : Exact it.next
-  behind_it = exact scene marks even low down (at.place + it.size / 2) it.next behind_run
+  after_it : Exact it.next
+  after_it = exact flow_graph marks even low down (at.place + it.size / 2) it.next after_run
 
   the_step : Step it.run it.next (Push list) it.size
-  the_step = step_of_run it.run it.next (Push list) it.size (good scene marks even low at.place it.run (knows scene marks even low at.place it.run it.from)) it.takes
+  the_step = step_of_run it.run it.next (Push list) it.size (good flow_graph marks even low at.place it.run (knows flow_graph marks even low at.place it.run it.from)) it.takes
 
   next_depth : it.next.fact.depth ≡ f.depth + 4 * n
   next_depth = push_depth it.next.prologue it.run.prologue.end list it.run.fact it.next.fact the_step.does ∙ ap (λ (y : Fact). y.depth + 4 * n) (sym run_fact)
@@ -128,8 +128,8 @@ module _ (x : Accepted) (is : IsProgram x) (ranges : AreInRange x) (s : Recorded
 
   further : Further
   further =
-      let r = reaches scene marks even low (at.place + it.size / 2) it.next behind_run in
-      let g = grows scene marks even low r.fuel (at.place + it.size / 2) it.next behind_run in
+      let r = reaches flow_graph marks even low (at.place + it.size / 2) it.next after_run in
+      let g = grows flow_graph marks even low r.fuel (at.place + it.size / 2) it.next after_run in
       record { newer = g.newer; are = sym (ap saves_of r.is) ∙ g.are; above = g.above }
 
   kept_saves : (d : ℕ) → d ≡ f.depth + 4 * n → take (saves_within P d) (saves_of P) ≡ saves_of it.next.prologue
@@ -137,7 +137,7 @@ module _ (x : Accepted) (is : IsProgram x) (ranges : AreInRange x) (s : Recorded
       let w = further in
       let xs = saves_of it.next.prologue in
       let same : d ≡ it.next.fact.depth = sum ∙ sym next_depth in
-      let rise = behind_it.rise in
+      let rise = after_it.rise in
       let count : saves_within P d ≡ length xs =
       ap (saves_within P) same ∙ ap (count_by (λ (v : Save). nat_le v.offset it.next.fact.depth)) w.are ∙ same_within it.next.fact.depth xs w.newer w.above
       ∙ within_all it.next.prologue it.next.fact.depth rise ∙ sym (length_saves it.next.prologue rise.long rise.few) in
@@ -177,17 +177,17 @@ module _ (x : Accepted) (is : IsProgram x) (ranges : AreInRange x) (s : Recorded
 
     bit_is : (v : Save) (w : IsNew it.run.fact (listed list) v) → Contains (saves_of P) v → bit_at (push.saves x is s k list does) w.word ≡ 1
     bit_is v w c =
-        let inside = stands_inside scene at.place (Push list) does.size does.stands in
-        let within : is_inside s.regs.pc at.function ≡ true = both (le-leb at.function.start s.regs.pc (omega (arith, at.address))) (lt-ltb s.regs.pc at.function.end (in_there (stands_size scene at.place (Push list) does.size does.stands) inside)) in
-        let told : push.saves x is s k list does ≡ saves_at scene marks (address_of scene at.place) = is.sound.spots.saves at.function marks s.regs.pc at.of.among at.of.are within ∙ ap (saves_at scene marks) at.address in
+        let inside = stands_inside flow_graph at.place (Push list) does.size does.stands in
+        let within : is_inside s.regs.pc at.function ≡ true = both (le-leb at.function.start s.regs.pc (omega (arith, at.address))) (lt-ltb s.regs.pc at.function.end (in_there (stands_size flow_graph at.place (Push list) does.size does.stands) inside)) in
+        let told : push.saves x is s k list does ≡ saves_at flow_graph marks (address_of flow_graph at.place) = is.sound.roles.saves at.function marks s.regs.pc at.of.among at.of.are within ∙ ap (saves_at flow_graph marks) at.address in
         ap (λ b. bit_at b w.word) told
-        ∙ (saves_are_words.bits scene marks at.place it.run list w.word v.offset even low
+        ∙ (saves_are_words.bits flow_graph marks at.place it.run list w.word v.offset even low
         (record { size = it.size; next = it.next; comes = it.from; stands = it.stands; free = it.free; takes = it.takes }) (w.among, w.place)).1 (saved_is P v c)
       where
         both : nat_le at.function.start s.regs.pc ≡ true → nat_lt s.regs.pc at.function.end ≡ true → (nat_le at.function.start s.regs.pc && nat_lt s.regs.pc at.function.end) ≡ true
         both p q = rw (p, q) refl
 
-        in_there : (does.size ≡ 2) ⊎ (does.size ≡ 4) → address_of scene at.place + does.size ≤ at.function.end + 1 → s.regs.pc < at.function.end
+        in_there : (does.size ≡ 2) ⊎ (does.size ≡ 4) → address_of flow_graph at.place + does.size ≤ at.function.end + 1 → s.regs.pc < at.function.end
         in_there (inl two) l = omega (arith, l, two, at.address)
         in_there (inr four) l = omega (arith, l, four, at.address)
 
@@ -205,7 +205,7 @@ module _ (x : Accepted) (is : IsProgram x) (ranges : AreInRange x) (s : Recorded
         subst (λ (t : Source). Means at.holds.entry s.first.caller.sp t (reg s.regs j)) (ap (λ (y : Fact). source y j) run_fact ∙ w.held) (at.holds.describes.sources j) in
         let back : load 4 m (push.a x is s k list does + 4 * w.word) ≡ Ok (get_or (words_of list s.regs) w.word 0) =
         run_back (memory_of s) (push.a x is s k list does) (words_of list s.regs) m w.word stores (omega (arith, q.0, q.1, q.3, count)) (words_small s.regs.r (listed list) k.sound.words.small) (omega (arith, among, count)) in
-        let word : get_or (words_of list s.regs) w.word 0 ≡ recorded s.first.caller v.reg = word_at s.regs.r (listed list) w.word among ∙ value ∙ entry_is v.reg (only_callers scene marks v c) in
+        let word : get_or (words_of list s.regs) w.word 0 ≡ recorded s.first.caller v.reg = word_at s.regs.r (listed list) w.word among ∙ value ∙ entry_is v.reg (only_callers flow_graph marks v c) in
         let where_is : s.first.caller.sp - v.offset ≡ push.a x is s k list does + 4 * w.word = omega (arith, address, q.1) in
         record {
           low = omega (arith, offset, among);
@@ -237,10 +237,10 @@ module _ (x : Accepted) (is : IsProgram x) (ranges : AreInRange x) (s : Recorded
   pub first_push_turns : (input : List ℕ) → Turns x s input
   first_push_turns input = push_turns x is s k list does at_g input
     where
-      at_g : (m : Memory) → store_run (memory_of s) (push.a x is s k list does) (words_of list s.regs) ≡ (Ok tt, m) → (g : Fact) → after_of P false (address_of scene at.place) (Push list) f ≡ Ok g
+      at_g : (m : Memory) → store_run (memory_of s) (push.a x is s k list does) (words_of list s.regs) ≡ (Ok tt, m) → (g : Fact) → after_of P false (address_of flow_graph at.place) (Push list) f ≡ Ok g
           → Holds P g (with_gs s.first (push.gs x is s k list does)) m.segments (push.regs x is s k list does)
       at_g m stores g e =
-          let b = push.is_behind x is s k list does g e in
+          let b = push.is_after x is s k list does g e in
           let same : g ≡ (let y : Fact = record f { depth = b.depth; kept = saves_within P b.depth } in y) =
           b.gives ∙ ap (λ (t : Bool). cond t (let y : Fact = record f { depth = b.depth; kept = saves_within P b.depth } in y) (moved_to P b.depth f)) there in
           subst (λ y. Holds P y (with_gs s.first (push.gs x is s k list does)) m.segments (push.regs x is s k list does)) (sym same) (holds m stores b.depth b.sum)
@@ -249,8 +249,8 @@ module _ (x : Accepted) (is : IsProgram x) (ranges : AreInRange x) (s : Recorded
 
 pub pushes_turn : (x : Accepted) (s : Recorded) (list : ℕ) (input : List ℕ) → IsProgram x → AreInRange x → Keeps x s → DoesAt x s (Push list) → Turns x s input
 pushes_turn x s list input is ranges k does =
-    go (nat_lt (address_of (scene_of x.image does.at.function) does.at.place) (code x does.at.function does.at.marks).prologue.end) refl
+    go (nat_lt (address_of (flow_graph_of x.image does.at.function) does.at.place) (code x does.at.function does.at.marks).prologue.end) refl
   where
-    go : (b : Bool) → nat_lt (address_of (scene_of x.image does.at.function) does.at.place) (code x does.at.function does.at.marks).prologue.end ≡ b → Turns x s input
+    go : (b : Bool) → nat_lt (address_of (flow_graph_of x.image does.at.function) does.at.place) (code x does.at.function does.at.marks).prologue.end ≡ b → Turns x s input
     go true e = first_push_turns x is ranges s k list does e input
     go false e = later_push_turns x is ranges s k list does e input

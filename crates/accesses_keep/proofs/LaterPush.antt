@@ -1,4 +1,4 @@
--- A PUSH behind the prologue.
+-- A PUSH after the prologue.
 use Rattle.std.proofs.Common.{◌≡◌, ℕ, ◌+◌, ◌*◌, min, nat_lt, Bool, false, cond, List, length, Ok, refl, sym, ap, subst, ◌∙◌, arith}
 use Rattle.steps_keep.specs.eh_bus.Memory.{Memory, store_run}
 use Rattle.steps_keep.specs.thumb_isa.declared.instr.Instr.TheVariants.{Push}
@@ -9,9 +9,9 @@ use Rattle.steps_keep.specs.thumb_core.declared.regs.TheConstants.{SP}
 use Rattle.steps_keep.specs.frame_facts.declared.facts.Fact.{Fact}
 use Rattle.steps_keep.specs.frame_facts.After.{after_of}
 use Rattle.steps_keep.specs.frame_facts.Saves.{moved_to, saves_within}
-use Rattle.steps_keep.specs.frame_scene.Places.{address_of}
+use Rattle.steps_keep.specs.frame_graph.Places.{address_of}
 use Rattle.steps_keep.specs.frame_check.Accepts.{Accepted}
-use Rattle.steps_keep.specs.frame_check.Roots.{scene_of}
+use Rattle.steps_keep.specs.frame_check.Roots.{flow_graph_of}
 use Rattle.steps_keep.specs.two_machines.Activations.{Recorded, memory_of}
 use Rattle.steps_keep.specs.stands_for.Holds.{Holds}
 use Rattle.steps_keep.specs.stands_for.Chain.{code}
@@ -19,9 +19,9 @@ use Rattle.steps_keep.specs.stands_for.Stands.{Keeps, IsProgram, DoesAt, Turns}
 use Rattle.steps_keep.specs.accepted_code.Bounds.{AreInRange}
 use Rattle.accesses_keep.proofs.Stacks.{sp_holds, order}
 use Rattle.steps_keep.proofs.stands_for.Written.{with_gs, holds_moves}
-use Rattle.accesses_keep.proofs.Pushing.{is_behind, a, regs, new, new_is, falls, gs, moves, push_turns}
+use Rattle.accesses_keep.proofs.Pushing.{is_after, a, regs, new, new_is, falls, gs, moves, push_turns}
 
--- ---- a PUSH behind the prologue
+-- ---- a PUSH after the prologue
 
 module _ (x : Accepted) (is : IsProgram x) (ranges : AreInRange x) (s : Recorded) (k : Keeps x s) (list : ℕ) (does : DoesAt x s (Push list)) where
   -- what the fact says of the registers and of the saves so far
@@ -36,14 +36,14 @@ module _ (x : Accepted) (is : IsProgram x) (ranges : AreInRange x) (s : Recorded
       (min does.at.fact.kept (saves_within (code x does.at.function does.at.marks).prologue d)) (word_in SP (a x is s k list does)) does.at.fact.below at
       (order x is ranges s k does.at (Push list) does.size does.stands) k.sound.words.count refl (omega (arith, sum, lower, q.0, e)) (λ b. let exact = at.describes.sp b in omega (arith, sum, exact, q.0, e)) (omega arith) (omega arith)
 
-  pub later_push_turns : nat_lt (address_of (scene_of x.image does.at.function) does.at.place) (code x does.at.function does.at.marks).prologue.end ≡ false → (input : List ℕ) → Turns x s input
+  pub later_push_turns : nat_lt (address_of (flow_graph_of x.image does.at.function) does.at.place) (code x does.at.function does.at.marks).prologue.end ≡ false → (input : List ℕ) → Turns x s input
   later_push_turns past input = push_turns x is s k list does holds input
     where
       holds : (m : Memory) → store_run (memory_of s) (a x is s k list does) (words_of list s.regs) ≡ (Ok tt, m) → (g : Fact)
-          → after_of (code x does.at.function does.at.marks).prologue false (address_of (scene_of x.image does.at.function) does.at.place) (Push list) does.at.fact ≡ Ok g
+          → after_of (code x does.at.function does.at.marks).prologue false (address_of (flow_graph_of x.image does.at.function) does.at.place) (Push list) does.at.fact ≡ Ok g
           → Holds (code x does.at.function does.at.marks).prologue g (with_gs s.first (gs x is s k list does)) m.segments (regs x is s k list does)
       holds m stores g e =
-          let b = is_behind x is s k list does g e in
+          let b = is_after x is s k list does g e in
           let same : g ≡ moved_to (code x does.at.function does.at.marks).prologue b.depth does.at.fact =
           b.gives ∙ ap (λ (t : Bool). cond t (let y : Fact = record does.at.fact { depth = b.depth; kept = saves_within (code x does.at.function does.at.marks).prologue b.depth } in y) (moved_to (code x does.at.function does.at.marks).prologue b.depth does.at.fact)) past in
           subst (λ y. Holds (code x does.at.function does.at.marks).prologue y (with_gs s.first (gs x is s k list does)) m.segments (regs x is s k list does)) (sym same)

@@ -1,4 +1,4 @@
--- Behind a return by BX what every event keeps is kept: the caller's activation stands behind its call.
+-- After a return by BX what every event keeps is kept: the caller's activation stands after its call.
 use Rattle.std.proofs.Common.{◌≡◌, ℕ, true, false, Ok, refl, ◌+◌, ◌/◌, ◌%◌, ◌<◌, List, length, slice_index, sym, subst, ◌∙◌, inl, [], ◌∷◌, Option, Some, None, ◌≤◌, inr, Bool, cond, ◌++◌, ap, arith}
 use Rattle.std.specs.Option.{option_or}
 use Rattle.steps_keep.specs.thumb_isa.declared.instr.Instr.{Instr}
@@ -7,17 +7,17 @@ use Rattle.steps_keep.specs.frame_facts.declared.facts.Fact.{Fact}
 use Rattle.steps_keep.specs.frame_facts.declared.saves.Prologue.{Prologue}
 use Rattle.steps_keep.specs.frame_facts.After.{after_of}
 use Rattle.steps_keep.specs.frame_facts.Branches.{call_changes}
-use Rattle.steps_keep.specs.frame_facts.Facts.{forgotten}
-use Rattle.steps_keep.specs.frame_scene.Ways.{goes_on}
+use Rattle.steps_keep.specs.frame_facts.Facts.{clobbered}
+use Rattle.steps_keep.specs.frame_graph.Edges.{reaches_next}
 use Rattle.steps_keep.specs.frame_flow.Causes.{is_call}
 use Rattle.steps_keep.specs.image_memory.Start.{begins_function}
 use Rattle.steps_keep.specs.thumb_core.declared.regs.TheConstants.{SP}
 use Rattle.steps_keep.specs.thumb_core.declared.regs.Regs.{Regs}
-use Rattle.steps_keep.specs.frame_scene.Places.{address_of, standing_at}
+use Rattle.steps_keep.specs.frame_graph.Places.{address_of, standing_at}
 use Rattle.steps_keep.specs.frame_check.Accepts.{Accepted, IsInstr}
 use Rattle.steps_keep.specs.frame_check.Judged.{IsPlaced}
-use Rattle.steps_keep.specs.frame_check.Roots.{scene_of}
-use Rattle.steps_keep.specs.frame_check.Spots.{look}
+use Rattle.steps_keep.specs.frame_check.Roots.{flow_graph_of}
+use Rattle.steps_keep.specs.frame_check.Roles.{look}
 use Rattle.steps_keep.proofs.frame_check.Wells.{placed_at}
 use Rattle.steps_keep.specs.two_machines.Activations.{Caller, Activation, Recorded, reg_in, memory_of, guarded_of, heads, lists_of, cleanups_in, InProgress}
 use Rattle.steps_keep.specs.eh_bus.Lists.{Has}
@@ -39,7 +39,7 @@ use Rattle.steps_keep.proofs.thumb_core.Follows.{step_follows}
 use Rattle.steps_keep.specs.thumb_core.declared.regs.Stepped.TheVariants.{Return}
 use Rattle.steps_keep.specs.thumb_core.declared.ends.End.{End}
 use Rattle.steps_keep.specs.step_ahead.Ahead.{pushes_some}
-use Rattle.steps_keep.specs.frame_scene.declared.places.Standing.TheVariants.{Instruction}
+use Rattle.steps_keep.specs.frame_graph.declared.places.Standing.TheVariants.{Instruction}
 use Rattle.steps_keep.proofs.frame_reach.Stands.{stands_inside}
 use Rattle.steps_keep.specs.two_machines.Machine.{sp_end}
 use Rattle.steps_keep.specs.two_machines.Checked.{program_of}
@@ -49,46 +49,46 @@ use Rattle.steps_keep.specs.two_machines.ActivationMachine as acts
 use Rattle.steps_keep.specs.stands_for.Chain.{code, StandsAt, StandsAtCall, Chain}
 use Rattle.steps_keep.specs.stands_for.Stands.{IsProgram, Keeps, OnEvent}
 use Rattle.steps_keep.proofs.stands_for.Flows.{none_stands, goes_straight, stands_instruction}
-use Rattle.steps_keep.proofs.stands_for.Moves.{behind_call}
-use Rattle.steps_keep.proofs.accepted_code.Places.{next_way}
+use Rattle.steps_keep.proofs.stands_for.Moves.{after_call}
+use Rattle.steps_keep.proofs.accepted_code.Places.{next_edge}
 use Rattle.steps_keep.specs.stands_for.Cleanups.{goal_at, IsHeld, IsWithin, AreInProgress}
 use Rattle.steps_keep.proofs.accepted_code.Fetch.{fetched}
-use Rattle.steps_keep.proofs.stands_for.Goes.{settled_level}
+use Rattle.steps_keep.proofs.stands_for.Goes.{reguarded_at_one_sp}
 use Rattle.accesses_keep.proofs.Returns.{finds, stepped, sp_is, saved_is, same_regs}
 
--- ---- behind a call
+-- ---- after a call
 
 -- a call goes on, and leaves what it found but for the registers that it may change
-call_leaves : (i : Instr) (p : Prologue) (at : ℕ) (f : Fact) → is_call i ≡ true → (goes_on i ≡ true) × (after_of p false at i f ≡ Ok (forgotten call_changes f))
+call_leaves : (i : Instr) (p : Prologue) (at : ℕ) (f : Fact) → is_call i ≡ true → (reaches_next i ≡ true) × (after_of p false at i f ≡ Ok (clobbered call_changes f))
 call_leaves (Bl off) p at f h = (refl, refl)
 call_leaves (Blx m) p at f h = (refl, refl)
 call_leaves i p at f h = absurd cc
 
 module _ (x : Accepted) (is : IsProgram x) (segments : List _) (c : Caller) (a : Activation) (out : StandsAtCall x segments c a) where
   abbrev place : ℕ
-  place = address_of (scene_of x.image out.function) out.place + out.size
+  place = address_of (flow_graph_of x.image out.function) out.place + out.size
 
   out_even : out.function.start % 2 ≡ 0
   out_even = (subst IsPlaced out.of.among.2 (placed_at x.image out.of.among.0 out.function is.image out.of.among.1)).even
 
   -- the caller's activation, with registers as it recorded them and pc at the return address
-  pub stands_behind : (regs : Regs) → length c.saved ≡ 8 → length regs.r ≡ 15 → ((j : ℕ) → j < 8 → slice_index regs.r (j + 4) ≡ slice_index c.saved j) → slice_index regs.r SP ≡ c.sp
-      → regs.pc ≡ place → (look x.spots regs.pc).is_instr ≡ true → begins_function x.image.functions regs.pc ≡ false → StandsAt x a segments regs regs.pc
-  stands_behind regs count fifteen saved sp pc reached fresh =
-      let leaves = call_leaves out.instr (code x out.function out.marks).prologue (address_of (scene_of x.image out.function) out.place) out.fact out.call in
-      let instr : IsInstr x.image x.image.functions place = subst (λ n. IsInstr x.image x.image.functions n) pc ((is.sound.spots.instr regs.pc).0 reached) in
+  pub stands_after : (regs : Regs) → length c.saved ≡ 8 → length regs.r ≡ 15 → ((j : ℕ) → j < 8 → slice_index regs.r (j + 4) ≡ slice_index c.saved j) → slice_index regs.r SP ≡ c.sp
+      → regs.pc ≡ place → (look x.roles regs.pc).is_instr ≡ true → begins_function x.image.functions regs.pc ≡ false → StandsAt x a segments regs regs.pc
+  stands_after regs count fifteen saved sp pc reached fresh =
+      let leaves = call_leaves out.instr (code x out.function out.marks).prologue (address_of (flow_graph_of x.image out.function) out.place) out.fact out.call in
+      let instr : IsInstr x.image x.image.functions place = subst (λ n. IsInstr x.image x.image.functions n) pc ((is.sound.roles.instr regs.pc).0 reached) in
       let fresh_there : begins_function x.image.functions place ≡ false = subst (λ n. begins_function x.image.functions n ≡ false) pc fresh in
-      let way = next_way x.image out.function out.place out.instr out.size is.image out.of.among out_even out.stands leaves.0 instr fresh_there in
+      let edge = next_edge x.image out.function out.place out.instr out.size is.image out.of.among out_even out.stands leaves.0 instr fresh_there in
       record {
         function = out.function;
         marks = out.marks;
         of = out.of;
         place = out.place + out.size / 2;
-        address = pc ∙ sym way.1;
-        fact = forgotten call_changes out.fact;
+        address = pc ∙ sym edge.1;
+        fact = clobbered call_changes out.fact;
         state = goes_straight (code x out.function out.marks) out.place out.fact (none_stands x out.function out.marks is.sound out.of.among out.of.are) out.state out.instr
-            (forgotten call_changes out.fact) (out.place + out.size / 2) (stands_instruction (scene_of x.image out.function) out.place out.instr out.size out.stands) leaves.1 way.0;
-        holds = behind_call (code x out.function out.marks).prologue out.fact a segments c regs count fifteen out.holds saved sp;
+            (clobbered call_changes out.fact) (out.place + out.size / 2) (stands_instruction (flow_graph_of x.image out.function) out.place out.instr out.size out.stands) leaves.1 edge.0;
+        holds = after_call (code x out.function out.marks).prologue out.fact a segments c regs count fifteen out.holds saved sp;
       }
 
 -- ---- BX
@@ -102,7 +102,7 @@ none_or (Some a) b e = absurd cc
 none_or None b e = e
 
 module _ (x : Accepted) (is : IsProgram x) (s : Recorded) (k : Keeps x s) (at : StandsAt x s.first s.segments s.regs s.regs.pc) (m size : ℕ)
-    (stands : standing_at (scene_of x.image at.function) at.place ≡ Instruction (Bx m) size) where
+    (stands : standing_at (flow_graph_of x.image at.function) at.place ≡ Instruction (Bx m) size) where
   abbrev caller : Caller
   caller = s.first.caller
 
@@ -145,10 +145,10 @@ module _ (x : Accepted) (is : IsProgram x) (s : Recorded) (k : Keeps x s) (at : 
     sound : AreSound regs.r regs.pc
     sound = subst (λ (o : Stepping). AreSound o.1.r o.1.pc) (stepped x is s k at m size stands) ((step_follows s.regs (memory_of s)).sound k.sound)
 
-    pc : regs.pc ≡ address_of (scene_of x.image links.0.function) links.0.place + links.0.size
+    pc : regs.pc ≡ address_of (flow_graph_of x.image links.0.function) links.0.place + links.0.size
     pc =
         let placed : IsPlaced links.0.function = subst IsPlaced links.0.of.among.2 (placed_at x.image links.0.of.among.0 links.0.function is.image links.0.of.among.1) in
-        let inside = stands_inside (scene_of x.image links.0.function) links.0.place links.0.instr links.0.size links.0.stands in
+        let inside = stands_inside (flow_graph_of x.image links.0.function) links.0.place links.0.instr links.0.size links.0.stands in
         omega (arith, links.0.back, placed.low, inside, k.whole.odd)
 
     pub left_keeps : begins_function x.image.functions regs.pc ≡ false → Keeps x t
@@ -164,7 +164,7 @@ module _ (x : Accepted) (is : IsProgram x) (s : Recorded) (k : Keeps x s) (at : 
       high = omega (arith, links.0.room, sp_is x is s k at m size stands);
       whole = links.0.whole;
       slots = subst (λ n. (g : ℕ) → Has a.slots g → (n ≤ g) × (g + 4 ≤ a.caller.sp)) (sp_is x is s k at m size stands) links.0.slots;
-      first = λ reached. stands_behind x is s.segments caller a links.0 regs k.whole.count k.sound.words.count (saved_is x is s k at m size stands) (sym (sp_is x is s k at m size stands)) pc reached fresh;
+      first = λ reached. stands_after x is s.segments caller a links.0 regs k.whole.count k.sound.words.count (saved_is x is s k at m size stands) (sym (sp_is x is s k at m size stands)) pc reached fresh;
       beyond = k.beyond;
       chain = links.1;
       cleanups = in_progress (reg_in s SP) s.cleanups (omega arith) k.cleanups;
@@ -178,17 +178,17 @@ module _ (x : Accepted) (is : IsProgram x) (s : Recorded) (k : Keeps x s) (at : 
   none_pushed : pushes_some (instr_at (memory_of s) s.regs.pc) ≡ 0
   none_pushed = ap pushes_some (fetched x.image at.function s.segments is.image at.of.among k.image at.place (Bx m) size s.regs (memory_of s) refl at.address stands).stands
 
-  -- behind the tests
+  -- after the tests
   abbrev moved : Recorded
-  moved = acts.activations_behind (Return caller.back) (acts.settled_at (program_of x) s regs base)
+  moved = acts.activations_after (Return caller.back) (acts.reguarded_at (program_of x) s regs base)
 
   moved_keeps : (outer : List Activation) → s.outer ≡ outer → acts.return_end (program_of x) s.regs.pc outer regs ≡ None → Keeps x moved
   moved_keeps [] e h = absurd cc
   moved_keeps (a ∷ more) e h =
       let fell : begins_function x.image.functions regs.pc ≡ false = go (begins_function x.image.functions regs.pc) h in
-      let level : acts.settled_at (program_of x) s regs base ≡ base =
-      settled_level (look x.spots s.regs.pc).saves (pushes_some (instr_at (memory_of s) s.regs.pc)) (reg_in s SP) (slice_index regs.r SP) base none_pushed refl in
-      subst (Keeps x) (sym (ap (acts.activations_behind (Return caller.back)) level ∙ ap (λ (o : List Activation). acts.left_by o base) e)) (left_keeps a more e fell)
+      let same_sp : acts.reguarded_at (program_of x) s regs base ≡ base =
+      reguarded_at_one_sp (look x.roles s.regs.pc).saves (pushes_some (instr_at (memory_of s) s.regs.pc)) (reg_in s SP) (slice_index regs.r SP) base none_pushed refl in
+      subst (Keeps x) (sym (ap (acts.activations_after (Return caller.back)) same_sp ∙ ap (λ (o : List Activation). acts.left_by o base) e)) (left_keeps a more e fell)
     where
       go : (b : Bool) → cond b (Some (the_end.Trap kind.FellOff regs.pc s.regs.pc)) None ≡ None → b ≡ false
       go true h = absurd cc
@@ -209,6 +209,6 @@ module _ (x : Accepted) (is : IsProgram x) (s : Recorded) (k : Keeps x s) (at : 
         (tested (acts.tests (program_of x) s (Return caller.back) regs) refl))
 
     -- An event that is a return by BX keeps what every event keeps.
-    pub bx_keeps : (look x.spots s.regs.pc).is_instr ≡ true → OnEvent x (acts.recorded_event (program_of x) s input)
+    pub bx_keeps : (look x.roles s.regs.pc).is_instr ≡ true → OnEvent x (acts.recorded_event (program_of x) s input)
     unfolding acts.recorded_event acts.passed
     bx_keeps reached = subst (λ (b : Bool). OnEvent x (acts.onward (program_of x) s (acts.checked (program_of x) s b) input)) (sym reached) checked

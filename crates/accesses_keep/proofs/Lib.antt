@@ -3,7 +3,7 @@ pub use Rattle.steps_keep.proofs.two_machines
 pub use Rattle.steps_keep.proofs.frame_check
 pub use Rattle.steps_keep.proofs.frame_flow
 pub use Rattle.steps_keep.proofs.frame_reach
-pub use Rattle.steps_keep.proofs.frame_scene
+pub use Rattle.steps_keep.proofs.frame_graph
 pub use Rattle.steps_keep.proofs.frame_facts
 pub use Rattle.steps_keep.proofs.flow
 pub use Rattle.steps_keep.proofs.eh_phase

@@ -60,7 +60,7 @@ pub loaded_depth : (p : Prologue) (old : Fact) (at : ℕ) (ks : List ℕ) (f : F
 loaded_depth p old at [] f = refl
 loaded_depth p old at (k ∷ more) f = loaded_depth p old (at + 4) more (with_source f k (stack_word p old (pos at)))
 
--- pc stands behind the last source
+-- pc stands after the last source
 set_past : (xs : List Source) (k : ℕ) (s : Source) → length xs ≤ k → set xs k s ≡ xs
 set_past [] k s l = refl
 set_past (y ∷ more) zero s l = absurd (omega (arith, l))

@@ -35,16 +35,16 @@ use Rattle.steps_keep.specs.frame_facts.Facts.{within}
 use Rattle.steps_keep.specs.frame_facts.Lists.{loaded, popped_pc}
 use Rattle.steps_keep.specs.frame_facts.Machine.{Means}
 use Rattle.steps_keep.specs.frame_facts.Saves.{saves_within, moved_to, stack_word}
-use Rattle.steps_keep.specs.frame_scene.Places.{address_of}
+use Rattle.steps_keep.specs.frame_graph.Places.{address_of}
 use Rattle.steps_keep.specs.frame_check.Accepts.{Accepted}
-use Rattle.steps_keep.specs.frame_check.Roots.{scene_of}
+use Rattle.steps_keep.specs.frame_check.Roots.{flow_graph_of}
 use Rattle.steps_keep.specs.two_machines.Activations.{Caller, Recorded, reg_in, memory_of}
 use Rattle.steps_keep.specs.two_machines.ActivationMachine as acts
 use Rattle.steps_keep.specs.accepted_code.Bounds.{Bounds, AreInRange}
 use Rattle.steps_keep.specs.stands_for.Holds.{Holds}
 use Rattle.steps_keep.specs.stands_for.Chain.{code, StandsAt}
 use Rattle.steps_keep.specs.stands_for.Stands.{Keeps, IsProgram, DoesAt, Turns}
-use Rattle.accesses_keep.proofs.Accesses.{pc_behind, top, load_others, not_listed}
+use Rattle.accesses_keep.proofs.Accesses.{pc_after, top, load_others, not_listed}
 use Rattle.accesses_keep.proofs.Back.{back_turns}
 use Rattle.accesses_keep.proofs.Callers.{only_callers, Known, word_known}
 use Rattle.steps_keep.proofs.stands_for.Onward.{IsOn, on_turns, fetch, left}
@@ -65,7 +65,7 @@ module _ (x : Accepted) (is : IsProgram x) (ranges : AreInRange x) (s : Recorded
   P = (code x at.function at.marks).prologue
 
   abbrev place : ℕ
-  place = address_of (scene_of x.image at.function) at.place
+  place = address_of (flow_graph_of x.image at.function) at.place
 
   abbrev low : List ℕ
   low = listed (list % 2 ^ 8)
@@ -91,14 +91,14 @@ module _ (x : Accepted) (is : IsProgram x) (ranges : AreInRange x) (s : Recorded
     loaded_all = record { count = k.sound.words.count; size = load_length s.segments sp 0 low s.regs.r r w ∙ k.sound.words.count; loaded = w }
 
     holds1 : Holds P f1 s.first s.segments regs1
-    holds1 = pops_hold P f s.first s.segments s.regs at.holds k.whole (only_callers (scene_of x.image at.function) at.marks) high low 0 f s.regs.r r (listed_are_low (list % 2 ^ 8) (omega arith)) k.sound.words.count at.holds w
+    holds1 = pops_hold P f s.first s.segments s.regs at.holds k.whole (only_callers (flow_graph_of x.image at.function) at.marks) high low 0 f s.regs.r r (listed_are_low (list % 2 ^ 8) (omega arith)) k.sound.words.count at.holds w
 
     same_sp : reg regs1 SP ≡ sp
     same_sp = load_others s.segments sp 0 low s.regs.r r w 13 (not_listed (list % 2 ^ 8) 13 (bit_at_above (list % 2 ^ 8) 8 13 (omega arith) (omega arith)))
 
     -- and sp stands at another depth
-    behind : (v d : ℕ) (new : Regs) → new.r ≡ set r 13 v → v + d ≡ sp + f.depth → Holds P (moved_to P d f1) s.first s.segments new
-    behind v d new put_is sum =
+    after : (v d : ℕ) (new : Regs) → new.r ≡ set r 13 v → v + d ≡ sp + f.depth → Holds P (moved_to P d f1) s.first s.segments new
+    after v d new put_is sum =
         let depth = loaded_depth P f 0 low f in
         let lower = holds1.lower in
         let same = same_sp in
@@ -133,7 +133,7 @@ module _ (x : Accepted) (is : IsProgram x) (ranges : AreInRange x) (s : Recorded
             let same : moved_to P d f1 ≡ g = ok_same (moved_to P d f1) g q in
             let b = bounds in
             subst (λ y. Holds P y s.first s.segments (with_next does.size (with_reg (record s.regs { r = r }) SP ((sp + low_bytes list) % 2 ^ 32)))) same
-            (behind r w (word_in SP ((sp + low_bytes list) % 2 ^ 32)) d (with_next does.size (with_reg (record s.regs { r = r }) SP ((sp + low_bytes list) % 2 ^ 32))) refl (omega (arith, sum, b.0, b.1)))
+            (after r w (word_in SP ((sp + low_bytes list) % 2 ^ 32)) d (with_next does.size (with_reg (record s.regs { r = r }) SP ((sp + low_bytes list) % 2 ^ 32))) refl (omega (arith, sum, b.0, b.1)))
           where
             ok_same : (y z : Fact) → ◌≡◌ {A = Result Fact FrameCause} (Ok y) (Ok z) → y ≡ z
             ok_same y z q = cc
@@ -144,7 +144,7 @@ module _ (x : Accepted) (is : IsProgram x) (ranges : AreInRange x) (s : Recorded
         go : (o : Result (List ℕ) BusFault) → load_words s.segments sp (loads_from 0 low) s.regs.r ≡ o → IsOn x is s k at (Pop list) does.size does.stands (pop list does.size s.regs (memory_of s))
         go (Err fault) w = subst (IsOn x is s k at (Pop list) does.size does.stands) (sym (pop_fault list does.size s.regs (memory_of s) fault k.sound.words.count w)) tt
         go (Ok r) w = subst (IsOn x is s k at (Pop list) does.size does.stands) (sym (pop_plain list does.size s.regs (memory_of s) r (loaded_all r w) range.2 clear))
-            (record { map = k.corresponds.map; pc = pc_behind x is s k at (Pop list) does.size does.stands; holds = pop_holds r w })
+            (record { map = k.corresponds.map; pc = pc_after x is s k at (Pop list) does.size does.stands; holds = pop_holds r w })
 
   -- ---- into pc
 
@@ -161,7 +161,7 @@ module _ (x : Accepted) (is : IsProgram x) (ranges : AreInRange x) (s : Recorded
     count_is : 4 * length (listed list) ≡ 4 * length low + 4
     count_is = let l = ap length both_lists ∙ length-append low (15 ∷ []) in omega (arith, l)
 
-    -- the fact behind returns well
+    -- the fact after returns well
     well : (d : ℕ) × (d + (4 * length low + 4) ≡ f.depth) × ReturnsWell (moved_to P d f1) back_source
     well = by_after (left x is s k at (Pop list) does.size does.stands).0 (left x is s k at (Pop list) does.size does.stands).1
       where
@@ -208,8 +208,8 @@ module _ (x : Accepted) (is : IsProgram x) (ranges : AreInRange x) (s : Recorded
       -- the word is the return address
       same_word : v ≡ caller.back
       same_word =
-          let known = word_known P f s.first s.segments s.regs at.holds k.whole (only_callers (scene_of x.image at.function) at.marks) high (4 * length low) v e in
-          (subst (λ t. Known P f s.first s.segments s.regs at.holds k.whole (only_callers (scene_of x.image at.function) at.marks) high t v) is_well.link known).1
+          let known = word_known P f s.first s.segments s.regs at.holds k.whole (only_callers (flow_graph_of x.image at.function) at.marks) high (4 * length low) v e in
+          (subst (λ t. Known P f s.first s.segments s.regs at.holds k.whole (only_callers (flow_graph_of x.image at.function) at.marks) high t v) is_well.link known).1
 
       abbrev to_sp : ℕ
       to_sp = ((sp + low_bytes list) % 2 ^ 32 + 4) % 2 ^ 32
@@ -226,7 +226,7 @@ module _ (x : Accepted) (is : IsProgram x) (ranges : AreInRange x) (s : Recorded
           (pop_return list does.size v s.regs (memory_of s) r (loaded_all r w) range.2 set_pc e (omega (arith, same, small)) (omega (arith, same, odd)))
 
       holds2 : Holds P (moved_to P depth f1) s.first s.segments regs
-      holds2 = let b = bounds in let sum = well.1 in behind r w (word_in SP to_sp) depth regs refl (omega (arith, sum, b.0, b.1))
+      holds2 = let b = bounds in let sum = well.1 in after r w (word_in SP to_sp) depth regs refl (omega (arith, sum, b.0, b.1))
 
       sp_is : slice_index regs.r SP ≡ caller.sp
       sp_is = let exact = holds2.describes.sp is_well.below in let none = is_well.depth in omega (arith, exact, none)

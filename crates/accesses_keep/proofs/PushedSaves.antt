@@ -6,10 +6,10 @@ use Rattle.std.specs.Prelude.{Contains, take, option_and_then, option_map}
 use Rattle.std.proofs.lemmas.Bool.Decides.{nat_tests}
 use Rattle.std.proofs.lemmas.List.Folds.{list_any_at}
 use Rattle.steps_keep.specs.frame_facts.declared.straight.Straight.{Straight}
-use Rattle.steps_keep.specs.frame_scene.Scene.{Scene}
+use Rattle.steps_keep.specs.frame_graph.FlowGraph.{FlowGraph}
 use Rattle.steps_keep.specs.frame_reach.Laws.{IsRun, Continues, begins, takes}
 use Rattle.steps_keep.specs.frame_reach.Marks.{Marks, AreMarks}
-use Rattle.steps_keep.specs.frame_scene.Reach.{IsReached}
+use Rattle.steps_keep.specs.frame_graph.Reach.{IsReached}
 use Rattle.steps_keep.specs.frame_facts.declared.facts.Fact.{Fact}
 use Rattle.steps_keep.specs.frame_facts.declared.facts.Source.TheVariants.{Entry, SpAt, Other}
 use Rattle.steps_keep.specs.frame_facts.declared.saves.Save.{Save}
@@ -25,18 +25,18 @@ use Rattle.steps_keep.specs.thumb_core.Words.{listed, words_in}
 use Rattle.steps_keep.specs.frame_facts.declared.facts.TheConstants.{DEEPEST}
 use Rattle.steps_keep.proofs.eh_bus.AccessLaws.{Words}
 use Rattle.steps_keep.specs.frame_check.Pushes.{is_saved}
-use Rattle.steps_keep.specs.frame_scene.declared.places.Standing.TheVariants.{Instruction}
-use Rattle.steps_keep.specs.frame_scene.Places.{standing_at}
+use Rattle.steps_keep.specs.frame_graph.declared.places.Standing.TheVariants.{Instruction}
+use Rattle.steps_keep.specs.frame_graph.Places.{standing_at}
 use Rattle.steps_keep.specs.frame_reach.Prologue.{is_led_to}
 use Rattle.steps_keep.proofs.prologue_states.Straight.{passed, no_straddle, two_or_four, same_stands}
 use Rattle.accesses_keep.proofs.Callers.{grown}
 
 -- ---- a reached place in front of the end of a run is one of the run's
 
-abbrev pub RunAt : Scene → Marks → ℕ → Type 0
+abbrev pub RunAt : FlowGraph → Marks → ℕ → Type 0
 RunAt s m q = (r : Straight) × IsRun s m q r × Continues s m q r
 
-pub run_at : (s : Scene) (m : Marks) (are : AreMarks s m) (p : ℕ) (run : Straight) → IsRun s m p run → (q : ℕ) → IsReached s q → q < p → RunAt s m q
+pub run_at : (s : FlowGraph) (m : Marks) (are : AreMarks s m) (p : ℕ) (run : Straight) → IsRun s m p run → (q : ℕ) → IsReached s q → q < p → RunAt s m q
 run_at s m are _ _ begins q r l = absurd (omega (arith, l))
 run_at s m are _ _ (takes {p} {run} {next} {i} {size} from e free t) q r l = go (run_at s m are p run from)
   where
@@ -133,7 +133,7 @@ saved_is p v c = list_any_at (λ (s : Save). s.offset == v.offset) (saves_of p) 
     (subst (λ (s : Save). (s.offset == v.offset) ≡ true) (sym c.2) (let same : (v.offset == v.offset) ≡ true = grind (arith, nat_tests) in same))
 
 -- a PUSH that a run takes
-pub record Takes (s : Scene) (m : Marks) (p list : ℕ) : Type 0 where
+pub record Takes (s : FlowGraph) (m : Marks) (p list : ℕ) : Type 0 where
   pub run : Straight
   pub from : IsRun s m p run
   pub size : ℕ
@@ -142,7 +142,7 @@ pub record Takes (s : Scene) (m : Marks) (p list : ℕ) : Type 0 where
   pub free : is_led_to m.target p size ≡ false
   pub takes : taken run (Push list) size ≡ Some next
 
-pub takes_it : (s : Scene) (m : Marks) (p list size : ℕ) → standing_at s p ≡ Instruction (Push list) size → RunAt s m p → Takes s m p list
+pub takes_it : (s : FlowGraph) (m : Marks) (p list size : ℕ) → standing_at s p ≡ Instruction (Push list) size → RunAt s m p → Takes s m p list
 takes_it s m p list size e (run, from, (i, n, next, stands, free, t)) =
     let same = same_stands s p i (Push list) n size stands e in
     record {

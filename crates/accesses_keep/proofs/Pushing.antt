@@ -1,4 +1,4 @@
--- PUSH: whatever its new slots are, what every event keeps is kept where the fact behind it holds of the words that it stored.
+-- PUSH: whatever its new slots are, what every event keeps is kept where the fact after it holds of the words that it stored.
 use Rattle.std.proofs.Common.{◌≡◌, ℕ, ◌+◌, ◌-◌, ◌*◌, ◌%◌, ◌^◌, ◌<◌, ◌≤◌, inl, inr, nat_lt, Bool, true, false, cond, List, [], ◌∷◌, ◌++◌, map, filter, length, Option, Some, None, Result, Ok, Err, slice_index, set, refl, sym, ap, subst, ◌∙◌, arith, pos}
 use Rattle.std.specs.Prelude.{option_map, ◌+ℤ◌}
 use Rattle.std.proofs.lemmas.Bool.{cases_lt, le-ltb, lt-ltb}
@@ -34,14 +34,14 @@ use Rattle.steps_keep.specs.frame_facts.declared.saves.Prologue.{Prologue}
 use Rattle.steps_keep.specs.frame_facts.After.{after_of, gone_on}
 use Rattle.steps_keep.specs.frame_facts.Facts.{within}
 use Rattle.steps_keep.specs.frame_facts.Lists.{pushed_to}
-use Rattle.steps_keep.specs.frame_scene.Places.{address_of}
+use Rattle.steps_keep.specs.frame_graph.Places.{address_of}
 use Rattle.steps_keep.specs.frame_check.Accepts.{Accepted}
-use Rattle.steps_keep.specs.frame_check.Roots.{scene_of}
-use Rattle.steps_keep.specs.frame_check.Spots.{look}
-use Rattle.steps_keep.specs.two_machines.Machine.{fell_off, sp_end, leaves_cleanup, settled, saved_words}
+use Rattle.steps_keep.specs.frame_check.Roots.{flow_graph_of}
+use Rattle.steps_keep.specs.frame_check.Roles.{look}
+use Rattle.steps_keep.specs.two_machines.Machine.{fell_off, sp_end, leaves_cleanup, reguarded, saved_words}
 use Rattle.steps_keep.specs.two_machines.Activations.{Activation, Recorded, reg_in, memory_of, freed_in, staying, guarded_of, heads, lists_of, cleanups_in, InProgress}
 use Rattle.steps_keep.specs.two_machines.ActivationLaws.{IsPlain}
-use Rattle.steps_keep.specs.two_machines.ActivationMachine.{settled_in}
+use Rattle.steps_keep.specs.two_machines.ActivationMachine.{reguarded_in}
 use Rattle.steps_keep.specs.two_machines.Checked.{program_of}
 use Rattle.steps_keep.proofs.two_machines.Beyond.{freed_outside}
 use Rattle.steps_keep.proofs.two_machines.CallEvents.{knows}
@@ -55,7 +55,7 @@ use Rattle.steps_keep.specs.stands_for.Holds.{Holds}
 use Rattle.steps_keep.specs.stands_for.Chain.{code, StandsAt}
 use Rattle.steps_keep.specs.stands_for.Cleanups.{IsWithin, AreInProgress}
 use Rattle.steps_keep.specs.stands_for.Stands.{Keeps, IsProgram, OnEvent, DoesAt, Turns}
-use Rattle.accesses_keep.proofs.Accesses.{pc_behind}
+use Rattle.accesses_keep.proofs.Accesses.{pc_after}
 use Rattle.steps_keep.proofs.stands_for.Goes.{chain_top, next_stands}
 use Rattle.steps_keep.proofs.stands_for.Slots.{outer_same, same_slot_words, none_or}
 use Rattle.steps_keep.proofs.stands_for.Onward.{fetch, left}
@@ -77,7 +77,7 @@ module _ (x : Accepted) (is : IsProgram x) (s : Recorded) (k : Keeps x s) (list 
   P = (code x at.function at.marks).prologue
 
   abbrev place : ℕ
-  place = address_of (scene_of x.image at.function) at.place
+  place = address_of (flow_graph_of x.image at.function) at.place
 
   abbrev n : ℕ
   n = length (listed list)
@@ -85,22 +85,22 @@ module _ (x : Accepted) (is : IsProgram x) (s : Recorded) (k : Keeps x s) (list 
   abbrev old : ℕ
   old = reg_in s SP
 
-  -- the depth behind it
-  pub record Behind (g : Fact) : Type 0 where
+  -- the depth after it
+  pub record After (g : Fact) : Type 0 where
     pub depth : ℕ
     pub sum : depth ≡ f.depth + 4 * n
     pub deep : depth ≤ DEEPEST
     pub gives : g ≡ pushed_to P place depth f
 
-  pub is_behind : (g : Fact) → after_of P false place (Push list) f ≡ Ok g → Behind g
-  is_behind g e = go (within (pos f.depth +ℤ pos (4 * n))) refl e
+  pub is_after : (g : Fact) → after_of P false place (Push list) f ≡ Ok g → After g
+  is_after g e = go (within (pos f.depth +ℤ pos (4 * n))) refl e
     where
-      go : (o : Option ℕ) → within (pos f.depth +ℤ pos (4 * n)) ≡ o → gone_on None (option_map (λ d. pushed_to P place d f) o) ≡ Ok g → Behind g
+      go : (o : Option ℕ) → within (pos f.depth +ℤ pos (4 * n)) ≡ o → gone_on None (option_map (λ d. pushed_to P place d f) o) ≡ Ok g → After g
       go None h q = absurd cc
       go (Some d) h q = let v = within_pos (pos f.depth +ℤ pos (4 * n)) d h in record { depth = d; sum = omega (arith, ints, v.0); deep = v.1; gives = cc }
 
-  pub the : Behind (left x is s k at (Push list) does.size does.stands).0
-  the = is_behind (left x is s k at (Push list) does.size does.stands).0 (left x is s k at (Push list) does.size does.stands).1
+  pub the : After (left x is s k at (Push list) does.size does.stands).0
+  the = is_after (left x is s k at (Push list) does.size does.stands).0 (left x is s k at (Push list) does.size does.stands).1
 
   abbrev pub a : ℕ
   a = (old + (2 ^ 32 - bytes_of list)) % 2 ^ 32
@@ -128,11 +128,11 @@ module _ (x : Accepted) (is : IsProgram x) (s : Recorded) (k : Keeps x s) (list 
       let e = new_is in
       (omega (arith, e, t.sum, t.deep, home.low, low, small, quad), omega (arith, e, t.sum, t.deep, home.low, low, small, quad), omega (arith, e, quad, t.sum), small)
 
-  level : nat_lt old new ≡ false
-  level = let w = falls in le-ltb old new (omega (arith, w.0))
+  same_sp : nat_lt old new ≡ false
+  same_sp = let w = falls in le-ltb old new (omega (arith, w.0))
 
   abbrev pub saves : ℕ
-  saves = (look x.spots s.regs.pc).saves
+  saves = (look x.roles s.regs.pc).saves
 
   abbrev pub ws : List ℕ
   ws = saved_words saves n new
@@ -180,9 +180,9 @@ module _ (x : Accepted) (is : IsProgram x) (s : Recorded) (k : Keeps x s) (list 
     same_beyond : staying s.home old new s.beyond ≡ s.beyond
     same_beyond = let top = chain_top x s.segments s.home s.first.caller s.outer k.chain in let h = high in freed_outside s.home old new s.beyond (omega (arith, h, top)) k.beyond
 
-    settled_is : settled_in saves n old new (record s { regs = regs; segments = m.segments }) ≡ u
-    settled_is =
-        ap (λ (b : Bool). let r : Recorded = record u { first = with_gs s.first (cond b (filter (stays_guarded s.home new) gs) gs); outer = map (λ (b : Activation). freed_in s.home old new b) s.outer; beyond = staying s.home old new s.beyond } in r) level
+    reguarded_is : reguarded_in saves n old new (record s { regs = regs; segments = m.segments }) ≡ u
+    reguarded_is =
+        ap (λ (b : Bool). let r : Recorded = record u { first = with_gs s.first (cond b (filter (stays_guarded s.home new) gs) gs); outer = map (λ (b : Activation). freed_in s.home old new b) s.outer; beyond = staying s.home old new s.beyond } in r) same_sp
         ∙ ap (λ (o : List Activation). let r : Recorded = record u { outer = o; beyond = staying s.home old new s.beyond } in r) same_outer
         ∙ ap (λ (b : List ℕ). let r : Recorded = record u { beyond = b } in r) same_beyond
 
@@ -196,13 +196,13 @@ module _ (x : Accepted) (is : IsProgram x) (s : Recorded) (k : Keeps x s) (list 
         let guarded_all : IsMap (guard_all ws (record { segments = m.segments; guards = insert_all (guarded_of s.beyond (s.first ∷ s.outer)) []; home = s.home })) =
         all_guarded ws (record { segments = m.segments; guards = insert_all (guarded_of s.beyond (s.first ∷ s.outer)) []; home = s.home })
         (λ g h. let w = in_frame g h in (w.2, omega (arith, w.0, low, home.low), omega (arith, w.1, top, above, home.high))) base_is in
-        let settled_map : IsMap (settled saves n old new (record { segments = m.segments; guards = insert_all (guarded_of s.beyond (s.first ∷ s.outer)) []; home = s.home })) =
+        let reguarded_map : IsMap (reguarded saves n old new (record { segments = m.segments; guards = insert_all (guarded_of s.beyond (s.first ∷ s.outer)) []; home = s.home })) =
         subst (λ (b : Bool). IsMap (cond b (released (guard_all ws (record { segments = m.segments; guards = insert_all (guarded_of s.beyond (s.first ∷ s.outer)) []; home = s.home })) new)
-        (guard_all ws (record { segments = m.segments; guards = insert_all (guarded_of s.beyond (s.first ∷ s.outer)) []; home = s.home })))) (sym level) guarded_all in
+        (guard_all ws (record { segments = m.segments; guards = insert_all (guarded_of s.beyond (s.first ∷ s.outer)) []; home = s.home })))) (sym same_sp) guarded_all in
         subst (λ (b : List ℕ). IsMap (record { segments = m.segments; guards = insert_all (guarded_of b (with_gs s.first gs ∷ s.outer)) []; home = s.home })) same_beyond
         (subst (λ (o : List Activation). IsMap (record { segments = m.segments; guards = insert_all (guarded_of (staying s.home old new s.beyond) (with_gs s.first gs ∷ o)) []; home = s.home })) same_outer
-        (subst (λ (b : Bool). IsMap (record { segments = m.segments; guards = insert_all (guarded_of (staying s.home old new s.beyond) (with_gs s.first (cond b (filter (stays_guarded s.home new) gs) gs) ∷ map (λ (b : Activation). freed_in s.home old new b) s.outer)) []; home = s.home })) level
-        (subst IsMap (same_slots s.home m.segments saves n old new s.first s.outer s.beyond) settled_map)))
+        (subst (λ (b : Bool). IsMap (record { segments = m.segments; guards = insert_all (guarded_of (staying s.home old new s.beyond) (with_gs s.first (cond b (filter (stays_guarded s.home new) gs) gs) ∷ map (λ (b : Activation). freed_in s.home old new b) s.outer)) []; home = s.home })) same_sp
+        (subst IsMap (same_slots s.home m.segments saves n old new s.first s.outer s.beyond) reguarded_map)))
 
     push_keeps : (g : Fact) → after_of P false place (Push list) f ≡ Ok g → s.home.0 ≤ new → Holds P g (with_gs s.first gs) m.segments regs → begins_function x.image.functions regs.pc ≡ false → Keeps x u
     push_keeps g e low holds fresh = record {
@@ -217,7 +217,7 @@ module _ (x : Accepted) (is : IsProgram x) (s : Recorded) (k : Keeps x s) (list 
       high = high;
       whole = k.whole;
       slots = within_frame;
-      first = λ reached. next_stands x is s k at (Push list) does.size does.stands g regs m.segments (with_gs s.first gs) refl refl e (pc_behind x is s k at (Push list) does.size does.stands) holds reached fresh;
+      first = λ reached. next_stands x is s k at (Push list) does.size does.stands g regs m.segments (with_gs s.first gs) refl refl e (pc_after x is s k at (Push list) does.size does.stands) holds reached fresh;
       beyond = k.beyond;
       chain = chain_moves s.segments m.segments x s.home s.first.caller s.outer words.1 k.chain;
       cleanups = in_progress x s u gs new refl refl closed (moves new) words.1 old new s.cleanups
@@ -234,12 +234,12 @@ module _ (x : Accepted) (is : IsProgram x) (s : Recorded) (k : Keeps x s) (list 
       by_tests None t =
           let fetched = fetch x is s k at (Push list) does.size does.stands in
           let count : pushes_some (instr_at (memory_of s) s.regs.pc) ≡ n = ap pushes_some fetched.stands in
-          let two = none_or (sp_end (innermost_in (cleanups_in s.cleanups)) s.home.0 s.regs.pc old new) (acts.way_end_of (program_of x) s (branches_some (instr_at (memory_of s) s.regs.pc) s.regs) Done regs) t in
+          let two = none_or (sp_end (innermost_in (cleanups_in s.cleanups)) s.home.0 s.regs.pc old new) (acts.control_flow_trap_of (program_of x) s (branches_some (instr_at (memory_of s) s.regs.pc) s.regs) Done regs) t in
           let straight : branches_some (instr_at (memory_of s) s.regs.pc) s.regs ≡ false = ap (λ (o : Option (Instr × ℕ)). branches_some o s.regs) fetched.stands in
           let fell : fell_off (program_of x) s.regs.pc regs.pc ≡ None = subst (λ (b : Bool). cond b None (fell_off (program_of x) s.regs.pc regs.pc) ≡ None) straight two.1 in
           let low = sp_tests (leaves_cleanup (innermost_in (cleanups_in s.cleanups)) old new) two.0 in
           let l = left x is s k at (Push list) does.size does.stands in
-          subst (Keeps x) (sym (ap (λ (c : ℕ). settled_in saves c old new (record s { regs = regs; segments = m.segments })) count ∙ settled_is))
+          subst (Keeps x) (sym (ap (λ (c : ℕ). reguarded_in saves c old new (record s { regs = regs; segments = m.segments })) count ∙ reguarded_is))
           (push_keeps l.0 l.1 low (holds l.0 l.1) (not_start (begins_function x.image.functions regs.pc) fell))
         where
           not_start : (b : Bool) → cond b (Some (the_end.Trap kind.FellOff regs.pc s.regs.pc)) None ≡ None → b ≡ false
@@ -265,7 +265,7 @@ module _ (x : Accepted) (is : IsProgram x) (s : Recorded) (k : Keeps x s) (list 
         keeps = keeps_on;
       }
 
-  -- A push whose fact behind holds of what it stored is the same in both machines, and keeps.
+  -- A push whose fact after holds of what it stored is the same in both machines, and keeps.
   pub push_turns : ((m : Memory) → store_run (memory_of s) a (words_of list s.regs) ≡ (Ok tt, m) → (g : Fact) → after_of P false place (Push list) f ≡ Ok g → Holds P g (with_gs s.first gs) m.segments regs)
       → (input : List ℕ) → Turns x s input
   push_turns holds input = go (store_run (memory_of s) a (words_of list s.regs)) refl

@@ -26,12 +26,12 @@ use Rattle.steps_keep.specs.thumb_core.declared.regs.CoreTrap.TheVariants.{EvenT
 use Rattle.steps_keep.specs.frame_facts.declared.cause.FrameCause.TheVariants.{IndirectBranch, ReturnState}
 use Rattle.steps_keep.specs.frame_facts.After.{after_of}
 use Rattle.steps_keep.specs.frame_facts.Machine.{Means}
-use Rattle.steps_keep.specs.frame_scene.declared.places.Standing.TheVariants.{Instruction}
-use Rattle.steps_keep.specs.frame_scene.Places.{address_of, standing_at}
+use Rattle.steps_keep.specs.frame_graph.declared.places.Standing.TheVariants.{Instruction}
+use Rattle.steps_keep.specs.frame_graph.Places.{address_of, standing_at}
 use Rattle.steps_keep.proofs.frame_reach.Stands.{stands_inside}
 use Rattle.steps_keep.specs.frame_check.Accepts.{Accepted}
 use Rattle.steps_keep.specs.frame_check.Judged.{IsPlaced}
-use Rattle.steps_keep.specs.frame_check.Roots.{scene_of}
+use Rattle.steps_keep.specs.frame_check.Roots.{flow_graph_of}
 use Rattle.steps_keep.proofs.frame_check.Wells.{placed_at}
 use Rattle.steps_keep.specs.two_machines.Machine.{machine_event}
 use Rattle.steps_keep.specs.two_machines.ActivationMachine.{recorded_event, returned}
@@ -107,8 +107,8 @@ module _ (c : Caller) (r : List ℕ) (count : length c.saved ≡ 8) (fifteen : l
   last_same (suc (suc zero)) h = refl
   last_same (suc (suc (suc i))) h = absurd (omega (arith, h))
 
-  behind_four : (j : ℕ) → j < 11 → get_or (c.saved ++ last) j 0 ≡ get_or r (j + 4) 0
-  behind_four j h = elim (cases_lt j 8) [
+  after_four : (j : ℕ) → j < 11 → get_or (c.saved ++ last) j 0 ≡ get_or r (j + 4) 0
+  after_four j h = elim (cases_lt j 8) [
     | inl low ↦ get_or_append_left c.saved last 0 j (let l : j < length c.saved = omega (arith, low, count) in l) ∙ sym (saved j low)
     | inr high ↦ get_or-append_right c.saved last 8 j 0 count high ∙ last_same (j - 8) (omega (arith, h, high)) ∙ ap (λ n. get_or r n 0) (let n : j - 8 + 12 ≡ j + 4 = omega (arith, high) in n)
   ]
@@ -118,7 +118,7 @@ module _ (c : Caller) (r : List ℕ) (count : length c.saved ≡ 8) (fifteen : l
   each (suc zero) h = refl
   each (suc (suc zero)) h = refl
   each (suc (suc (suc zero))) h = refl
-  each (suc (suc (suc (suc j)))) h = behind_four j (omega (arith, h)) ∙ ap (λ n. get_or r n 0) (let n : j + 4 ≡ suc (suc (suc (suc j))) = omega arith in n)
+  each (suc (suc (suc (suc j)))) h = after_four j (omega (arith, h)) ∙ ap (λ n. get_or r n 0) (let n : j + 4 ≡ suc (suc (suc (suc j))) = omega arith in n)
 
   pub caller_same : with_caller c r ≡ r
   caller_same =
@@ -128,13 +128,13 @@ module _ (c : Caller) (r : List ℕ) (count : length c.saved ≡ 8) (fifteen : l
 -- ---- BX
 
 module _ (x : Accepted) (is : IsProgram x) (s : Recorded) (k : Keeps x s) (at : StandsAt x s.first s.segments s.regs s.regs.pc) (m size : ℕ)
-    (stands : standing_at (scene_of x.image at.function) at.place ≡ Instruction (Bx m) size) where
+    (stands : standing_at (flow_graph_of x.image at.function) at.place ≡ Instruction (Bx m) size) where
   abbrev caller : Caller
   caller = s.first.caller
 
-  left : (g : Fact) × (after_of (code x at.function at.marks).prologue false (address_of (scene_of x.image at.function) at.place) (Bx m) at.fact ≡ Ok g)
+  left : (g : Fact) × (after_of (code x at.function at.marks).prologue false (address_of (flow_graph_of x.image at.function) at.place) (Bx m) at.fact ≡ Ok g)
   left = leaves (code x at.function at.marks) at.place at.fact (none_stands x at.function at.marks is.sound at.of.among at.of.are) at.state (Bx m)
-      (stands_instruction (scene_of x.image at.function) at.place (Bx m) size stands)
+      (stands_instruction (flow_graph_of x.image at.function) at.place (Bx m) size stands)
 
   well : ReturnsWell at.fact (source at.fact m)
   well = go (is_entry 14 (source at.fact m)) (returns_well at.fact (source at.fact m)) refl left.1
@@ -193,7 +193,7 @@ module _ (x : Accepted) (is : IsProgram x) (s : Recorded) (k : Keeps x s) (at : 
   called_low a more e f =
       let out : StandsAtCall x s.segments caller a = (subst (Chain x s.segments s.home caller) e k.chain).0 in
       let placed : IsPlaced out.function = subst IsPlaced out.of.among.2 (placed_at x.image out.of.among.0 out.function is.image out.of.among.1) in
-      let inside = stands_inside (scene_of x.image out.function) out.place out.instr out.size out.stands in
+      let inside = stands_inside (flow_graph_of x.image out.function) out.place out.instr out.size out.stands in
       omega (arith, out.back, placed.low, inside, f)
 
   pub finds : FindsCaller s caller.back (with_pc s.regs caller.back)

@@ -26,16 +26,16 @@ use Rattle.steps_keep.specs.thumb_core.declared.regs.Stepped.TheVariants.{Done}
 use Rattle.steps_keep.specs.frame_facts.declared.facts.TheConstants.{DEEPEST}
 use Rattle.steps_keep.specs.frame_facts.declared.facts.Source.{Source}
 use Rattle.steps_keep.specs.frame_facts.Data.{copied, sp_set}
-use Rattle.steps_keep.specs.frame_scene.declared.places.Standing.TheVariants.{Instruction}
-use Rattle.steps_keep.specs.frame_scene.Places.{address_of, standing_at}
+use Rattle.steps_keep.specs.frame_graph.declared.places.Standing.TheVariants.{Instruction}
+use Rattle.steps_keep.specs.frame_graph.Places.{address_of, standing_at}
 use Rattle.steps_keep.specs.frame_check.Accepts.{Accepted}
-use Rattle.steps_keep.specs.frame_check.Roots.{scene_of}
+use Rattle.steps_keep.specs.frame_check.Roots.{flow_graph_of}
 use Rattle.steps_keep.specs.thumb_isa.declared.instr.Instr.TheVariants.{AddSp, SubSp, MovHigh}
 use Rattle.steps_keep.specs.stands_for.Holds.{Holds}
 use Rattle.steps_keep.proofs.prologue_states.Ordered.{AreOrdered, few_within, range_down, are_ordered, within_pos}
 use Rattle.steps_keep.specs.stands_for.Chain.{code, StandsAt}
 use Rattle.steps_keep.specs.stands_for.Stands.{Keeps, IsProgram, DoesAt, Turns}
-use Rattle.accesses_keep.proofs.Accesses.{pc_behind, top}
+use Rattle.accesses_keep.proofs.Accesses.{pc_after, top}
 use Rattle.steps_keep.proofs.stands_for.Onward.{IsOn, on_turns}
 use Rattle.steps_keep.specs.accepted_code.Bounds.{AreInRange}
 use Rattle.accesses_keep.specs.Events.{IsStack}
@@ -86,7 +86,7 @@ gone None g e = absurd cc
 gone (Some f) g e = let same : f ≡ g = cc in ap (λ (h : Fact). Some h) same
 
 module _ (x : Accepted) (is : IsProgram x) (ranges : AreInRange x) (s : Recorded) (k : Keeps x s) (at : StandsAt x s.first s.segments s.regs s.regs.pc) (i : Instr) (size : ℕ)
-    (stands : standing_at (scene_of x.image at.function) at.place ≡ Instruction i size) where
+    (stands : standing_at (flow_graph_of x.image at.function) at.place ≡ Instruction i size) where
   abbrev f : Fact
   f = at.fact
 
@@ -94,15 +94,15 @@ module _ (x : Accepted) (is : IsProgram x) (ranges : AreInRange x) (s : Recorded
   P = (code x at.function at.marks).prologue
 
   abbrev place : ℕ
-  place = address_of (scene_of x.image at.function) at.place
+  place = address_of (flow_graph_of x.image at.function) at.place
 
   pub order : AreOrdered P
-  order = are_ordered (scene_of x.image at.function) at.marks (λ p j n e. range_down j (ranges at.function p j n at.of.among e))
+  order = are_ordered (flow_graph_of x.image at.function) at.marks (λ p j n e. range_down j (ranges at.function p j n at.of.among e))
 
   -- sp comes to lie at a depth, by this value
   pub moves_on : (w : ℕ) → word_in SP w % 4 ≡ 0 → ((g : Fact) → after_of P false place i f ≡ Ok g → Holds P g s.first s.segments (with_next size (with_reg s.regs SP w)))
       → IsOn x is s k at i size stands (Done, with_next size (with_reg s.regs SP w), memory_of s)
-  moves_on w aligned holds = record { map = k.corresponds.map; pc = pc_behind x is s k at i size stands; holds = holds }
+  moves_on w aligned holds = record { map = k.corresponds.map; pc = pc_after x is s k at i size stands; holds = holds }
 
   pub to_depth_holds : (w d : ℕ) → word_in SP w + d ≡ reg_in s SP + f.depth → Holds P (moved_to P d f) s.first s.segments (with_next size (with_reg s.regs SP w))
   to_depth_holds w d sum =
@@ -191,12 +191,12 @@ stack_turns x s (AddSp (negsuc n)) input is ranges k does what = absurd (ranges 
 stack_turns x s (AddSp (pos n)) input is ranges k does what =
     let r = ranges does.at.function does.at.place (AddSp (pos n)) does.size does.at.of.among does.stands in
     on_turns x is s k does.at (AddSp (pos n)) does.size does.stands refl refl refl refl input
-    (record { map = k.corresponds.map; pc = pc_behind x is s k does.at (AddSp (pos n)) does.size does.stands; holds = add_holds x is ranges s k does.at (AddSp (pos n)) does.size does.stands n r.0 r.1 }) does.reached
+    (record { map = k.corresponds.map; pc = pc_after x is s k does.at (AddSp (pos n)) does.size does.stands; holds = add_holds x is ranges s k does.at (AddSp (pos n)) does.size does.stands n r.0 r.1 }) does.reached
 stack_turns x s (SubSp (negsuc n)) input is ranges k does what = absurd (ranges does.at.function does.at.place (SubSp (negsuc n)) does.size does.at.of.among does.stands)
 stack_turns x s (SubSp (pos n)) input is ranges k does what =
     let r = ranges does.at.function does.at.place (SubSp (pos n)) does.size does.at.of.among does.stands in
     on_turns x is s k does.at (SubSp (pos n)) does.size does.stands refl refl refl refl input
-    (record { map = k.corresponds.map; pc = pc_behind x is s k does.at (SubSp (pos n)) does.size does.stands; holds = sub_holds x is ranges s k does.at (SubSp (pos n)) does.size does.stands n r.0 r.1 }) does.reached
+    (record { map = k.corresponds.map; pc = pc_after x is s k does.at (SubSp (pos n)) does.size does.stands; holds = sub_holds x is ranges s k does.at (SubSp (pos n)) does.size does.stands n r.0 r.1 }) does.reached
 stack_turns x s (MovHigh d m) input is ranges k does what = go d what does
   where
     go : (e : ℕ) → e ≡ 13 → DoesAt x s (MovHigh e m) → Turns x s input
@@ -204,5 +204,5 @@ stack_turns x s (MovHigh d m) input is ranges k does what = go d what does
       where
         to_sp : DoesAt x s (MovHigh 13 m) → Turns x s input
         to_sp at = on_turns x is s k at.at (MovHigh 13 m) at.size at.stands refl refl refl refl input
-            (record { map = k.corresponds.map; pc = pc_behind x is s k at.at (MovHigh 13 m) at.size at.stands; holds = mov_holds x is ranges s k at.at (MovHigh 13 m) at.size at.stands m }) at.reached
+            (record { map = k.corresponds.map; pc = pc_after x is s k at.at (MovHigh 13 m) at.size at.stands; holds = mov_holds x is ranges s k at.at (MovHigh 13 m) at.size at.stands m }) at.reached
 stack_turns x s i input is ranges k does what = absurd what

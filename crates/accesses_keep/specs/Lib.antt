@@ -2,7 +2,7 @@ pub use Rattle.steps_keep.specs.two_machines
 pub use Rattle.steps_keep.specs.frame_check
 pub use Rattle.steps_keep.specs.frame_flow
 pub use Rattle.steps_keep.specs.frame_reach
-pub use Rattle.steps_keep.specs.frame_scene
+pub use Rattle.steps_keep.specs.frame_graph
 pub use Rattle.steps_keep.specs.frame_facts
 pub use Rattle.steps_keep.specs.flow
 pub use Rattle.steps_keep.specs.eh_gates

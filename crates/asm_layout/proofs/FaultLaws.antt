@@ -1,15 +1,15 @@
--- Laws of the order of refusals: lists of them may be taken one behind the other, or each by itself.
+-- Laws of the order of refusals: lists of them may be taken one after the other, or each by itself.
 use Rattle.std.specs.Prelude.{◌≡◌, ◌++◌, List, [], ◌∷◌, Option, Some, None}
 use Rattle.std.proofs.Common.{refl, ap, arith, ◌∙◌, sym}
 use Rattle.std.proofs.lemmas.Bool.Decides.{nat_tests}
 use Rattle.asm_layout.specs.declared.fault.AsmFault.{AsmFault}
 use Rattle.asm_layout.specs.Faults.{first_with, first_of, first_of_all}
 
--- lists one behind the other
-pub first_behind : (so_far : Option AsmFault) (faults more : List AsmFault) → first_of_all so_far (faults ++ more) ≡ first_of_all (first_of_all so_far faults) more
+-- lists one after the other
+pub first_after : (so_far : Option AsmFault) (faults more : List AsmFault) → first_of_all so_far (faults ++ more) ≡ first_of_all (first_of_all so_far faults) more
 unfolding first_of_all
-first_behind so_far [] more = refl
-first_behind so_far (fault ∷ faults) more = first_behind (first_with so_far fault) faults more
+first_after so_far [] more = refl
+first_after so_far (fault ∷ faults) more = first_after (first_with so_far fault) faults more
 
 -- of three refusals, two of which are compared first
 regrouped : (so_far : Option AsmFault) (fault : AsmFault) (more : Option AsmFault) → first_of (first_with so_far fault) more ≡ first_of so_far (first_of (Some fault) more)

@@ -18,7 +18,7 @@ module _ (fault : AsmFault) (more : List AsmFault) (first : AsmFault) where
   further : is_before first fault ≡ true → StandsFirst more first → StandsFirst (fault ∷ more) first
   further b g = record {
     front = fault ∷ g.front;
-    behind = g.behind;
+    after = g.after;
     split = ap (λ l. fault ∷ l) g.split;
     before = and_from _ _ b g.before;
     not_after = g.not_after;
@@ -27,7 +27,7 @@ module _ (fault : AsmFault) (more : List AsmFault) (first : AsmFault) where
   stands : Found fault more first → StandsFirst (fault ∷ more) first
   stands (inl s) = record {
     front = [];
-    behind = more;
+    after = more;
     split = ap (λ f. f ∷ more) (sym s.0);
     before = refl;
     not_after = ap (λ f. list_all (λ other. not (is_before other f)) more) s.0 ∙ s.1;

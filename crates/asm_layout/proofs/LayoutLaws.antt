@@ -25,9 +25,9 @@ use Rattle.asm_layout.specs.PlacedStmt.{PlacedStmt}
 use Rattle.asm_layout.specs.Placing.{placed_of}
 use Rattle.asm_layout.specs.declared.fault.AsmWhat.TheVariants.{DuplicateLabel}
 use Rattle.asm_layout.specs.Faults.{fault_if, first_of_all}
-use Rattle.asm_layout.proofs.FaultLaws.{first_behind}
-use Rattle.asm_layout.specs.Labels.{Named, find, is_among, new_labels, labels_in, labelled, named_in, size_by, size_said, function_from, global_by, label_faults, names_behind, duplicates_from}
-use Rattle.asm_layout.specs.LabelSteps.{fresh, sized, labels_behind, defines_again, described_by, described}
+use Rattle.asm_layout.proofs.FaultLaws.{first_after}
+use Rattle.asm_layout.specs.Labels.{Named, find, is_among, new_labels, labels_in, labelled, named_in, size_by, size_said, function_from, global_by, label_faults, names_after, duplicates_from}
+use Rattle.asm_layout.specs.LabelSteps.{fresh, sized, labels_after, defines_again, described_by, described}
 
 abbrev pub Entry : Type 0
 Entry = List ℕ × Label
@@ -51,7 +51,7 @@ map_after g f (x ∷ xs) = λ j. g (f x) ∷ map_after g f xs j
 
 -- the rest of a list from its next element on
 pub drop-next : {A : Type 0} (xs : List A) (i : ℕ) (x : A) → i < length xs → x ≡ get_or xs i x → x ∷ drop (i + 1) xs ≡ drop i xs
-drop-next xs i x within is = ap (λ y. y ∷ drop (i + 1) xs) is ∙ sym (drop_more xs i x within)
+drop-next xs i x in_section is = ap (λ y. y ∷ drop (i + 1) xs) is ∙ sym (drop_more xs i x in_section)
 
 pub above-zero : (n : ℕ) → nat_lt 0 n ≡ not (n == 0)
 above-zero n = grind (arith, nat_tests)
@@ -94,17 +94,17 @@ module _ (q : List ℕ) (changed : Bool → Entry → Label) (kept : (e : Entry)
         | inr s ↦ rw s (λ j. passed e s j ∷ set_value-map es distinct.1 v (rw s at is) j)
       ]
 
--- the labels behind a statement
+-- the labels after a statement
 
--- behind a statement that is no label and no `.size`
+-- after a statement that is no label and no `.size`
 pub nothing_said : (es : List Entry) (kind : StmtKind) (place : Place) → ((name : List ℕ) → kind ≡ DefinesLabel name → ⊥) → ((name : List ℕ) → kind ≡ Size name → ⊥)
-    → (defines_again (named_in es) kind ≡ false) × (labels_behind es kind place ≡ map (λ e. e) es ++ [])
+    → (defines_again (named_in es) kind ≡ false) × (labels_after es kind place ≡ map (λ e. e) es ++ [])
 nothing_said es (DefinesLabel name) place label size = absurd (label name refl)
 nothing_said es (Size name) place label size = absurd (size name refl)
 nothing_said es _ place label size = (refl, refl)
 
-pub named_in-behind : (es : List Entry) (kind : StmtKind) (place : Place) → named_in (labels_behind es kind place) ≡ named_in es ++ new_labels (named_in es) kind place
-named_in-behind es kind place = simp (map-append, map_after, map-id)
+pub named_in-following : (es : List Entry) (kind : StmtKind) (place : Place) → named_in (labels_after es kind place) ≡ named_in es ++ new_labels (named_in es) kind place
+named_in-following es kind place = simp (map-append, map_after, map-id)
 
 -- names that aren't among labels
 
@@ -132,12 +132,12 @@ labels_alike f g labels (p ∷ more) alike =
     let new = new_labels labels p.stmt.kind p.at in
     simp map-append (λ i. new_alike f g labels p.stmt.kind p.at alike i ++ labels_alike f g (labels ++ new) more (λ l free. alike l (is_among-before l.name labels new free)) i)
 
--- the labels behind statements
+-- the labels after statements
 unfoldable pub labels_run : List Entry → List PlacedStmt → List Entry
 labels_run es [] = es
-labels_run es (p ∷ more) = labels_run (labels_behind es p.stmt.kind p.at) more
+labels_run es (p ∷ more) = labels_run (labels_after es p.stmt.kind p.at) more
 
--- a label of some size so far, with what the statements behind say of its size
+-- a label of some size so far, with what the statements after say of its size
 abbrev pub with_rest : List Named → List PlacedStmt → Entry → Entry
 with_rest labels rest e = (e.0, record e.1 { size = size_said e.0 labels e.1.size rest })
 
@@ -152,10 +152,10 @@ labels_run-is es (p ∷ more) =
     let tail = labels_in (labels ++ new) more in
     let now = with_rest labels (p ∷ more) in
     let after = with_rest (labels ++ new) more in
-    let regrouped : map after (labels_behind es p.stmt.kind p.at) ++ map (λ n. after (fresh n)) tail ≡ map now es ++ map (λ n. after (fresh n)) (new ++ tail) =
+    let regrouped : map after (labels_after es p.stmt.kind p.at) ++ map (λ n. after (fresh n)) tail ≡ map now es ++ map (λ n. after (fresh n)) (new ++ tail) =
     simp (map-append, map_after, append_assoc) in
-    labels_run-is (labels_behind es p.stmt.kind p.at) more
-    ∙ ap (λ l. map (with_rest l more) (labels_behind es p.stmt.kind p.at) ++ map (λ n. with_rest l more (fresh n)) (labels_in l more)) (named_in-behind es p.stmt.kind p.at)
+    labels_run-is (labels_after es p.stmt.kind p.at) more
+    ∙ ap (λ l. map (with_rest l more) (labels_after es p.stmt.kind p.at) ++ map (λ n. with_rest l more (fresh n)) (labels_in l more)) (named_in-following es p.stmt.kind p.at)
     ∙ regrouped
     ∙ ap (λ l. map now es ++ l) (sym (labels_alike (λ n. now (fresh n)) (λ n. after (fresh n)) labels (p ∷ more)
     (λ l free. ap (λ n. (l.name, record (fresh l).1 { size = size_said l.name (labels ++ new) n more })) (size_by-unnamed l.name labels p.stmt.kind p.at free))))
@@ -184,15 +184,15 @@ label_faults-are : (es : List Entry) (line : ℕ) (kind : StmtKind) → label_fa
 label_faults-are es line (DefinesLabel name) = simp map_after
 label_faults-are es line _ = refl
 
-names_behind-are : (es : List Entry) (kind : StmtKind) (place : Place) → names_behind (keys_of es) kind ≡ keys_of (labels_behind es kind place)
-names_behind-are es (DefinesLabel name) place = simp (map-append, map_after) (grind (arith, append-nil (keys_of es)))
-names_behind-are es kind place = simp (append-nil, map_after)
+names_after-are : (es : List Entry) (kind : StmtKind) (place : Place) → names_after (keys_of es) kind ≡ keys_of (labels_after es kind place)
+names_after-are es (DefinesLabel name) place = simp (map-append, map_after) (grind (arith, append-nil (keys_of es)))
+names_after-are es kind place = simp (append-nil, map_after)
 
 -- one statement on
 pub first_duplicate-more : (so_far : Option AsmFault) (es : List Entry) (s : Stmt) (place : Place) (more : List Stmt)
-    → first_of_all (first_of_all so_far (fault_if (defines_again (named_in es) s.kind) s.line DuplicateLabel)) (duplicates_from (keys_of (labels_behind es s.kind place)) more) ≡ first_of_all so_far (duplicates_from (keys_of es) (s ∷ more))
+    → first_of_all (first_of_all so_far (fault_if (defines_again (named_in es) s.kind) s.line DuplicateLabel)) (duplicates_from (keys_of (labels_after es s.kind place)) more) ≡ first_of_all so_far (duplicates_from (keys_of es) (s ∷ more))
 unfolding duplicates_from
-first_duplicate-more so_far es s place more = simp (label_faults-are, names_behind-are es s.kind place, first_behind)
+first_duplicate-more so_far es s place more = simp (label_faults-are, names_after-are es s.kind place, first_after)
 
 -- labels with their sizes and with what directives say are labels with all that is said of them
 pub labelled-from_sized : (entries : List (Option EntryWords)) (stmts : List Stmt) (labels : List Named) → map (described stmts) (map (sized (placed_of entries stmts)) labels) ≡ map (labelled entries stmts) labels

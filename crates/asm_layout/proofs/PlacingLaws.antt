@@ -1,4 +1,4 @@
--- Walks once, and words at their places: where the pools to come begin is known behind the walk.
+-- Walks once, and words at their places: where the pools to come begin is known after the walk.
 use Rattle.std.proofs.Common.{◌≡◌, ℕ, Bool, false, List, [], ◌∷◌, ◌++◌, ◌+◌, ◌<◌, length, get_or, take, drop, set, append_assoc, map, Option, Some, option_map, inl, inr, refl, ap, arith}
 use Rattle.std.proofs.lemmas.Bool.{cases_Bool}
 use Rattle.std.proofs.lemmas.Bool.Decides.{nat_tests}
@@ -12,8 +12,8 @@ use Rattle.asm_layout.specs.declared.walk.Walk.{Walk}
 use Rattle.asm_layout.specs.Words.{word_of}
 use Rattle.asm_layout.specs.Sizes.{sum_64}
 use Rattle.asm_layout.specs.Labels.{stmt_of}
-use Rattle.asm_layout.specs.Walks.{next, cursor_behind, is_empty, ends_pool, pool_with, pool_behind, pools_if, pools_from, coming_pool}
-use Rattle.asm_layout.specs.Placing.{word_offset, word_place, function_puts, puts_at, stood_from, placed_from, moved_word, moved, has_words, puts_pool, places_behind, resolved}
+use Rattle.asm_layout.specs.Walks.{next, cursor_after, is_empty, ends_pool, pool_with, pool_after, pools_if, pools_from, coming_pool}
+use Rattle.asm_layout.specs.Placing.{word_offset, word_place, function_puts, puts_at, stood_from, placed_from, moved_word, with_pool_place, has_words, puts_pool, places_after, resolved}
 use Rattle.asm_layout.specs.PlacedStmt.{PlacedStmt}
 use Rattle.asm_layout.proofs.LayoutLaws.{drop-next}
 
@@ -21,7 +21,7 @@ use Rattle.asm_layout.proofs.LayoutLaws.{drop-next}
 
 -- a statement that is no `.pool`
 pub no_pool : (entries : List (Option EntryWords)) (walk : Walk) (kind : StmtKind) → (kind ≡ Pool → ⊥)
-    → (record { at = cursor_behind entries walk.at kind; pool = pool_behind walk kind } ≡ next entries walk kind) × (function_puts walk.at kind ≡ puts_at walk kind)
+    → (record { at = cursor_after entries walk.at kind; pool = pool_after walk kind } ≡ next entries walk kind) × (function_puts walk.at kind ≡ puts_at walk kind)
 no_pool entries walk Pool other = absurd (other refl)
 no_pool entries walk _ other = (refl, refl)
 
@@ -71,9 +71,9 @@ ends_there walk Pool = grind arith
 ends_there walk FnStart = grind arith
 ends_there walk _ = refl
 
--- the pools that come behind a statement
-pools_behind : (ends : Bool) (walk : Walk) (later : List ℕ) → places_behind (pools_if ends walk ++ later) ends ≡ later
-pools_behind ends walk later = grind arith
+-- the pools that come after a statement
+pools_after : (ends : Bool) (walk : Walk) (later : List ℕ) → places_after (pools_if ends walk ++ later) ends ≡ later
+pools_after ends walk later = grind arith
 
 -- ---- all statements
 
@@ -82,7 +82,7 @@ pub resolved-is : (entries : List (Option EntryWords)) (walk : Walk) (stmts : Li
 unfolding resolved stood_from placed_from pools_from
 resolved-is entries walk [] = refl
 resolved-is entries walk (stmt ∷ more) =
-    rw (word_coming entries walk stmt more, ends_there walk stmt.kind, pools_behind (ends_pool walk stmt.kind) walk (pools_from entries (next entries walk stmt.kind) more), resolved-is entries (next entries walk stmt.kind) more)
+    rw (word_coming entries walk stmt more, ends_there walk stmt.kind, pools_after (ends_pool walk stmt.kind) walk (pools_from entries (next entries walk stmt.kind) more), resolved-is entries (next entries walk stmt.kind) more)
 
 pub statements_kept : (entries : List (Option EntryWords)) (walk : Walk) (stmts : List Stmt) → map stmt_of (placed_from entries walk stmts) ≡ stmts
 unfolding placed_from
@@ -91,9 +91,9 @@ statements_kept entries walk (stmt ∷ more) = ap (λ l. stmt ∷ l) (statements
 
 -- one statement of a list is given its word's place
 pub resolved-more : (pools : List ℕ) (placed : List PlacedStmt) (i : ℕ) (one : PlacedStmt) → i < length placed → one ≡ get_or placed i one
-    → take (i + 1) (set placed i (moved pools one)) ++ resolved (places_behind pools (puts_pool one)) (drop (i + 1) (set placed i (moved pools one)))
+    → take (i + 1) (set placed i (with_pool_place pools one)) ++ resolved (places_after pools (puts_pool one)) (drop (i + 1) (set placed i (with_pool_place pools one)))
     ≡ take i placed ++ resolved pools (drop i placed)
 unfolding resolved
-resolved-more pools placed i one within is =
+resolved-more pools placed i one in_section is =
     let past : i < i + 1 = omega arith in
-    rw (take_more_set placed i (moved pools one) within, drop-set-lt (i + 1) placed i (moved pools one) past, append_assoc, ← drop-next placed i one within is)
+    rw (take_more_set placed i (with_pool_place pools one) in_section, drop-set-lt (i + 1) placed i (with_pool_place pools one) past, append_assoc, ← drop-next placed i one in_section is)

@@ -5,13 +5,13 @@ use Rattle.std.specs.List.{list_all}
 use Rattle.asm_layout.specs.declared.fault.AsmFault.{AsmFault}
 use Rattle.asm_layout.specs.Faults.{is_before, first_of_all}
 
--- a refusal comes before all that stand in front of it in the list, and none behind it comes before it
+-- a refusal comes before all that stand in front of it in the list, and none after it comes before it
 pub record StandsFirst (faults : List AsmFault) (first : AsmFault) : Type 0 where
   pub front : List AsmFault
-  pub behind : List AsmFault
-  pub split : faults ≡ front ++ first ∷ behind
+  pub after : List AsmFault
+  pub split : faults ≡ front ++ first ∷ after
   pub before : list_all (λ fault. is_before first fault) front ≡ true
-  pub not_after : list_all (λ fault. not (is_before fault first)) behind ≡ true
+  pub not_after : list_all (λ fault. not (is_before fault first)) after ≡ true
 
 abbrev pub TheFirstIsAnswered : Type 0
 TheFirstIsAnswered = (faults : List AsmFault) (first : AsmFault) → first_of_all None faults ≡ Some first → StandsFirst faults first

@@ -39,14 +39,14 @@ abbrev pub no_frame : Frame
 no_frame = record { directives = []; start = None }
 
 -- what a taken directive leaves open
-abbrev pub frame_behind : Frame → ℕ → UnwindDirective → Frame
-frame_behind frame line FnEnd = no_frame
-frame_behind frame line FnStart = record { directives = frame.directives ++ FnStart ∷ []; start = Some line }
-frame_behind frame line directive = record frame { directives = frame.directives ++ directive ∷ [] }
+abbrev pub frame_after : Frame → ℕ → UnwindDirective → Frame
+frame_after frame line FnEnd = no_frame
+frame_after frame line FnStart = record { directives = frame.directives ++ FnStart ∷ []; start = Some line }
+frame_after frame line directive = record frame { directives = frame.directives ++ directive ∷ [] }
 
 -- a refused directive counts for nothing
 abbrev pub frame_if_taken : Frame → ℕ → UnwindDirective → Option UnwindFault → Frame
-frame_if_taken frame line directive None = frame_behind frame line directive
+frame_if_taken frame line directive None = frame_after frame line directive
 frame_if_taken frame line directive (Some _) = frame
 
 abbrev pub next_frame : Frame → ℕ → Option UnwindDirective → Frame

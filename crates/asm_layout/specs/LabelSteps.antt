@@ -26,15 +26,15 @@ sized placed label = (
   },
 )
 
--- a label behind a statement, which may be its `.size`
-abbrev pub entry_behind : List Named → StmtKind → Place → List ℕ × Label → List ℕ × Label
-entry_behind labels kind place entry =
+-- a label after a statement, which may be its `.size`
+abbrev pub entry_after : List Named → StmtKind → Place → List ℕ × Label → List ℕ × Label
+entry_after labels kind place entry =
     (entry.0, record entry.1 { size = size_by entry.0 labels entry.1.size kind place })
 
--- the labels behind a statement, which may define one
-abbrev pub labels_behind : List (List ℕ × Label) → StmtKind → Place → List (List ℕ × Label)
-labels_behind so_far kind place =
-    map (entry_behind (named_in so_far) kind place) so_far ++ map fresh (new_labels (named_in so_far) kind place)
+-- the labels after a statement, which may define one
+abbrev pub labels_after : List (List ℕ × Label) → StmtKind → Place → List (List ℕ × Label)
+labels_after so_far kind place =
+    map (entry_after (named_in so_far) kind place) so_far ++ map fresh (new_labels (named_in so_far) kind place)
 
 abbrev pub defines_again : List Named → StmtKind → Bool
 defines_again labels (stmt.Label name) = is_among name labels

@@ -37,12 +37,12 @@ is_among name labels = list_any (same_bytes name) (map (λ label. label.name) la
 abbrev pub label_unless : Bool → List ℕ → Place → List Named
 label_unless there name place = if there then [] else named name place ∷ []
 
--- the label that a statement defines behind some labels; a name that is there already defines nothing
+-- the label that a statement defines after some labels; a name that is there already defines nothing
 abbrev pub new_labels : List Named → StmtKind → Place → List Named
 new_labels labels (stmt.Label name) place = label_unless (is_among name labels) name place
 new_labels labels _ place = []
 
--- the labels that statements define behind some labels, in the order of the text, each where the statement behind it
+-- the labels that statements define after some labels, in the order of the text, each where the statement after it
 -- stands
 unfoldable pub labels_in : List Named → List PlacedStmt → List Named
 labels_in labels [] = []
@@ -56,7 +56,7 @@ labels_from entries labels walk stmts = labels_in labels (placed_from entries wa
 abbrev pub labels_of : List (Option EntryWords) → List Stmt → List Named
 labels_of entries stmts = labels_from entries [] start stmts
 
--- a `.size` behind its label in the section gives the bytes between; else none
+-- a `.size` after its label in the section gives the bytes between; else none
 abbrev pub size_between : Option Place → Place → ℕ
 size_between None end = 0
 size_between (Some label) end = if same_section label.section end.section then end.offset - label.offset else 0
@@ -115,17 +115,17 @@ label_faults names line (stmt.Label name) =
     fault_if (list_any (same_bytes name) names) line DuplicateLabel
 label_faults names line _ = []
 
--- the names behind a statement, each once
-abbrev pub names_behind : List (List ℕ) → StmtKind → List (List ℕ)
-names_behind names (stmt.Label name) = if list_any (same_bytes name) names then names else names ++ name ∷ []
-names_behind names _ = names
+-- the names after a statement, each once
+abbrev pub names_after : List (List ℕ) → StmtKind → List (List ℕ)
+names_after names (stmt.Label name) = if list_any (same_bytes name) names then names else names ++ name ∷ []
+names_after names _ = names
 
 unfoldable pub duplicates_from : List (List ℕ) → List Stmt → List AsmFault
 duplicates_from names [] = []
 duplicates_from names (stmt ∷ more) =
-    label_faults names stmt.line stmt.kind ++ duplicates_from (names_behind names stmt.kind) more
+    label_faults names stmt.line stmt.kind ++ duplicates_from (names_after names stmt.kind) more
 
--- a line behind which a section is too large; behind the last one the pool at the end of the text counts too
+-- a line after which a section is too large; after the last one the pool at the end of the text counts too
 unfoldable pub too_large_from : List (Option EntryWords) → Walk → ℕ → List Stmt → List AsmFault
 too_large_from entries walk last [] = fault_if (is_too_large (sizes_with_pool walk)) last SectionTooLarge
 too_large_from entries walk last (stmt ∷ more) =

@@ -15,9 +15,9 @@ use Rattle.asm_layout.specs.PlacedStmt.{PlacedStmt}
 use Rattle.asm_layout.specs.Words.{word_of}
 use Rattle.asm_layout.specs.SameWords.{same_word}
 use Rattle.asm_layout.specs.Sizes.{sum_64, times}
-use Rattle.asm_layout.specs.Walks.{start, next, here, is_in_text, coming_pool, walk_behind}
+use Rattle.asm_layout.specs.Walks.{start, next, here, is_in_text, coming_pool, walk_after}
 
--- how far behind the start of its pool the word of a statement stands; only in the text is there a pool
+-- how far after the start of its pool the word of a statement stands; only in the text is there a pool
 abbrev pub word_offset : Walk → StmtKind → Option ℕ
 word_offset walk (stmt.LdrPool _ value) =
     if is_in_text walk.at then Some (times (position_or_len (same_word (word_of value)) walk.pool) 4) else None
@@ -71,7 +71,7 @@ placed_of entries stmts = placed_from entries start stmts
 
 -- the pool at the end of the text
 abbrev pub last_pool : List (Option EntryWords) → Walk → List Stmt → PlacedPool
-last_pool entries walk stmts = pool_here (walk_behind entries walk stmts)
+last_pool entries walk stmts = pool_here (walk_after entries walk stmts)
 
 -- ---- the same before it is known where pools begin: words by their offsets
 
@@ -87,13 +87,13 @@ unfoldable pub stood_from : List (Option EntryWords) → Walk → List Stmt → 
 stood_from entries walk [] = []
 stood_from entries walk (stmt ∷ more) = stood_at walk stmt ∷ stood_from entries (next entries walk stmt.kind) more
 
--- a word so far behind the first of some places
+-- a word so far after the first of some places
 abbrev pub moved_word : List ℕ → Option ℕ → Option ℕ
 moved_word [] word = word
 moved_word (pool ∷ more) word = option_map (sum_64 pool) word
 
-abbrev pub moved : List ℕ → PlacedStmt → PlacedStmt
-moved pools placed = record placed { word = moved_word pools placed.word }
+abbrev pub with_pool_place : List ℕ → PlacedStmt → PlacedStmt
+with_pool_place pools placed = record placed { word = moved_word pools placed.word }
 
 abbrev pub has_words : Puts → Bool
 has_words (puts.Pool pool) = not (length pool.words == 0)
@@ -103,13 +103,13 @@ has_words puts.Nothing = false
 abbrev pub puts_pool : PlacedStmt → Bool
 puts_pool placed = has_words placed.puts
 
--- the places behind the first one where a pool ends
-abbrev pub places_behind : List ℕ → Bool → List ℕ
-places_behind (place ∷ more) true = more
-places_behind places _ = places
+-- the places after the first one where a pool ends
+abbrev pub places_after : List ℕ → Bool → List ℕ
+places_after (place ∷ more) true = more
+places_after places _ = places
 
 -- words at their places, where the pools to come begin at these places
 unfoldable pub resolved : List ℕ → List PlacedStmt → List PlacedStmt
 resolved pools [] = []
 resolved pools (placed ∷ more) =
-    moved pools placed ∷ resolved (places_behind pools (puts_pool placed)) more
+    with_pool_place pools placed ∷ resolved (places_after pools (puts_pool placed)) more

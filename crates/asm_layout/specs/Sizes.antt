@@ -52,7 +52,7 @@ size_at place kind = sort_size (λ n. gap place (multiple n)) (sort_of kind)
 abbrev pub size : StmtKind → ℕ
 size kind = sort_size (λ n. 0) (sort_of kind)
 
--- the bytes that a function's table takes behind a place of the exception tables
+-- the bytes that a function's table takes after a place of the exception tables
 abbrev pub table_size : ℕ → Option EntryWords → ℕ
 table_size place (Some (entry.Table words)) = sum_64 (gap place 4) (times (length words) 4)
 table_size place (Some entry.CantUnwind) = 0

@@ -36,7 +36,7 @@ here at = record { section = at.section; offset = size_in at.sizes at.section }
 abbrev pub entry_at : List (Option EntryWords) → ℕ → Option EntryWords
 entry_at entries function = unwrap_or (slice_get entries function) None
 
--- behind `.fnstart`: the function's table stands in the exception tables. A second `.fnstart` is nothing
+-- after `.fnstart`: the function's table stands in the exception tables. A second `.fnstart` is nothing
 abbrev pub started : List (Option EntryWords) → Cursor → Cursor
 started entries at =
     if at.inside || not (nat_lt at.functions (2 ^ 64 - 1)) then at
@@ -46,31 +46,31 @@ started entries at =
       functions = at.functions + 1;
     }
 
--- behind `.fnend`: back in the section that `.handlerdata` left
+-- after `.fnend`: back in the section that `.handlerdata` left
 abbrev pub ended : Cursor → Cursor
 ended at = record at { section = unwrap_or at.left at.section; left = None; inside = false }
 
--- behind `.handlerdata`: in the exception tables
+-- after `.handlerdata`: in the exception tables
 abbrev pub handling : Cursor → Cursor
 handling at =
     if same_section at.section Extab then at else record at { section = Extab; left = Some at.section }
 
-abbrev pub within : Cursor → Section → Cursor
-within at section = record at { section = section }
+abbrev pub in_section : Cursor → Section → Cursor
+in_section at section = record at { section = section }
 
 abbrev pub grown : Cursor → ℕ → Cursor
 grown at by = record at { sizes = sizes_grown at.sizes at.section by }
 
--- behind a statement, but for what a pool adds
-abbrev pub cursor_behind : List (Option EntryWords) → Cursor → StmtKind → Cursor
-cursor_behind entries at stmt.Text = within at Text
-cursor_behind entries at stmt.Data = within at Init
-cursor_behind entries at stmt.Bss = within at Bss
-cursor_behind entries at stmt.Rodata = within at Rodata
-cursor_behind entries at stmt.FnStart = started entries at
-cursor_behind entries at stmt.FnEnd = ended at
-cursor_behind entries at stmt.HandlerData = handling at
-cursor_behind entries at kind = grown at (size_at (size_in at.sizes at.section) kind)
+-- after a statement, but for what a pool adds
+abbrev pub cursor_after : List (Option EntryWords) → Cursor → StmtKind → Cursor
+cursor_after entries at stmt.Text = in_section at Text
+cursor_after entries at stmt.Data = in_section at Init
+cursor_after entries at stmt.Bss = in_section at Bss
+cursor_after entries at stmt.Rodata = in_section at Rodata
+cursor_after entries at stmt.FnStart = started entries at
+cursor_after entries at stmt.FnEnd = ended at
+cursor_after entries at stmt.HandlerData = handling at
+cursor_after entries at kind = grown at (size_at (size_in at.sizes at.section) kind)
 
 abbrev pub is_empty : List Word → Bool
 is_empty words = length words == 0
@@ -93,25 +93,25 @@ abbrev pub ends_pool : Walk → StmtKind → Bool
 ends_pool walk stmt.Pool = is_in_text walk.at && not (is_empty walk.pool)
 ends_pool walk _ = false
 
--- the pool behind a word: it goes last where it isn't there
+-- the pool after a word: it goes last where it isn't there
 abbrev pub pool_with : List Word → Word → List Word
 pool_with pool word = insert_key same_word pool word
 
--- the pool behind a statement that ends none
-abbrev pub pool_behind : Walk → StmtKind → List Word
-pool_behind walk (stmt.LdrPool _ value) = if is_in_text walk.at then pool_with walk.pool (word_of value) else walk.pool
-pool_behind walk _ = walk.pool
+-- the pool after a statement that ends none
+abbrev pub pool_after : Walk → StmtKind → List Word
+pool_after walk (stmt.LdrPool _ value) = if is_in_text walk.at then pool_with walk.pool (word_of value) else walk.pool
+pool_after walk _ = walk.pool
 
--- behind a statement
+-- after a statement
 abbrev pub next : List (Option EntryWords) → Walk → StmtKind → Walk
 next entries walk stmt.Pool =
     if is_in_text walk.at then record { at = record walk.at { sizes = sizes_with_pool walk }; pool = [] } else walk
-next entries walk kind = record { at = cursor_behind entries walk.at kind; pool = pool_behind walk kind }
+next entries walk kind = record { at = cursor_after entries walk.at kind; pool = pool_after walk kind }
 
--- where the walk stands behind statements
-unfoldable pub walk_behind : List (Option EntryWords) → Walk → List Stmt → Walk
-walk_behind entries walk [] = walk
-walk_behind entries walk (stmt ∷ more) = walk_behind entries (next entries walk stmt.kind) more
+-- where the walk stands after statements
+unfoldable pub walk_after : List (Option EntryWords) → Walk → List Stmt → Walk
+walk_after entries walk [] = walk
+walk_after entries walk (stmt ∷ more) = walk_after entries (next entries walk stmt.kind) more
 
 -- where the pools that have words begin, in the order of the text
 abbrev pub pools_if : Bool → Walk → List ℕ

@@ -26,7 +26,7 @@ pub enum AsmWhat {
     Encode(EncodeFault),
     /// The pool word of a `ldr rt, =value` is more than 1,020 bytes away.
     PoolTooFar,
-    /// A section has more than 1,048,576 bytes behind this line.
+    /// A section has more than 1,048,576 bytes after this line.
     SectionTooLarge,
     /// An unwind directive, or what the directives of a function say together, at `.fnend`; or at its `.fnstart` a
     /// function that isn't ended.

@@ -3,7 +3,7 @@ ghost use Rattle.std.specs.Prelude.{◌≡◌, [], ◌++◌, map, IfOk, OnOk, No
 ghost use Rattle.asm_statements.specs.declared.statement.StmtKind.TheVariants.{Size};
 ghost use Rattle.asm_layout.specs.Faults.{first_of_all};
 ghost use Rattle.asm_layout.specs.Labels.{find, is_among, size_between, label_unless, labels_in, named_in, duplicates_from, stmt_of};
-ghost use Rattle.asm_layout.specs.LabelSteps.{fresh, sized, entry_behind, labels_behind, defines_again, entry_typed, entry_global, described_by, described};
+ghost use Rattle.asm_layout.specs.LabelSteps.{fresh, sized, entry_after, labels_after, defines_again, entry_typed, entry_global, described_by, described};
 
 use crate::fault::{AsmFault, AsmWhat, first_if};
 use crate::placed::PlacedStmt;
@@ -24,7 +24,7 @@ pub struct Label {
     pub global: bool,
 }
 
-/// The bytes from a label to a place behind it in its section; 0 for every other place.
+/// The bytes from a label to a place after it in its section; 0 for every other place.
 fn size_between(label: Place, end: Place) -> u64
     ensures { result ≡ size_between (Some label) end }
 {
@@ -97,7 +97,7 @@ impl Labels {
 
     /// Takes a `.size` at a place: it gives a size to a label before it in the section.
     fn end(&mut self, name: &Name, end: Place)
-        ensures { self.new ≡ map (entry_behind (named_in self.old) (Size name.now) end) self.old }
+        ensures { self.new ≡ map (entry_after (named_in self.old) (Size name.now) end) self.old }
     {
         if let Some(label) = self.map.get_mut(name) {
             label.size = size_between(label.place, end);
@@ -107,7 +107,7 @@ impl Labels {
     /// Takes what a statement says at its place, and says whether it defines a name that was there.
     fn take(&mut self, alloc: Global, kind: &StmtKind, place: Place) -> Result<bool, AllocError>
         ensures again { IfOk result (λ again. again ≡ defines_again (named_in self.old) kind.now) }
-        ensures labels { OnOk result (self.new ≡ labels_behind self.old kind.now place) }
+        ensures labels { OnOk result (self.new ≡ labels_after self.old kind.now place) }
     {
         match kind {
             StmtKind::Label(name) => self.define(alloc, name, place),

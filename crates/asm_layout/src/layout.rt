@@ -1,8 +1,8 @@
 //! The layout of a source: its statements where they stand, its labels, and what is refused of both (docs/objects.md).
 ghost use Rattle.std.specs.Prelude.{◌≡◌, [], ◌++◌, map, IfOk, OnOk, None};
 ghost use Rattle.asm_layout.specs.Faults.{first_of_all};
-ghost use Rattle.asm_layout.specs.Walks.{start, pools_if, pools_from, walk_behind};
-ghost use Rattle.asm_layout.specs.Placing.{placed_of, last_pool, stood_from, places_behind, resolved};
+ghost use Rattle.asm_layout.specs.Walks.{start, pools_if, pools_from, walk_after};
+ghost use Rattle.asm_layout.specs.Placing.{placed_of, last_pool, stood_from, places_after, resolved};
 ghost use Rattle.asm_layout.specs.Labels.{labels_of, labelled, duplicates_from, too_large_from};
 
 use crate::fault::{AsmFault, AsmWhat, first_if};
@@ -25,7 +25,7 @@ pub struct Layout<'a> {
     pub bss: u64,
     /// The first label whose name an earlier one has.
     pub duplicate: Option<AsmFault>,
-    /// The first line behind which a section has too many bytes.
+    /// The first line after which a section has too many bytes.
     pub too_large: Option<AsmFault>,
 }
 
@@ -59,7 +59,7 @@ fn stood_of<'a>(
     ensures placed { IfOk result (λ stood. stood.placed.items ≡ stood_from entries.now start stmts.now) }
     ensures pools { IfOk result (λ stood. stood.pools ≡ pools_from entries.now start stmts.now) }
     ensures last { IfOk result (λ stood. stood.last ≡ last_pool entries.now start stmts.now) }
-    ensures bss { IfOk result (λ stood. stood.bss ≡ (walk_behind entries.now start stmts.now).at.sizes.bss) }
+    ensures bss { IfOk result (λ stood. stood.bss ≡ (walk_after entries.now start stmts.now).at.sizes.bss) }
     ensures too_large { IfOk result (λ stood.
         stood.too_large ≡ first_of_all None (too_large_from entries.now start 0 stmts.now)) }
 {
@@ -86,9 +86,9 @@ fn stood_of<'a>(
     })
 }
 
-/// The places of the pools behind a statement, which may end the first one.
-fn places_behind(places: &[u64], ends: bool) -> &[u64]
-    ensures { result.now ≡ places_behind places.now ends }
+/// The places of the pools after a statement, which may end the first one.
+fn places_after(places: &[u64], ends: bool) -> &[u64]
+    ensures { result.now ≡ places_after places.now ends }
 {
     match places {
         [_, more @ ..] if ends => more,
@@ -104,7 +104,7 @@ fn resolve(placed: &mut [PlacedStmt<'_>], pools: &[u64])
     for one in placed.iter_mut() {
         let ends = one.puts_pool();
         one.move_word(pools);
-        pools = places_behind(pools, ends);
+        pools = places_after(pools, ends);
     }
 }
 
@@ -118,7 +118,7 @@ pub fn layout_of<'a>(
     ensures last { IfOk result (λ layout. layout.last ≡ last_pool entries.now start stmts.now) }
     ensures labels { IfOk result (λ layout.
         layout.labels ≡ map (labelled entries.now stmts.now) (labels_of entries.now stmts.now)) }
-    ensures bss { IfOk result (λ layout. layout.bss ≡ (walk_behind entries.now start stmts.now).at.sizes.bss) }
+    ensures bss { IfOk result (λ layout. layout.bss ≡ (walk_after entries.now start stmts.now).at.sizes.bss) }
     ensures duplicate { IfOk result (λ layout. layout.duplicate ≡ first_of_all None (duplicates_from [] stmts.now)) }
     ensures too_large { IfOk result (λ layout.
         layout.too_large ≡ first_of_all None (too_large_from entries.now start 0 stmts.now)) }

@@ -1,7 +1,7 @@
 //! Statements where they stand, as all that is above asm_layout sees them (docs/objects.md).
 ghost use Rattle.std.specs.Prelude.{◌≡◌, length, None, Some, IfOk};
 ghost use Rattle.asm_layout.specs.PlacedStmt.{word_in, puts_in};
-ghost use Rattle.asm_layout.specs.Placing.{moved_word, moved, has_words, puts_pool};
+ghost use Rattle.asm_layout.specs.Placing.{moved_word, with_pool_place, has_words, puts_pool};
 
 use crate::word::Words;
 use asm_statements::Stmt;
@@ -9,14 +9,14 @@ use relocatable_object::place::Place;
 use std::alloc::{AllocError, Global};
 use std::marker::Model;
 
-/// A pool: the place of the text behind which it comes, at the next multiple of 4, and its words.
+/// A pool: the place of the text after which it comes, at the next multiple of 4, and its words.
 #[derive(Drop)]
 pub struct PlacedPool {
     pub from: u64,
     pub words: Words,
 }
 
-/// A function where it begins: its place in the text; the place of the exception tables behind which its table comes, at the
+/// A function where it begins: its place in the text; the place of the exception tables after which its table comes, at the
 /// next multiple of 4; and its number in the order of the text.
 #[derive(Clone, Copy)]
 pub struct PlacedFunction {
@@ -59,7 +59,7 @@ impl<'a> Model for PlacedStmt<'a> {
     ghost view = { λ p. record { stmt = p.stmt.now; at = p.at; word = word_in p.extra; puts = puts_in p.extra } };
 }
 
-/// A word so far behind the first of some places.
+/// A word so far after the first of some places.
 fn moved_word(pools: &[u64], word: Option<u64>) -> Option<u64>
     ensures { result ≡ moved_word pools.now word }
 {
@@ -131,9 +131,9 @@ impl<'a> PlacedStmt<'a> {
         }
     }
 
-    /// Gives it the place of its word, so far behind the first of some places.
+    /// Gives it the place of its word, so far after the first of some places.
     pub(crate) fn move_word(&mut self, pools: &[u64])
-        ensures { self.new ≡ moved pools.now self.old }
+        ensures { self.new ≡ with_pool_place pools.now self.old }
     {
         if let Some(extra) = &mut self.extra {
             extra.word = moved_word(pools, extra.word);

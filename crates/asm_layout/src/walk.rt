@@ -5,7 +5,7 @@ ghost use Rattle.asm_layout.specs.Given.{given_by};
 ghost use Rattle.asm_layout.specs.Sizes.{times, multiple, data_size, size_at, is_instruction, size_in, sizes_grown, is_too_large, table_size};
 ghost use Rattle.asm_layout.specs.SameWords.{same_word};
 ghost use Rattle.asm_statements.specs.declared.statement.StmtKind.TheVariants.{Pool as ForPool};
-ghost use Rattle.asm_layout.specs.Walks.{entry_at, here, start, started, ended, handling, within, grown, cursor_behind, pool_with, pool_behind, ends_pool, pool_place, sizes_with_pool, next};
+ghost use Rattle.asm_layout.specs.Walks.{entry_at, here, start, started, ended, handling, in_section, grown, cursor_after, pool_with, pool_after, ends_pool, pool_place, sizes_with_pool, next};
 ghost use Rattle.asm_layout.specs.Placing.{word_offset, pool_here, function_puts, puts_at, stood_at};
 
 use crate::given::Data;
@@ -210,7 +210,7 @@ pub fn entry_at(entries: &[Option<EntryWords>], function: usize) -> Option<&Entr
 }
 
 impl Cursor {
-    /// Behind the start of a function: its table stands in the exception tables.
+    /// After the start of a function: its table stands in the exception tables.
     fn started(mut self, entries: &[Option<EntryWords>]) -> Cursor
         ensures { result ≡ started entries.now self }
     {
@@ -226,7 +226,7 @@ impl Cursor {
         self
     }
 
-    /// Behind the end of a function.
+    /// After the end of a function.
     fn ended(mut self) -> Cursor
         ensures { result ≡ ended self }
     {
@@ -247,8 +247,8 @@ impl Cursor {
         self
     }
 
-    fn within(mut self, section: Section) -> Cursor
-        ensures { result ≡ within self section }
+    fn in_section(mut self, section: Section) -> Cursor
+        ensures { result ≡ in_section self section }
     {
         self.section = section;
         self
@@ -280,15 +280,15 @@ impl Cursor {
         }
     }
 
-    /// Behind a statement, but for what a pool adds.
-    pub fn behind(self, kind: &StmtKind, entries: &[Option<EntryWords>]) -> Cursor
-        ensures { result ≡ cursor_behind entries.now self kind.now }
+    /// After a statement, but for what a pool adds.
+    pub fn after(self, kind: &StmtKind, entries: &[Option<EntryWords>]) -> Cursor
+        ensures { result ≡ cursor_after entries.now self kind.now }
     {
         match kind {
-            StmtKind::Text => self.within(Section::Text),
-            StmtKind::Data => self.within(Section::Init),
-            StmtKind::Bss => self.within(Section::Bss),
-            StmtKind::Rodata => self.within(Section::Rodata),
+            StmtKind::Text => self.in_section(Section::Text),
+            StmtKind::Data => self.in_section(Section::Init),
+            StmtKind::Bss => self.in_section(Section::Bss),
+            StmtKind::Rodata => self.in_section(Section::Rodata),
             StmtKind::FnStart => self.started(entries),
             StmtKind::FnEnd => self.ended(),
             StmtKind::HandlerData => self.handling(),
@@ -397,7 +397,7 @@ impl Walk {
         self.at.sizes.grown(Section::Text, by)
     }
 
-    /// The pool that is to come, where nothing comes behind it.
+    /// The pool that is to come, where nothing comes after it.
     pub(crate) fn into_pool(self, alloc: Global) -> Result<PlacedPool, AllocError>
         ensures { IfOk result (λ pool. pool ≡ pool_here self) }
     {
@@ -407,10 +407,10 @@ impl Walk {
         })
     }
 
-    /// How far behind the start of its pool the word of a statement stands; it goes last where it isn't there.
+    /// How far after the start of its pool the word of a statement stands; it goes last where it isn't there.
     fn put_word(&mut self, alloc: Global, kind: &StmtKind) -> Result<Option<u64>, AllocError>
         ensures word { IfOk result (λ word. word ≡ word_offset self.old kind.now) }
-        ensures walk { OnOk result (self.new ≡ record self.old { pool = pool_behind self.old kind.now }) }
+        ensures walk { OnOk result (self.new ≡ record self.old { pool = pool_after self.old kind.now }) }
     {
         match kind {
             StmtKind::LdrPool { value, .. } => {
@@ -424,7 +424,7 @@ impl Walk {
         }
     }
 
-    /// What a `.pool` puts here, behind which the walk goes.
+    /// What a `.pool` puts here, after which the walk goes.
     fn end_pool(&mut self, alloc: Global) -> Result<Puts, AllocError>
         ensures puts { IfOk result (λ puts. puts ≡ puts_at self.old ForPool) }
         ensures walk { OnOk result (self.new ≡ next [] self.old ForPool) }
@@ -438,7 +438,7 @@ impl Walk {
         Ok(Puts::Pool(PlacedPool { from, words }))
     }
 
-    /// A statement where the walk stands, its word by its offset in the pool; the walk goes behind it.
+    /// A statement where the walk stands, its word by its offset in the pool; the walk goes after it.
     pub(crate) fn place<'a>(
         &mut self,
         alloc: Global,
@@ -458,7 +458,7 @@ impl Walk {
             kind => {
                 let puts = self.at.function_puts(kind);
                 let word = self.put_word(alloc, kind)?;
-                self.at = self.at.behind(kind, entries);
+                self.at = self.at.after(kind, entries);
                 let placed = PlacedStmt::new(alloc, stmt, at, word, puts)?;
                 Ok(placed)
             }

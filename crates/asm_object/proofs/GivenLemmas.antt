@@ -8,7 +8,7 @@ use Rattle.asm_layout.specs.declared.placed.PlacedPool.{PlacedPool}
 use Rattle.asm_layout.specs.PlacedStmt.{PlacedStmt}
 use Rattle.asm_layout.specs.Faults.{fault_at, first_of, first_of_all}
 use Rattle.asm_layout.specs.Labels.{Named}
-use Rattle.asm_layout.proofs.FaultLaws.{first_behind}
+use Rattle.asm_layout.proofs.FaultLaws.{first_after}
 use Rattle.asm_layout.proofs.FirstLaws.{some_stays}
 use Rattle.relocatable_object.specs.declared.object.IndexRow.{IndexRow}
 use Rattle.asm_object.specs.declared.parts.Sections.{Sections}
@@ -28,7 +28,7 @@ none_before (Some fault) faults e = absurd (some_stays fault faults e)
 
 pub first_more : (labels : List Named) (before after all : Option AsmFault) (placed : PlacedStmt) (more : List PlacedStmt) → after ≡ first_of_all before (refusals_at labels placed)
     → first_of_all before (refusals_of labels (placed ∷ more)) ≡ all → first_of_all after (refusals_of labels more) ≡ all
-first_more labels before after all placed more a e = rw (a, ← first_behind before (refusals_at labels placed) (refusals_of labels more)) e
+first_more labels before after all placed more a e = rw (a, ← first_after before (refusals_at labels placed) (refusals_of labels more)) e
 
 pub sections_more : (entries : List (Option EntryWords)) (labels : List Named) (before after all : Sections) (placed : PlacedStmt) (more : List PlacedStmt) (last : PlacedPool)
     → after ≡ with_pieces before (pieces_at entries labels placed) → with_pieces before (pieces_of entries labels (placed ∷ more) last) ≡ all

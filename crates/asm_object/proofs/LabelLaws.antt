@@ -15,16 +15,16 @@ use Rattle.relocatable_object.specs.declared.place.Section.{Section}
 use Rattle.asm_layout.specs.declared.walk.Walk.{Walk}
 use Rattle.asm_layout.specs.declared.walk.TheConstants.{MOST_BYTES}
 use Rattle.asm_layout.specs.Functions.{entries_of, no_frame}
-use Rattle.asm_layout.specs.Labels.{Named, find, is_among, label_unless, new_labels, labels_from, labels_of, labelled, label_faults, names_behind, duplicates_from, labels_in}
+use Rattle.asm_layout.specs.Labels.{Named, find, is_among, label_unless, new_labels, labels_from, labels_of, labelled, label_faults, names_after, duplicates_from, labels_in}
 use Rattle.asm_layout.specs.Sizes.{size_in, is_too_large}
-use Rattle.asm_layout.specs.Walks.{start, next, here, walk_behind, sizes_with_pool}
+use Rattle.asm_layout.specs.Walks.{start, next, here, walk_after, sizes_with_pool}
 use Rattle.relocatable_object.specs.declared.object.Object.{Object}
 use Rattle.asm_object.specs.Objects.{joined, symbol_of}
 use Rattle.asm_object.specs.ObjectLaw.{symbol_place, SymbolsStandAtTheirLabels}
-use Rattle.asm_object.proofs.PlaceLaws.{law_of_ends, none_behind, walks_on, not_large}
+use Rattle.asm_object.proofs.PlaceLaws.{law_of_ends, none_after, walks_on, not_large}
 use Rattle.asm_object.proofs.ObjectLaws.{IsTaken, taken, ends_small, entries_count, both_none, fault_none}
 use Rattle.asm_layout.specs.Placing.{placed_from}
-use Rattle.asm_object.specs.Behind.{refusals_from}
+use Rattle.asm_object.specs.After.{refusals_from}
 
 abbrev pub names_of : List Named → List (List ℕ)
 names_of labels = map (λ label. label.name) labels
@@ -33,7 +33,7 @@ names_of labels = map (λ label. label.name) labels
 
 -- names and labels go on together
 names_go_on : (labels : List Named) (kind : StmtKind) (place : Place)
-    → names_behind (names_of labels) kind ≡ names_of (labels ++ new_labels labels kind place)
+    → names_after (names_of labels) kind ≡ names_of (labels ++ new_labels labels kind place)
 names_go_on labels (Label name) place =
     elim (is_among name labels) as (λ b. cond b (names_of labels) (names_of labels ++ name ∷ []) ≡ names_of (labels ++ label_unless b name place)) [
       | true ↦ rw append-nil
@@ -51,7 +51,7 @@ new_there entries labels walk [] line name more e =
     ∙ fault_none (is_among name labels) line DuplicateLabel (both_none (label_faults (names_of labels) line (Label name)) _ e).0
 new_there entries labels walk (stmt ∷ before) line name more e =
     let new = new_labels labels stmt.kind (here walk.at) in
-    let rest = both_none (label_faults (names_of labels) stmt.line stmt.kind) (duplicates_from (names_behind (names_of labels) stmt.kind) (before ++ record { line = line; kind = Label name } ∷ more)) e in
+    let rest = both_none (label_faults (names_of labels) stmt.line stmt.kind) (duplicates_from (names_after (names_of labels) stmt.kind) (before ++ record { line = line; kind = Label name } ∷ more)) e in
     ap (λ ls. is_among name ls) (sym (append_assoc labels new (labels_from entries (labels ++ new) (next entries walk stmt.kind) before)))
     ∙ new_there entries (labels ++ new) (next entries walk stmt.kind) before line name more (rw (names_go_on labels stmt.kind (here walk.at)) at rest.1)
 
@@ -73,8 +73,8 @@ label_stmt line name = record { line = line; kind = Label name }
 -- labels from a place of the walk on: the label is found where the statements before it end
 pub label_there : (entries : List (Option EntryWords)) (labels : List Named) (walk : Walk) (before : List Stmt) (line : ℕ) (name : List ℕ) (more : List Stmt)
     → is_among name (labels ++ labels_from entries labels walk before) ≡ false
-    → find name (labels_from entries labels walk (before ++ label_stmt line name ∷ more)) ≡ Some (here (walk_behind entries walk before).at)
-unfolding labels_in placed_from walk_behind find
+    → find name (labels_from entries labels walk (before ++ label_stmt line name ∷ more)) ≡ Some (here (walk_after entries walk before).at)
+unfolding labels_in placed_from walk_after find
 label_there entries labels walk [] line name more e =
     rw ((among_parts name labels [] e).0, nat_list_eq_equiv.refl name)
 label_there entries labels walk (stmt ∷ before) line name more e =
@@ -104,27 +104,27 @@ small_place place h =
     let same : place.offset % 2 ^ 32 ≡ place.offset = omega (arith, h) in
     rw same
 
--- the place behind statements, more of which follow, is small
-pub small_behind : (entries : List (Option EntryWords)) (labels : List Named) (before more : List Stmt) (section : Section) → length entries < 2 ^ 64
-    → refusals_from entries labels start (before ++ more) ≡ [] → is_too_large (sizes_with_pool (walk_behind entries start (before ++ more))) ≡ false
-    → size_in (walk_behind entries start before).at.sizes section ≤ MOST_BYTES
-small_behind entries labels before more section few r h =
-    let walk = walk_behind entries start before in
+-- the place after statements, more of which follow, is small
+pub small_after : (entries : List (Option EntryWords)) (labels : List Named) (before more : List Stmt) (section : Section) → length entries < 2 ^ 64
+    → refusals_from entries labels start (before ++ more) ≡ [] → is_too_large (sizes_with_pool (walk_after entries start (before ++ more))) ≡ false
+    → size_in (walk_after entries start before).at.sizes section ≤ MOST_BYTES
+small_after entries labels before more section few r h =
+    let walk = walk_after entries start before in
     let ends = rw (walks_on entries start before more) at h in
-    omega (arith, law_of_ends entries labels walk more section few (none_behind entries labels start before more r) ends, not_large (sizes_with_pool (walk_behind entries walk more)) section ends)
+    omega (arith, law_of_ends entries labels walk more section few (none_after entries labels start before more r) ends, not_large (sizes_with_pool (walk_after entries walk more)) section ends)
 
 joined_symbols : (before more : List Stmt) (line : ℕ) (name : List ℕ) (object : Object)
     → let stmts = before ++ label_stmt line name ∷ more in
-    length stmts < 2 ^ 64 → IsTaken stmts object → symbol_place name (joined stmts).symbols ≡ Some (here (walk_behind (entries_of stmts) start before).at)
+    length stmts < 2 ^ 64 → IsTaken stmts object → symbol_place name (joined stmts).symbols ≡ Some (here (walk_after (entries_of stmts) start before).at)
 unfolding joined
 joined_symbols before more line name object few t =
     let stmts = before ++ label_stmt line name ∷ more in
     let entries = entries_of stmts in
     let labels = labels_of entries stmts in
-    let place = here (walk_behind entries start before).at in
+    let place = here (walk_after entries start before).at in
     let fewer : length entries < 2 ^ 64 = omega (arith, few, entries_count no_frame stmts) in
     let there = label_there entries [] start before line name more (new_there entries [] start before line name more t.unique) in
-    let small = small_behind entries labels before (label_stmt line name ∷ more) place.section fewer t.unrefused (ends_small entries start 0 stmts t.small) in
+    let small = small_after entries labels before (label_stmt line name ∷ more) place.section fewer t.unrefused (ends_small entries start 0 stmts t.small) in
     symbols_find entries stmts name labels ∙ rw (there, small_place place small)
 
 pub law_of_symbols : SymbolsStandAtTheirLabels

@@ -26,7 +26,7 @@ use Rattle.asm_layout.specs.Functions.{entries_of, no_frame}
 use Rattle.asm_layout.specs.Labels.{Named, labels_of}
 use Rattle.asm_layout.specs.Sizes.{sum_64, times, is_too_large}
 use Rattle.eh_list.specs.Bytes.{gap}
-use Rattle.asm_layout.specs.Walks.{start, here, next, is_empty, is_in_text, ends_pool, pool_with, pool_place, coming_pool, sizes_with_pool, walk_behind}
+use Rattle.asm_layout.specs.Walks.{start, here, next, is_empty, is_in_text, ends_pool, pool_with, pool_place, coming_pool, sizes_with_pool, walk_after}
 use Rattle.relocatable_object.specs.Sections.{same_section}
 use Rattle.asm_layout.proofs.LayoutLaws.{same_bytes-true}
 use Rattle.asm_object.specs.Bytes.{word_bytes, filling_bytes}
@@ -37,11 +37,11 @@ use Rattle.asm_object.specs.LoadLaw.{LoadsItsWord, LoadsReadTheirWords}
 use Rattle.relocatable_object.specs.declared.object.Object.{Object}
 use Rattle.asm_object.specs.Instructions.{literal, literal_to}
 use Rattle.asm_object.specs.Objects.{joined}
-use Rattle.asm_object.proofs.PlaceLaws.{Fewer, filled_length, words_length, not_large, none_parts, none_behind, walks_on, law_of_ends, law_of_bytes, refusal_parts, not_false, text_here, gives, loads}
+use Rattle.asm_object.proofs.PlaceLaws.{Fewer, filled_length, words_length, not_large, none_parts, none_after, walks_on, law_of_ends, law_of_bytes, refusal_parts, not_false, text_here, gives, loads}
 use Rattle.asm_object.proofs.ObjectLaws.{taken, ends_small, entries_count}
 use Rattle.asm_object.proofs.Statements.{walk_pieces}
 use Rattle.asm_layout.specs.Placing.{word_place, placed_from, pool_here}
-use Rattle.asm_object.specs.Behind.{pieces_from, refusals_from}
+use Rattle.asm_object.specs.After.{pieces_from, refusals_from}
 
 -- ---- where a word goes in its pool
 
@@ -64,7 +64,7 @@ same_words (word.Target2 a) (word.Target2 b) e = cc (same_bytes-true a b e)
 same_words (word.Rel a) (word.Rel b) e = cc (same_bytes-true a b e)
 same_words _ _ e = cc
 
--- a pool has a word behind some others
+-- a pool has a word after some others
 pub record HasWord (pool : List Word) (word : Word) (at : ℕ) : Type 0 where
   pub front : List Word
   pub back : List Word
@@ -161,34 +161,34 @@ stays entries labels walk kind own rest later end word at false e pool ends all 
     }
 
 word_stays : (entries : List (Option EntryWords)) (labels : List Named) (walk : Walk) (stmts : List Stmt) (word : Word) (at : ℕ) → Fewer entries
-    → refusals_from entries labels walk stmts ≡ [] → is_too_large (sizes_with_pool (walk_behind entries walk stmts)) ≡ false → HasWord walk.pool word at
+    → refusals_from entries labels walk stmts ≡ [] → is_too_large (sizes_with_pool (walk_after entries walk stmts)) ≡ false → HasWord walk.pool word at
     → WordThere labels walk.at.sizes.text (coming_pool entries walk stmts) (bytes_in Text (pieces_from entries labels walk stmts)) word at
-unfolding pieces_of placed_from walk_behind coming_pool
+unfolding pieces_of placed_from walk_after coming_pool
 word_stays entries labels walk [] word at few r h there =
     pool_has labels walk word at [] _ there (not_large (sizes_with_pool walk) Text h) (sym (append-nil (bytes_in Text (pool_pieces labels (pool_here walk)))))
 word_stays entries labels walk (stmt ∷ more) word at few r h there =
     let after = next entries walk stmt.kind in
-    let end = (sizes_with_pool (walk_behind entries after more)).text in
+    let end = (sizes_with_pool (walk_after entries after more)).text in
     let place = word_place walk stmt.kind (cond (ends_pool walk stmt.kind) (pool_place walk) (coming_pool entries after more)) in
     let parts = none_parts stmt.line (refusal labels stmt.kind walk.at.section (here walk.at).offset place) (refusals_from entries labels after more) r in
     stays entries labels walk stmt.kind (walk_pieces entries labels walk place stmt.kind) (pieces_from entries labels after more) (coming_pool entries after more) end word at
     (ends_pool walk stmt.kind) refl (ends_pieces entries labels walk place stmt.kind)
     (law_of_ends entries labels after more Text few parts.1 h) (law_of_ends entries labels walk (stmt ∷ more) Text few r h)
-    (not_large (sizes_with_pool (walk_behind entries after more)) Text h) there
+    (not_large (sizes_with_pool (walk_after entries after more)) Text h) there
     (λ e. word_stays entries labels after more word at few parts.1 h (pool_keeps entries walk stmt.kind word at e there))
 
--- ---- bytes behind a statement, and of the statement itself
+-- ---- bytes after a statement, and of the statement itself
 
-behind_one : (entries : List (Option EntryWords)) (labels : List Named) (before : List Stmt) (stmt : Stmt) (more : List Stmt) → Fewer entries
-    → refusals_from entries labels start (before ++ stmt ∷ more) ≡ [] → is_too_large (sizes_with_pool (walk_behind entries start (before ++ stmt ∷ more))) ≡ false
-    → drop (next entries (walk_behind entries start before) stmt.kind).at.sizes.text (bytes_in Text (pieces_from entries labels start (before ++ stmt ∷ more)))
-    ≡ bytes_in Text (pieces_from entries labels (next entries (walk_behind entries start before) stmt.kind) more)
-unfolding walk_behind
-behind_one entries labels before stmt more few r h =
+after_one : (entries : List (Option EntryWords)) (labels : List Named) (before : List Stmt) (stmt : Stmt) (more : List Stmt) → Fewer entries
+    → refusals_from entries labels start (before ++ stmt ∷ more) ≡ [] → is_too_large (sizes_with_pool (walk_after entries start (before ++ stmt ∷ more))) ≡ false
+    → drop (next entries (walk_after entries start before) stmt.kind).at.sizes.text (bytes_in Text (pieces_from entries labels start (before ++ stmt ∷ more)))
+    ≡ bytes_in Text (pieces_from entries labels (next entries (walk_after entries start before) stmt.kind) more)
+unfolding walk_after
+after_one entries labels before stmt more few r h =
     let same : before ++ stmt ∷ more ≡ before ++ stmt ∷ [] ++ more = sym (append_assoc before (stmt ∷ []) more) in
     rw same (rw (walks_on entries start before (stmt ∷ [])) at (law_of_bytes entries labels (before ++ stmt ∷ []) more Text few (rw (← same) r) (rw (← same) h)))
 
--- four bytes at a place behind others
+-- four bytes at a place after others
 four_there : (whole rest before bytes after : List ℕ) (text place : ℕ) → drop text whole ≡ rest → rest ≡ before ++ bytes ++ after → length bytes ≡ 4 → place ≡ text + length before
     → take 4 (drop place whole) ≡ bytes
 four_there whole rest before bytes after text place d s l p =
@@ -205,16 +205,16 @@ load line t value = record { line = line; kind = stmt.LdrPool t value }
 load_there : (stmts before more : List Stmt) (line t : ℕ) (value : Expr) (object : Object) → Fewer (entries_of stmts)
     → let entries = entries_of stmts in
     let labels = labels_of entries stmts in
-    let walk = walk_behind entries start before in
+    let walk = walk_after entries start before in
     let after = next entries walk (stmt.LdrPool t value) in
-    refusals_from entries labels walk (load line t value ∷ more) ≡ [] → is_too_large (sizes_with_pool (walk_behind entries walk (load line t value ∷ more))) ≡ false
+    refusals_from entries labels walk (load line t value ∷ more) ≡ [] → is_too_large (sizes_with_pool (walk_after entries walk (load line t value ∷ more))) ≡ false
     → drop walk.at.sizes.text object.text ≡ bytes_in Text (pieces_from entries labels walk (load line t value ∷ more))
     → drop after.at.sizes.text object.text ≡ bytes_in Text (pieces_from entries labels after more) → LoadsItsWord stmts before t value object
-unfolding placed_from walk_behind pieces_of coming_pool
+unfolding placed_from walk_after pieces_of coming_pool
 load_there stmts before more line t value object few r h own rest =
     let entries = entries_of stmts in
     let labels = labels_of entries stmts in
-    let walk = walk_behind entries start before in
+    let walk = walk_after entries start before in
     let kind = stmt.LdrPool t value in
     let after = next entries walk kind in
     let coming = coming_pool entries after more in
@@ -225,18 +225,18 @@ load_there stmts before more line t value object few r h own rest =
     let text = not_false (same_section walk.at.section Text) mine.1.1 in
     let put : HasWord after.pool (word_of value) at = rw text (put_there walk.pool (word_of value)) in
     let there = word_stays entries labels after more (word_of value) at few parts.1 h put in
-    let large = not_large (sizes_with_pool (walk_behind entries after more)) Text h in
+    let large = not_large (sizes_with_pool (walk_after entries after more)) Text h in
     let ends = law_of_ends entries labels after more Text few parts.1 h in
-    let spot = sum_64 coming (times at 4) in
-    let is : word ≡ Some spot = ap (λ b. option_map (sum_64 coming) (cond b (Some (times at 4)) None)) text in
-    let place : spot ≡ after.at.sizes.text + length there.before =
+    let pool_word_place = sum_64 coming (times at 4) in
+    let is : word ≡ Some pool_word_place = ap (λ b. option_map (sum_64 coming) (cond b (Some (times at 4)) None)) text in
+    let place : pool_word_place ≡ after.at.sizes.text + length there.before =
     omega (arith, there.place, ap length there.split, length-append (there.before ++ word_bytes (held labels (word_of value))) there.after, length-append there.before (word_bytes (held labels (word_of value))), ends, large) in
-    let taken : instruction_fault (Some (LdrLit t (literal spot (here walk.at).offset))) ≡ None =
+    let taken : instruction_fault (Some (LdrLit t (literal pool_word_place (here walk.at).offset))) ≡ None =
     ap (λ o. instruction_fault (Some (LdrLit t (literal_to o (here walk.at).offset)))) (sym is) ∙ loads entries labels walk kind more word refl large parts.0 refl in
-    let has = (gives (LdrLit t (literal spot (here walk.at).offset))).has taken in
+    let has = (gives (LdrLit t (literal pool_word_place (here walk.at).offset))).has taken in
     record {
-      place = spot;
-      word = four_there object.text _ there.before (word_bytes (held labels (word_of value))) there.after after.at.sizes.text spot rest there.split refl place;
+      place = pool_word_place;
+      word = four_there object.text _ there.before (word_bytes (held labels (word_of value))) there.after after.at.sizes.text pool_word_place rest there.split refl place;
       code = ap (λ n. take 2 (drop n object.text)) (text_here walk.at.sizes walk.at.section text)
           ∙ ap (take 2) own
           ∙ ap (λ b. take 2 (cond b (bytes_of_code (encoded_of (LdrLit t (literal_to word (here walk.at).offset)))) [] ++ bytes_in Text (pieces_from entries labels after more))) text
@@ -255,6 +255,6 @@ law_of_loads before more line t value object few e =
     let is = taken stmts object e in
     let fewer : length entries < 2 ^ 64 = omega (arith, few, entries_count no_frame stmts) in
     let h = ends_small entries start 0 stmts is.small in
-    load_there stmts before more line t value object fewer (none_behind entries labels start before (load line t value ∷ more) is.unrefused) (rw walks_on at h)
+    load_there stmts before more line t value object fewer (none_after entries labels start before (load line t value ∷ more) is.unrefused) (rw walks_on at h)
     (rw is.object_is (law_of_bytes entries labels before (load line t value ∷ more) Text fewer is.unrefused h))
-    (rw is.object_is (behind_one entries labels before (load line t value) more fewer is.unrefused h))
+    (rw is.object_is (after_one entries labels before (load line t value) more fewer is.unrefused h))

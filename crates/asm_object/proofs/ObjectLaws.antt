@@ -1,4 +1,4 @@
--- The linker's fields of an object stand one behind the other, whole in their sections.
+-- The linker's fields of an object stand one after the other, whole in their sections.
 use Rattle.asm_layout.specs.declared.fault.AsmWhat.{AsmWhat}
 use Rattle.asm_layout.specs.declared.fault.AsmWhat.TheVariants.{SectionTooLarge}
 use Rattle.std.proofs.Common.{◌≡◌, ℕ, ◌==◌, ◌+◌, ◌-◌, ◌*◌, ◌^◌, ◌≤◌, ◌<◌, min, Bool, true, false, cond, List, [], ◌∷◌, ◌++◌, length, map, Option, Some, None, Ok, refl, sym, ap, ◌∙◌, arith, append-nil, length-append}
@@ -28,7 +28,7 @@ use Rattle.asm_layout.specs.Functions.{Frame, directive_of, next_frame, new_entr
 use Rattle.asm_layout.specs.Labels.{Named, labels_of, duplicates_from, too_large_from}
 use Rattle.asm_layout.specs.Sizes.{sum_64, times, multiple, size_in, sizes_grown, is_too_large}
 use Rattle.eh_list.specs.Bytes.{gap}
-use Rattle.asm_layout.specs.Walks.{start, next, coming_pool, here, is_empty, is_in_text, entry_at, pool_place, sizes_with_pool, walk_behind}
+use Rattle.asm_layout.specs.Walks.{start, next, coming_pool, here, is_empty, is_in_text, entry_at, pool_place, sizes_with_pool, walk_after}
 use Rattle.relocatable_object.specs.Sections.{same_section}
 use Rattle.asm_layout.specs.Words.{word_of}
 use Rattle.relocatable_object.specs.declared.object.Object.{Object}
@@ -46,7 +46,7 @@ use Rattle.asm_object.proofs.PlaceLaws.{Fewer, not_large, next_sizes, none_parts
 use Rattle.asm_object.proofs.Statements.{walk_sets, walk_pieces}
 use Rattle.asm_layout.specs.Placing.{word_place, placed_from, pool_here, pool_puts, function_here}
 use Rattle.asm_layout.specs.declared.placed.Puts.TheVariants as puts
-use Rattle.asm_object.specs.Behind.{pieces_from, refusals_from}
+use Rattle.asm_object.specs.After.{pieces_from, refusals_from}
 
 -- ---- an object is that of statements that nothing is refused of
 
@@ -83,8 +83,8 @@ fault_none true line what e = absurd (cc)
 fault_none false line what e = refl
 
 pub ends_small : (entries : List (Option EntryWords)) (walk : Walk) (last : ℕ) (stmts : List Stmt)
-    → too_large_from entries walk last stmts ≡ [] → is_too_large (sizes_with_pool (walk_behind entries walk stmts)) ≡ false
-unfolding too_large_from walk_behind
+    → too_large_from entries walk last stmts ≡ [] → is_too_large (sizes_with_pool (walk_after entries walk stmts)) ≡ false
+unfolding too_large_from walk_after
 ends_small entries walk last [] e = fault_none _ last SectionTooLarge e
 ends_small entries walk last (stmt ∷ more) e =
     ends_small entries (next entries walk stmt.kind) stmt.line more (both_none (fault_if (is_too_large (next entries walk stmt.kind).at.sizes) stmt.line SectionTooLarge) _ e).1
@@ -109,9 +109,9 @@ pub from_lower : (a b : ℕ) (relocs : List Reloc) (c : ℕ) → a ≤ b → Sta
 from_lower a b [] c h k = omega (arith, h, k)
 from_lower a b (reloc ∷ more) c h k = (omega (arith, h, k.0), k.1)
 
-pub one_behind : (a : ℕ) (xs : List Reloc) (b : ℕ) (ys : List Reloc) (c : ℕ) → StandInOrder a xs b → StandInOrder b ys c → StandInOrder a (xs ++ ys) c
-one_behind a [] b ys c h k = from_lower a b ys c h k
-one_behind a (x ∷ xs) b ys c h k = (h.0, one_behind (x.offset + field_size x) xs b ys c h.1 k)
+pub one_after : (a : ℕ) (xs : List Reloc) (b : ℕ) (ys : List Reloc) (c : ℕ) → StandInOrder a xs b → StandInOrder b ys c → StandInOrder a (xs ++ ys) c
+one_after a [] b ys c h k = from_lower a b ys c h k
+one_after a (x ∷ xs) b ys c h k = (h.0, one_after (x.offset + field_size x) xs b ys c h.1 k)
 
 -- ---- words
 
@@ -124,7 +124,7 @@ words_stand : (section : Section) (place end : ℕ) (words : List Word) → plac
 unfolding word_relocs
 words_stand section place end [] e h = omega arith
 words_stand section place end (word ∷ more) e h =
-    one_behind place (relocs_of (place_at section place) (link_of word)) (sum_64 place 4) (word_relocs section (sum_64 place 4) more) end
+    one_after place (relocs_of (place_at section place) (link_of word)) (sum_64 place 4) (word_relocs section (sum_64 place 4) more) end
     (word_stands section place word (omega arith)) (words_stand section (sum_64 place 4) end more (omega arith) h)
 
 -- ---- what a statement puts into its own section
@@ -216,28 +216,28 @@ statement_stands entries labels walk word kind s h =
 
 -- the fields of the statements before some others stand before the place of those
 pub earlier_stand : (entries : List (Option EntryWords)) (labels : List Named) (walk : Walk) (before more : List Stmt) (s : Section) → Fewer entries
-    → refusals_from entries labels walk (before ++ more) ≡ [] → is_too_large (sizes_with_pool (walk_behind entries walk (before ++ more))) ≡ false
-    → StandInOrder (size_in walk.at.sizes s) (relocs_in s (earlier entries labels walk before more)) (size_in (walk_behind entries walk before).at.sizes s)
-unfolding earlier placed_from walk_behind
+    → refusals_from entries labels walk (before ++ more) ≡ [] → is_too_large (sizes_with_pool (walk_after entries walk (before ++ more))) ≡ false
+    → StandInOrder (size_in walk.at.sizes s) (relocs_in s (earlier entries labels walk before more)) (size_in (walk_after entries walk before).at.sizes s)
+unfolding earlier placed_from walk_after
 earlier_stand entries labels walk [] more s few r h = omega arith
 earlier_stand entries labels walk (stmt ∷ before) more s few r h =
     let after = next entries walk stmt.kind in
     let word = word_place walk stmt.kind (coming_pool entries walk (stmt ∷ before ++ more)) in
     let parts = none_parts stmt.line (refusal labels stmt.kind walk.at.section (here walk.at).offset word) (refusals_from entries labels after (before ++ more)) r in
-    let last = sizes_with_pool (walk_behind entries after (before ++ more)) in
+    let last = sizes_with_pool (walk_after entries after (before ++ more)) in
     let small : size_in after.at.sizes s ≤ MOST_BYTES = omega (arith, law_of_ends entries labels after (before ++ more) s few parts.1 h, not_large last s h) in
-    rw flat_map-append (one_behind _ (relocs_in s (walk_pieces entries labels walk word stmt.kind)) (size_in after.at.sizes s) (relocs_in s (earlier entries labels after before more)) _
+    rw flat_map-append (one_after _ (relocs_in s (walk_pieces entries labels walk word stmt.kind)) (size_in after.at.sizes s) (relocs_in s (earlier entries labels after before more)) _
     (statement_stands entries labels walk word stmt.kind s small) (earlier_stand entries labels after before more s few parts.1 h))
 
 pub all_stand : (entries : List (Option EntryWords)) (labels : List Named) (walk : Walk) (stmts : List Stmt) (s : Section) → Fewer entries
-    → refusals_from entries labels walk stmts ≡ [] → is_too_large (sizes_with_pool (walk_behind entries walk stmts)) ≡ false
-    → StandInOrder (size_in walk.at.sizes s) (relocs_in s (pieces_from entries labels walk stmts)) (size_in (sizes_with_pool (walk_behind entries walk stmts)) s)
-unfolding pieces_of placed_from walk_behind
+    → refusals_from entries labels walk stmts ≡ [] → is_too_large (sizes_with_pool (walk_after entries walk stmts)) ≡ false
+    → StandInOrder (size_in walk.at.sizes s) (relocs_in s (pieces_from entries labels walk stmts)) (size_in (sizes_with_pool (walk_after entries walk stmts)) s)
+unfolding pieces_of placed_from walk_after
 all_stand entries labels walk stmts s few r h =
-    let last = walk_behind entries walk stmts in
+    let last = walk_after entries walk stmts in
     let none = append-nil stmts in
     let pieces : pieces_from entries labels walk stmts ≡ earlier entries labels walk stmts [] ++ pool_pieces labels (pool_here last) = ap (pieces_from entries labels walk) (sym none) ∙ split entries labels walk stmts [] in
-    rw (pieces, flat_map-append) (one_behind _ (relocs_in s (earlier entries labels walk stmts [])) (size_in last.at.sizes s) (relocs_in s (pool_pieces labels (pool_here last))) _
+    rw (pieces, flat_map-append) (one_after _ (relocs_in s (earlier entries labels walk stmts [])) (size_in last.at.sizes s) (relocs_in s (pool_pieces labels (pool_here last))) _
     (earlier_stand entries labels walk stmts [] s few (rw none r) (rw none h)) (pool_stands labels last s (not_large (sizes_with_pool last) s h)))
 
 -- ---- relocations are of their pieces' sections, and of the standard's kinds
@@ -308,7 +308,7 @@ set_own entries labels walk stmt.FnStart =
 set_own entries labels walk _ = tt
 
 pub all_own : (entries : List (Option EntryWords)) (labels : List Named) (walk : Walk) (stmts : List Stmt) → AllOwn (pieces_from entries labels walk stmts)
-unfolding pieces_of placed_from walk_behind
+unfolding pieces_of placed_from walk_after
 all_own entries labels walk [] = pool_own labels walk
 all_own entries labels walk (stmt ∷ more) =
     let word = word_place walk stmt.kind (coming_pool entries walk (stmt ∷ more)) in
@@ -369,7 +369,7 @@ joined_stands stmts object s few t = rw (kept (all_of stmts) s (all_own entries 
     by s =
         let fewer : length (entries_of stmts) < 2 ^ 64 = omega (arith, few, entries_count no_frame stmts) in
         let ends = ends_small entries start 0 stmts t.small in
-        let all : length (bytes_in s (all_of stmts)) ≡ size_in (sizes_with_pool (walk_behind entries start stmts)) s = omega (arith, law_of_ends entries labels start stmts s fewer t.unrefused ends) in
+        let all : length (bytes_in s (all_of stmts)) ≡ size_in (sizes_with_pool (walk_after entries start stmts)) s = omega (arith, law_of_ends entries labels start stmts s fewer t.unrefused ends) in
         rw all (all_stand entries labels start stmts s fewer t.unrefused ends)
 
 -- the relocations of the exception tables are those of their pieces

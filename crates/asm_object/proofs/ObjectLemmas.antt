@@ -13,11 +13,11 @@ use Rattle.relocatable_object.specs.declared.place.Section.{Section}
 use Rattle.relocatable_object.specs.declared.place.Section.TheVariants.{Text, Rodata, Extab, Init, Bss}
 use Rattle.asm_layout.specs.Faults.{first_of, first_of_all}
 use Rattle.asm_layout.specs.Functions.{entries_of, unwind_faults_of}
-use Rattle.asm_layout.specs.Walks.{start, walk_behind}
+use Rattle.asm_layout.specs.Walks.{start, walk_after}
 use Rattle.relocatable_object.specs.Sections.{same_section}
 use Rattle.asm_layout.specs.Labels.{labels_of, labelled, named_in, duplicates_from, too_large_from}
 use Rattle.asm_layout.specs.Placing.{placed_of, last_pool}
-use Rattle.asm_layout.proofs.FaultLaws.{first_behind, first_by_itself}
+use Rattle.asm_layout.proofs.FaultLaws.{first_after, first_by_itself}
 use Rattle.asm_layout.proofs.LayoutLaws.{map_after}
 use Rattle.asm_layout.proofs.NamedLaws.{named_in-labelled}
 use Rattle.asm_object.specs.declared.part.Part.{Part}
@@ -29,7 +29,7 @@ use Rattle.asm_object.specs.Built.{part_with, with_piece_in, with_piece, with_pi
 -- ---- refusals
 
 first_of_two : (faults more : List AsmFault) → first_of_all None (faults ++ more) ≡ first_of (first_of_all None faults) (first_of_all None more)
-first_of_two faults more = first_behind None faults more ∙ first_by_itself (first_of_all None faults) more
+first_of_two faults more = first_after None faults more ∙ first_by_itself (first_of_all None faults) more
 
 first_by_parts : (stmts : List Stmt)
     → let entries = entries_of stmts in
@@ -88,7 +88,7 @@ all_joined : (stmts : List Stmt)
     → let entries = entries_of stmts in
     let labels = map (labelled entries stmts) (labels_of entries stmts) in
     object_built (with_pieces no_sections (pieces_of entries (named_in labels) (placed_of entries stmts) (last_pool entries start stmts))) (rows_of entries (placed_of entries stmts)) labels
-    (walk_behind entries start stmts).at.sizes.bss ≡ joined stmts
+    (walk_after entries start stmts).at.sizes.bss ≡ joined stmts
 unfolding joined
 all_joined stmts =
     let entries = entries_of stmts in
@@ -103,7 +103,7 @@ pub taken : (stmts : List Stmt) (entries : List (Option EntryWords)) (labels : L
     → first_of_all None (faults_of stmts) ≡ None
     → entries ≡ entries_of stmts → labels ≡ map (labelled entries stmts) (labels_of entries stmts) → placed ≡ placed_of entries stmts → last ≡ last_pool entries start stmts
     → sections ≡ with_pieces no_sections (pieces_of entries (named_in labels) placed last) → rows ≡ rows_of entries placed
-    → bss ≡ (walk_behind entries start stmts).at.sizes.bss → object ≡ object_built sections rows labels bss → object_of stmts ≡ Ok object
+    → bss ≡ (walk_after entries start stmts).at.sizes.bss → object ≡ object_built sections rows labels bss → object_of stmts ≡ Ok object
 unfolding object_of
 taken stmts entries labels placed last sections rows bss object f e l p q s r b o =
     rw (f, o, s, r, b, q, p, l, e) (ap (λ x. Ok x) (sym (all_joined stmts)))

@@ -31,7 +31,7 @@ use Rattle.asm_layout.specs.Words.{word_of}
 use Rattle.asm_layout.specs.SameWords.{same_word}
 use Rattle.asm_layout.specs.Sizes.{sum_64, times, multiple, natural, is_instruction, sort_size, size, table_size, size_in, sizes_grown, is_too_large}
 use Rattle.eh_list.specs.Bytes.{gap, zeros, length-zeros}
-use Rattle.asm_layout.specs.Walks.{start, next, here, pool_place, handling, started, entry_at, ends_pool, walk_behind, coming_pool, sizes_with_pool}
+use Rattle.asm_layout.specs.Walks.{start, next, here, pool_place, handling, started, entry_at, ends_pool, walk_after, coming_pool, sizes_with_pool}
 use Rattle.relocatable_object.specs.Sections.{same_section}
 use Rattle.asm_layout.specs.declared.fault.AsmFault.{AsmFault}
 use Rattle.asm_layout.specs.declared.fault.AsmWhat.{AsmWhat}
@@ -44,12 +44,12 @@ use Rattle.asm_layout.specs.Given.{FieldsOf, TextOf, ZerosOf}
 use Rattle.asm_layout.specs.Sorts.{Operation, Nameless, Undefined, LdrValue, BlTo, Sort, CodeOf, DataOf, offset, sort_of, operation_in, given_in}
 use Rattle.asm_object.specs.Instructions.{base, literal, literal_to, made, coded, operation_link}
 use Rattle.asm_object.specs.Pieces.{Piece, instruction_piece, data_piece, relocs_of, words_bytes, bytes_of_code, bytes_of_coded, bytes_of_instruction, bytes_of_half, undefined_half, given_bytes, given_relocs, filling_piece, pool_pieces, table_pieces, own_piece, bytes_in, pieces_of}
-use Rattle.asm_object.specs.PlaceLaw.{SectionsEndBehindTheirBytes, PlacesCountTheBytesBefore, BytesStandAtTheirPlaces}
+use Rattle.asm_object.specs.PlaceLaw.{SectionsEndAfterTheirBytes, PlacesCountTheBytesBefore, BytesStandAtTheirPlaces}
 use Rattle.asm_object.specs.Refusals.{instruction_fault, sort_fault, encode_fault, fault_unless, encode_or, is_pool_too_far, is_misplaced, are_names_known, refusal}
 use Rattle.asm_object.specs.Objects.{faults_at}
 use Rattle.asm_object.proofs.Statements.{walk_sets, walk_pieces}
 use Rattle.asm_layout.specs.Placing.{word_place, placed_from, pool_here}
-use Rattle.asm_object.specs.Behind.{pieces_from, refusals_from}
+use Rattle.asm_object.specs.After.{pieces_from, refusals_from}
 
 -- ---- bytes of lists
 
@@ -165,7 +165,7 @@ sort_counts labels (DataOf (TextOf text true)) place word z load e = omega (arit
 sort_counts labels (DataOf (ZerosOf n)) place word z load e = omega (arith, length-zeros (natural n))
 sort_counts labels _ place word z load e = refl
 
--- ---- sizes behind pieces
+-- ---- sizes after pieces
 
 nothing : (b : Bool) → length (cond b (the_none) [] ++ []) ≡ 0
 nothing b = grind arith
@@ -218,7 +218,7 @@ Fewer entries = length entries < 2 ^ 64
 both_count : (s : Section) (some more : List Piece) → length (bytes_in s (some ++ more)) ≡ length (bytes_in s some) + length (bytes_in s more)
 both_count s some more = rw (flat_map-append, length-append)
 
--- a piece without bytes behind others counts nothing
+-- a piece without bytes after others counts nothing
 last_none : (s : Section) (pieces : List Piece) (piece : Piece) → piece.bytes ≡ [] → length (bytes_in s (pieces ++ piece ∷ [])) ≡ length (bytes_in s pieces)
 last_none s pieces piece e =
     let own : length (cond (same_section piece.place.section s) piece.bytes the_none ++ []) ≡ 0 = rw e (nothing (same_section piece.place.section s)) in
@@ -287,25 +287,25 @@ next_sizes entries walk stmt.HandlerData s = omega (arith, ap (λ sizes. size_in
 next_sizes entries walk stmt.Pool s = grind (arith, pool_sizes walk s)
 next_sizes entries walk _ s = omega (arith, grown_sizes)
 
-end_text : (entries : List (Option EntryWords)) (walk : Walk) (stmts : List Stmt) → min walk.at.sizes.text (2 ^ 64 - 1) ≤ (sizes_with_pool (walk_behind entries walk stmts)).text
-unfolding walk_behind
+end_text : (entries : List (Option EntryWords)) (walk : Walk) (stmts : List Stmt) → min walk.at.sizes.text (2 ^ 64 - 1) ≤ (sizes_with_pool (walk_after entries walk stmts)).text
+unfolding walk_after
 end_text entries walk [] = pool_sizes walk Text
 end_text entries walk (stmt ∷ more) = omega (arith, next_sizes entries walk stmt.kind Text, end_text entries (next entries walk stmt.kind) more)
 
--- a pool begins behind a place, at a multiple of 4
-record Behind (place pool : ℕ) : Type 0 where
+-- a pool begins after a place, at a multiple of 4
+record After (place pool : ℕ) : Type 0 where
   text : ℕ
-  behind : min place (2 ^ 64 - 1) ≤ text
+  after : min place (2 ^ 64 - 1) ≤ text
   begins : pool ≡ sum_64 text (gap text 4)
 
-pool_behind : (entries : List (Option EntryWords)) (walk : Walk) (stmts : List Stmt) → Behind walk.at.sizes.text (coming_pool entries walk stmts)
+pool_after : (entries : List (Option EntryWords)) (walk : Walk) (stmts : List Stmt) → After walk.at.sizes.text (coming_pool entries walk stmts)
 unfolding coming_pool
-pool_behind entries walk [] = record { text = walk.at.sizes.text; behind = omega arith; begins = refl }
-pool_behind entries walk (stmt ∷ more) =
-    let later = pool_behind entries (next entries walk stmt.kind) more in
-    elim (ends_pool walk stmt.kind) as (λ b. Behind walk.at.sizes.text (cond b (pool_place walk) (coming_pool entries (next entries walk stmt.kind) more))) [
-      | true ↦ record { text = walk.at.sizes.text; behind = omega arith; begins = refl }
-      | false ↦ record { text = later.text; behind = omega (arith, next_sizes entries walk stmt.kind Text, later.behind); begins = later.begins }
+pool_after entries walk [] = record { text = walk.at.sizes.text; after = omega arith; begins = refl }
+pool_after entries walk (stmt ∷ more) =
+    let later = pool_after entries (next entries walk stmt.kind) more in
+    elim (ends_pool walk stmt.kind) as (λ b. After walk.at.sizes.text (cond b (pool_place walk) (coming_pool entries (next entries walk stmt.kind) more))) [
+      | true ↦ record { text = walk.at.sizes.text; after = omega arith; begins = refl }
+      | false ↦ record { text = later.text; after = omega (arith, next_sizes entries walk stmt.kind Text, later.after); begins = later.begins }
     ]
 
 minus : (a b : ℕ) → b ≤ a → pos a -ℤ pos b ≡ pos (a - b)
@@ -317,7 +317,7 @@ load_code t n h k m = grind (arith, nat_tests)
 
 word_there : (place text index pool word : ℕ) → place + 2 ≤ MOST_BYTES → place + 2 ≤ text → pool ≡ sum_64 text (gap text 4)
     → word ≡ sum_64 pool (times index 4) → word - base place ≤ 1020 → (base place ≤ word) × ((word - base place) % 4 ≡ 0)
-word_there place text index pool word small behind p w near =
+word_there place text index pool word small after p w near =
     let from : base place ≡ (place + 4) / 4 * 4 = omega arith in
     let low : word ≤ place + 1024 = omega arith in
     let first : pool ≡ (text + 3) / 4 * 4 = omega arith in
@@ -335,15 +335,15 @@ text_grown sizes section by e = grind arith
 
 load_there : (t place index pool word text : ℕ) → fault_unless (nat_lt t 8) RegisterRange ≡ None → word ≡ sum_64 pool (times index 4) → nat_lt 1020 (word - base place) ≡ false
     → place + 2 ≤ MOST_BYTES → place + 2 ≤ text → pool ≡ sum_64 text (gap text 4) → result_err (encoded_of (LdrLit t (literal word place))) ≡ None
-load_there t place index pool word text r w near small behind p =
+load_there t place index pool word text r w near small after p =
     let close : word - base place ≤ 1020 = grind (arith, nat_tests) in
-    let there = word_there place text index pool word small behind p w close in
+    let there = word_there place text index pool word small after p w close in
     ap (λ n. result_err (encoded_of (LdrLit t (offset n)))) (minus word (base place) there.0)
     ∙ load_code t (word - base place) r close there.1
 
 pub loads : (entries : List (Option EntryWords)) (labels : List Named) (walk : Walk) (kind : StmtKind) (more : List Stmt) (word : Option ℕ)
     → word ≡ word_place walk kind (cond (ends_pool walk kind) (pool_place walk) (coming_pool entries (next entries walk kind) more))
-    → (sizes_with_pool (walk_behind entries (next entries walk kind) more)).text ≤ MOST_BYTES
+    → (sizes_with_pool (walk_after entries (next entries walk kind) more)).text ≤ MOST_BYTES
     → refusal labels kind walk.at.section (here walk.at).offset word ≡ None → LoadHasCode labels kind (here walk.at).offset word
 loads entries labels walk (stmt.LdrPool t value) more word w small e l =
     let at = (here walk.at).offset in
@@ -352,7 +352,7 @@ loads entries labels walk (stmt.LdrPool t value) more word w small e l =
     let same = text_here walk.at.sizes walk.at.section there in
     let grows = text_grown walk.at.sizes walk.at.section 2 there in
     let ends = end_text entries (next entries walk (stmt.LdrPool t value)) more in
-    let pool = pool_behind entries (next entries walk (stmt.LdrPool t value)) more in
+    let pool = pool_after entries (next entries walk (stmt.LdrPool t value)) more in
     let fits : size_in walk.at.sizes walk.at.section + 2 ≤ MOST_BYTES = omega (arith, same, grows, ends, small) in
     let index = position_or_len (same_word (word_of value)) walk.pool in
     let coming = coming_pool entries (next entries walk (stmt.LdrPool t value)) more in
@@ -360,15 +360,15 @@ loads entries labels walk (stmt.LdrPool t value) more word w small e l =
     ap (λ o. instruction_fault (Some (LdrLit t (literal_to o at)))) is
     ∙ load_there t at index coming (sum_64 coming (times index 4)) pool.text parts.0 refl
     (ap (λ o. is_pool_too_far at o) (sym is) ∙ parts.1.0)
-    fits (omega (arith, same, grows, fits, pool.behind)) pool.begins
+    fits (omega (arith, same, grows, fits, pool.after)) pool.begins
 loads entries labels walk _ more word w small e l = cc
 
 -- ---- the law
 
 counts : (entries : List (Option EntryWords)) (labels : List Named) (walk : Walk) (stmts : List Stmt) (s : Section) → Fewer entries
-    → refusals_from entries labels walk stmts ≡ [] → (sizes_with_pool (walk_behind entries walk stmts)).text ≤ MOST_BYTES
-    → SameEnd (size_in (sizes_with_pool (walk_behind entries walk stmts)) s) (size_in walk.at.sizes s + length (bytes_in s (pieces_from entries labels walk stmts)))
-unfolding pieces_of placed_from walk_behind coming_pool
+    → refusals_from entries labels walk stmts ≡ [] → (sizes_with_pool (walk_after entries walk stmts)).text ≤ MOST_BYTES
+    → SameEnd (size_in (sizes_with_pool (walk_after entries walk stmts)) s) (size_in walk.at.sizes s + length (bytes_in s (pieces_from entries labels walk stmts)))
+unfolding pieces_of placed_from walk_after coming_pool
 counts entries labels walk [] s few r small = pool_counts labels walk s
 counts entries labels walk (stmt ∷ more) s few r small =
     let word = word_place walk stmt.kind (cond (ends_pool walk stmt.kind) (pool_place walk) (coming_pool entries (next entries walk stmt.kind) more)) in
@@ -381,21 +381,21 @@ counts entries labels walk (stmt ∷ more) s few r small =
 pub not_large : (sizes : Sizes) (s : Section) → is_too_large sizes ≡ false → size_in sizes s ≤ MOST_BYTES
 not_large sizes s e = grind (arith, nat_tests)
 
-pub law_of_ends : SectionsEndBehindTheirBytes
+pub law_of_ends : SectionsEndAfterTheirBytes
 law_of_ends entries labels walk stmts s few r h =
-    omega (arith, counts entries labels walk stmts s few r (not_large (sizes_with_pool (walk_behind entries walk stmts)) Text h), not_large (sizes_with_pool (walk_behind entries walk stmts)) s h)
+    omega (arith, counts entries labels walk stmts s few r (not_large (sizes_with_pool (walk_after entries walk stmts)) Text h), not_large (sizes_with_pool (walk_after entries walk stmts)) s h)
 
 pub walks_on : (entries : List (Option EntryWords)) (walk : Walk) (before more : List Stmt)
-    → walk_behind entries walk (before ++ more) ≡ walk_behind entries (walk_behind entries walk before) more
-unfolding walk_behind
+    → walk_after entries walk (before ++ more) ≡ walk_after entries (walk_after entries walk before) more
+unfolding walk_after
 walks_on entries walk [] more = refl
 walks_on entries walk (stmt ∷ before) more = walks_on entries (next entries walk stmt.kind) before more
 
-pub none_behind : (entries : List (Option EntryWords)) (labels : List Named) (walk : Walk) (before more : List Stmt)
-    → refusals_from entries labels walk (before ++ more) ≡ [] → refusals_from entries labels (walk_behind entries walk before) more ≡ []
-unfolding walk_behind placed_from
-none_behind entries labels walk [] more r = r
-none_behind entries labels walk (stmt ∷ before) more r = none_behind entries labels (next entries walk stmt.kind) before more (none_parts stmt.line _ _ r).1
+pub none_after : (entries : List (Option EntryWords)) (labels : List Named) (walk : Walk) (before more : List Stmt)
+    → refusals_from entries labels walk (before ++ more) ≡ [] → refusals_from entries labels (walk_after entries walk before) more ≡ []
+unfolding walk_after placed_from
+none_after entries labels walk [] more r = r
+none_after entries labels walk (stmt ∷ before) more r = none_after entries labels (next entries walk stmt.kind) before more (none_parts stmt.line _ _ r).1
 
 from_start : (s : Section) (n : ℕ) → size_in start.at.sizes s + n ≡ n
 from_start s n = grind arith
@@ -403,7 +403,7 @@ from_start s n = grind arith
 pub law_of_places : PlacesCountTheBytesBefore
 law_of_places entries labels before more s few r h =
     let on = walks_on entries start before more in
-    let rest = law_of_ends entries labels (walk_behind entries start before) more s few (none_behind entries labels start before more r) (rw on at h) in
+    let rest = law_of_ends entries labels (walk_after entries start before) more s few (none_after entries labels start before more r) (rw on at h) in
     omega (arith, from_start s 0, law_of_ends entries labels start (before ++ more) s few r h, ap (λ walk. size_in (sizes_with_pool walk) s) on, rest)
 
 -- the pieces of the statements before some others
@@ -414,17 +414,17 @@ earlier entries labels walk (stmt ∷ before) more =
     ++ earlier entries labels (next entries walk stmt.kind) before more
 
 pub split : (entries : List (Option EntryWords)) (labels : List Named) (walk : Walk) (before more : List Stmt)
-    → pieces_from entries labels walk (before ++ more) ≡ earlier entries labels walk before more ++ pieces_from entries labels (walk_behind entries walk before) more
-unfolding walk_behind pieces_of placed_from earlier
+    → pieces_from entries labels walk (before ++ more) ≡ earlier entries labels walk before more ++ pieces_from entries labels (walk_after entries walk before) more
+unfolding walk_after pieces_of placed_from earlier
 split entries labels walk [] more = refl
 split entries labels walk (stmt ∷ before) more =
     let own = walk_pieces entries labels walk (word_place walk stmt.kind (coming_pool entries walk (stmt ∷ before ++ more))) stmt.kind in
     ap (λ pieces. own ++ pieces) (split entries labels (next entries walk stmt.kind) before more)
-    ∙ sym (append_assoc own (earlier entries labels (next entries walk stmt.kind) before more) (pieces_from entries labels (walk_behind entries (next entries walk stmt.kind) before) more))
+    ∙ sym (append_assoc own (earlier entries labels (next entries walk stmt.kind) before more) (pieces_from entries labels (walk_after entries (next entries walk stmt.kind) before) more))
 
 pub law_of_bytes : BytesStandAtTheirPlaces
 law_of_bytes entries labels before more s few r h =
-    let walk = walk_behind entries start before in
+    let walk = walk_after entries start before in
     let first = bytes_in s (earlier entries labels start before more) in
     let rest = bytes_in s (pieces_from entries labels walk more) in
     let whole : bytes_in s (pieces_from entries labels start (before ++ more)) ≡ first ++ rest =

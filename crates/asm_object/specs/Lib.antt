@@ -5,7 +5,7 @@ pub mod Refusals
 pub mod Pieces
 pub mod Objects
 pub mod Built
-pub mod Behind
+pub mod After
 pub mod PlaceLaw
 pub mod ObjectLaw
 pub mod LoadLaw

@@ -1,5 +1,5 @@
 -- What holds of every object that statements stand for. The linker's fields stand in the order of the sections, and in a section
--- one behind the other, each whole in the section's bytes, so that no two share a byte; each has a kind of the standard (IHI 0044).
+-- one after the other, each whole in the section's bytes, so that no two share a byte; each has a kind of the standard (IHI 0044).
 -- A label's symbol stands where the statements before it end. Of statements there are fewer than 2^64.
 use Rattle.std.specs.Prelude.{◌≡◌, ◌^◌, ◌<◌, ◌==◌, if◌then◌else◌, true, ℕ, List, [], ◌∷◌, ◌++◌, length, Option, Some, None, Ok}
 use Rattle.std.specs.List.{list_all, list_any}
@@ -10,7 +10,7 @@ use Rattle.relocatable_object.specs.declared.place.Place.{Place}
 use Rattle.relocatable_object.specs.declared.place.Section.{Section}
 use Rattle.relocatable_object.specs.declared.place.Section.TheVariants.{Text, Rodata, Extab, Init, Bss}
 use Rattle.asm_layout.specs.Functions.{entries_of}
-use Rattle.asm_layout.specs.Walks.{start, here, walk_behind}
+use Rattle.asm_layout.specs.Walks.{start, here, walk_after}
 use Rattle.relocatable_object.specs.declared.object.Object.{Object}
 use Rattle.relocatable_object.specs.declared.object.ObjSymbol.{ObjSymbol}
 use Rattle.relocatable_object.specs.declared.object.Reloc.{Reloc}
@@ -18,7 +18,7 @@ use Rattle.relocatable_object.specs.declared.relocation.TheConstants.{R_ARM_ABS3
 use Rattle.relocatable_object.specs.Fields.{StandInOrder, relocs_at, bytes_at}
 use Rattle.asm_object.specs.Objects.{object_of}
 
--- the fields of a section stand one behind the other, each whole in its bytes
+-- the fields of a section stand one after the other, each whole in its bytes
 abbrev pub FieldsStandInOrder : Type 0
 FieldsStandInOrder =
     (stmts : List Stmt) (object : Object) (section : Section)
@@ -48,10 +48,10 @@ symbol_place name [] = None
 symbol_place name (symbol ∷ more) =
     if same_bytes name symbol.name then Some (record { section = symbol.section; offset = symbol.offset }) else symbol_place name more
 
--- the symbol of a label stands in the section where the statements before the label end, at the place behind them
+-- the symbol of a label stands in the section where the statements before the label end, at the place after them
 abbrev pub SymbolsStandAtTheirLabels : Type 0
 SymbolsStandAtTheirLabels =
     (before more : List Stmt) (line : ℕ) (name : List ℕ) (object : Object)
     → let stmts = before ++ record { line = line; kind = Label name } ∷ more in
     length stmts < 2 ^ 64 → object_of stmts ≡ Ok object
-    → symbol_place name object.symbols ≡ Some (here (walk_behind (entries_of stmts) start before).at)
+    → symbol_place name object.symbols ≡ Some (here (walk_after (entries_of stmts) start before).at)

@@ -10,7 +10,7 @@ use Rattle.asm_layout.specs.Faults.{fault_at, first_of_all}
 use Rattle.asm_layout.specs.Functions.{entries_of, unwind_faults_of}
 use Rattle.asm_layout.specs.PlacedStmt.{PlacedStmt}
 use Rattle.asm_layout.specs.Placing.{placed_of, last_pool}
-use Rattle.asm_layout.specs.Walks.{start, walk_behind}
+use Rattle.asm_layout.specs.Walks.{start, walk_after}
 use Rattle.asm_layout.specs.Labels.{Named, labels_of, labelled, duplicates_from, too_large_from}
 use Rattle.asm_layout.specs.declared.labels.Label.{Label}
 use Rattle.asm_object.specs.Refusals.{refusal}
@@ -57,7 +57,7 @@ joined stmts =
       rodata = bytes_in Rodata pieces;
       extab = bytes_in Extab pieces;
       init = bytes_in Init pieces;
-      bss = (walk_behind entries start stmts).at.sizes.bss % 2 ^ 32;
+      bss = (walk_after entries start stmts).at.sizes.bss % 2 ^ 32;
       symbols = map (λ label. symbol_of (labelled entries stmts label)) labels;
       marks = marks_from None pieces;
       rows = rows_of entries (placed_of entries stmts);

@@ -7,37 +7,37 @@ use Rattle.asm_unwind.specs.declared.entry.EntryWords.{EntryWords}
 use Rattle.relocatable_object.specs.declared.place.Section.{Section}
 use Rattle.asm_layout.specs.declared.walk.Walk.{Walk}
 use Rattle.asm_layout.specs.Sizes.{size_in, is_too_large}
-use Rattle.asm_layout.specs.Walks.{start, walk_behind, sizes_with_pool}
+use Rattle.asm_layout.specs.Walks.{start, walk_after, sizes_with_pool}
 use Rattle.asm_layout.specs.Labels.{Named}
 use Rattle.asm_object.specs.Pieces.{bytes_in}
-use Rattle.asm_object.specs.Behind.{pieces_from, refusals_from}
+use Rattle.asm_object.specs.After.{pieces_from, refusals_from}
 
--- from the start or from any other place of the walk: a section ends as many bytes behind the place as the statements
+-- from the start or from any other place of the walk: a section ends as many bytes after the place as the statements
 -- from there on have in it, the last pool with them
-abbrev pub SectionsEndBehindTheirBytes : Type 0
-SectionsEndBehindTheirBytes =
+abbrev pub SectionsEndAfterTheirBytes : Type 0
+SectionsEndAfterTheirBytes =
     (entries : List (Option EntryWords)) (labels : List Named) (walk : Walk) (stmts : List Stmt) (section : Section)
     → length entries < 2 ^ 64 → refusals_from entries labels walk stmts ≡ []
-    → is_too_large (sizes_with_pool (walk_behind entries walk stmts)) ≡ false
+    → is_too_large (sizes_with_pool (walk_after entries walk stmts)) ≡ false
     → size_in walk.at.sizes section + length (bytes_in section (pieces_from entries labels walk stmts))
-    ≡ size_in (sizes_with_pool (walk_behind entries walk stmts)) section
+    ≡ size_in (sizes_with_pool (walk_after entries walk stmts)) section
 
--- the place behind some statements of a source is the number of bytes of a section without those from there on
+-- the place after some statements of a source is the number of bytes of a section without those from there on
 abbrev pub PlacesCountTheBytesBefore : Type 0
 PlacesCountTheBytesBefore =
     (entries : List (Option EntryWords)) (labels : List Named) (before more : List Stmt) (section : Section)
     → length entries < 2 ^ 64 → refusals_from entries labels start (before ++ more) ≡ []
-    → is_too_large (sizes_with_pool (walk_behind entries start (before ++ more))) ≡ false
+    → is_too_large (sizes_with_pool (walk_after entries start (before ++ more))) ≡ false
     → length (bytes_in section (pieces_from entries labels start (before ++ more)))
-    ≡ size_in (walk_behind entries start before).at.sizes section
-    + length (bytes_in section (pieces_from entries labels (walk_behind entries start before) more))
+    ≡ size_in (walk_after entries start before).at.sizes section
+    + length (bytes_in section (pieces_from entries labels (walk_after entries start before) more))
 
 -- and the bytes of the section from that place on are those of the statements from there on
 abbrev pub BytesStandAtTheirPlaces : Type 0
 BytesStandAtTheirPlaces =
     (entries : List (Option EntryWords)) (labels : List Named) (before more : List Stmt) (section : Section)
     → length entries < 2 ^ 64 → refusals_from entries labels start (before ++ more) ≡ []
-    → is_too_large (sizes_with_pool (walk_behind entries start (before ++ more))) ≡ false
-    → drop (size_in (walk_behind entries start before).at.sizes section)
+    → is_too_large (sizes_with_pool (walk_after entries start (before ++ more))) ≡ false
+    → drop (size_in (walk_after entries start before).at.sizes section)
     (bytes_in section (pieces_from entries labels start (before ++ more)))
-    ≡ bytes_in section (pieces_from entries labels (walk_behind entries start before) more)
+    ≡ bytes_in section (pieces_from entries labels (walk_after entries start before) more)

@@ -114,7 +114,7 @@ encode_fault_by labels kind code = sort_fault labels (sort_of kind) code
 abbrev pub encode_fault : List Named → StmtKind → ℕ → Option ℕ → Option EncodeFault
 encode_fault labels kind place word = encode_fault_by labels kind (coded (instruction labels kind place word))
 
--- a pool word is more than 1,020 bytes behind the base of its `ldr`
+-- a pool word is more than 1,020 bytes after the base of its `ldr`
 abbrev pub is_pool_too_far : ℕ → Option ℕ → Bool
 is_pool_too_far place (Some word) = nat_lt MOST_TO_POOL (word - base place)
 is_pool_too_far place None = false

@@ -17,7 +17,7 @@ use Rattle.asm_layout.specs.Labels.{Named, find}
 abbrev pub is_known : List Named → List ℕ → Bool
 is_known labels name = if is_local name then is_some (find name labels) else true
 
--- how far one place stands behind another of its section
+-- how far one place stands after another of its section
 abbrev pub between_places : Option Place → Option Place → Option ℤ
 between_places (Some a) (Some b) = if same_section a.section b.section then Some (pos a.offset -ℤ pos b.offset) else None
 between_places _ _ = None

@@ -69,7 +69,7 @@ impl Gathered {
         self.sections.push_own(alloc, labels, at, &stmt.kind, code)
     }
 
-    /// Takes a statement. Behind a refusal only refusals count.
+    /// Takes a statement. After a refusal only refusals count.
     fn take(
         &mut self,
         alloc: Global,
@@ -102,7 +102,7 @@ impl Gathered {
     }
 }
 
-/// What statements where they stand give, and the pool at the end of the text, behind a first refusal that may be.
+/// What statements where they stand give, and the pool at the end of the text, after a first refusal that may be.
 #[tactic(auto, unfolding(crate::specs::Pieces::pieces_of, asm_layout::specs::Faults::first_of_all))]
 fn gather(
     alloc: Global,

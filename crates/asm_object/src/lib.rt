@@ -2,7 +2,7 @@
 #![tactic(auto)]
 
 ghost use Rattle.asm_object.specs.PlaceLaw.{
-  SectionsEndBehindTheirBytes,
+  SectionsEndAfterTheirBytes,
   PlacesCountTheBytesBefore,
   BytesStandAtTheirPlaces,
 };
@@ -26,15 +26,15 @@ pub use relocatable_object::{
 };
 
 /// Where a statement stands is the number of bytes of its section before it, where nothing is refused and no section is too
-/// large: a section ends behind the bytes of its statements, and from a statement's place on it has the bytes of that
-/// statement and of those behind it.
+/// large: a section ends after the bytes of its statements, and from a statement's place on it has the bytes of that
+/// statement and of those after it.
 pub fn places_count_bytes()
-    ensures end { SectionsEndBehindTheirBytes }
+    ensures end { SectionsEndAfterTheirBytes }
     ensures before { PlacesCountTheBytesBefore }
     ensures there { BytesStandAtTheirPlaces }
 {}
 
-/// The fields that the linker fills stand in the order of the sections, and in a section one behind the other, each whole in
+/// The fields that the linker fills stand in the order of the sections, and in a section one after the other, each whole in
 /// the section's bytes, in every object that statements stand for. So no two of them share a byte.
 pub fn fields_stand_in_order()
     ensures fields { FieldsStandInOrder }
@@ -42,7 +42,7 @@ pub fn fields_stand_in_order()
     ensures kinds { RelocsHaveKinds }
 {}
 
-/// The symbol of a label stands in the section where the statements before the label end, and at the place behind them, in
+/// The symbol of a label stands in the section where the statements before the label end, and at the place after them, in
 /// every object that statements stand for.
 pub fn symbols_stand_at_their_labels()
     ensures { SymbolsStandAtTheirLabels }

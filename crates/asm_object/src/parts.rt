@@ -211,7 +211,7 @@ impl Sections {
         self.text.push_pool(labels, place, words)
     }
 
-    /// Adds the words of a function's table, at the next multiple of 4 behind a place of the exception tables.
+    /// Adds the words of a function's table, at the next multiple of 4 after a place of the exception tables.
     fn push_table(&mut self, place: u64, entry: &EntryWords) -> Result<(), AllocError>
         ensures { OnOk result (self.new ≡ with_pieces self.old (table_pieces place (Some entry.now))) }
     {

@@ -21,7 +21,7 @@ pub fn is_known(labels: &Labels, name: &Name) -> bool
     !is_local(name) || labels.place_of(name).is_some()
 }
 
-/// How far the first label stands behind the second, where both stand in one section.
+/// How far the first label stands after the second, where both stand in one section.
 fn distance(labels: &Labels, a: &Name, b: &Name) -> Option<i128>
     ensures exact { result ≡ distance (named_in labels.now) a.now b.now }
     ensures bound { IfSome result (λ d. (neg_ℤ (pos (2 ^ 64)) <ℤ d) × (d <ℤ pos (2 ^ 64))) }

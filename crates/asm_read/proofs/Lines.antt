@@ -19,7 +19,7 @@ lines_step (b ∷ c ∷ bs) h =
     let f : suc p + 1 ≡ suc (p + 1) = omega arith in
     grind (arith, nat_tests, lines_step (c ∷ bs) (omega arith))
 
--- the length of the line, and the text behind it, under names
+-- the length of the line, and the text after it, under names
 module _ (out : List Stmt) (n : ℕ) (text : List ℕ) (len : ℕ) (some : 0 < length text) where
   pub read_next : (new : List Stmt) (rest : List ℕ) → n ≤ MOST_LINES → len ≡ prefix_len is_inside text → rest ≡ drop (len + 1) text → added out (line_of n (take len text)) ≡ Ok new → added out (read_lines n (lines_of text)) ≡ added new (read_lines (n + 1) (lines_of rest))
   unfolding read_lines

@@ -34,7 +34,7 @@ before_is v w = ap (is_some_and is_lt) (lists_agrees (λ x y. refl) v w)
 abbrev pub words_before : List ℕ → List CodeRow → ℕ
 words_before w rows = prefix_len (λ (r : CodeRow). is_before (row_of r).word w) rows
 
--- behind the forms of words before a word none is before it
+-- after the forms of words before a word none is before it
 pub rest_rises : (rs : List CodeRow) (v w : List ℕ) → rises v (map row_of rs) ≡ true → rises w (map row_of (drop (words_before w rs) rs)) ≡ true
 rest_rises [] v w h = refl
 rest_rises (r ∷ rs) v w h =
@@ -55,7 +55,7 @@ pub partition_is : {X : Type 0} (p : X → Bool) (xs : List X) (i : ℕ) → i �
 partition_is p [] i fits h = omega arith
 partition_is p (x ∷ xs) i fits h = sym (prefix_len_is p (x ∷ xs) i x fits (λ k. h.0 k x (omega arith)) (h.1 i x (omega arith)))
 
--- behind a form of the word none is before it
+-- after a form of the word none is before it
 pub row_rises : (rs : List CodeRow) (i : ℕ) (d : CodeRow) (w : List ℕ) → i < length rs → same (row_of (get_or rs i d)).word w ≡ true → rises w (map row_of (drop i rs)) ≡ true → rises w (map row_of (drop (i + 1) rs)) ≡ true
 row_rises rs i d w h e r = grind (arith, drop_more rs i d, same_text (row_of (get_or rs i d)).word w)
 
@@ -83,13 +83,13 @@ module _ (w line : List ℕ) (from : ℕ) where
   unfolding first_fit try_form
   other_form f fs best h = rw h
 
-  -- behind a word there is none of it
-  none_behind : (fs : List TableRow) (v : List ℕ) (best : Option Stop) → is_before w v ≡ true → rises v fs ≡ true → first_fit fs w line from best ≡ Err best
+  -- after a word there is none of it
+  none_after : (fs : List TableRow) (v : List ℕ) (best : Option Stop) → is_before w v ≡ true → rises v fs ≡ true → first_fit fs w line from best ≡ Err best
   unfolding first_fit
-  none_behind [] v best h r = refl
-  none_behind (f ∷ fs) v best h r =
+  none_after [] v best h r = refl
+  none_after (f ∷ fs) v best h r =
       let next = before_further w v f.word h in
-      grind (arith, next, texts_ties f.word w, nat_list_cmp_total.antisymm f.word w, other_form f fs best, none_behind fs f.word best)
+      grind (arith, next, texts_ties f.word w, nat_list_cmp_total.antisymm f.word w, other_form f fs best, none_after fs f.word best)
 
   -- forms of words before a word are passed over
   pub skipped : (rs : List CodeRow) (best : Option Stop) → first_fit (map row_of (drop (words_before w rs) rs)) w line from best ≡ first_fit (map row_of rs) w line from best
@@ -108,12 +108,12 @@ module _ (w line : List ℕ) (from : ℕ) where
   unfolding first_fit try_form
   row_miss rs i d best next h e t = rw (drop_more rs i d h, e, t)
 
-  -- a form of another word, and all behind it
+  -- a form of another word, and all after it
   pub row_other : (rs : List CodeRow) (i : ℕ) (d : CodeRow) (best : Option Stop) → i < length rs → rises w (map row_of (drop i rs)) ≡ true → same (row_of (get_or rs i d)).word w ≡ false → first_fit (map row_of (drop i rs)) w line from best ≡ Err best
   row_other rs i d best h r e =
       let f = row_of (get_or rs i d) in
       let more = map row_of (drop (i + 1) rs) in
-      grind (arith, drop_more rs i d, texts_ties f.word w, nat_list_cmp_total.antisymm w f.word, other_form f more best, none_behind more f.word best)
+      grind (arith, drop_more rs i d, texts_ties f.word w, nat_list_cmp_total.antisymm w f.word, other_form f more best, none_after more f.word best)
 
   -- ---- the groups of the table
 

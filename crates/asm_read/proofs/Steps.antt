@@ -29,7 +29,7 @@ pub joined_none : (line : List ℕ) (r : Result Series Stop) → joined line [] 
 joined_none line r = grind arith
 
 module _ (n : ℕ) (word : Bool) (line : List ℕ) (from : ℕ) where
-  -- the place behind a list
+  -- the place after a list
   pub end_stop : (s : Stop) → 0 < n → list_item_at word line from ≡ Err s → end_of (expressions_at n word line from) ≡ Err s
   unfolding expressions_at
   end_stop s some h = grind arith

@@ -18,7 +18,7 @@ use Rattle.asm_read.specs.Operands.{◌>>=◌, span, stop, stopped, bytes_of, sa
 abbrev pub shaped : Shape → ℕ → Shaped
 shaped shape end = record { shape = shape; end = end }
 
--- what a word in parentheses behind a name means
+-- what a word in parentheses after a name means
 abbrev pub relation_of : Span → List ℕ → Option Shape
 relation_of name word =
     if same word (codes "prel31") then Some (Prel31 name)
@@ -31,12 +31,12 @@ abbrev pub related_as : List ℕ → Token → Option Shape → Result Shaped St
 related_as line token None = Err (stopped token)
 related_as line token (Some shape) = mark_at 41 line token.end >>= (λ end. Ok (shaped shape end))
 
--- behind name(
+-- after name(
 unfoldable pub related : List ℕ → Span → ℕ → Result Shaped Stop
 related line name from =
     let token = token_at line from in related_as line token (relation_of name (name_of line token))
 
--- behind name-
+-- after name-
 unfoldable pub difference : List ℕ → Span → ℕ → Result Shaped Stop
 difference line name from =
     name_at line from >>= (λ other.
@@ -45,9 +45,9 @@ difference line name from =
     then number_at line token.end >>= (λ n. Ok (shaped (Diff name other n.value) n.end))
     else Ok (shaped (Diff name other (pos 0)) other.end))
 
--- behind a name
-unfoldable pub behind_name : Bool → List ℕ → Span → Result Shaped Stop
-behind_name word line name =
+-- after a name
+unfoldable pub after_name : Bool → List ℕ → Span → Result Shaped Stop
+after_name word line name =
     let token = token_at line name.end in
     if is_mark_of 43 token.kind then number_at line token.end >>= (λ n. Ok (shaped (Of name n.value) n.end))
     else if is_mark_of 45 token.kind then difference line name token.end
@@ -57,7 +57,7 @@ behind_name word line name =
 abbrev pub expression_of : Bool → List ℕ → Token → Kind → Result Shaped Stop
 expression_of word line token (Number n) = Ok (shaped (Num n) token.end)
 expression_of word line token Wide = Err (stop token.start NumberRange)
-expression_of word line token Word = behind_name word line (span token.start token.end)
+expression_of word line token Word = after_name word line (span token.start token.end)
 expression_of word line token kind = Err (stopped token)
 
 -- a number, name, name+n, a-b, a-b+n, or in a word name(prel31), name(prel31ref), name(target2), name(rel)
@@ -72,7 +72,7 @@ listed_at word line from =
     then number_at line token.end >>= (λ n. Ok (shaped (Num n.value) n.end))
     else expression_at word line from
 
--- where the next expression of a list begins: behind a comma
+-- where the next expression of a list begins: after a comma
 abbrev pub next_of : Token → Option ℕ
 next_of token = if is_mark_of 44 token.kind then Some token.end else None
 
@@ -82,7 +82,7 @@ item e token = record { shape = e.shape; end = e.end; next = next_of token }
 unfoldable pub list_item_at : Bool → List ℕ → ℕ → Result ListItem Stop
 list_item_at word line from = listed_at word line from >>= (λ e. Ok (item e (token_at line e.end)))
 
--- expressions one after another, and the place behind them
+-- expressions one after another, and the place after them
 pub record Series : Type 0 where
   pub shapes : List Shape
   pub end : ℕ
@@ -90,7 +90,7 @@ pub record Series : Type 0 where
 abbrev pub series : List Shape → ℕ → Series
 series shapes end = record { shapes = shapes; end = end }
 
--- an expression and those behind it
+-- an expression and those after it
 abbrev pub and_more : ListItem → Option ℕ → (ℕ → Result Series Stop) → Result Series Stop
 and_more i None more = Ok (series (i.shape ∷ []) i.end)
 and_more i (Some at) more = more at >>= (λ rest. Ok (series (i.shape ∷ rest.shapes) rest.end))
@@ -101,7 +101,7 @@ expressions_at zero word line from = Err (stopped (token_at line from))
 expressions_at (suc n) word line from =
     list_item_at word line from >>= (λ i. and_more i i.next (λ at. expressions_at n word line at))
 
--- the place behind them
+-- the place after them
 abbrev pub end_of : Result Series Stop → Result ℕ Stop
 end_of r = r >>= (λ s. Ok s.end)
 

@@ -90,7 +90,7 @@ abbrev pub end_if : Operands → Token → Kind → Result Operands Stop
 end_if o token End = Ok o
 end_if o token kind = Err (stopped token)
 
--- the operands where the line ends behind them
+-- the operands where the line ends after them
 unfoldable pub end_at : List ℕ → Operands → Result Operands Stop
 end_at line o = let token = token_at line o.at in end_if o token token.kind
 

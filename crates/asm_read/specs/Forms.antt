@@ -1,9 +1,9 @@
 -- The forms of statements, as the code's table has them (src/table.rt): of each the word that it begins with, what stands
--- behind it, and the statement that it makes. That they are the language is a law of their own: each line that
+-- after it, and the statement that it makes. That they are the language is a law of their own: each line that
 -- docs/source-language.md has for a statement reads back as that statement (the crate asm_text).
 use Rattle.std.specs.Prelude.{ℕ, ◌==◌, if◌then◌else◌, List, ◌++◌, map, slice_index}
 use Rattle.std.specs.Borrow.{Bor}
-use Rattle.asm_read.specs.Tokens.{within}
+use Rattle.asm_read.specs.Tokens.{is_between}
 use Rattle.asm_read.specs.declared.table.Form.{Form}
 use Rattle.asm_read.specs.declared.table.Group.{Group}
 use Rattle.asm_read.specs.declared.table.Group.TheVariants as group
@@ -49,8 +49,8 @@ abbrev pub group_of : List ℕ → Group
 group_of word =
     let first = slice_index word 0 in
     if first == 46 then group.Directives
-    else if within 97 98 first then group.AToB
-    else if within 99 108 first then group.CToL
+    else if is_between 97 98 first then group.AToB
+    else if is_between 99 108 first then group.CToL
     else group.MToZ
 
 -- the forms of a group; their words rise

@@ -1,4 +1,4 @@
--- Operands at a place of a line: what stands there and the place behind it, or where reading stops and why
+-- Operands at a place of a line: what stands there and the place after it, or where reading stops and why
 -- (docs/source-language.md, "Statements").
 use Rattle.std.specs.Prelude.{ℕ, ◌+◌, ◌-◌, ◌*◌, ◌/◌, ◌%◌, ◌^◌, ◌==◌, ◌&&◌, nat_eq, nat_lt, nat_le, Bool, true, false, if◌then◌else◌, List, [], length, slice_index, slice_range, Option, Some, None, Result, Ok, Err, ℤ, pos, codes, bit_or, zero, suc, int_le}
 use Rattle.std.specs.Cmp.Lexicographic.{pointwise}
@@ -14,7 +14,7 @@ use Rattle.asm_read.specs.declared.line.Register.{Register}
 use Rattle.asm_read.specs.declared.line.Numeral.{Numeral}
 use Rattle.asm_read.specs.declared.line.Item.{Item}
 use Rattle.asm_read.specs.declared.line.Listed.{Listed}
-use Rattle.asm_read.specs.Tokens.{token_at, is_digit, within}
+use Rattle.asm_read.specs.Tokens.{token_at, is_digit, is_between}
 
 -- what follows a part that was read; where it wasn't, reading stops there
 infixl 10 ◌>>=◌
@@ -57,7 +57,7 @@ register_of name =
     else if same name (codes "lr") then Some LR
     else if same name (codes "pc") then Some PC
     else if length name == 2 && slice_index name 0 == 114 && is_digit (slice_index name 1) then Some (slice_index name 1 - 48)
-    else if length name == 3 && slice_index name 0 == 114 && slice_index name 1 == 49 && within 48 50 (slice_index name 2) then Some (10 + (slice_index name 2 - 48))
+    else if length name == 3 && slice_index name 0 == 114 && slice_index name 1 == 49 && is_between 48 50 (slice_index name 2) then Some (10 + (slice_index name 2 - 48))
     else None
 
 abbrev pub register_in : Token → Option ℕ → Result Register Stop
@@ -67,7 +67,7 @@ register_in token (Some r) = Ok (record { number = r; start = token.start; end =
 unfoldable pub register_at : List ℕ → ℕ → Result Register Stop
 register_at line from = let token = token_at line from in register_in token (register_of (name_of line token))
 
--- the place behind a token of this kind
+-- the place after a token of this kind
 abbrev pub past_if : Bool → Token → Result ℕ Stop
 past_if true token = Ok token.end
 past_if false token = Err (stopped token)
@@ -76,15 +76,15 @@ abbrev pub is_mark_of : ℕ → Kind → Bool
 is_mark_of b (Mark c) = b == c
 is_mark_of b kind = false
 
--- the place behind this mark
+-- the place after this mark
 unfoldable pub mark_at : ℕ → List ℕ → ℕ → Result ℕ Stop
 mark_at b line from = let token = token_at line from in past_if (is_mark_of b token.kind) token
 
--- the place behind this mark, or the same place where another token stands
+-- the place after this mark, or the same place where another token stands
 unfoldable pub mark_or_nothing : ℕ → List ℕ → ℕ → ℕ
 mark_or_nothing b line from = let token = token_at line from in if is_mark_of b token.kind then token.end else from
 
--- the place behind this word
+-- the place after this word
 unfoldable pub word_at : List ℕ → List ℕ → ℕ → Result ℕ Stop
 word_at word line from = let token = token_at line from in past_if (same (name_of line token) word) token
 

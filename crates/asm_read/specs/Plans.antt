@@ -53,7 +53,7 @@ is_word kind = false
 abbrev pub plan : Option Span → Option Statement → Plan
 plan label statement = record { label = label; statement = statement }
 
--- a label is a name with a colon behind it; a line has at most one
+-- a label is a name with a colon after it; a line has at most one
 unfoldable pub plan_of : List ℕ → Result Plan Stop
 plan_of line =
     let token = token_at line 0 in

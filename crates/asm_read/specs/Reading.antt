@@ -25,7 +25,7 @@ abbrev pub in_front : ℕ → List (List ℕ) → List (List ℕ)
 in_front b [] = (b ∷ []) ∷ []
 in_front b (line ∷ lines) = (b ∷ line) ∷ lines
 
--- the lines of a text: a line feed ends one, and behind the last line feed stands one only if bytes do
+-- the lines of a text: a line feed ends one, and after the last line feed stands one only if bytes do
 unfoldable pub lines_of : List ℕ → List (List ℕ)
 lines_of [] = []
 lines_of (b ∷ bs) = if b == 10 then [] ∷ lines_of bs else in_front b (lines_of bs)

@@ -8,25 +8,25 @@ use Rattle.asm_read.specs.declared.token.Token.{Token}
 use Rattle.asm_read.specs.declared.token.TheConstants.{GREATEST, FARTHEST_BELOW}
 
 -- bytes from one to another
-abbrev pub within : ℕ → ℕ → ℕ → Bool
-within low high b = nat_le low b && nat_le b high
+abbrev pub is_between : ℕ → ℕ → ℕ → Bool
+is_between low high b = nat_le low b && nat_le b high
 
 -- space, tab and carriage return
 abbrev pub is_blank : ℕ → Bool
 is_blank b = b == 32 || b == 9 || b == 13
 
 abbrev pub is_digit : ℕ → Bool
-is_digit b = within 48 57 b
+is_digit b = is_between 48 57 b
 
 -- letters, digits, _ . and $
 abbrev pub is_name_byte : ℕ → Bool
-is_name_byte b = within 97 122 b || within 65 90 b || is_digit b || b == 95 || b == 46 || b == 36
+is_name_byte b = is_between 97 122 b || is_between 65 90 b || is_digit b || b == 95 || b == 46 || b == 36
 
 -- # , [ ] { } ! : = + - ( ) %
 abbrev pub is_mark : ℕ → Bool
 is_mark b = b == 35 || b == 44 || b == 91 || b == 93 || b == 123 || b == 125 || b == 33 || b == 58 || b == 61 || b == 43 || b == 45 || b == 40 || b == 41 || b == 37
 
--- what stands behind a backslash: n t r 0 \ " '
+-- what stands after a backslash: n t r 0 \ " '
 abbrev pub escape_of : ℕ → Option ℕ
 escape_of b =
     if b == 110 then Some 10 else if b == 116 then Some 9 else if b == 114 then Some 13 else if b == 48 then Some 0
@@ -35,12 +35,12 @@ escape_of b =
 -- the value of a hexadecimal digit
 abbrev pub hex_digit : ℕ → Option ℕ
 hex_digit b =
-    if is_digit b then Some (b - 48) else if within 97 102 b then Some (10 + (b - 97)) else if within 65 70 b then Some (10 + (b - 65)) else None
+    if is_digit b then Some (b - 48) else if is_between 97 102 b then Some (10 + (b - 97)) else if is_between 65 70 b then Some (10 + (b - 65)) else None
 
 abbrev pub decimal_digit : ℕ → Option ℕ
 decimal_digit b = if is_digit b then Some (b - 48) else None
 
--- the number that digits make behind the number before them, where each of them is a digit
+-- the number that digits make after the number before them, where each of them is a digit
 abbrev pub number_from : (ℕ → Option ℕ) → ℕ → ℕ → List ℕ → Option ℕ
 number_from digit base n [] = Some n
 number_from digit base n (b ∷ bs) = option_and_then (λ d. number_from digit base (n * base + d) bs) (digit b)
@@ -49,7 +49,7 @@ number_from digit base n (b ∷ bs) = option_and_then (λ d. number_from digit b
 abbrev pub is_hexadecimal : List ℕ → Bool
 is_hexadecimal run = nat_lt 2 (length run) && slice_index run 0 == 48 && slice_index run 1 == 120
 
--- the number that a run of name bytes is: decimal, or hexadecimal behind 0x
+-- the number that a run of name bytes is: decimal, or hexadecimal after 0x
 abbrev pub number_of : List ℕ → Option ℕ
 number_of run =
     if is_hexadecimal run then number_from hex_digit 16 0 (drop 2 run) else number_from decimal_digit 10 0 run
@@ -117,7 +117,7 @@ front_of (b ∷ bs) =
 abbrev pub token : ℕ → ℕ → Kind → Token
 token start end kind = record { start = start; end = end; kind = kind }
 
--- the line's end stands behind the last token, blanks and a comment behind it
+-- the line's end stands after the last token, blanks and a comment after it
 abbrev pub placed : ℕ → ℕ → ℕ → Kind → Token
 placed from start len End = token from from End
 placed from start len kind = token start (start + len) kind

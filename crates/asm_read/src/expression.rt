@@ -1,6 +1,6 @@
 //! Expressions: numbers, names and what is added to them (docs/source-language.md, "Directives").
 ghost use Rattle.std.specs.Prelude.{◌≡◌, ◌<◌, ◌≤◌, ◌-ℤ◌, pos, length, false, Option, IfOk, IfErr, IfSome};
-ghost use Rattle.asm_read.specs.Expressions.{relation_of, related, difference, behind_name, expression_at, listed_at, list_item_at, expressions_at, end_of};
+ghost use Rattle.asm_read.specs.Expressions.{relation_of, related, difference, after_name, expression_at, listed_at, list_item_at, expressions_at, end_of};
 
 use crate::fault::SourceWhat;
 use crate::line::{Span, Stop, is_mark_of, mark_at, name_at, name_of, number_at, stopped};
@@ -18,14 +18,14 @@ pub enum Shape {
     Rel(Span),
 }
 
-/// An expression, and the offset behind it.
+/// An expression, and the offset after it.
 #[derive(Clone, Copy)]
 pub struct Shaped {
     pub shape: Shape,
     pub end: usize,
 }
 
-/// What a word in parentheses behind a name means.
+/// What a word in parentheses after a name means.
 fn relation_of(name: Span, word: &[u8]) -> Option<Shape>
     ensures { result ≡ relation_of name word.now }
 {
@@ -42,7 +42,7 @@ fn relation_of(name: Span, word: &[u8]) -> Option<Shape>
     }
 }
 
-/// A name with a word in parentheses, from behind the first of them on.
+/// A name with a word in parentheses, from after the first of them on.
 #[tactic(auto, unfolding(crate::specs::Expressions::related))]
 fn related(line: &[u8], name: Span, from: usize) -> Result<Shaped, Stop>
     requires { from ≤ length line.now }
@@ -60,7 +60,7 @@ fn related(line: &[u8], name: Span, from: usize) -> Result<Shaped, Stop>
     }
 }
 
-/// A difference of names, from behind its minus sign on.
+/// A difference of names, from after its minus sign on.
 #[tactic(auto, unfolding(crate::specs::Expressions::difference))]
 fn difference(line: &[u8], name: Span, from: usize) -> Result<Shaped, Stop>
     requires { from ≤ length line.now }
@@ -83,11 +83,11 @@ fn difference(line: &[u8], name: Span, from: usize) -> Result<Shaped, Stop>
     })
 }
 
-/// An expression that begins with a name, from behind it on.
-#[tactic(auto, unfolding(crate::specs::Expressions::behind_name))]
-fn behind_name(word: bool, line: &[u8], name: Span) -> Result<Shaped, Stop>
+/// An expression that begins with a name, from after it on.
+#[tactic(auto, unfolding(crate::specs::Expressions::after_name))]
+fn after_name(word: bool, line: &[u8], name: Span) -> Result<Shaped, Stop>
     requires { name.end ≤ length line.now }
-    ensures shaped { result ≡ behind_name word line.now name }
+    ensures shaped { result ≡ after_name word line.now name }
     ensures end { IfOk result (λ e. e.end ≤ length line.now) }
     ensures stop { IfErr result (λ s. s.at ≤ length line.now) }
 {
@@ -129,7 +129,7 @@ pub fn expression_at(word: bool, line: &[u8], from: usize) -> Result<Shaped, Sto
             at: token.start,
             what: SourceWhat::NumberRange,
         }),
-        Kind::Word => behind_name(
+        Kind::Word => after_name(
             word,
             line,
             Span {
@@ -160,7 +160,7 @@ fn listed_at(word: bool, line: &[u8], from: usize) -> Result<Shaped, Stop>
     })
 }
 
-/// An expression of a list, the offset behind it, and where the next one begins: behind a comma.
+/// An expression of a list, the offset after it, and where the next one begins: after a comma.
 #[derive(Clone, Copy)]
 pub struct ListItem {
     pub shape: Shape,
@@ -191,7 +191,7 @@ pub fn list_item_at(word: bool, line: &[u8], from: usize) -> Result<ListItem, St
     })
 }
 
-/// The offset behind the expressions between commas that begin at an offset.
+/// The offset after the expressions between commas that begin at an offset.
 #[tactic(auto, using(crate::proofs::Steps::end_stop, crate::proofs::Steps::end_last, crate::proofs::Steps::end_more, crate::proofs::Steps::end_none))]
 pub fn expressions_end(word: bool, line: &[u8], from: usize) -> Result<usize, Stop>
     requires { from ≤ length line.now }

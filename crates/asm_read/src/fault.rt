@@ -28,7 +28,7 @@ pub enum SourceWhat {
     UnknownMnemonic,
     /// A word that begins with a dot and is no directive; at the word.
     UnknownDirective,
-    /// A token, or the line's end, with which no form of the word goes on; at the token, or behind the line's last token.
+    /// A token, or the line's end, with which no form of the word goes on; at the token, or after the line's last token.
     BadOperand,
     /// A number outside -2,147,483,648 to 4,294,967,295; at the number.
     NumberRange,

@@ -54,7 +54,7 @@ pub enum Piece {
     WordExpressions,
 }
 
-/// What a form's operands hold so far: the offset behind the last of them, and their values.
+/// What a form's operands hold so far: the offset after the last of them, and their values.
 #[derive(Clone, Copy)]
 pub struct Operands {
     pub at: usize,
@@ -294,7 +294,7 @@ fn piece_at(piece: Piece, line: &[u8], operands: Operands) -> Result<Operands, S
     }
 }
 
-/// The operands where the line ends behind them.
+/// The operands where the line ends after them.
 #[tactic(auto, unfolding(crate::specs::Fits::end_at))]
 fn end_at(line: &[u8], operands: Operands) -> Result<Operands, Stop>
     requires { operands.at ≤ length line.now }

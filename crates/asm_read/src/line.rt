@@ -34,7 +34,7 @@ pub struct Register {
     pub end: usize,
 }
 
-/// A number, and the offset behind it.
+/// A number, and the offset after it.
 #[derive(Clone, Copy)]
 pub struct Numeral {
     pub value: i64,
@@ -133,7 +133,7 @@ pub fn is_mark_of(mark: u8, kind: Kind) -> bool
     }
 }
 
-/// The offset behind a mark.
+/// The offset after a mark.
 #[tactic(auto, unfolding(crate::specs::Operands::mark_at))]
 pub fn mark_at(mark: u8, line: &[u8], from: usize) -> Result<usize, Stop>
     requires { from ≤ length line.now }
@@ -149,7 +149,7 @@ pub fn mark_at(mark: u8, line: &[u8], from: usize) -> Result<usize, Stop>
     }
 }
 
-/// The offset behind a mark, or the same offset where it isn't there.
+/// The offset after a mark, or the same offset where it isn't there.
 #[tactic(auto, unfolding(crate::specs::Operands::mark_or_nothing))]
 pub fn mark_or_nothing(mark: u8, line: &[u8], from: usize) -> usize
     requires { from ≤ length line.now }
@@ -164,7 +164,7 @@ pub fn mark_or_nothing(mark: u8, line: &[u8], from: usize) -> usize
     }
 }
 
-/// The offset behind a word.
+/// The offset after a word.
 #[tactic(auto, unfolding(crate::specs::Operands::word_at))]
 pub fn word_at(word: &[u8], line: &[u8], from: usize) -> Result<usize, Stop>
     requires { from ≤ length line.now }
@@ -256,7 +256,7 @@ pub fn limited_at(high: i64, line: &[u8], from: usize) -> Result<Numeral, Stop>
     }
 }
 
-/// Registers from one to another, and the offset behind them.
+/// Registers from one to another, and the offset after them.
 #[derive(Clone, Copy)]
 pub struct Item {
     pub low: u8,
@@ -264,7 +264,7 @@ pub struct Item {
     pub end: usize,
 }
 
-/// The registers of a list, and the offsets before and behind the brace that closes it.
+/// The registers of a list, and the offsets before and after the brace that closes it.
 #[derive(Clone, Copy)]
 pub struct Listed {
     pub list: u16,

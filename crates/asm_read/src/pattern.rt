@@ -4,7 +4,7 @@ ghost use Rattle.asm_read.specs.Patterns.{pieces_of};
 
 use crate::form::Piece;
 
-/// What stands behind the word of a form. `rd`, `rn`, `rm`, `rt` and `r` stand for a register, `n` for a number.
+/// What stands after the word of a form. `rd`, `rn`, `rm`, `rt` and `r` stand for a register, `n` for a number.
 #[derive(Clone, Copy)]
 pub enum Pattern {
     /// Nothing.

@@ -79,8 +79,8 @@ fn line_len(text: &[u8]) -> usize
     text.len()
 }
 
-/// The text behind a line of some bytes.
-fn behind(text: &[u8], len: usize) -> &[u8]
+/// The text after a line of some bytes.
+fn after(text: &[u8], len: usize) -> &[u8]
     requires { len ≤ length text.now }
     ensures { result.now ≡ drop (len + 1) text.now }
 {
@@ -123,7 +123,7 @@ pub fn read_source(alloc: Global, text: &[u8]) -> Result<Vec<Stmt>, SourceFault>
             });
         }
         read_line(alloc, line, number, &mut stmts)?;
-        rest = behind(rest, len);
+        rest = after(rest, len);
         number += 1;
     }
     Ok(stmts)

@@ -25,7 +25,7 @@ use crate::pattern::Pattern::{
     TwoRegistersZero, Values, WordValues,
 };
 
-/// A form: what stands behind its word, and the statement that it makes.
+/// A form: what stands after its word, and the statement that it makes.
 #[derive(Clone, Copy)]
 pub struct Form {
     pub operands: Pattern,

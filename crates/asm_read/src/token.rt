@@ -96,7 +96,7 @@ fn is_mark(b: u8) -> bool
     )
 }
 
-/// What stands behind a backslash in a text or a character.
+/// What stands after a backslash in a text or a character.
 pub fn escape(b: u8) -> Option<u8>
     ensures { result ≡ escape_of b }
 {
@@ -282,7 +282,7 @@ fn run(bytes: &[u8], negative: bool) -> Front
     }
 }
 
-/// The token of a minus sign and the bytes behind it: a number with that sign, or the sign alone.
+/// The token of a minus sign and the bytes after it: a number with that sign, or the sign alone.
 fn minus(bytes: &[u8]) -> Front
     ensures front { result ≡ minus_front bytes.now }
     ensures within { result.len ≤ length bytes.now + 1 }
@@ -334,7 +334,7 @@ pub fn front_at(bytes: &[u8]) -> Front
     }
 }
 
-/// The token at an offset of a line, which blanks may lead to. The line's end stands behind the last token.
+/// The token at an offset of a line, which blanks may lead to. The line's end stands after the last token.
 #[tactic(auto, unfolding(crate::specs::Tokens::token_at))]
 pub fn token_at(line: &[u8], from: usize) -> Token
     requires { from ≤ length line.now }

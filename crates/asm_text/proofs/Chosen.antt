@@ -74,13 +74,13 @@ first_chooses (f ∷ fs) w line from best ts m v a h e =
 nothing_yet : (line : List ℕ) (from : ℕ) → Agrees line (fresh from) none_yet
 nothing_yet line from = record { first = refl; second = refl; third = refl; list = refl; number = refl; name = refl; value = tt }
 
--- operands behind their word
-abbrev pub behind_word : List Tok → List ℕ
-behind_word [] = []
-behind_word (t ∷ ts) = 32 ∷ spelled (t ∷ ts)
+-- operands after their word
+abbrev pub after_word : List Tok → List ℕ
+after_word [] = []
+after_word (t ∷ ts) = 32 ∷ spelled (t ∷ ts)
 
 -- the word, and then the operands
-line_reads : (w : List ℕ) (ts : List Tok) → is_name w ≡ true → AllEnd ts → Reads (w ++ behind_word ts) 0 (word w ∷ ts)
+line_reads : (w : List ℕ) (ts : List Tok) → is_name w ≡ true → AllEnd ts → Reads (w ++ after_word ts) 0 (word w ∷ ts)
 line_reads w [] n h =
     let here = token_lead false (w ++ []) (w ++ []) 0 Word (length w) refl (blank_of_name w [] n) (front_of_name w [] n refl) in
     (token 0 (0 + length w) Word, record { is = here; kind = refl; name = bytes_at (w ++ []) w [] 0 (filled w n) refl; register = refl; few = omega (arith, filled w n, length-append w []); text = tt }, reads (w ++ []) [] false (0 + length w) tt (drop_at w [] (0 + length w) (omega arith)))
@@ -154,12 +154,12 @@ read_one b bs p h small e =
     ∙ ap (λ x. Ok x) (append-nil (stmts_of 1 (b ∷ bs) p))
 
 -- a line of a word and these tokens is the statement of the form that they choose
-pub line_is : (w : List ℕ) (ts : List Item) (m : Makes) (v : Vals) (k : StmtKind) → is_name w ≡ true → is_passed w ≡ false → AllEnd (flat ts) → is_mark_of 58 (head_kind (flat ts)) ≡ false → plain (w ++ behind_word (flat ts)) ≡ true → length (w ++ behind_word (flat ts)) ≤ 256 → chosen rows w ts ≡ picked m v → ((line : List ℕ) (o : Operands) → Agrees line o v → kind_made line (record { makes = m; operands = o }) ≡ k) → read_of (w ++ behind_word (flat ts)) ≡ Ok (stmt 1 k ∷ [])
+pub line_is : (w : List ℕ) (ts : List Item) (m : Makes) (v : Vals) (k : StmtKind) → is_name w ≡ true → is_passed w ≡ false → AllEnd (flat ts) → is_mark_of 58 (head_kind (flat ts)) ≡ false → plain (w ++ after_word (flat ts)) ≡ true → length (w ++ after_word (flat ts)) ≤ 256 → chosen rows w ts ≡ picked m v → ((line : List ℕ) (o : Operands) → Agrees line o v → kind_made line (record { makes = m; operands = o }) ≡ k) → read_of (w ++ after_word (flat ts)) ≡ Ok (stmt 1 k ∷ [])
 line_is [] ts m v k n passed ends colon clean small e makes = cc
 line_is (b ∷ bs) ts m v k n passed ends colon clean small e makes =
-    let line = b ∷ (bs ++ behind_word (flat ts)) in
+    let line = b ∷ (bs ++ after_word (flat ts)) in
     let planned = plan_reads line (b ∷ bs) ts m v (line_reads (b ∷ bs) (flat ts) n ends) passed colon e in
-    read_one b (bs ++ behind_word (flat ts)) (plan None (Some (record { makes = m; operands = planned.0 }))) clean small planned.1
+    read_one b (bs ++ after_word (flat ts)) (plan None (Some (record { makes = m; operands = planned.0 }))) clean small planned.1
     ∙ ap (λ x. Ok (stmt 1 x ∷ [])) (makes line planned.0 planned.2)
 
 colon_ends : Ends (sign 58) []

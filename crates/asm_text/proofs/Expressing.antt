@@ -18,7 +18,7 @@ use Rattle.asm_read.specs.Statements.{kind_of as kind_made}
 use Rattle.asm_read.specs.Reading.{stmt, read_of}
 use Rattle.asm_text.specs.Written.{register, InRange, IsNameText, plus, expression, expressions, IsExpression, AreExpressions, IsList, line}
 use Rattle.asm_text.proofs.Texts.{Stops}
-use Rattle.asm_text.proofs.Toks.{Tok, reg, word, num, sign, spelled, behind, Ends, AllEnd, head_kind}
+use Rattle.asm_text.proofs.Toks.{Tok, reg, word, num, sign, spelled, after, Ends, AllEnd, head_kind}
 use Rattle.asm_text.proofs.Lists.{plus_toks, relation_toks, expr_toks, exprs_toks, Stands, AllStand}
 use Rattle.asm_text.proofs.Items.{Item, value, values, flat}
 use Rattle.asm_text.proofs.Items as items
@@ -84,19 +84,19 @@ exprs_spelled e (f ∷ fs) =
 
 -- ---- their tokens end where the next begin
 
-behind_word : (a : List ℕ) (ts : List Tok) → behind (word a) ts ≡ spelled ts
-behind_word a [] = refl
-behind_word a (t ∷ ts) = refl
+after_word : (a : List ℕ) (ts : List Tok) → after (word a) ts ≡ spelled ts
+after_word a [] = refl
+after_word a (t ∷ ts) = refl
 
-behind_num : (z : ℤ) (ts : List Tok) → behind (num z) ts ≡ spelled ts
-behind_num z [] = refl
-behind_num z (t ∷ ts) = refl
+after_num : (z : ℤ) (ts : List Tok) → after (num z) ts ≡ spelled ts
+after_num z [] = refl
+after_num z (t ∷ ts) = refl
 
-word_ends : (a : List ℕ) (ts : List Tok) → IsNameText a → Stops (spelled ts) → Ends (word a) (behind (word a) ts)
-word_ends a ts h q = (h.0, ap (λ x. prefix_len is_name_byte x) (behind_word a ts) ∙ q)
+word_ends : (a : List ℕ) (ts : List Tok) → IsNameText a → Stops (spelled ts) → Ends (word a) (after (word a) ts)
+word_ends a ts h q = (h.0, ap (λ x. prefix_len is_name_byte x) (after_word a ts) ∙ q)
 
-num_ends : (z : ℤ) (ts : List Tok) → InRange z → Stops (spelled ts) → Ends (num z) (behind (num z) ts)
-num_ends z ts h q = (h, ap (λ x. prefix_len is_name_byte x) (behind_num z ts) ∙ q)
+num_ends : (z : ℤ) (ts : List Tok) → InRange z → Stops (spelled ts) → Ends (num z) (after (num z) ts)
+num_ends z ts h q = (h, ap (λ x. prefix_len is_name_byte x) (after_num z ts) ∙ q)
 
 plus_stops : (n : ℤ) (ts : List Tok) → Stops (spelled ts) → Stops (spelled (plus_toks n ts))
 plus_stops (pos zero) ts q = q
@@ -109,7 +109,7 @@ plus_end (pos zero) ts h q k = k
 plus_end (pos (suc n)) ts h q k = ((refl, refl, refl), (num_ends (pos (suc n)) ts h q, k))
 plus_end (negsuc n) ts h q k = ((refl, refl, refl), (num_ends (negsuc n) ts h q, k))
 
-minus_end : (b : List ℕ) (ts : List Tok) → IsNameText b → Ends (sign 45) (behind (sign 45) (word b ∷ ts))
+minus_end : (b : List ℕ) (ts : List Tok) → IsNameText b → Ends (sign 45) (after (sign 45) (word b ∷ ts))
 minus_end b ts h = subst (λ x. Ends (sign 45) x) (sym (word_then b ts)) (minus_before b (spelled ts) h.0)
 
 relation_end : (a w : List ℕ) (ts : List Tok) → IsNameText a → IsNameText w → AllEnd ts → AllEnd (relation_toks a w ts)

@@ -22,7 +22,7 @@ use Rattle.asm_read.specs.Fits.{piece_at, end_if, end_at, fits}
 abbrev pub Hashed : List ℕ → ℕ → ℕ → Type 0
 Hashed source from at = (mark_at 35 source from ≡ Ok at) ⊎ (at ≡ from)
 
--- the pieces of a form stand one after another, the line's end behind them, and hold these operands
+-- the pieces of a form stand one after another, the line's end after them, and hold these operands
 abbrev pub Goes : List Piece → List ℕ → Operands → Operands → Type 0
 Goes [] source o out = (out ≡ o) × ((token_at source o.at).kind ≡ kind.End)
 Goes (First ∷ ps) source o out = (r : Register) × (register_at source o.at ≡ Ok r) × Goes ps source (record o { at = r.end; first = r.number }) out

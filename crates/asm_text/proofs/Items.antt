@@ -1,4 +1,4 @@
--- What stands in a line behind its word: tokens, and what a piece of a form takes whole.
+-- What stands in a line after its word: tokens, and what a piece of a form takes whole.
 use Rattle.std.proofs.Common.{ℕ, Bool, false, List, [], ◌∷◌, ℤ}
 use Rattle.asm_statements.specs.declared.statement.Expr.{Expr}
 use Rattle.asm_text.proofs.Toks.{Tok}

@@ -10,13 +10,13 @@ use Rattle.asm_statements.specs.declared.statement.Expr.{Expr}
 use Rattle.asm_statements.specs.declared.statement.Expr.TheVariants.{Num, Of, Diff, Prel31, Prel31Ref, Target2, Rel}
 use Rattle.asm_read.specs.Tokens.{token_at}
 use Rattle.asm_read.specs.Operands.{◌>>=◌, span, bytes_of, is_mark_of, register_mask, item_at, list_from, list_at}
-use Rattle.asm_read.specs.Expressions.{shaped, relation_of, related, difference, behind_name, expression_of, expression_at, listed_at, item, list_item_at, Series, series, and_more, expressions_at, expr_of}
+use Rattle.asm_read.specs.Expressions.{shaped, relation_of, related, difference, after_name, expression_of, expression_at, listed_at, item, list_item_at, Series, series, and_more, expressions_at, expr_of}
 use Rattle.asm_text.proofs.Toks.{Tok, reg, word, num, sign, head_kind, Reads}
 use Rattle.asm_text.proofs.Heads.{head_of, name_bytes, register_heads, mark_heads, name_heads, number_heads}
 
 -- ---- register lists
 
--- behind an opening brace
+-- after an opening brace
 abbrev pub list_toks : List ℕ → List Tok → List Tok
 list_toks [] rest = sign 125 ∷ rest
 list_toks (r ∷ []) rest = reg r ∷ sign 125 ∷ rest
@@ -51,7 +51,7 @@ list_reads (suc n) line all from r (s ∷ rs) rest few h =
       more.3,
     )
 
--- behind an opening brace, where no brace closes it at once
+-- after an opening brace, where no brace closes it at once
 opened : (line : List ℕ) (from : ℕ) (ts : List Tok) (h : Reads line from (sign 123 ∷ ts)) → is_mark_of 125 (head_kind ts) ≡ false → list_at line from ≡ list_from (length line) line 0 h.0.end
 unfolding list_at
 opened line from ts h e =
@@ -116,24 +116,24 @@ and_none : (b : Bool) → (b && false) ≡ false
 and_none true = refl
 and_none false = refl
 
-name_alone : (w : Bool) (line : List ℕ) (name : Span) (rest : List Tok) → Over rest → Reads line name.end rest → behind_name w line name ≡ Ok (shaped (shape.Of name (pos 0)) name.end)
-unfolding behind_name
+name_alone : (w : Bool) (line : List ℕ) (name : Span) (rest : List Tok) → Over rest → Reads line name.end rest → after_name w line name ≡ Ok (shaped (shape.Of name (pos 0)) name.end)
+unfolding after_name
 name_alone w line name rest o h =
     let next = head_of line name.end rest h in
     let none = and_none w in
     rw (next.1.is, next.1.kind, o.plus, o.minus, o.open_mark, none) refl
 
-name_plus : (w : Bool) (line : List ℕ) (name : Span) (n : ℤ) (rest : List Tok) (h : Reads line name.end (sign 43 ∷ num n ∷ rest)) → behind_name w line name ≡ Ok (shaped (shape.Of name n) h.2.0.end)
-unfolding behind_name
+name_plus : (w : Bool) (line : List ℕ) (name : Span) (n : ℤ) (rest : List Tok) (h : Reads line name.end (sign 43 ∷ num n ∷ rest)) → after_name w line name ≡ Ok (shaped (shape.Of name n) h.2.0.end)
+unfolding after_name
 name_plus w line name n rest h =
     rw (h.1.is, h.1.kind, number_heads line h.0.end (num n ∷ rest) h.2.0 h.2.1) refl
 
-name_minus : (w : Bool) (line : List ℕ) (name : Span) (ts : List Tok) (h : Reads line name.end (sign 45 ∷ ts)) → behind_name w line name ≡ difference line name h.0.end
-unfolding behind_name
+name_minus : (w : Bool) (line : List ℕ) (name : Span) (ts : List Tok) (h : Reads line name.end (sign 45 ∷ ts)) → after_name w line name ≡ difference line name h.0.end
+unfolding after_name
 name_minus w line name ts h = rw (h.1.is, h.1.kind) refl
 
-name_open : (line : List ℕ) (name : Span) (ts : List Tok) (h : Reads line name.end (sign 40 ∷ ts)) → behind_name true line name ≡ related line name h.0.end
-unfolding behind_name
+name_open : (line : List ℕ) (name : Span) (ts : List Tok) (h : Reads line name.end (sign 40 ∷ ts)) → after_name true line name ≡ related line name h.0.end
+unfolding after_name
 name_open line name ts h = rw (h.1.is, h.1.kind) refl
 
 difference_alone : (line : List ℕ) (name : Span) (from : ℕ) (b : List ℕ) (rest : List Tok) (h : Reads line from (word b ∷ rest)) → Over rest → difference line name from ≡ Ok (shaped (shape.Diff name (span h.0.start h.0.end) (pos 0)) h.0.end)
@@ -152,11 +152,11 @@ unfolding related
 related_reads line name from w s rest h e =
     rw (h.1.is, h.1.name, e, mark_heads 41 line h.0.end (sign 41 ∷ rest) h.2.0 h.2.1) refl
 
--- what stands at a place is this expression, and behind it these tokens
+-- what stands at a place is this expression, and after it these tokens
 abbrev pub ReadsExpr : Bool → List ℕ → ℕ → Expr → List Tok → Type 0
 ReadsExpr w line from e rest = (s : Shaped) × (expression_at w line from ≡ Ok s) × (expr_of line s.shape ≡ e) × Reads line s.end rest
 
-at_name : (w : Bool) (line : List ℕ) (from : ℕ) (a : List ℕ) (ts : List Tok) (h : Reads line from (word a ∷ ts)) → expression_at w line from ≡ behind_name w line (span h.0.start h.0.end)
+at_name : (w : Bool) (line : List ℕ) (from : ℕ) (a : List ℕ) (ts : List Tok) (h : Reads line from (word a ∷ ts)) → expression_at w line from ≡ after_name w line (span h.0.start h.0.end)
 unfolding expression_at
 at_name w line from a ts h = ap (λ t. expression_of w line t t.kind) h.1.is ∙ ap (expression_of w line h.0) h.1.kind
 
@@ -283,7 +283,7 @@ longer (Prel31Ref a) rest = omega arith
 longer (Target2 a) rest = omega arith
 longer (Rel a) rest = omega arith
 
--- what stands at a place are these expressions, and behind them these tokens
+-- what stands at a place are these expressions, and after them these tokens
 abbrev pub ReadsExprs : ℕ → Bool → List ℕ → ℕ → List Expr → List Tok → Type 0
 ReadsExprs n w line from es rest = (s : Series) × (expressions_at n w line from ≡ Ok s) × (map (expr_of line) s.shapes ≡ es) × Reads line s.end rest
 

@@ -108,7 +108,7 @@ front_of_digits n (d ∷ ds) rest a s =
     fourth (d == 64) (d == 34) (d == 39) (is_digit d) (front End 0) (quoted_front (closing false (ds ++ rest))) (character_front false (d ∷ (ds ++ rest))) (run_front false (d ∷ (ds ++ rest))) _ (differ is_digit d 64 digit refl) (differ is_digit d 34 digit refl) (differ is_digit d 39 digit refl) digit
     ∙ run_of false n (d ∷ ds) rest a s
 
--- a number behind a sign
+-- a number after a sign
 front_of_minus : (n : ℕ) (ds rest : List ℕ) → AreDigits n ds → Stops rest → front_of (45 ∷ (ds ++ rest)) ≡ signed (length ds) (kind_of_number true (Some n))
 unfolding front_of
 front_of_minus n [] rest a s = absurd (let some = a.some in omega arith)

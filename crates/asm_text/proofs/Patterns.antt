@@ -49,7 +49,7 @@ value_is : (source : List ℕ) (from : ℕ) (e : Shaped) → expression_at false
 unfolding expr_from
 value_is source from e h = sym (ap (expr_or_zero source) h)
 
--- a # or nothing, and what stands behind it
+-- a # or nothing, and what stands after it
 hashed : (source : List ℕ) (from at : ℕ) (os : List Operand) → Hashed source from at → Stand source at os → Stand source from os ⊎ Stand source from (mark 35 ∷ os)
 hashed source from at os (inl e) s = inr (at, e, s)
 hashed source from at os (inr q) s = inl (subst (λ f. Stand source f os) q s)

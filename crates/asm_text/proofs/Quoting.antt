@@ -28,7 +28,7 @@ use Rattle.asm_text.proofs.Standing.{IsMnemonic, stands_in, values}
 
 -- how a byte is spelled in a text
 data Spells (b : ℕ) : Type 0 where
-  behind_backslash : (c : ℕ) → escaped_byte b ≡ 92 ∷ c ∷ [] → escape_of c ≡ Some b → not_plain c ≡ false → Spells b
+  after_backslash : (c : ℕ) → escaped_byte b ≡ 92 ∷ c ∷ [] → escape_of c ≡ Some b → not_plain c ≡ false → Spells b
   itself : escaped_byte b ≡ b ∷ [] → (b == 34) ≡ false → (b == 92) ≡ false → not_plain b ≡ false → Spells b
 
 told : {A : Type 0} (x : Bool) → (x ≡ true → A) → (x ≡ false → A) → A
@@ -46,12 +46,12 @@ stands_itself b h i j k l m = rw (h, i, j, k, l, m) refl
 
 spells : (b : ℕ) → can_stand b ≡ true → Spells b
 spells b c =
-    told (b == 10) (λ e. at_byte b 10 e (behind_backslash 110 refl refl refl)) (λ h.
-    told (b == 9) (λ e. at_byte b 9 e (behind_backslash 116 refl refl refl)) (λ i.
-    told (b == 13) (λ e. at_byte b 13 e (behind_backslash 114 refl refl refl)) (λ j.
-    told (b == 0) (λ e. at_byte b 0 e (behind_backslash 48 refl refl refl)) (λ k.
-    told (b == 92) (λ e. at_byte b 92 e (behind_backslash 92 refl refl refl)) (λ l.
-    told (b == 34) (λ e. at_byte b 34 e (behind_backslash 34 refl refl refl)) (λ m.
+    told (b == 10) (λ e. at_byte b 10 e (after_backslash 110 refl refl refl)) (λ h.
+    told (b == 9) (λ e. at_byte b 9 e (after_backslash 116 refl refl refl)) (λ i.
+    told (b == 13) (λ e. at_byte b 13 e (after_backslash 114 refl refl refl)) (λ j.
+    told (b == 0) (λ e. at_byte b 0 e (after_backslash 48 refl refl refl)) (λ k.
+    told (b == 92) (λ e. at_byte b 92 e (after_backslash 92 refl refl refl)) (λ l.
+    told (b == 34) (λ e. at_byte b 34 e (after_backslash 34 refl refl refl)) (λ m.
     itself (stands_itself b h i j k l m) m l (spelled_plain b h i j k c)))))))
 
 -- ---- the quote that closes a text
@@ -63,7 +63,7 @@ closing_byte : (b : ℕ) (xs : List ℕ) → (b == 34) ≡ false → (b == 92) �
 closing_byte b xs q s = rw (q, s) refl
 
 closed_more : (b : ℕ) (bs rest : List ℕ) → Spells b → closing false (escaped bs ++ (34 ∷ rest)) ≡ Some (length (escaped bs) + 1) → closing false ((escaped_byte b ++ escaped bs) ++ (34 ∷ rest)) ≡ Some (length (escaped_byte b ++ escaped bs) + 1)
-closed_more b bs rest (behind_backslash c e f p) h =
+closed_more b bs rest (after_backslash c e f p) h =
     ap (λ x. closing false ((x ++ escaped bs) ++ (34 ∷ rest))) e
     ∙ closing_escape b c (escaped bs ++ (34 ∷ rest)) f
     ∙ ap (λ o. one_more (one_more o)) h
@@ -88,7 +88,7 @@ unescaped_byte : (b : ℕ) (xs : List ℕ) → (b == 92) ≡ false → unescaped
 unescaped_byte b xs s = rw s refl
 
 read_more : (b : ℕ) (bs : List ℕ) → Spells b → unescaped false (escaped bs) ≡ bs → unescaped false (escaped_byte b ++ escaped bs) ≡ b ∷ bs
-read_more b bs (behind_backslash c e f p) h =
+read_more b bs (after_backslash c e f p) h =
     ap (λ x. unescaped false (x ++ escaped bs)) e ∙ unescaped_escape b c (escaped bs) f ∙ ap (λ x. b ∷ x) h
 read_more b bs (itself e q s p) h =
     ap (λ x. unescaped false (x ++ escaped bs)) e ∙ unescaped_byte b (escaped bs) s ∙ ap (λ x. b ∷ x) h
@@ -108,7 +108,7 @@ text_read bs h = ap (unescaped false) (inside_is (escaped bs)) ∙ read bs h
 -- ---- its bytes may stand in a source
 
 byte_plain : (b : ℕ) → Spells b → plain (escaped_byte b) ≡ true
-byte_plain b (behind_backslash c e f p) = ap plain e ∙ ap (λ t. not t && true) p
+byte_plain b (after_backslash c e f p) = ap plain e ∙ ap (λ t. not t && true) p
 byte_plain b (itself e q s p) = ap plain e ∙ ap (λ t. not t && true) p
 
 escaped_plain : (bs : List ℕ) → list_all can_stand bs ≡ true → plain (escaped bs) ≡ true

@@ -38,12 +38,12 @@ and_so : (a b : Bool) → a ≡ true → b ≡ true → (a && b) ≡ false → �
 and_so true b e f h = cc
 and_so false b e f h = cc
 
--- where no colon stands behind a name there is no label
-no_label : (source : List ℕ) → (is_word (token_at source 0).kind && is_mark_of 58 (token_at source (token_at source 0).end).kind) ≡ false → (behind : ℕ) → LabelEnds source behind → ⊥
-no_label source n behind x =
+-- where no colon stands after a name there is no label
+no_label : (source : List ℕ) → (is_word (token_at source 0).kind && is_mark_of 58 (token_at source (token_at source 0).end).kind) ≡ false → (after : ℕ) → LabelEnds source after → ⊥
+no_label source n after x =
     let named = name_token source 0 x.0 x.1 in
-    let colon = subst (λ at. mark_at 58 source at ≡ Ok behind) named.1 x.2 in
-    and_so (is_word (token_at source 0).kind) (is_mark_of 58 (token_at source (token_at source 0).end).kind) (ap is_word named.0) (mark_kind 58 source (token_at source 0).end behind colon) n
+    let colon = subst (λ at. mark_at 58 source at ≡ Ok after) named.1 x.2 in
+    and_so (is_word (token_at source 0).kind) (is_mark_of 58 (token_at source (token_at source 0).end).kind) (ap is_word named.0) (mark_kind 58 source (token_at source 0).end after colon) n
 
 by_label : (source : List ℕ) (s : Stop) (b : Bool) →
     let token = token_at source 0 in
@@ -229,10 +229,10 @@ line_refused number source fault h = by_plan number source fault (line_plan sour
 
 -- ---- lines
 
-behind_line : (here more : Result (List Stmt) SourceFault) (fault : SourceFault) → then_added here more ≡ Err fault → (here ≡ Err fault) ⊎ ((stmts : List Stmt) × (here ≡ Ok stmts) × (more ≡ Err fault))
-behind_line (Ok xs) (Ok ys) fault h = cc
-behind_line (Ok xs) (Err f) fault h = inr (xs, refl, h)
-behind_line (Err f) more fault h = inl h
+after_line : (here more : Result (List Stmt) SourceFault) (fault : SourceFault) → then_added here more ≡ Err fault → (here ≡ Err fault) ⊎ ((stmts : List Stmt) × (here ≡ Ok stmts) × (more ≡ Err fault))
+after_line (Ok xs) (Ok ys) fault h = cc
+after_line (Ok xs) (Err f) fault h = inr (xs, refl, h)
+after_line (Err f) more fault h = inl h
 
 by_place : (number : ℕ) (source : List ℕ) (sources : List (List ℕ)) (fault : SourceFault) → (line_of number source ≡ Err fault) ⊎ ((stmts : List Stmt) × (line_of number source ≡ Ok stmts) × (read_lines (number + 1) sources ≡ Err fault)) → (read_lines (number + 1) sources ≡ Err fault → FirstRefused (number + 1) sources fault) → FirstRefused number (source ∷ sources) fault
 by_place number source sources fault (inl e) more = inl (line_refused number source fault e)
@@ -242,7 +242,7 @@ by_number : (number : ℕ) (source : List ℕ) (sources : List (List ℕ)) (faul
 by_number number source sources fault true e h more =
     inl (inl (ltb-true MOST_LINES number e, sym (let q : fault_at number 1 (excess source) ≡ fault = cc in q)))
 by_number number source sources fault false e h more =
-    by_place number source sources fault (behind_line (line_of number source) (read_lines (number + 1) sources) fault h) more
+    by_place number source sources fault (after_line (line_of number source) (read_lines (number + 1) sources) fault h) more
 
 lines_refused : (number : ℕ) (sources : List (List ℕ)) (fault : SourceFault) → read_lines number sources ≡ Err fault → FirstRefused number sources fault
 unfolding read_lines

@@ -15,14 +15,14 @@ use Rattle.asm_read.specs.Reading.{stmt, read_of}
 use Rattle.asm_text.specs.Written.{register, is_name, line}
 use Rattle.asm_text.proofs.Numbers.{number_plain, number_short}
 use Rattle.asm_text.proofs.Texts.{plain, both, name_plain, differ, and_left, and_right, not_true}
-use Rattle.asm_text.proofs.Toks.{Tok, reg, word, num, sign, quote, spelling, spelled, behind, spelled_step, Ends, AllEnd, by_register, head_kind}
+use Rattle.asm_text.proofs.Toks.{Tok, reg, word, num, sign, quote, spelling, spelled, after, spelled_step, Ends, AllEnd, by_register, head_kind}
 use Rattle.asm_text.proofs.Items.{Item, tok, flat}
 use Rattle.asm_text.proofs.Fitted.{Vals, nothing, none_yet, Agrees}
-use Rattle.asm_text.proofs.Chosen.{picked, chosen, behind_word, line_is}
+use Rattle.asm_text.proofs.Chosen.{picked, chosen, after_word, line_is}
 use Rattle.asm_read.specs.declared.token.Kind.TheVariants.{Mark}
 use Rattle.std.specs.List.{list_all}
 
--- the most bytes of a token and a blank behind it
+-- the most bytes of a token and a blank after it
 unfoldable pub cost : Tok → ℕ
 cost (reg r) = 3
 cost (word w) = length w
@@ -42,7 +42,7 @@ register_plain : (r : ℕ) → r < 16 → plain (register r) ≡ true
 unfolding register
 register_plain = by_register (λ r. plain (register r) ≡ true) refl refl refl refl refl refl refl refl refl refl refl refl refl refl refl refl
 
-tok_short : (t : Tok) (ts : List Tok) → Ends t (behind t ts) → length (spelling t) + length (behind t ts) ≤ cost t + length (spelled ts)
+tok_short : (t : Tok) (ts : List Tok) → Ends t (after t ts) → length (spelling t) + length (after t ts) ≤ cost t + length (spelled ts)
 unfolding cost
 tok_short (reg r) [] h = omega (arith, register_short r h.0)
 tok_short (reg r) (u ∷ ts) h = omega (arith, register_short r h.0)
@@ -59,7 +59,7 @@ spelled_short : (ts : List Tok) → AllEnd ts → length (spelled ts) ≤ costs 
 unfolding costs
 spelled_short [] h = omega arith
 spelled_short (t ∷ ts) h =
-    let e = ap length (spelled_step t ts) ∙ length-append (spelling t) (behind t ts) in
+    let e = ap length (spelled_step t ts) ∙ length-append (spelling t) (after t ts) in
     let more = spelled_short ts h.1 in
     let here = tok_short t ts h.0 in
     omega arith
@@ -71,20 +71,20 @@ tok_plain (num z) rest h = number_plain z h.0
 tok_plain (sign b) rest h = ap (λ t. not t && true) h.2
 tok_plain (quote raw) rest h = list_all-append (λ b. not (not_plain b)) raw (34 ∷ []) ∙ both (plain raw) true h.1 refl
 
-behind_plain : (t : Tok) (ts : List Tok) → plain (spelled ts) ≡ true → plain (behind t ts) ≡ true
-behind_plain t [] h = refl
-behind_plain (reg r) (u ∷ ts) h = h
-behind_plain (word w) (u ∷ ts) h = h
-behind_plain (num z) (u ∷ ts) h = h
-behind_plain (quote raw) (u ∷ ts) h = h
-behind_plain (sign b) (u ∷ ts) h = elim (b == 44) as (λ c. plain (if c then 32 ∷ spelled (u ∷ ts) else spelled (u ∷ ts)) ≡ true) [ true ↦ h | false ↦ h ]
+after_plain : (t : Tok) (ts : List Tok) → plain (spelled ts) ≡ true → plain (after t ts) ≡ true
+after_plain t [] h = refl
+after_plain (reg r) (u ∷ ts) h = h
+after_plain (word w) (u ∷ ts) h = h
+after_plain (num z) (u ∷ ts) h = h
+after_plain (quote raw) (u ∷ ts) h = h
+after_plain (sign b) (u ∷ ts) h = elim (b == 44) as (λ c. plain (if c then 32 ∷ spelled (u ∷ ts) else spelled (u ∷ ts)) ≡ true) [ true ↦ h | false ↦ h ]
 
 spelled_plain : (ts : List Tok) → AllEnd ts → plain (spelled ts) ≡ true
 spelled_plain [] h = refl
 spelled_plain (t ∷ ts) h =
     ap plain (spelled_step t ts)
-    ∙ list_all-append (λ b. not (not_plain b)) (spelling t) (behind t ts)
-    ∙ both (plain (spelling t)) (plain (behind t ts)) (tok_plain t (behind t ts) h.0) (behind_plain t ts (spelled_plain ts h.1))
+    ∙ list_all-append (λ b. not (not_plain b)) (spelling t) (after t ts)
+    ∙ both (plain (spelling t)) (plain (after t ts)) (tok_plain t (after t ts) h.0) (after_plain t ts (spelled_plain ts h.1))
 
 -- a mnemonic
 pub record IsMnemonic (w : List ℕ) : Type 0 where
@@ -93,16 +93,16 @@ pub record IsMnemonic (w : List ℕ) : Type 0 where
   pub clean : plain w ≡ true
   pub brief : length w ≤ 20
 
-behind_is : (w : List ℕ) (ts : List Tok) → 0 < length ts → w ++ behind_word ts ≡ line w (spelled ts)
-behind_is w [] h = absurd (omega arith)
-behind_is w (t ∷ ts) h = refl
+after_is : (w : List ℕ) (ts : List Tok) → 0 < length ts → w ++ after_word ts ≡ line w (spelled ts)
+after_is w [] h = absurd (omega arith)
+after_is w (t ∷ ts) h = refl
 
 -- a word with operands that no label's colon begins, as a statement; the line is short
 pub stands_in : (w : List ℕ) (ts : List Item) (m : Makes) (v : Vals) (k : StmtKind) → IsMnemonic w → 0 < length (flat ts) → AllEnd (flat ts) → is_mark_of 58 (head_kind (flat ts)) ≡ false → length w + length (spelled (flat ts)) < LONGEST → chosen rows w ts ≡ picked m v → ((line : List ℕ) (o : Operands) → Agrees line o v → kind_made line (record { makes = m; operands = o }) ≡ k) → read_of (line w (spelled (flat ts))) ≡ Ok (stmt 1 k ∷ [])
 stands_in w ts m v k is some ends colon few choice makes =
     let rest = spelled_plain (flat ts) ends in
     let long = length-append w (32 ∷ spelled (flat ts)) in
-    let e = behind_is w (flat ts) some in
+    let e = after_is w (flat ts) some in
     subst (λ x. read_of x ≡ Ok (stmt 1 k ∷ [])) e
     (line_is w ts m v k is.named is.kept ends colon
     (ap plain e ∙ list_all-append (λ b. not (not_plain b)) w (32 ∷ spelled (flat ts)) ∙ both (plain w) (plain (32 ∷ spelled (flat ts))) is.clean rest)

@@ -18,8 +18,8 @@ use Rattle.asm_read.specs.declared.expression.Shape.TheVariants as shape
 use Rattle.asm_read.specs.declared.expression.Shaped.{Shaped}
 use Rattle.asm_read.specs.Tokens.{is_blank, front_of, placed, token_at}
 use Rattle.asm_read.specs.Operands.{◌>>=◌, span, stop, refusal, stopped, name_in, name_of, register_of, register_in, register_at, past_if, is_mark_of, mark_at, name_span, name_at, numeral, number_at, register_mask, item_at, list_from, list_at}
-use Rattle.asm_read.specs.Expressions.{shaped, relation_of, related_as, related, difference, behind_name, expression_of, expression_at, listed_at, item, list_item_at, Series, series, and_more, expressions_at}
-use Rattle.asm_text.specs.Stops.{Refuses, IsStoppedBy, IsLast, GoesInRange, GoesInItem, GoesInItems, GoesInList, GoesInDifference, GoesInRelation, GoesBehindName, GoesInExpression, GoesInListed, GoesInSeries}
+use Rattle.asm_read.specs.Expressions.{shaped, relation_of, related_as, related, difference, after_name, expression_of, expression_at, listed_at, item, list_item_at, Series, series, and_more, expressions_at}
+use Rattle.asm_text.specs.Stops.{Refuses, IsStoppedBy, IsLast, GoesInRange, GoesInItem, GoesInItems, GoesInList, GoesInDifference, GoesInRelation, GoesAfterName, GoesInExpression, GoesInListed, GoesInSeries}
 
 refuses : (k : Kind) → Refuses k (refusal k)
 refuses kind.Bad = refl
@@ -239,7 +239,7 @@ falls_by source from dash low high true l e m f =
     )
 falls_by source from dash low high false l e m f =
     let not_below : low.number ≤ high.number = ltb-false high.number low.number l in
-    let behind = register_after source dash high f in
+    let after = register_after source dash high f in
     let before = mark_after 45 source low.end dash m in (
       inr (low, e, inr (dash, m, inr (high, f, not_below, refl))),
       item_last source from low high.end e (omega arith) (λ d n.
@@ -293,7 +293,7 @@ items_last n source from bound i e last h k far (inr x) =
     let q = same_ok (item_at source from) x.0 i x.2 e in
     k x.1 (subst (λ (j : Item). mark_at 44 source j.end ≡ Ok x.1) q x.3) far x.4
 
--- a list behind an item and a comma
+-- a list after an item and a comma
 further : (n : ℕ) (source : List ℕ) (from next : ℕ) (i : Item) (r : Result Listed Stop) → item_at source from ≡ Ok i → IsLast (GoesInItem source from) i.end → mark_at 44 source i.end ≡ Ok next → ItemsEnd n source next r → ItemsEnd (suc n) source from r
 further n source from next i (Ok l) e last m h =
     let a = mark_after 44 source i.end next m in
@@ -307,13 +307,13 @@ further n source from next i (Err s) e last m h =
 abbrev listed : ℕ → Token → Listed
 listed all t = record { list = all; close = t.start; end = t.end }
 
-behind_by : (n : ℕ) (source : List ℕ) (from : ℕ) (i : Item) (all : ℕ) (b c : Bool) → item_at source from ≡ Ok i → GoesInItem source from i.end → IsLast (GoesInItem source from) i.end → is_mark_of 125 (token_at source i.end).kind ≡ b → is_mark_of 44 (token_at source i.end).kind ≡ c → ((next : ℕ) → ItemsEnd n source next (list_from n source all next)) → ItemsEnd (suc n) source from (if b then Ok (listed all (token_at source i.end)) else if c then list_from n source all (token_at source i.end).end else Err (stopped (token_at source i.end)))
-behind_by n source from i all true c e goes last close comma rest =
+after_by : (n : ℕ) (source : List ℕ) (from : ℕ) (i : Item) (all : ℕ) (b c : Bool) → item_at source from ≡ Ok i → GoesInItem source from i.end → IsLast (GoesInItem source from) i.end → is_mark_of 125 (token_at source i.end).kind ≡ b → is_mark_of 44 (token_at source i.end).kind ≡ c → ((next : ℕ) → ItemsEnd n source next (list_from n source all next)) → ItemsEnd (suc n) source from (if b then Ok (listed all (token_at source i.end)) else if c then list_from n source all (token_at source i.end).end else Err (stopped (token_at source i.end)))
+after_by n source from i all true c e goes last close comma rest =
     (i.end, inl goes, refl, mark_refuses 125 (token_at source i.end).kind close, items_last n source from i.end i e last (omega arith) (λ y m. absurd (mark_not 44 source i.end y (other_mark 125 44 (token_at source i.end).kind close refl) m)))
-behind_by n source from i all false true e goes last close comma rest =
+after_by n source from i all false true e goes last close comma rest =
     let next = (token_at source i.end).end in
     further n source from next i (list_from n source all next) e last (mark_there 44 source i.end comma) (rest next)
-behind_by n source from i all false false e goes last close comma rest =
+after_by n source from i all false false e goes last close comma rest =
     (i.end, inl goes, stopped_by (token_at source i.end) (stopped (token_at source i.end)) refl, items_last n source from i.end i e last (omega arith) (λ y m. absurd (mark_not 44 source i.end y comma m)))
 
 no_items_go : (n : ℕ) (source : List ℕ) (from bound : ℕ) (s : Stop) → item_at source from ≡ Err s → IsLast (GoesInItem source from) bound → (far : ℕ) → GoesInItems (suc n) source from far → far ≤ bound
@@ -323,7 +323,7 @@ no_items_go n source from bound s e last far (inr x) = absurd (ok_err (item_at s
 item_by : (n : ℕ) (source : List ℕ) (from list : ℕ) (r : Result Item Stop) → item_at source from ≡ r → ItemEnds source from r → ((all next : ℕ) → ItemsEnd n source next (list_from n source all next)) → ItemsEnd (suc n) source from (r >>= (λ i. if is_mark_of 125 (token_at source i.end).kind then Ok (listed (bit_or list (register_mask i.low i.high)) (token_at source i.end)) else if is_mark_of 44 (token_at source i.end).kind then list_from n source (bit_or list (register_mask i.low i.high)) (token_at source i.end).end else Err (stopped (token_at source i.end))))
 item_by n source from list (Ok i) e ends rest =
     let all = bit_or list (register_mask i.low i.high) in
-    behind_by n source from i all (is_mark_of 125 (token_at source i.end).kind) (is_mark_of 44 (token_at source i.end).kind) e ends.0 ends.1 refl refl (λ next. rest all next)
+    after_by n source from i all (is_mark_of 125 (token_at source i.end).kind) (is_mark_of 44 (token_at source i.end).kind) e ends.0 ends.1 refl refl (λ next. rest all next)
 item_by n source from list (Err s) e ends rest =
     (ends.0, inl ends.1, ends.2, no_items_go n source from ends.0 s e ends.3)
 
@@ -359,7 +359,7 @@ no_item_at : (source : List ℕ) (from : ℕ) (s : Stop) → register_at source 
 unfolding item_at
 no_item_at source from s e = ap (λ r. r >>= (λ low. if is_mark_of 45 (token_at source low.end).kind then (register_at source (token_at source low.end).end >>= (λ high. ranged low high)) else Ok (record { low = low.number; high = low.number; end = low.end }))) e
 
--- behind { and before } stands no item
+-- after { and before } stands no item
 empty_last : (n : ℕ) (source : List ℕ) (inside : ℕ) (s : Stop) → register_at source inside ≡ Err s → (far : ℕ) → GoesInItems n source inside far → far ≤ inside
 empty_last zero source inside s e far q = omega arith
 empty_last (suc n) source inside s e far x =
@@ -389,12 +389,12 @@ list_ends source from = brace_by source from (mark_at 123 source from) refl
 
 -- ---- expressions
 
--- what is read from a place on ends behind all places that it goes on to, or stops at the token of the last of them
+-- what is read from a place on ends after all places that it goes on to, or stops at the token of the last of them
 abbrev pub Ended : List ℕ → (ℕ → Type 0) → ℕ → Result Shaped Stop → Type 0
 Ended source P low (Ok e) = (low ≤ e.end) × IsLast P e.end
 Ended source P low (Err s) = (at : ℕ) × P at × IsStoppedBy (token_at source at) s × (low ≤ at) × IsLast P at
 
--- a number behind a mark
+-- a number after a mark
 number_then : (source : List ℕ) (P : ℕ → Type 0) (low at : ℕ) (f : Numeral → Shape) (r : Result Numeral Stop) → P at → low ≤ at → IsLast P at → number_at source at ≡ r → Ended source P low (r >>= (λ n. Ok (shaped (f n) n.end)))
 number_then source P low at f (Ok n) p h last e =
     let a = number_after source at n e in
@@ -461,74 +461,74 @@ unfolding related
 related_ends source name inside =
     relation_by source name inside (relation_of name (name_of source (token_at source inside))) refl
 
-behind_last : (word : Bool) (source : List ℕ) (name : Span) (bound : ℕ) → ((at : ℕ) → mark_at 43 source name.end ≡ Ok at → at ≤ bound) → ((minus : ℕ) → mark_at 45 source name.end ≡ Ok minus → IsLast (GoesInDifference source minus) bound) → ((inside : ℕ) → word ≡ true → mark_at 40 source name.end ≡ Ok inside → IsLast (GoesInRelation source name inside) bound) → (far : ℕ) → GoesBehindName word source name far → far ≤ bound
-behind_last word source name bound p q r far (inl m) = p far m
-behind_last word source name bound p q r far (inr (inl x)) = q x.0 x.1 far x.2
-behind_last word source name bound p q r far (inr (inr x)) = r x.0 x.1 x.2 far x.3
+after_last : (word : Bool) (source : List ℕ) (name : Span) (bound : ℕ) → ((at : ℕ) → mark_at 43 source name.end ≡ Ok at → at ≤ bound) → ((minus : ℕ) → mark_at 45 source name.end ≡ Ok minus → IsLast (GoesInDifference source minus) bound) → ((inside : ℕ) → word ≡ true → mark_at 40 source name.end ≡ Ok inside → IsLast (GoesInRelation source name inside) bound) → (far : ℕ) → GoesAfterName word source name far → far ≤ bound
+after_last word source name bound p q r far (inl m) = p far m
+after_last word source name bound p q r far (inr (inl x)) = q x.0 x.1 far x.2
+after_last word source name bound p q r far (inr (inr x)) = r x.0 x.1 x.2 far x.3
 
--- behind a minus sign, and behind an opening parenthesis
-lift_difference : (word : Bool) (source : List ℕ) (name : Span) (minus : ℕ) (r : Result Shaped Stop) → is_mark_of 45 (token_at source name.end).kind ≡ true → mark_at 45 source name.end ≡ Ok minus → Ended source (GoesInDifference source minus) minus r → Ended source (GoesBehindName word source name) name.end r
+-- after a minus sign, and after an opening parenthesis
+lift_difference : (word : Bool) (source : List ℕ) (name : Span) (minus : ℕ) (r : Result Shaped Stop) → is_mark_of 45 (token_at source name.end).kind ≡ true → mark_at 45 source name.end ≡ Ok minus → Ended source (GoesInDifference source minus) minus r → Ended source (GoesAfterName word source name) name.end r
 lift_difference word source name minus (Ok e) is m h =
     let a = mark_after 45 source name.end minus m in
     let b = h.0 in
-    (omega arith, behind_last word source name e.end (λ y n. absurd (mark_not 43 source name.end y (other_mark 45 43 (token_at source name.end).kind is refl) n)) (λ y n. subst (λ z. IsLast (GoesInDifference source z) e.end) (same_ok (mark_at 45 source name.end) minus y m n) h.1) (λ y w n. absurd (mark_not 40 source name.end y (other_mark 45 40 (token_at source name.end).kind is refl) n)))
+    (omega arith, after_last word source name e.end (λ y n. absurd (mark_not 43 source name.end y (other_mark 45 43 (token_at source name.end).kind is refl) n)) (λ y n. subst (λ z. IsLast (GoesInDifference source z) e.end) (same_ok (mark_at 45 source name.end) minus y m n) h.1) (λ y w n. absurd (mark_not 40 source name.end y (other_mark 45 40 (token_at source name.end).kind is refl) n)))
 lift_difference word source name minus (Err s) is m h =
     let a = mark_after 45 source name.end minus m in
     let b = h.3 in
-    (h.0, inr (inl (minus, m, h.1)), h.2, omega arith, behind_last word source name h.0 (λ y n. absurd (mark_not 43 source name.end y (other_mark 45 43 (token_at source name.end).kind is refl) n)) (λ y n. subst (λ z. IsLast (GoesInDifference source z) h.0) (same_ok (mark_at 45 source name.end) minus y m n) h.4) (λ y w n. absurd (mark_not 40 source name.end y (other_mark 45 40 (token_at source name.end).kind is refl) n)))
+    (h.0, inr (inl (minus, m, h.1)), h.2, omega arith, after_last word source name h.0 (λ y n. absurd (mark_not 43 source name.end y (other_mark 45 43 (token_at source name.end).kind is refl) n)) (λ y n. subst (λ z. IsLast (GoesInDifference source z) h.0) (same_ok (mark_at 45 source name.end) minus y m n) h.4) (λ y w n. absurd (mark_not 40 source name.end y (other_mark 45 40 (token_at source name.end).kind is refl) n)))
 
-lift_relation : (source : List ℕ) (name : Span) (inside : ℕ) (r : Result Shaped Stop) → is_mark_of 40 (token_at source name.end).kind ≡ true → mark_at 40 source name.end ≡ Ok inside → Ended source (GoesInRelation source name inside) inside r → Ended source (GoesBehindName true source name) name.end r
+lift_relation : (source : List ℕ) (name : Span) (inside : ℕ) (r : Result Shaped Stop) → is_mark_of 40 (token_at source name.end).kind ≡ true → mark_at 40 source name.end ≡ Ok inside → Ended source (GoesInRelation source name inside) inside r → Ended source (GoesAfterName true source name) name.end r
 lift_relation source name inside (Ok e) is m h =
     let a = mark_after 40 source name.end inside m in
     let b = h.0 in
-    (omega arith, behind_last true source name e.end (λ y n. absurd (mark_not 43 source name.end y (other_mark 40 43 (token_at source name.end).kind is refl) n)) (λ y n. absurd (mark_not 45 source name.end y (other_mark 40 45 (token_at source name.end).kind is refl) n)) (λ y w n. subst (λ z. IsLast (GoesInRelation source name z) e.end) (same_ok (mark_at 40 source name.end) inside y m n) h.1))
+    (omega arith, after_last true source name e.end (λ y n. absurd (mark_not 43 source name.end y (other_mark 40 43 (token_at source name.end).kind is refl) n)) (λ y n. absurd (mark_not 45 source name.end y (other_mark 40 45 (token_at source name.end).kind is refl) n)) (λ y w n. subst (λ z. IsLast (GoesInRelation source name z) e.end) (same_ok (mark_at 40 source name.end) inside y m n) h.1))
 lift_relation source name inside (Err s) is m h =
     let a = mark_after 40 source name.end inside m in
     let b = h.3 in
-    (h.0, inr (inr (inside, refl, m, h.1)), h.2, omega arith, behind_last true source name h.0 (λ y n. absurd (mark_not 43 source name.end y (other_mark 40 43 (token_at source name.end).kind is refl) n)) (λ y n. absurd (mark_not 45 source name.end y (other_mark 40 45 (token_at source name.end).kind is refl) n)) (λ y w n. subst (λ z. IsLast (GoesInRelation source name z) h.0) (same_ok (mark_at 40 source name.end) inside y m n) h.4))
+    (h.0, inr (inr (inside, refl, m, h.1)), h.2, omega arith, after_last true source name h.0 (λ y n. absurd (mark_not 43 source name.end y (other_mark 40 43 (token_at source name.end).kind is refl) n)) (λ y n. absurd (mark_not 45 source name.end y (other_mark 40 45 (token_at source name.end).kind is refl) n)) (λ y w n. subst (λ z. IsLast (GoesInRelation source name z) h.0) (same_ok (mark_at 40 source name.end) inside y m n) h.4))
 
-plus_ends : (word : Bool) (source : List ℕ) (name : Span) → is_mark_of 43 (token_at source name.end).kind ≡ true → Ended source (GoesBehindName word source name) name.end (number_at source (token_at source name.end).end >>= (λ n. Ok (shaped (shape.Of name n.value) n.end)))
+plus_ends : (word : Bool) (source : List ℕ) (name : Span) → is_mark_of 43 (token_at source name.end).kind ≡ true → Ended source (GoesAfterName word source name) name.end (number_at source (token_at source name.end).end >>= (λ n. Ok (shaped (shape.Of name n.value) n.end)))
 plus_ends word source name plus =
     let at = (token_at source name.end).end in
     let m = mark_there 43 source name.end plus in
-    number_then source (GoesBehindName word source name) name.end at (λ n. shape.Of name n.value) (number_at source at) (inl m) (mark_after 43 source name.end at m) (behind_last word source name at (λ y n. let q = same_ok (mark_at 43 source name.end) y at n m in omega arith) (λ y n. absurd (mark_not 45 source name.end y (other_mark 43 45 (token_at source name.end).kind plus refl) n)) (λ y w n. absurd (mark_not 40 source name.end y (other_mark 43 40 (token_at source name.end).kind plus refl) n))) refl
+    number_then source (GoesAfterName word source name) name.end at (λ n. shape.Of name n.value) (number_at source at) (inl m) (mark_after 43 source name.end at m) (after_last word source name at (λ y n. let q = same_ok (mark_at 43 source name.end) y at n m in omega arith) (λ y n. absurd (mark_not 45 source name.end y (other_mark 43 45 (token_at source name.end).kind plus refl) n)) (λ y w n. absurd (mark_not 40 source name.end y (other_mark 43 40 (token_at source name.end).kind plus refl) n))) refl
 
-alone_ends : (word : Bool) (source : List ℕ) (name : Span) → is_mark_of 43 (token_at source name.end).kind ≡ false → is_mark_of 45 (token_at source name.end).kind ≡ false → (word && is_mark_of 40 (token_at source name.end).kind) ≡ false → (name.end ≤ name.end) × IsLast (GoesBehindName word source name) name.end
+alone_ends : (word : Bool) (source : List ℕ) (name : Span) → is_mark_of 43 (token_at source name.end).kind ≡ false → is_mark_of 45 (token_at source name.end).kind ≡ false → (word && is_mark_of 40 (token_at source name.end).kind) ≡ false → (name.end ≤ name.end) × IsLast (GoesAfterName word source name) name.end
 alone_ends true source name plus minus open_mark =
-    (omega arith, behind_last true source name name.end (λ y n. absurd (mark_not 43 source name.end y plus n)) (λ y n. absurd (mark_not 45 source name.end y minus n)) (λ y w n. absurd (mark_not 40 source name.end y open_mark n)))
+    (omega arith, after_last true source name name.end (λ y n. absurd (mark_not 43 source name.end y plus n)) (λ y n. absurd (mark_not 45 source name.end y minus n)) (λ y w n. absurd (mark_not 40 source name.end y open_mark n)))
 alone_ends false source name plus minus open_mark =
-    (omega arith, behind_last false source name name.end (λ y n. absurd (mark_not 43 source name.end y plus n)) (λ y n. absurd (mark_not 45 source name.end y minus n)) (λ y w n. absurd (let q : false ≡ true = w in cc)))
+    (omega arith, after_last false source name name.end (λ y n. absurd (mark_not 43 source name.end y plus n)) (λ y n. absurd (mark_not 45 source name.end y minus n)) (λ y w n. absurd (let q : false ≡ true = w in cc)))
 
-behind_cases : (word : Bool) (source : List ℕ) (name : Span) (b c d : Bool) →
+after_cases : (word : Bool) (source : List ℕ) (name : Span) (b c d : Bool) →
     let token = token_at source name.end in
-    is_mark_of 43 token.kind ≡ b → is_mark_of 45 token.kind ≡ c → (word && is_mark_of 40 token.kind) ≡ d → Ended source (GoesBehindName word source name) name.end (if b then (number_at source token.end >>= (λ n. Ok (shaped (shape.Of name n.value) n.end))) else if c then difference source name token.end else if d then related source name token.end else Ok (shaped (shape.Of name (pos 0)) name.end))
-behind_cases word source name true c d plus minus open_mark = plus_ends word source name plus
-behind_cases word source name false true d plus minus open_mark =
+    is_mark_of 43 token.kind ≡ b → is_mark_of 45 token.kind ≡ c → (word && is_mark_of 40 token.kind) ≡ d → Ended source (GoesAfterName word source name) name.end (if b then (number_at source token.end >>= (λ n. Ok (shaped (shape.Of name n.value) n.end))) else if c then difference source name token.end else if d then related source name token.end else Ok (shaped (shape.Of name (pos 0)) name.end))
+after_cases word source name true c d plus minus open_mark = plus_ends word source name plus
+after_cases word source name false true d plus minus open_mark =
     let at = (token_at source name.end).end in
     lift_difference word source name at (difference source name at) minus (mark_there 45 source name.end minus) (difference_ends source name at)
-behind_cases true source name false false true plus minus open_mark =
+after_cases true source name false false true plus minus open_mark =
     let at = (token_at source name.end).end in
     lift_relation source name at (related source name at) open_mark (mark_there 40 source name.end open_mark) (related_ends source name at)
-behind_cases false source name false false true plus minus open_mark = cc
-behind_cases word source name false false false plus minus open_mark = alone_ends word source name plus minus open_mark
+after_cases false source name false false true plus minus open_mark = cc
+after_cases word source name false false false plus minus open_mark = alone_ends word source name plus minus open_mark
 
-name_ends : (word : Bool) (source : List ℕ) (name : Span) → Ended source (GoesBehindName word source name) name.end (behind_name word source name)
-unfolding behind_name
+name_ends : (word : Bool) (source : List ℕ) (name : Span) → Ended source (GoesAfterName word source name) name.end (after_name word source name)
+unfolding after_name
 name_ends word source name =
-    behind_cases word source name (is_mark_of 43 (token_at source name.end).kind) (is_mark_of 45 (token_at source name.end).kind) (word && is_mark_of 40 (token_at source name.end).kind) refl refl refl
+    after_cases word source name (is_mark_of 43 (token_at source name.end).kind) (is_mark_of 45 (token_at source name.end).kind) (word && is_mark_of 40 (token_at source name.end).kind) refl refl refl
 
-expression_last : (word : Bool) (source : List ℕ) (from bound : ℕ) (name : Span) → name_at source from ≡ Ok name → from ≤ bound → IsLast (GoesBehindName word source name) bound → (far : ℕ) → GoesInExpression word source from far → far ≤ bound
+expression_last : (word : Bool) (source : List ℕ) (from bound : ℕ) (name : Span) → name_at source from ≡ Ok name → from ≤ bound → IsLast (GoesAfterName word source name) bound → (far : ℕ) → GoesInExpression word source from far → far ≤ bound
 expression_last word source from bound name e h last far (inl q) = omega arith
 expression_last word source from bound name e h last far (inr x) =
-    last far (subst (λ n. GoesBehindName word source n far) (same_ok (name_at source from) x.0 name x.1 e) x.2)
+    last far (subst (λ n. GoesAfterName word source n far) (same_ok (name_at source from) x.0 name x.1 e) x.2)
 
-behind_a_name : (word : Bool) (source : List ℕ) (from : ℕ) (name : Span) (r : Result Shaped Stop) → name_at source from ≡ Ok name → Ended source (GoesBehindName word source name) name.end r → Ended source (GoesInExpression word source from) from r
-behind_a_name word source from name (Ok e) n h =
+after_a_name : (word : Bool) (source : List ℕ) (from : ℕ) (name : Span) (r : Result Shaped Stop) → name_at source from ≡ Ok name → Ended source (GoesAfterName word source name) name.end r → Ended source (GoesInExpression word source from) from r
+after_a_name word source from name (Ok e) n h =
     let a = name_after source from name n in
     let b = h.0 in
     let low : from ≤ e.end = omega arith in
     (low, expression_last word source from e.end name n low h.1)
-behind_a_name word source from name (Err s) n h =
+after_a_name word source from name (Err s) n h =
     let a = name_after source from name n in
     let b = h.3 in
     let low : from ≤ h.0 = omega arith in
@@ -547,7 +547,7 @@ begun_by word source from kind.Wide e =
     (from, inl refl, wide (token_at source from) (stop (token_at source from).start NumberRange) e refl, omega arith, no_name_goes word source from from kind.Wide e (λ f. cc) (omega arith))
 begun_by word source from kind.Word e =
     let name = span (token_at source from).start (token_at source from).end in
-    behind_a_name word source from name (behind_name word source name) (name_there source from e) (name_ends word source name)
+    after_a_name word source from name (after_name word source name) (name_there source from e) (name_ends word source name)
 begun_by word source from k e =
     (from, inl refl, stopped_by (token_at source from) (stopped (token_at source from)) refl, omega arith, no_name_goes word source from from k e (λ f. cc) (omega arith))
 

@@ -24,7 +24,7 @@ use Rattle.asm_read.specs.Plans.{is_passed, fit_or_stop, word_statement, begun_b
 use Rattle.asm_read.specs.Statements.{kind_of as kind_made}
 use Rattle.asm_read.specs.Reading.{lines_of, statement_stmts, stmts_of, line_as, line_of, then_added, excess, read_lines, read_of}
 use Rattle.asm_text.specs.Lines.{lines, OneStands}
-use Rattle.asm_text.specs.Read.{StandBehind, AreOfLine, AreOfLines, WasWritten}
+use Rattle.asm_text.specs.Read.{StandAfter, AreOfLine, AreOfLines, WasWritten}
 use Rattle.asm_text.proofs.Going.{goes}
 use Rattle.asm_text.proofs.Reading.{ReadsItsLine, Each, directives_read, a_to_b_read, c_to_l_read, m_to_z_read}
 
@@ -36,7 +36,7 @@ rows_read : Each ReadsItsLine rows
 unfolding rows
 rows_read = each_append ReadsItsLine directives (a_to_b ++ (c_to_l ++ m_to_z)) directives_read (each_append ReadsItsLine a_to_b (c_to_l ++ m_to_z) a_to_b_read (each_append ReadsItsLine c_to_l m_to_z c_to_l_read m_to_z_read))
 
--- one of the lines of this statement stands behind a word
+-- one of the lines of this statement stands after a word
 abbrev Stands : List ℕ → List ℕ → ℕ → Statement → Type 0
 Stands source word from s = OneStands source word from (lines (kind_made source s))
 
@@ -70,26 +70,26 @@ taken source word token from (Ok s) so h = (s, refl, sym (let q : Some s ≡ so 
 taken source word token from (Err None) so h = cc
 taken source word token from (Err (Some t)) so h = cc
 
-by_passing : (number : ℕ) (source : List ℕ) (from : ℕ) (so : Option Statement) (b : Bool) → (token_at source from).kind ≡ kind.Word → is_passed (name_of source (token_at source from)) ≡ b → (if b then Ok None else fit_or_stop (token_at source from) (name_of source (token_at source from)) (first_fit rows (name_of source (token_at source from)) source (token_at source from).end None)) ≡ Ok so → StandBehind number source from (statement_stmts number source so)
+by_passing : (number : ℕ) (source : List ℕ) (from : ℕ) (so : Option Statement) (b : Bool) → (token_at source from).kind ≡ kind.Word → is_passed (name_of source (token_at source from)) ≡ b → (if b then Ok None else fit_or_stop (token_at source from) (name_of source (token_at source from)) (first_fit rows (name_of source (token_at source from)) source (token_at source from).end None)) ≡ Ok so → StandAfter number source from (statement_stmts number source so)
 by_passing number source from so true k p h =
-    subst (λ x. StandBehind number source from (statement_stmts number source x)) (let q : None ≡ so = cc in q) (inr (k, p))
+    subst (λ x. StandAfter number source from (statement_stmts number source x)) (let q : None ≡ so = cc in q) (inr (k, p))
 by_passing number source from so false k p h =
     let word = name_of source (token_at source from) in
     let t = taken source word (token_at source from) (token_at source from).end (first_fit rows word source (token_at source from).end None) so h in
-    subst (λ x. StandBehind number source from (statement_stmts number source x)) (sym t.2)
+    subst (λ x. StandAfter number source from (statement_stmts number source x)) (sym t.2)
     (refl, (k, first_stands rows source word (token_at source from).end None t.0 rows_read t.1))
 
-by_kind : (number : ℕ) (source : List ℕ) (from : ℕ) (so : Option Statement) (k : Kind) → (token_at source from).kind ≡ k → begun_by source (token_at source from) k ≡ Ok so → StandBehind number source from (statement_stmts number source so)
+by_kind : (number : ℕ) (source : List ℕ) (from : ℕ) (so : Option Statement) (k : Kind) → (token_at source from).kind ≡ k → begun_by source (token_at source from) k ≡ Ok so → StandAfter number source from (statement_stmts number source so)
 unfolding word_statement
 by_kind number source from so kind.Word e h =
     by_passing number source from so (is_passed (name_of source (token_at source from))) e refl h
 by_kind number source from so kind.End e h =
-    subst (λ x. StandBehind number source from (statement_stmts number source x)) (let q : None ≡ so = cc in q) (inl e)
+    subst (λ x. StandAfter number source from (statement_stmts number source x)) (let q : None ≡ so = cc in q) (inl e)
 by_kind number source from so k e h = cc
 
-behind_stands : (number : ℕ) (source : List ℕ) (from : ℕ) (so : Option Statement) → statement_at source from ≡ Ok so → StandBehind number source from (statement_stmts number source so)
+after_stands : (number : ℕ) (source : List ℕ) (from : ℕ) (so : Option Statement) → statement_at source from ≡ Ok so → StandAfter number source from (statement_stmts number source so)
 unfolding statement_at
-behind_stands number source from so h = by_kind number source from so (token_at source from).kind refl h
+after_stands number source from so h = by_kind number source from so (token_at source from).kind refl h
 
 -- ---- a line
 
@@ -122,10 +122,10 @@ by_label number source p true e h =
     let colon = token_at source token.end in
     let t = planned (statement_at source colon.end) (Some (span token.start token.end)) p h in
     subst (λ x. AreOfLine number source (stmts_of number source x)) (sym t.2)
-    (inr (bytes_of source (span token.start token.end), token.end, colon.end, refl, (token.start, name_there source 0 (is_name_kind token.kind (is_mark_of 58 colon.kind) e), refl), colon_there source token.end (is_colon (is_word token.kind) (is_mark_of 58 colon.kind) e), behind_stands number source colon.end t.0 t.1))
+    (inr (bytes_of source (span token.start token.end), token.end, colon.end, refl, (token.start, name_there source 0 (is_name_kind token.kind (is_mark_of 58 colon.kind) e), refl), colon_there source token.end (is_colon (is_word token.kind) (is_mark_of 58 colon.kind) e), after_stands number source colon.end t.0 t.1))
 by_label number source p false e h =
     let t = planned (statement_at source 0) None p h in
-    subst (λ x. AreOfLine number source (stmts_of number source x)) (sym t.2) (inl (behind_stands number source 0 t.0 t.1))
+    subst (λ x. AreOfLine number source (stmts_of number source x)) (sym t.2) (inl (after_stands number source 0 t.0 t.1))
 
 plan_stands : (number : ℕ) (source : List ℕ) (p : Plan) → plan_of source ≡ Ok p → AreOfLine number source (stmts_of number source p)
 unfolding plan_of

@@ -28,7 +28,7 @@ spelling (num z) = signed_decimal z
 spelling (sign b) = b ∷ []
 spelling (quote raw) = 34 ∷ (raw ++ (34 ∷ []))
 
--- a blank stands behind a comma
+-- a blank stands after a comma
 abbrev pub gap : Tok → List ℕ → List ℕ
 gap (sign b) rest = if b == 44 then 32 ∷ rest else rest
 gap t rest = rest
@@ -38,12 +38,12 @@ spelled [] = []
 spelled (t ∷ []) = spelling t
 spelled (t ∷ u ∷ ts) = spelling t ++ gap t (spelled (u ∷ ts))
 
--- what stands behind a token
-abbrev pub behind : Tok → List Tok → List ℕ
-behind t [] = []
-behind t (u ∷ ts) = gap t (spelled (u ∷ ts))
+-- what stands after a token
+abbrev pub after : Tok → List Tok → List ℕ
+after t [] = []
+after t (u ∷ ts) = gap t (spelled (u ∷ ts))
 
-pub spelled_step : (t : Tok) (ts : List Tok) → spelled (t ∷ ts) ≡ spelling t ++ behind t ts
+pub spelled_step : (t : Tok) (ts : List Tok) → spelled (t ∷ ts) ≡ spelling t ++ after t ts
 spelled_step t [] = sym (append-nil (spelling t))
 spelled_step t (u ∷ ts) = refl
 
@@ -54,7 +54,7 @@ kind_of (num z) = Number z
 kind_of (sign b) = Mark b
 kind_of (quote raw) = Quoted
 
--- a token that ends where the text behind it begins
+-- a token that ends where the text after it begins
 abbrev pub Ends : Tok → List ℕ → Type 0
 Ends (reg r) rest = (r < 16) × Stops rest
 Ends (word w) rest = (is_name w ≡ true) × Stops rest
@@ -64,7 +64,7 @@ Ends (quote raw) rest = (front_of ((34 ∷ (raw ++ (34 ∷ []))) ++ rest) ≡ fr
 
 abbrev pub AllEnd : List Tok → Type 0
 AllEnd [] = Unit {0}
-AllEnd (t ∷ ts) = Ends t (behind t ts) × AllEnd ts
+AllEnd (t ∷ ts) = Ends t (after t ts) × AllEnd ts
 
 pub by_register : (P : ℕ → Type 0) → P 0 → P 1 → P 2 → P 3 → P 4 → P 5 → P 6 → P 7 → P 8 → P 9 → P 10 → P 11 → P 12 → P 13 → P 14 → P 15 → (r : ℕ) → r < 16 → P r
 by_register P a b c d e f g h i j k l m n o p zero w = a
@@ -211,12 +211,12 @@ register_found (num z) rest h = refl
 register_found (sign b) rest h = refl
 register_found (quote raw) rest h = refl
 
-text_found : (t : Tok) (ts : List Tok) (line : List ℕ) (start : ℕ) → Ends t (behind t ts) → drop start line ≡ spelling t ++ behind t ts → TextIs line (token start (start + length (spelling t)) (kind_of t)) (t ∷ ts)
+text_found : (t : Tok) (ts : List Tok) (line : List ℕ) (start : ℕ) → Ends t (after t ts) → drop start line ≡ spelling t ++ after t ts → TextIs line (token start (start + length (spelling t)) (kind_of t)) (t ∷ ts)
 text_found (reg r) ts line start h e = tt
 text_found (word w) ts line start h e = tt
 text_found (num z) ts line start h e = tt
 text_found (sign b) ts line start h e = tt
-text_found (quote raw) ts line start h e = bytes_at line (34 ∷ (raw ++ (34 ∷ []))) (behind (quote raw) ts) start (omega arith) e
+text_found (quote raw) ts line start h e = bytes_at line (34 ∷ (raw ++ (34 ∷ []))) (after (quote raw) ts) start (omega arith) e
 
 -- whether a blank stands between a token and the next
 gapped : Tok → List Tok → Bool
@@ -224,14 +224,14 @@ gapped t [] = false
 gapped (sign b) (u ∷ ts) = b == 44
 gapped t (u ∷ ts) = false
 
-behind_lead : (t : Tok) (ts : List Tok) → behind t ts ≡ lead (gapped t ts) (spelled ts)
+after_lead : (t : Tok) (ts : List Tok) → after t ts ≡ lead (gapped t ts) (spelled ts)
 unfolding gapped
-behind_lead t [] = refl
-behind_lead (reg r) (u ∷ ts) = refl
-behind_lead (word w) (u ∷ ts) = refl
-behind_lead (num z) (u ∷ ts) = refl
-behind_lead (quote raw) (u ∷ ts) = refl
-behind_lead (sign b) (u ∷ ts) = elim (b == 44) as (λ c. (if c then 32 ∷ spelled (u ∷ ts) else spelled (u ∷ ts)) ≡ lead c (spelled (u ∷ ts))) [ true ↦ refl | false ↦ refl ]
+after_lead t [] = refl
+after_lead (reg r) (u ∷ ts) = refl
+after_lead (word w) (u ∷ ts) = refl
+after_lead (num z) (u ∷ ts) = refl
+after_lead (quote raw) (u ∷ ts) = refl
+after_lead (sign b) (u ∷ ts) = elim (b == 44) as (λ c. (if c then 32 ∷ spelled (u ∷ ts) else spelled (u ∷ ts)) ≡ lead c (spelled (u ∷ ts))) [ true ↦ refl | false ↦ refl ]
 
 tok_some : (t : Tok) (rest : List ℕ) → Ends t rest → 0 < length (spelling t)
 tok_some (reg r) rest h = filled (register r) (register_is_name r h.0)
@@ -247,10 +247,10 @@ lead_longer false text = omega arith
 pub toks_few : (ts : List Tok) → AllEnd ts → length ts ≤ length (spelled ts)
 toks_few [] h = omega arith
 toks_few (t ∷ ts) h =
-    let e = ap length (spelled_step t ts) ∙ length-append (spelling t) (behind t ts) in
-    let here = tok_some t (behind t ts) h.0 in
+    let e = ap length (spelled_step t ts) ∙ length-append (spelling t) (after t ts) in
+    let here = tok_some t (after t ts) h.0 in
     let more = toks_few ts h.1 in
-    let far = ap length (behind_lead t ts) in
+    let far = ap length (after_lead t ts) in
     let longer = lead_longer (gapped t ts) (spelled ts) in
     omega arith
 
@@ -266,10 +266,10 @@ reads line [] b from h e = (token from from End, record { is = token_lead b line
 reads line (t ∷ ts) b from h e =
     let start = skip b from in
     let text = e ∙ ap (lead b) (spelled_step t ts) in
-    let here = dropped b line (spelling t ++ behind t ts) from text in
+    let here = dropped b line (spelling t ++ after t ts) from text in
     let found : token_at line from ≡ token start (start + length (spelling t)) (kind_of t) =
-    token_lead b line (spelling t ++ behind t ts) from (kind_of t) (length (spelling t)) text (blank_of_tok t (behind t ts) h.0) (front_of_tok t (behind t ts) h.0)
+    token_lead b line (spelling t ++ after t ts) from (kind_of t) (length (spelling t)) text (blank_of_tok t (after t ts) h.0) (front_of_tok t (after t ts) h.0)
     ∙ placed_tok t from start (length (spelling t)) in
     let next : drop (start + length (spelling t)) line ≡ lead (gapped t ts) (spelled ts) =
-    sym (drop-drop (length (spelling t)) start line) ∙ ap (drop (length (spelling t))) here ∙ drop_at (spelling t) (behind t ts) (length (spelling t)) refl ∙ behind_lead t ts in
-    (token start (start + length (spelling t)) (kind_of t), record { is = found; kind = refl; name = name_found t line start (behind t ts) h.0 here; register = register_found t (behind t ts) h.0; few = few_of line (t ∷ ts) b from h e; text = text_found t ts line start h.0 here }, reads line ts (gapped t ts) (start + length (spelling t)) h.1 next)
+    sym (drop-drop (length (spelling t)) start line) ∙ ap (drop (length (spelling t))) here ∙ drop_at (spelling t) (after t ts) (length (spelling t)) refl ∙ after_lead t ts in
+    (token start (start + length (spelling t)) (kind_of t), record { is = found; kind = refl; name = name_found t line start (after t ts) h.0 here; register = register_found t (after t ts) h.0; few = few_of line (t ∷ ts) b from h e; text = text_found t ts line start h.0 here }, reads line ts (gapped t ts) (start + length (spelling t)) h.1 next)

@@ -13,7 +13,7 @@ use Rattle.asm_read.specs.Expressions.{shaped, expression_at, series, expression
 use Rattle.asm_read.specs.Statements.{text_of}
 use Rattle.asm_text.specs.Written.{register as register_text, word_of, alu_words, access_words, extend_words, reverse_words, hint_words, barrier_words, offset_words, shift_words, branch_words, sum_word, line as line_text, braced, quoted, expression, expressions, written, also}
 
--- what stands behind the word of a line
+-- what stands after the word of a line
 pub data Operand : Type 0 where
   mark : ℕ → Operand
   register : ℕ → Operand
@@ -202,15 +202,15 @@ operand_text (text bytes) = quoted bytes
 operand_text (value e) = expression e
 operand_text (values word es) = expressions es
 
--- a blank stands behind a comma
-abbrev pub blank_behind : Operand → List ℕ → List ℕ
-blank_behind (mark b) rest = if b == 44 then 32 ∷ rest else rest
-blank_behind o rest = rest
+-- a blank stands after a comma
+abbrev pub blank_after : Operand → List ℕ → List ℕ
+blank_after (mark b) rest = if b == 44 then 32 ∷ rest else rest
+blank_after o rest = rest
 
 abbrev pub operands_text : List Operand → List ℕ
 operands_text [] = []
 operands_text (o ∷ []) = operand_text o
-operands_text (o ∷ p ∷ os) = operand_text o ++ blank_behind o (operands_text (p ∷ os))
+operands_text (o ∷ p ∷ os) = operand_text o ++ blank_after o (operands_text (p ∷ os))
 
 -- a word, and a blank before operands
 abbrev pub word_and : List ℕ → List Operand → List ℕ
@@ -245,12 +245,12 @@ StandsAt source from (text bytes) end = (start : ℕ) × (text_at source from �
 StandsAt source from (value e) end = (shape : Shape) × (expression_at false source from ≡ Ok (shaped shape end)) × (expr_of source shape ≡ e)
 StandsAt source from (values word es) end = (shapes : List Shape) × (expressions_at (length source) word source from ≡ Ok (series shapes end)) × (map (expr_of source) shapes ≡ es)
 
--- operands one after another from a place on, and the line's end behind them
+-- operands one after another from a place on, and the line's end after them
 abbrev pub Stand : List ℕ → ℕ → List Operand → Type 0
 Stand source from [] = (token_at source from).kind ≡ End
 Stand source from (o ∷ os) = (end : ℕ) × StandsAt source from o end × Stand source end os
 
--- one of these lines stands in a line: a word, and behind it, from a place on, the operands
+-- one of these lines stands in a line: a word, and after it, from a place on, the operands
 abbrev pub OneStands : List ℕ → List ℕ → ℕ → List Line → Type 0
 OneStands source word from [] = ⊥
 OneStands source word from (l ∷ ls) = ((l.word ≡ word) × Stand source from l.operands) ⊎ OneStands source word from ls

@@ -30,7 +30,7 @@ piece_number Expressions = 18
 piece_number WordExpressions = 19
 piece_number (Mark b) = 20 + b
 
--- rows of one word with the same pieces behind it
+-- rows of one word with the same pieces after it
 abbrev pub alike : TableRow → TableRow → Bool
 alike r q =
     same r.word q.word && same (map piece_number (pieces_of r.form.operands)) (map piece_number (pieces_of q.form.operands))

@@ -10,7 +10,7 @@ use Rattle.asm_read.specs.Plans.{is_passed}
 use Rattle.asm_read.specs.Reading.{stmt, lines_of, read_of}
 use Rattle.asm_text.specs.Lines.{mark, name, lines, StandsAt, OneStands}
 
--- a word stands at a place, and behind it one of this statement's lines goes on to the line's end
+-- a word stands at a place, and after it one of this statement's lines goes on to the line's end
 abbrev pub IsStatementAt : List ℕ → ℕ → StmtKind → Type 0
 IsStatementAt source from kind =
     let token = token_at source from in
@@ -23,20 +23,20 @@ IsNothingAt source from =
     (token.kind ≡ End) ⊎ ((token.kind ≡ Word) × (is_passed (name_of source token) ≡ true))
 
 -- these statements stand at a place of the line with a number: one or none
-abbrev pub StandBehind : ℕ → List ℕ → ℕ → List Stmt → Type 0
-StandBehind number source from [] = IsNothingAt source from
-StandBehind number source from (s ∷ []) = (s.line ≡ number) × IsStatementAt source from s.kind
-StandBehind number source from (s ∷ t ∷ more) = ⊥
+abbrev pub StandAfter : ℕ → List ℕ → ℕ → List Stmt → Type 0
+StandAfter number source from [] = IsNothingAt source from
+StandAfter number source from (s ∷ []) = (s.line ≡ number) × IsStatementAt source from s.kind
+StandAfter number source from (s ∷ t ∷ more) = ⊥
 
--- a label: a name with a colon behind it, and what the line has behind that
+-- a label: a name with a colon after it, and what the line has after that
 abbrev pub IsLabelled : ℕ → List ℕ → List Stmt → Type 0
 IsLabelled number source [] = ⊥
 IsLabelled number source (s ∷ more) =
-    (n : List ℕ) × (end : ℕ) × (behind : ℕ) × (s ≡ stmt number (Label n)) × StandsAt source 0 (name n) end × StandsAt source end (mark 58) behind × StandBehind number source behind more
+    (n : List ℕ) × (end : ℕ) × (after : ℕ) × (s ≡ stmt number (Label n)) × StandsAt source 0 (name n) end × StandsAt source end (mark 58) after × StandAfter number source after more
 
 -- the statements of one line
 abbrev pub AreOfLine : ℕ → List ℕ → List Stmt → Type 0
-AreOfLine number source stmts = StandBehind number source 0 stmts ⊎ IsLabelled number source stmts
+AreOfLine number source stmts = StandAfter number source 0 stmts ⊎ IsLabelled number source stmts
 
 -- the statements of lines from a number on
 abbrev pub AreOfLines : ℕ → List (List ℕ) → List Stmt → Type 0

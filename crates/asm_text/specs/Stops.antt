@@ -40,13 +40,13 @@ IsStoppedBy token s = (s.at ≡ token.start) × Refuses token.kind s.what
 
 -- ---- how far a piece of a form goes on
 
--- behind the first register of an item: a dash, and a register that is no lower
+-- after the first register of an item: a dash, and a register that is no lower
 abbrev pub GoesInRange : List ℕ → Register → ℕ → Type 0
 GoesInRange source low at =
     (at ≡ low.end)
     ⊎ ((dash : ℕ) × (mark_at 45 source low.end ≡ Ok dash) × ((at ≡ dash) ⊎ ((high : Register) × (register_at source dash ≡ Ok high) × (low.number ≤ high.number) × (at ≡ high.end))))
 
--- from a place to one behind tokens of a register or a range that stand there
+-- from a place to one after tokens of a register or a range that stand there
 abbrev pub GoesInItem : List ℕ → ℕ → ℕ → Type 0
 GoesInItem source from at =
     (at ≡ from) ⊎ ((low : Register) × (register_at source from ≡ Ok low) × GoesInRange source low at)
@@ -63,27 +63,27 @@ abbrev pub GoesInList : List ℕ → ℕ → ℕ → Type 0
 GoesInList source from at =
     (at ≡ from) ⊎ ((inside : ℕ) × (mark_at 123 source from ≡ Ok inside) × GoesInItems (length source) source inside at)
 
--- behind the minus sign of a difference: a name, and + of a number
+-- after the minus sign of a difference: a name, and + of a number
 abbrev pub GoesInDifference : List ℕ → ℕ → ℕ → Type 0
 GoesInDifference source minus at =
     (at ≡ minus) ⊎ ((other : Span) × (name_at source minus ≡ Ok other) × (mark_at 43 source other.end ≡ Ok at))
 
--- behind the parenthesis of a relation: its word
+-- after the parenthesis of a relation: its word
 abbrev pub GoesInRelation : List ℕ → Span → ℕ → ℕ → Type 0
 GoesInRelation source name inside at =
     let token = token_at source inside in
     (at ≡ inside) ⊎ ((shape : Shape) × (relation_of name (name_of source token) ≡ Some shape) × (at ≡ token.end))
 
--- behind a name: + of a number, - of a name, or in a word ( and a relation
-abbrev pub GoesBehindName : Bool → List ℕ → Span → ℕ → Type 0
-GoesBehindName word source name at =
+-- after a name: + of a number, - of a name, or in a word ( and a relation
+abbrev pub GoesAfterName : Bool → List ℕ → Span → ℕ → Type 0
+GoesAfterName word source name at =
     (mark_at 43 source name.end ≡ Ok at)
     ⊎ (((minus : ℕ) × (mark_at 45 source name.end ≡ Ok minus) × GoesInDifference source minus at)
     ⊎ ((inside : ℕ) × (word ≡ true) × (mark_at 40 source name.end ≡ Ok inside) × GoesInRelation source name inside at))
 
 abbrev pub GoesInExpression : Bool → List ℕ → ℕ → ℕ → Type 0
 GoesInExpression word source from at =
-    (at ≡ from) ⊎ ((name : Span) × (name_at source from ≡ Ok name) × GoesBehindName word source name at)
+    (at ≡ from) ⊎ ((name : Span) × (name_at source from ≡ Ok name) × GoesAfterName word source name at)
 
 -- an expression of a list, where a number may have a #
 abbrev pub GoesInListed : Bool → List ℕ → ℕ → ℕ → Type 0
@@ -99,7 +99,7 @@ GoesInSeries (suc n) word source from at =
 abbrev pub GoesInExpressions : Bool → List ℕ → ℕ → ℕ → Type 0
 GoesInExpressions word source from at = GoesInSeries (length source) word source from at
 
--- from a place to one behind tokens of a piece, which more of it may follow; most pieces are one token
+-- from a place to one after tokens of a piece, which more of it may follow; most pieces are one token
 abbrev pub GoesIn : Piece → List ℕ → ℕ → ℕ → Type 0
 GoesIn Registers source from at = GoesInList source from at
 GoesIn RegistersWithFirst source from at = GoesInList source from at
@@ -120,7 +120,7 @@ abbrev pub StopsIn : Piece → List ℕ → ℕ → Stop → Type 0
 StopsIn piece source from s =
     (at : ℕ) × GoesIn piece source from at × IsStoppedBy (token_at source at) s × IsLast (GoesIn piece source from) at
 
--- the pieces of a form go on up to a stop: the first that the line doesn't have, or the line doesn't end behind them
+-- the pieces of a form go on up to a stop: the first that the line doesn't have, or the line doesn't end after them
 abbrev pub Stops : List Piece → List ℕ → Operands → Stop → Type 0
 Stops [] source o s = ((token_at source o.at).kind ≢ End) × IsStoppedBy (token_at source o.at) s
 Stops (p ∷ ps) source o s =
@@ -155,13 +155,13 @@ IsStopAt source from s =
     ⊎ (((token.kind ≡ Word) × IsUnknown (name_of source token) × (s.at ≡ token.start) × (s.what ≡ unknown (name_of source token)))
     ⊎ ((token.kind ≡ Word) × IsFarthest (name_of source token) source token.end s))
 
--- a label stands at the front of a line, and ends behind its colon
+-- a label stands at the front of a line, and ends after its colon
 abbrev pub LabelEnds : List ℕ → ℕ → Type 0
-LabelEnds source behind = (label : Span) × (name_at source 0 ≡ Ok label) × (mark_at 58 source label.end ≡ Ok behind)
+LabelEnds source after = (label : Span) × (name_at source 0 ≡ Ok label) × (mark_at 58 source label.end ≡ Ok after)
 
--- where a line's statement begins: behind its label, or at its front where it has none
+-- where a line's statement begins: after its label, or at its front where it has none
 abbrev pub StatementBegins : List ℕ → ℕ → Type 0
-StatementBegins source from = ((from ≡ 0) × ((behind : ℕ) → LabelEnds source behind → ⊥)) ⊎ LabelEnds source from
+StatementBegins source from = ((from ≡ 0) × ((after : ℕ) → LabelEnds source after → ⊥)) ⊎ LabelEnds source from
 
 -- what a line can be refused for, in this order at one place: a byte that may stand in none, its length, its statement
 abbrev pub CanStop : ℕ → List ℕ → Stop → Type 0

@@ -9,7 +9,7 @@ use Rattle.asm_statements.specs.declared.statement.StmtKind.{StmtKind}
 use Rattle.asm_statements.specs.declared.statement.StmtKind.TheVariants.{Label, MovsImm, MovsReg, Mov, CmpImm, CmpReg, AddSubTwo, AddSubReg, AddSubThree, AddReg, AddRdSp, AddSp, SubSp, ShiftImm, Alu, Rsbs, Adr, LdrLabel, LdrPool, MemImm, MemReg, MemSp, Push, Pop, Stm, LdmBack, Ldm, Extend, Rev, B, BCond, Bl, Bx, Blx, Svc, Udf, Hint, Barrier, Text, Data, Bss, Rodata, Global, TypeFunction, TypeObject, Size, Words, Halves, Bytes, Ascii, Asciz, Space, Align, Pool, FnStart, FnEnd, Save, Pad, SetFp, CantUnwind, PersonalityIndex, HandlerData}
 use Rattle.asm_statements.specs.declared.statement.Expr.{Expr}
 use Rattle.asm_statements.specs.declared.statement.Expr.TheVariants.{Num, Of, Diff, Prel31, Prel31Ref, Target2, Rel}
-use Rattle.asm_read.specs.Tokens.{within, is_digit, is_name_byte}
+use Rattle.asm_read.specs.Tokens.{is_between, is_digit, is_name_byte}
 use Rattle.asm_read.specs.Operands.{has_register}
 use Rattle.asm_read.specs.Reading.{stmt, read_of}
 
@@ -112,7 +112,7 @@ registers_from list zero = []
 registers_from list (suc n) =
     if has_register list (15 - n) then (15 - n) ∷ registers_from list n else registers_from list n
 
--- behind an opening brace: registers with commas between them, and the closing brace
+-- after an opening brace: registers with commas between them, and the closing brace
 abbrev pub closed : List ℕ → List ℕ
 closed [] = codes "}"
 closed (r ∷ []) = register r ++ codes "}"
@@ -143,7 +143,7 @@ expressions [] = []
 expressions (e ∷ []) = expression e
 expressions (e ∷ f ∷ es) = expression e ++ (codes ", " ++ expressions (f ∷ es))
 
--- a byte of a text: behind a backslash where it can't stand for itself
+-- a byte of a text: after a backslash where it can't stand for itself
 abbrev pub escaped_byte : ℕ → List ℕ
 escaped_byte b =
     if b == 10 then 92 ∷ 110 ∷ [] else if b == 9 then 92 ∷ 116 ∷ [] else if b == 13 then 92 ∷ 114 ∷ [] else if b == 0 then 92 ∷ 48 ∷ []
@@ -285,7 +285,7 @@ abbrev pub AreExpressions : Bool → List Expr → Type 0
 AreExpressions word [] = Unit {0}
 AreExpressions word (e ∷ es) = IsExpression word e × AreExpressions word es
 
--- the bytes of expressions that a line holds behind its word
+-- the bytes of expressions that a line holds after its word
 abbrev pub longest_values : ℕ
 longest_values = 240
 
@@ -294,13 +294,13 @@ abbrev pub IsList : Bool → List Expr → Type 0
 IsList word [] = ⊥
 IsList word (e ∷ es) = AreExpressions word (e ∷ es) × (length (expressions (e ∷ es)) ≤ longest_values)
 
--- the bytes of a text, with its escapes, that a line holds behind its word
+-- the bytes of a text, with its escapes, that a line holds after its word
 abbrev pub longest_text : ℕ
 longest_text = 230
 
 -- what a text has characters and escapes for, and no more than a line holds
 abbrev pub can_stand : ℕ → Bool
-can_stand b = b == 10 || b == 9 || b == 13 || b == 0 || within 32 126 b
+can_stand b = b == 10 || b == 9 || b == 13 || b == 0 || is_between 32 126 b
 
 abbrev pub IsText : List ℕ → Type 0
 IsText bytes = (list_all can_stand bytes ≡ true) × (length (escaped bytes) ≤ longest_text)

@@ -25,7 +25,7 @@ pub fn lines_are_the_written_ones()
     ensures { LinesAreWritten }
 {}
 
-/// No two rows of the table have one word and the same pieces behind it.
+/// No two rows of the table have one word and the same pieces after it.
 pub fn rows_differ()
     ensures { RowsDiffer }
 {}

@@ -137,9 +137,9 @@ all_fit : (directives : List UnwindDirective) → All IsWritable directives → 
 unfolding codes_of
 all_fit directives h =
     let before : All IsWritable (before_frame_pointer directives) = All-take IsWritable (prefix_len (λ d. not (is_frame_pointer d)) directives) directives h in
-    let behind : All IsWritable (kept false (from_frame_pointer directives)) = All-filter is_no_pad IsWritable (from_frame_pointer directives) (All-drop IsWritable (length (before_frame_pointer directives)) directives h) in
+    let after : All IsWritable (kept false (from_frame_pointer directives)) = All-filter is_no_pad IsWritable (from_frame_pointer directives) (All-drop IsWritable (length (before_frame_pointer directives)) directives h) in
     All-flat_map IsWritable Fits directive_codes directive_fits (reverse (written directives))
-    (All-reverse IsWritable (written directives) (All-append IsWritable (before_frame_pointer directives) (kept false (from_frame_pointer directives)) before behind))
+    (All-reverse IsWritable (written directives) (All-append IsWritable (before_frame_pointer directives) (kept false (from_frame_pointer directives)) before after))
 
 pub codes_are : (directives : List UnwindDirective) → All IsWritable directives → All IsCode (codes_of directives)
 codes_are directives h k or l = (all_fit directives h k or l).0

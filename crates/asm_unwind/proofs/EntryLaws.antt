@@ -12,7 +12,7 @@ use Rattle.asm_unwind.specs.Entries.{code_byte, word, word_at, further, short_en
 use Rattle.asm_unwind.specs.EntryLaw.{HoldsCode, EntriesHoldTheirCode}
 use Rattle.unwind_codes.specs.declared.words.TheConstants.{COMPACT_TOP, MOST_PERSONALITY}
 use Rattle.unwind_codes.specs.declared.code.TheConstants.{FINISH}
-use Rattle.unwind_codes.specs.Words.{bytes_of_word, personality_of_word, code_words_behind, code_in_first, code_of_words, words_behind_code}
+use Rattle.unwind_codes.specs.Words.{bytes_of_word, personality_of_word, code_words_after, code_in_first, code_of_words, words_after_code}
 
 -- a word of bytes has these bytes
 bytes_of_word-word : (a b c d : ℕ) → b < 2 ^ 8 → c < 2 ^ 8 → d < 2 ^ 8 → bytes_of_word (word a b c d) ≡ a ∷ b ∷ c ∷ d ∷ []
@@ -97,19 +97,19 @@ short_code bytes short small =
     let personality : personality_of_word (short_entry bytes) ≡ 0 = ap (λ (top : ℕ). top % 16) (short_top bytes small) in
     ap (λ (n : ℕ). drop (cond (n == 0) 1 2) (bytes_of_word (short_entry bytes))) personality ∙ ap (drop 1) (short_word bytes short small) ∙ filled bytes SHORT_ROOM short
 
-short_behind : (bytes : List ℕ) → All (λ b. b < 2 ^ 8) bytes → code_words_behind (short_entry bytes) ≡ 0
-short_behind bytes small =
+short_after : (bytes : List ℕ) → All (λ b. b < 2 ^ 8) bytes → code_words_after (short_entry bytes) ≡ 0
+short_after bytes small =
     let personality : personality_of_word (short_entry bytes) ≡ 0 = ap (λ (top : ℕ). top % 16) (short_top bytes small) in
     rw personality refl
 
-short_whole : (bytes : List ℕ) → All (λ b. b < 2 ^ 8) bytes → code_words_behind (short_entry bytes) ≤ 0
-short_whole bytes small = omega (arith, short_behind bytes small)
+short_whole : (bytes : List ℕ) → All (λ b. b < 2 ^ 8) bytes → code_words_after (short_entry bytes) ≤ 0
+short_whole bytes small = omega (arith, short_after bytes small)
 
 short_all : (bytes : List ℕ) → length bytes ≤ SHORT_ROOM → All (λ b. b < 2 ^ 8) bytes → code_of_words (short_entry bytes ∷ []) ≡ bytes ++ replicate (SHORT_ROOM - length bytes) FINISH
-short_all bytes short small = rw (short_behind bytes small) (append-nil (code_in_first (short_entry bytes)) ∙ short_code bytes short small)
+short_all bytes short small = rw (short_after bytes small) (append-nil (code_in_first (short_entry bytes)) ∙ short_code bytes short small)
 
-short_none : (bytes : List ℕ) → All (λ b. b < 2 ^ 8) bytes → words_behind_code (short_entry bytes ∷ []) ≡ []
-short_none bytes small = rw (short_behind bytes small) refl
+short_none : (bytes : List ℕ) → All (λ b. b < 2 ^ 8) bytes → words_after_code (short_entry bytes ∷ []) ≡ []
+short_none bytes small = rw (short_after bytes small) refl
 
 short_holds : (handler_data : Bool) (bytes : List ℕ) → length bytes ≤ SHORT_ROOM → All (λ b. b < 2 ^ 8) bytes → HoldsCode (entry_of 0 handler_data bytes) 0 handler_data bytes
 unfolding entry_of
@@ -119,7 +119,7 @@ short_holds false bytes short small = record {
   fill = SHORT_ROOM - length bytes;
   fill_is_short = omega arith;
   code = short_all bytes short small;
-  behind = short_none bytes small;
+  after = short_none bytes small;
   place = refl;
 }
 short_holds true bytes short small = record {
@@ -128,13 +128,13 @@ short_holds true bytes short small = record {
   fill = SHORT_ROOM - length bytes;
   fill_is_short = omega arith;
   code = short_all bytes short small;
-  behind = short_none bytes small;
+  after = short_none bytes small;
   place = refl;
 }
 
 -- a table whose first word counts the words of its code
 words_counted : (first index a b : ℕ) (words : List ℕ) → bytes_of_word first ≡ (COMPACT_TOP + index) ∷ length words ∷ a ∷ b ∷ [] → (personality_of_word first == 0) ≡ false →
-    code_words_behind first ≡ length words
+    code_words_after first ≡ length words
 words_counted first index a b words is other =
     let count : first / 2 ^ 16 % 2 ^ 8 ≡ length words = cc in
     ap (λ t. cond t 0 (first / 2 ^ 16 % 2 ^ 8)) other ∙ count
@@ -143,20 +143,20 @@ table_code : (first index a b : ℕ) (words closing : List ℕ) → bytes_of_wor
     code_of_words (first ∷ words ++ closing) ≡ a ∷ b ∷ flat_map bytes_of_word words
 table_code first index a b words closing is other =
     let two : code_in_first first ≡ a ∷ b ∷ [] = ap (λ t. drop (cond t 1 2) (bytes_of_word first)) other ∙ ap (drop 2) is in
-    ap (λ l. l ++ flat_map bytes_of_word (take (code_words_behind first) (words ++ closing))) two
+    ap (λ l. l ++ flat_map bytes_of_word (take (code_words_after first) (words ++ closing))) two
     ∙ ap (λ (n : ℕ). a ∷ b ∷ flat_map bytes_of_word (take n (words ++ closing))) (words_counted first index a b words is other)
     ∙ ap (λ (l : List ℕ). a ∷ b ∷ flat_map bytes_of_word l) (take_at words closing (length words) refl)
 
-table_behind : (first index a b : ℕ) (words closing : List ℕ) → bytes_of_word first ≡ (COMPACT_TOP + index) ∷ length words ∷ a ∷ b ∷ [] → (personality_of_word first == 0) ≡ false →
-    words_behind_code (first ∷ words ++ closing) ≡ closing
-table_behind first index a b words closing is other =
+table_after : (first index a b : ℕ) (words closing : List ℕ) → bytes_of_word first ≡ (COMPACT_TOP + index) ∷ length words ∷ a ∷ b ∷ [] → (personality_of_word first == 0) ≡ false →
+    words_after_code (first ∷ words ++ closing) ≡ closing
+table_after first index a b words closing is other =
     ap (λ (n : ℕ). drop n (words ++ closing)) (words_counted first index a b words is other) ∙ drop_at words closing (length words) refl
 
 counted_words : (first index a b : ℕ) (words closing : List ℕ) → bytes_of_word first ≡ (COMPACT_TOP + index) ∷ length words ∷ a ∷ b ∷ [] → (personality_of_word first == 0) ≡ false →
-    code_words_behind first ≤ length (words ++ closing)
+    code_words_after first ≤ length (words ++ closing)
 counted_words first index a b words closing is other = omega (arith, words_counted first index a b words is other, length-append words closing)
 
--- the words of code of personality 1 and 2, as long_entry has them behind the first one
+-- the words of code of personality 1 and 2, as long_entry has them after the first one
 words_of : List ℕ → List ℕ
 words_of bytes = map (λ k. word_at bytes (2 + 4 * k)) (range_with_len 0 (further bytes))
 
@@ -196,7 +196,7 @@ long_holds index handler_data bytes closing other low short small ends =
       fill = 2 + 4 * further bytes - length bytes;
       fill_is_short = omega arith;
       code = table_code (long_first index bytes) index (code_byte bytes 0) (code_byte bytes 1) (words_of bytes) closing is number ∙ further_bytes bytes (further bytes) small ∙ filled bytes (2 + 4 * further bytes) (omega arith);
-      behind = table_behind (long_first index bytes) index (code_byte bytes 0) (code_byte bytes 1) (words_of bytes) closing is number ∙ ends ∙ closed handler_data (index == 0) other;
+      after = table_after (long_first index bytes) index (code_byte bytes 0) (code_byte bytes 1) (words_of bytes) closing is number ∙ ends ∙ closed handler_data (index == 0) other;
       place = no_place handler_data (index == 0) other;
     }
 

@@ -31,13 +31,13 @@ all_before : (xs : List UnwindDirective) → list_any is_frame_pointer xs ≡ fa
 all_before [] none = refl
 all_before (d ∷ xs) none =
     let none_here : is_frame_pointer d ≡ false = (or_no (is_frame_pointer d) (list_any is_frame_pointer xs) none).0 in
-    let none_behind : list_any is_frame_pointer xs ≡ false = (or_no (is_frame_pointer d) (list_any is_frame_pointer xs) none).1 in
-    rw (take_while-cons, none_here, all_before xs none_behind) refl
+    let none_after : list_any is_frame_pointer xs ≡ false = (or_no (is_frame_pointer d) (list_any is_frame_pointer xs) none).1 in
+    rw (take_while-cons, none_here, all_before xs none_after) refl
 
 all_written : (xs : List UnwindDirective) → list_any is_frame_pointer xs ≡ false → written xs ≡ xs
 all_written xs none =
-    let behind : from_frame_pointer xs ≡ [] = ap (λ (l : List UnwindDirective). drop (length l) xs) (all_before xs none) ∙ drop_all (length xs) xs (omega arith) in
-    ap (λ l. l ++ kept false (from_frame_pointer xs)) (all_before xs none) ∙ ap (λ l. xs ++ kept false l) behind ∙ append-nil xs
+    let after : from_frame_pointer xs ≡ [] = ap (λ (l : List UnwindDirective). drop (length l) xs) (all_before xs none) ∙ drop_all (length xs) xs (omega arith) in
+    ap (λ l. l ++ kept false (from_frame_pointer xs)) (all_before xs none) ∙ ap (λ l. xs ++ kept false l) after ∙ append-nil xs
 
 -- the codes of a pad that isn't refused
 pub pad_in_all : (size : ℕ) → is_bad_pad (Pad size) ≡ false → InAll (pad_codes size) size 0 []
@@ -63,15 +63,15 @@ all_directives : (xs : List UnwindDirective) → list_any is_frame_pointer xs �
 all_directives [] none fine = in_all_none
 all_directives (d ∷ xs) none fine =
     let none_here : is_frame_pointer d ≡ false = (or_no (is_frame_pointer d) (list_any is_frame_pointer xs) none).0 in
-    let none_behind : list_any is_frame_pointer xs ≡ false = (or_no (is_frame_pointer d) (list_any is_frame_pointer xs) none).1 in
+    let none_after : list_any is_frame_pointer xs ≡ false = (or_no (is_frame_pointer d) (list_any is_frame_pointer xs) none).1 in
     let P : UnwindDirective → Type 0 = λ d. not (is_bad_pad d) ≡ true in
     let here : InAll (directive_codes d) (pad_size d) 0 (saved_registers d) = one_directive d none_here (All-head P d xs fine) in
-    let behind : InAll (reversed_codes xs) (sum_by pad_size xs) 0 (flat_map saved_registers (reverse xs)) = all_directives xs none_behind (All-tail P d xs fine) in
+    let after : InAll (reversed_codes xs) (sum_by pad_size xs) 0 (flat_map saved_registers (reverse xs)) = all_directives xs none_after (All-tail P d xs fine) in
     let turned : reverse (d ∷ xs) ≡ reverse xs ++ d ∷ [] = reverse-append (d ∷ []) xs in
     let saved : flat_map saved_registers (reverse (d ∷ xs)) ≡ flat_map saved_registers (reverse xs) ++ saved_registers d =
     ap (flat_map saved_registers) turned ∙ flat_map-append saved_registers (reverse xs) (d ∷ []) ∙ ap (λ l. flat_map saved_registers (reverse xs) ++ l) (append-nil (saved_registers d)) in
     let sizes : sum_by pad_size xs + pad_size d ≡ sum_by pad_size (d ∷ xs) = omega (arith, sum_by-cons pad_size d xs) in
-    rw (reversed_codes-cons d xs, saved, ← sizes) (in_all-append (reversed_codes xs) (directive_codes d) (sum_by pad_size xs) 0 (pad_size d) 0 (flat_map saved_registers (reverse xs)) (saved_registers d) behind here)
+    rw (reversed_codes-cons d xs, saved, ← sizes) (in_all-append (reversed_codes xs) (directive_codes d) (sum_by pad_size xs) 0 (pad_size d) 0 (flat_map saved_registers (reverse xs)) (saved_registers d) after here)
 
 pub law_of_functions : FunctionsUndo
 unfolding codes_of

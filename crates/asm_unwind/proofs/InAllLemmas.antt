@@ -6,7 +6,7 @@ use Rattle.std.proofs.lemmas.List.Sums.{sum_by-append}
 use Rattle.unwind_codes.specs.declared.code.Code.{Code}
 use Rattle.asm_unwind.specs.Meaning.{raised, lowered, popped, does_other, InAll}
 
--- what codes do in all, for none, for one, and for two lists one behind the other
+-- what codes do in all, for none, for one, and for two lists one after the other
 pub in_all_none : InAll [] 0 0 []
 in_all_none = record { raise = refl; lower = refl; pop = refl; keep = refl }
 

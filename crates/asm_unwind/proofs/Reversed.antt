@@ -11,13 +11,13 @@ use Rattle.asm_unwind.specs.declared.directive.UnwindDirective.{UnwindDirective}
 use Rattle.asm_unwind.specs.Refusals.{is_frame_pointer}
 use Rattle.asm_unwind.specs.Codes.{is_no_pad, kept, before_frame_pointer, from_frame_pointer, directive_codes, reversed_codes, reversed_bytes, codes_of, bytecode_of}
 
--- the codes of a directive stand behind those of the ones that follow it in the text
+-- the codes of a directive stand after those of the ones that follow it in the text
 pub reversed_codes-cons : (d : UnwindDirective) (xs : List UnwindDirective) → reversed_codes (d ∷ xs) ≡ reversed_codes xs ++ directive_codes d
 reversed_codes-cons d xs =
     let turned : reverse (d ∷ xs) ≡ reverse xs ++ d ∷ [] = reverse-append (d ∷ []) xs in
     ap (flat_map directive_codes) turned ∙ flat_map-append directive_codes (reverse xs) (d ∷ []) ∙ ap (λ l. reversed_codes xs ++ l) (append-nil (directive_codes d))
 
--- the bytes of two lists, one behind the other
+-- the bytes of two lists, one after the other
 pub reversed_bytes-append : (xs ys : List UnwindDirective) → reversed_bytes (xs ++ ys) ≡ reversed_bytes ys ++ reversed_bytes xs
 unfolding reversed_bytes
 reversed_bytes-append xs ys = simp (reverse-append, flat_map-append)
@@ -64,10 +64,10 @@ take_while_front p (x ∷ xs) = rw take_while-cons (elim (p x) as (λ b. take (l
 ])
 
 -- the bytecode is that of the directives from the first frame pointer on, without pads, and then that of those before
-pub split_at_frame_pointer : (xs front behind : List UnwindDirective) →
+pub split_at_frame_pointer : (xs front after : List UnwindDirective) →
     front ≡ take (length (take_while (λ d. not (is_frame_pointer d)) xs)) xs →
-    behind ≡ drop (length (take_while (λ d. not (is_frame_pointer d)) xs)) xs →
-    bytecode_of xs ≡ reversed_bytes (kept false behind) ++ reversed_bytes (kept true front)
+    after ≡ drop (length (take_while (λ d. not (is_frame_pointer d)) xs)) xs →
+    bytecode_of xs ≡ reversed_bytes (kept false after) ++ reversed_bytes (kept true front)
 unfolding bytecode_of codes_of reversed_bytes
-split_at_frame_pointer xs front behind f b =
+split_at_frame_pointer xs front after f b =
     rw (f, b, take_while_front) (reversed_bytes-append (before_frame_pointer xs) (kept false (from_frame_pointer xs)))

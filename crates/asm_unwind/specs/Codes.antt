@@ -78,7 +78,7 @@ from_frame_pointer directives = drop (length (before_frame_pointer directives)) 
 abbrev pub kept : Bool → List UnwindDirective → List UnwindDirective
 kept pads directives = if pads then directives else filter is_no_pad directives
 
--- the directives that codes are written for: a frame pointer makes the pads behind it needless
+-- the directives that codes are written for: a frame pointer makes the pads after it needless
 abbrev pub written : List UnwindDirective → List UnwindDirective
 written directives = before_frame_pointer directives ++ kept false (from_frame_pointer directives)
 

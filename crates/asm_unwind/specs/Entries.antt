@@ -12,7 +12,7 @@ use Rattle.unwind_codes.specs.declared.words.TheConstants.{COMPACT_TOP}
 use Rattle.asm_unwind.specs.Refusals.{seen_in}
 use Rattle.asm_unwind.specs.Codes.{bytecode_of}
 
--- the byte of bytecode at a place; behind its end stands "finish"
+-- the byte of bytecode at a place; after its end stands "finish"
 abbrev pub code_byte : List ℕ → ℕ → ℕ
 code_byte bytes at = slice_index_or bytes at FINISH
 
@@ -32,7 +32,7 @@ index_of given bytes = unwrap_or given (if nat_le (length bytes) SHORT_ROOM then
 abbrev pub room : ℕ → ℕ
 room index = if index == 0 then SHORT_ROOM else LONG_ROOM
 
--- how many further words hold the bytes behind the first two
+-- how many further words hold the bytes after the first two
 abbrev pub further : List ℕ → ℕ
 further bytes = (length bytes + 1) / 4
 

@@ -6,7 +6,7 @@ use Rattle.unwind_codes.specs.declared.code.Code.TheVariants.{Finish}
 use Rattle.unwind_codes.specs.declared.code.TheConstants.{FINISH}
 use Rattle.unwind_codes.specs.declared.words.TheConstants.{COMPACT_TOP, MOST_PERSONALITY}
 use Rattle.unwind_codes.specs.Cut.{Is, cut}
-use Rattle.unwind_codes.specs.Words.{code_words_behind, code_of_words, words_behind_code}
+use Rattle.unwind_codes.specs.Words.{code_words_after, code_of_words, words_after_code}
 use Rattle.asm_unwind.specs.declared.directive.UnwindDirective.{UnwindDirective}
 use Rattle.asm_unwind.specs.declared.entry.EntryWords.{EntryWords}
 use Rattle.asm_unwind.specs.declared.entry.EntryWords.TheVariants.{CantUnwind, Inline, Table}
@@ -32,14 +32,14 @@ top_byte (first ∷ _) = first / 2 ^ 24
 -- the words that the first one counts are there
 abbrev pub HasItsWords : List ℕ → Type 0
 HasItsWords [] = ⊤
-HasItsWords (first ∷ more) = code_words_behind first ≤ length more
+HasItsWords (first ∷ more) = code_words_after first ≤ length more
 
 abbrev pub is_inline : EntryWords → Bool
 is_inline (Inline _) = true
 is_inline _ = false
 
 -- what an entry says of bytecode: its top byte has the highest bit and the personality's number; the words that it counts are
--- there; its code is the bytecode and at most three "finish" behind it; a zero word stands behind the code in a table of personality 1 or 2 where the source
+-- there; its code is the bytecode and at most three "finish" after it; a zero word stands after the code in a table of personality 1 or 2 where the source
 -- gives no words of its own, and else nothing does; and only with personality 0 and no such words there is no table
 pub record HoldsCode (entry : EntryWords) (index : ℕ) (handler_data : Bool) (bytes : List ℕ) : Type 0 where
   pub top : top_byte (words_in_entry entry) ≡ COMPACT_TOP + index
@@ -47,7 +47,7 @@ pub record HoldsCode (entry : EntryWords) (index : ℕ) (handler_data : Bool) (b
   pub fill : ℕ
   pub fill_is_short : fill ≤ 3
   pub code : code_of entry ≡ bytes ++ replicate fill FINISH
-  pub behind : words_behind_code (words_in_entry entry) ≡ (if handler_data || index == 0 then [] else 0 ∷ [])
+  pub after : words_after_code (words_in_entry entry) ≡ (if handler_data || index == 0 then [] else 0 ∷ [])
   pub place : is_inline entry ≡ (not handler_data && index == 0)
 
 -- the entry of bytecode that has room in it holds that bytecode
@@ -66,7 +66,7 @@ FunctionsHoldTheirCode =
     → (seen_in directives).cant_unwind ≡ false → entry_words_of directives ≡ Ok entry
     → HoldsCode entry (index_of (seen_in directives).personality (bytecode_of directives)) (seen_in directives).handler_data (bytecode_of directives)
 
--- the code bytes of an entry are cut into these codes and at most three "finish" behind them
+-- the code bytes of an entry are cut into these codes and at most three "finish" after them
 pub record ReadsAs (entry : EntryWords) (codes : List Code) : Type 0 where
   pub fill : ℕ
   pub fill_is_short : fill ≤ 3

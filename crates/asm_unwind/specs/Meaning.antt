@@ -48,7 +48,7 @@ abbrev pub registers_in : ℕ → List ℕ
 registers_in registers = filter (has_register registers) (range_with_len 0 16)
 
 -- what codes do in all: they raise the virtual stack pointer by so many bytes, besides what they pop, and lower it by so
--- many; they pop these registers in this order; and they take the pointer from no register and go on to the codes behind them
+-- many; they pop these registers in this order; and they take the pointer from no register and go on to the codes after them
 pub record InAll (codes : List Code) (up down : ℕ) (registers : List ℕ) : Type 0 where
   pub raise : sum_by raised codes ≡ up
   pub lower : sum_by lowered codes ≡ down
@@ -59,7 +59,7 @@ pub record InAll (codes : List Code) (up down : ℕ) (registers : List ℕ) : Ty
 abbrev pub PadsRaise : Type 0
 PadsRaise = (size : ℕ) → 0 < size → size % 4 ≡ 0 → InAll (pad_codes size) size 0 []
 
--- the codes behind that of a frame pointer's register lower it by just the offset, and do no more
+-- the codes after that of a frame pointer's register lower it by just the offset, and do no more
 abbrev pub FramePointersLower : Type 0
 FramePointersLower = (offset : ℕ) → offset % 4 ≡ 0 → InAll (lower_codes offset) 0 offset []
 

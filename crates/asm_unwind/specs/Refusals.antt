@@ -1,4 +1,4 @@
--- Which directives are refused behind which others.
+-- Which directives are refused after which others.
 use Rattle.std.specs.Prelude.{ℕ, ◌<◌, ◌/◌, ◌%◌, ◌^◌, ◌==◌, ◌&&◌, ◌||◌, not, Bool, true, false, nat_lt, if◌then◌else◌, List, [], ◌∷◌, Option, Some, None, is_some}
 use Rattle.std.specs.List.{list_any}
 use Rattle.asm_unwind.specs.declared.directive.UnwindDirective.{UnwindDirective}
@@ -58,7 +58,7 @@ is_outside seen next = seen.ended || (not seen.started && not (is_start next))
 abbrev pub is_nested : Seen → UnwindDirective → Bool
 is_nested seen next = seen.started && is_start next
 
--- an empty list, one with r13 or r15, or a list behind `.setfp`
+-- an empty list, one with r13 or r15, or a list after `.setfp`
 abbrev pub is_bad_save : Seen → UnwindDirective → Bool
 is_bad_save seen (Save registers) =
     registers == 0 || has_register registers 13 || has_register registers 15 || seen.frame_pointer
@@ -82,7 +82,7 @@ abbrev pub is_bad_personality : Seen → UnwindDirective → Bool
 is_bad_personality seen (PersonalityIndex index) = is_some seen.personality || nat_lt MOST_PERSONALITY index
 is_bad_personality _ _ = false
 
--- anything but `.fnend` behind `.cantunwind`
+-- anything but `.fnend` after `.cantunwind`
 abbrev pub is_after_cant_unwind : Seen → UnwindDirective → Bool
 is_after_cant_unwind seen next = seen.cant_unwind && not (is_end next)
 
@@ -91,7 +91,7 @@ abbrev pub first_shown : List (Bool × UnwindFault) → Option UnwindFault
 first_shown [] = None
 first_shown (refusal ∷ more) = if refusal.0 then Some refusal.1 else first_shown more
 
--- why the next directive is refused behind those that were seen, or None
+-- why the next directive is refused after those that were seen, or None
 unfoldable pub refusal_of : Seen → UnwindDirective → Option UnwindFault
 refusal_of seen next = first_shown (
     (is_outside seen next, OutsideFunction)
@@ -102,7 +102,7 @@ refusal_of seen next = first_shown (
     ∷ (is_after_cant_unwind seen next, AfterCantunwind)
     ∷ [])
 
--- what the directives say with one more behind them that isn't refused
+-- what the directives say with one more after them that isn't refused
 abbrev pub with_next : Seen → UnwindDirective → Seen
 with_next seen FnStart = record seen { started = true }
 with_next seen FnEnd = record seen { ended = true }

@@ -26,7 +26,7 @@ pub enum UnwindDirective {
     CantUnwind,
     /// `.personalityindex`: the number of the personality routine.
     PersonalityIndex(u8),
-    /// `.handlerdata`: the source gives the words behind the codes itself.
+    /// `.handlerdata`: the source gives the words after the codes itself.
     HandlerData,
 }
 
@@ -38,14 +38,14 @@ pub enum UnwindFault {
     OutsideFunction,
     /// A second `.fnstart` before `.fnend`.
     NestedFunction,
-    /// An empty register list, one with r13 or r15, or a list behind `.setfp`.
+    /// An empty register list, one with r13 or r15, or a list after `.setfp`.
     SaveRange,
     /// A pad of 0, above `MOST_PAD` or no multiple of 4; for a frame pointer an offset above `MOST_FRAME_OFFSET` or no
     /// multiple of 4, or a register other than r4 to r11.
     PadRange,
     /// A second personality index, or one above 2.
     TwoPersonalities,
-    /// Anything but `.fnend` behind `.cantunwind`.
+    /// Anything but `.fnend` after `.cantunwind`.
     AfterCantunwind,
     /// More bytecode than the entry has room for: above `SHORT_ROOM` bytes with personality 0, above `LONG_ROOM` with 1
     /// and 2.

@@ -26,11 +26,11 @@ pub enum EntryWords {
     CantUnwind,
     /// The entry itself, in the second word of the index row.
     Inline(u32),
-    /// The words of its table, without those that the source gives behind `.handlerdata`.
+    /// The words of its table, without those that the source gives after `.handlerdata`.
     Table(TableWords),
 }
 
-/// The byte of bytecode at a place; behind its end stands "finish".
+/// The byte of bytecode at a place; after its end stands "finish".
 fn code_byte(bytes: &[u8], at: usize) -> u8
     ensures { result ≡ code_byte bytes.now at }
 {

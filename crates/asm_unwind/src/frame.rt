@@ -72,9 +72,9 @@ fn bytecode(alloc: Global, directives: &[UnwindDirective]) -> Result<Vec<u8>, Al
     requires { All IsWritable directives.now }
     ensures { IfOk result (λ bytes. bytes.items ≡ bytecode_of directives.now) }
 {
-    let (front, behind) = directives.split_at(before_frame_pointer(directives));
+    let (front, after) = directives.split_at(before_frame_pointer(directives));
     let mut bytes = Vec::new(alloc);
-    push_reversed(&mut bytes, behind, false)?;
+    push_reversed(&mut bytes, after, false)?;
     push_reversed(&mut bytes, front, true)?;
     Ok(bytes)
 }

@@ -25,7 +25,7 @@ pub fn codes_undo_their_directives()
     ensures functions { FunctionsUndo }
 {}
 
-/// An entry holds its code: the code bytes that are read out of it are the bytecode and at most three "finish" behind it. Its top
+/// An entry holds its code: the code bytes that are read out of it are the bytecode and at most three "finish" after it. Its top
 /// byte has the highest bit and the number of the personality routine, and a zero word closes a table of personality 1 or 2 where
 /// the source gives no words of its own. Cut by the table of codes, the code bytes of a function's entry are the codes of its
 /// directives.

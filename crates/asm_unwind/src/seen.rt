@@ -62,7 +62,7 @@ impl Seen {
         self.ended || (!self.started && !next.is_start())
     }
 
-    /// A register list that no code says, or one behind `.setfp`.
+    /// A register list that no code says, or one after `.setfp`.
     fn is_bad_save(self, next: UnwindDirective) -> bool
         ensures value { result ≡ is_bad_save self next }
         ensures narrow { OnFalse result (HasNarrowList next) }

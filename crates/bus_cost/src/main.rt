@@ -129,7 +129,7 @@ fn run(alloc: Global, kind: Kind, count: u32, events: u64) -> Result<bool, BusMe
     }
 }
 
-/// What the three words behind the program's name ask for.
+/// What the three words after the program's name ask for.
 fn asked_for(host: &HostRuntime) -> Option<(Kind, u32, u64)> {
     let mut args = env::args(host).ok()?;
     let _name = args.next()?;

@@ -30,7 +30,7 @@ flag_inside numbers i h = get_or-map-range_with_len (flag_in numbers) 0 (NUMBER_
 pub flag_outside : (numbers : List ℕ) (i : ℕ) → length numbers ≤ i / NUMBER_BITS → get_or (flags_of numbers) i false ≡ false
 flag_outside numbers i h = get_or_past (flags_of numbers) i false (omega (arith, flags_length numbers))
 
--- behind the numbers every bit is 0
+-- after the numbers every bit is 0
 flag_at : (numbers : List ℕ) (i : ℕ) → get_or (flags_of numbers) i false ≡ flag_in numbers i
 flag_at numbers i = go (cases_lt (i / NUMBER_BITS) (length numbers))
   where

@@ -6,7 +6,7 @@ use Rattle.std.proofs.lemmas.Bool.{ltb-true, ltb-false, eqb-true, eqb-false}
 use Rattle.std.specs.Prelude.{IsTrue, OnOk, IfOk}
 use Rattle.eh_list.specs.Bytes.{zeros, length-zeros}
 use Rattle.eh_bus.specs.Segment.{Segment, holds}
-use Rattle.bus_memories.specs.Pages.{Pages, ArePages, AreUsed, Ready, Claimed, Filled, Lays, with_page, no_pages, no_places, spot_in, spot_of, byte_at_spot, owner_at_spot, byte_of, owner_of, segment_at, segments_at, covers, bytes_from}
+use Rattle.bus_memories.specs.Pages.{Pages, ArePages, AreUsed, Ready, Claimed, Filled, Lays, with_page, no_pages, no_places, cell_in, cell_of, byte_at_cell, owner_at_cell, byte_of, owner_of, segment_at, segments_at, covers, bytes_from}
 use Rattle.bus_memories.specs.declared.part.Part.{Part}
 use Rattle.eh_bus.specs.declared.segment.SegmentSpec.{SegmentSpec}
 use Rattle.eh_bus.specs.Map.{AreApart}
@@ -16,7 +16,7 @@ use Rattle.eh_bus.proofs.BuiltLemmas.{length-segment_of, apart_all, image_ends}
 use Rattle.eh_bus.proofs.PartLaws.{get_or-zeros}
 use Rattle.std.proofs.Math.Seq.{take-length}
 use Rattle.eh_bus.proofs.MapLaws.{one_apart}
-use Rattle.bus_memories.proofs.PageLaws.{no_part, spot_back, spot_owned, at_part, holds_covers, covered, covering, length-from, from_at, part_same}
+use Rattle.bus_memories.proofs.PageLaws.{no_part, cell_back, cell_owned, at_part, holds_covers, covered, covering, length-from, from_at, part_same}
 
 length-no_places : (n : ℕ) → length (no_places n) ≡ n
 unfolding no_places
@@ -68,61 +68,61 @@ page_sound p a x room absent = record {
         let last : length p.firsts ≡ q = omega arith in
         rw (get_or_push p.firsts a 0 q last, get_or-set_same p.places (a / PAGE_SIZE) (Some (length p.firsts)) None room) (ap Some last)
 
--- the spot of an address elsewhere stays, and what is added is blank
-page_spot_of : (p : Pages) (a b : ℕ) → a / PAGE_SIZE < length p.places → get_or p.places (a / PAGE_SIZE) None ≡ None
-    → ((spot_of (with_page p a) b ≡ spot_of p b) ⊎ ((spot_of p b ≡ None) × (spot_of (with_page p a) b ≡ Some (length p.firsts * PAGE_SIZE + b % PAGE_SIZE))))
-page_spot_of p a b room absent = go (b / PAGE_SIZE == a / PAGE_SIZE) refl
+-- the cell of an address elsewhere stays, and what is added is blank
+page_cell_of : (p : Pages) (a b : ℕ) → a / PAGE_SIZE < length p.places → get_or p.places (a / PAGE_SIZE) None ≡ None
+    → ((cell_of (with_page p a) b ≡ cell_of p b) ⊎ ((cell_of p b ≡ None) × (cell_of (with_page p a) b ≡ Some (length p.firsts * PAGE_SIZE + b % PAGE_SIZE))))
+page_cell_of p a b room absent = go (b / PAGE_SIZE == a / PAGE_SIZE) refl
   where
     go : (t : Bool) → (b / PAGE_SIZE == a / PAGE_SIZE) ≡ t
-        → ((spot_of (with_page p a) b ≡ spot_of p b) ⊎ ((spot_of p b ≡ None) × (spot_of (with_page p a) b ≡ Some (length p.firsts * PAGE_SIZE + b % PAGE_SIZE))))
-    go false t = inl (ap (λ (o : Option ℕ). spot_in o b) (get_or-set_other p.places (a / PAGE_SIZE) (b / PAGE_SIZE) (Some (length p.firsts)) None (eqb-false _ _ t)))
+        → ((cell_of (with_page p a) b ≡ cell_of p b) ⊎ ((cell_of p b ≡ None) × (cell_of (with_page p a) b ≡ Some (length p.firsts * PAGE_SIZE + b % PAGE_SIZE))))
+    go false t = inl (ap (λ (o : Option ℕ). cell_in o b) (get_or-set_other p.places (a / PAGE_SIZE) (b / PAGE_SIZE) (Some (length p.firsts)) None (eqb-false _ _ t)))
     go true t =
         let same : b / PAGE_SIZE ≡ a / PAGE_SIZE = eqb-true _ _ t in
         inr (both same)
       where
-        both : b / PAGE_SIZE ≡ a / PAGE_SIZE → (spot_of p b ≡ None) × (spot_of (with_page p a) b ≡ Some (length p.firsts * PAGE_SIZE + b % PAGE_SIZE))
+        both : b / PAGE_SIZE ≡ a / PAGE_SIZE → (cell_of p b ≡ None) × (cell_of (with_page p a) b ≡ Some (length p.firsts * PAGE_SIZE + b % PAGE_SIZE))
         both same = (
-          ap (λ (o : Option ℕ). spot_in o b) (ap (λ (m : ℕ). get_or p.places m None) same ∙ absent),
-          ap (λ (o : Option ℕ). spot_in o b) (ap (λ (m : ℕ). get_or (set p.places (a / PAGE_SIZE) (Some (length p.firsts))) m None) same ∙ get_or-set_same p.places (a / PAGE_SIZE) (Some (length p.firsts)) None room),
+          ap (λ (o : Option ℕ). cell_in o b) (ap (λ (m : ℕ). get_or p.places m None) same ∙ absent),
+          ap (λ (o : Option ℕ). cell_in o b) (ap (λ (m : ℕ). get_or (set p.places (a / PAGE_SIZE) (Some (length p.firsts))) m None) same ∙ get_or-set_same p.places (a / PAGE_SIZE) (Some (length p.firsts)) None room),
         )
 
 page_byte_of : (p : Pages) (a b : ℕ) → ArePages p → a / PAGE_SIZE < length p.places → get_or p.places (a / PAGE_SIZE) None ≡ None → byte_of (with_page p a) b ≡ byte_of p b
-page_byte_of p a b x room absent = go (page_spot_of p a b room absent)
+page_byte_of p a b x room absent = go (page_cell_of p a b room absent)
   where
-    old : (o : Option ℕ) → spot_of p b ≡ o → byte_at_spot (p.bytes ++ zeros PAGE_SIZE) o ≡ byte_at_spot p.bytes o
+    old : (o : Option ℕ) → cell_of p b ≡ o → byte_at_cell (p.bytes ++ zeros PAGE_SIZE) o ≡ byte_at_cell p.bytes o
     old None e = refl
-    old (Some s) e = get_or_append_left p.bytes (zeros PAGE_SIZE) 0 s (let q = spot_owned p b s x e in omega (arith, x.owners))
+    old (Some s) e = get_or_append_left p.bytes (zeros PAGE_SIZE) 0 s (let q = cell_owned p b s x e in omega (arith, x.owners))
 
-    go : ((spot_of (with_page p a) b ≡ spot_of p b) ⊎ ((spot_of p b ≡ None) × (spot_of (with_page p a) b ≡ Some (length p.firsts * PAGE_SIZE + b % PAGE_SIZE)))) → byte_of (with_page p a) b ≡ byte_of p b
-    go (inl e) = ap (byte_at_spot (p.bytes ++ zeros PAGE_SIZE)) e ∙ old (spot_of p b) refl
+    go : ((cell_of (with_page p a) b ≡ cell_of p b) ⊎ ((cell_of p b ≡ None) × (cell_of (with_page p a) b ≡ Some (length p.firsts * PAGE_SIZE + b % PAGE_SIZE)))) → byte_of (with_page p a) b ≡ byte_of p b
+    go (inl e) = ap (byte_at_cell (p.bytes ++ zeros PAGE_SIZE)) e ∙ old (cell_of p b) refl
     go (inr e) =
         let at : length p.firsts * PAGE_SIZE + b % PAGE_SIZE ≡ length p.bytes + b % PAGE_SIZE = omega (arith, x.bytes) in
-        ap (byte_at_spot (p.bytes ++ zeros PAGE_SIZE)) e.1 ∙ ap (λ (j : ℕ). get_or (p.bytes ++ zeros PAGE_SIZE) j 0) at ∙ get_or-append-add p.bytes (zeros PAGE_SIZE) (b % PAGE_SIZE) 0 ∙ get_or-zeros PAGE_SIZE (b % PAGE_SIZE) ∙ sym (ap (byte_at_spot p.bytes) e.0)
+        ap (byte_at_cell (p.bytes ++ zeros PAGE_SIZE)) e.1 ∙ ap (λ (j : ℕ). get_or (p.bytes ++ zeros PAGE_SIZE) j 0) at ∙ get_or-append-add p.bytes (zeros PAGE_SIZE) (b % PAGE_SIZE) 0 ∙ get_or-zeros PAGE_SIZE (b % PAGE_SIZE) ∙ sym (ap (byte_at_cell p.bytes) e.0)
 
 page_owner_of : (p : Pages) (a b : ℕ) → ArePages p → a / PAGE_SIZE < length p.places → get_or p.places (a / PAGE_SIZE) None ≡ None → owner_of (with_page p a) b ≡ owner_of p b
-page_owner_of p a b x room absent = go (page_spot_of p a b room absent)
+page_owner_of p a b x room absent = go (page_cell_of p a b room absent)
   where
-    old : (o : Option ℕ) → spot_of p b ≡ o → owner_at_spot (p.owners ++ no_places PAGE_SIZE) o ≡ owner_at_spot p.owners o
+    old : (o : Option ℕ) → cell_of p b ≡ o → owner_at_cell (p.owners ++ no_places PAGE_SIZE) o ≡ owner_at_cell p.owners o
     old None e = refl
-    old (Some s) e = get_or_append_left p.owners (no_places PAGE_SIZE) None s (spot_owned p b s x e)
+    old (Some s) e = get_or_append_left p.owners (no_places PAGE_SIZE) None s (cell_owned p b s x e)
 
-    go : ((spot_of (with_page p a) b ≡ spot_of p b) ⊎ ((spot_of p b ≡ None) × (spot_of (with_page p a) b ≡ Some (length p.firsts * PAGE_SIZE + b % PAGE_SIZE)))) → owner_of (with_page p a) b ≡ owner_of p b
-    go (inl e) = ap (owner_at_spot (p.owners ++ no_places PAGE_SIZE)) e ∙ old (spot_of p b) refl
+    go : ((cell_of (with_page p a) b ≡ cell_of p b) ⊎ ((cell_of p b ≡ None) × (cell_of (with_page p a) b ≡ Some (length p.firsts * PAGE_SIZE + b % PAGE_SIZE)))) → owner_of (with_page p a) b ≡ owner_of p b
+    go (inl e) = ap (owner_at_cell (p.owners ++ no_places PAGE_SIZE)) e ∙ old (cell_of p b) refl
     go (inr e) =
         let at : length p.firsts * PAGE_SIZE + b % PAGE_SIZE ≡ length p.owners + b % PAGE_SIZE = omega (arith, x.bytes, x.owners) in
-        ap (owner_at_spot (p.owners ++ no_places PAGE_SIZE)) e.1 ∙ ap (λ (j : ℕ). get_or (p.owners ++ no_places PAGE_SIZE) j None) at ∙ get_or-append-add p.owners (no_places PAGE_SIZE) (b % PAGE_SIZE) None ∙ get_or-no_places PAGE_SIZE (b % PAGE_SIZE) ∙ sym (ap (owner_at_spot p.owners) e.0)
+        ap (owner_at_cell (p.owners ++ no_places PAGE_SIZE)) e.1 ∙ ap (λ (j : ℕ). get_or (p.owners ++ no_places PAGE_SIZE) j None) at ∙ get_or-append-add p.owners (no_places PAGE_SIZE) (b % PAGE_SIZE) None ∙ get_or-no_places PAGE_SIZE (b % PAGE_SIZE) ∙ sym (ap (owner_at_cell p.owners) e.0)
 
-pub page_ready : (p new : Pages) (a at : ℕ) → ArePages p → a / PAGE_SIZE < length p.places → spot_of p a ≡ None → new ≡ with_page p a → at ≡ length p.firsts * PAGE_SIZE + a % PAGE_SIZE → Ready p new a at
+pub page_ready : (p new : Pages) (a at : ℕ) → ArePages p → a / PAGE_SIZE < length p.places → cell_of p a ≡ None → new ≡ with_page p a → at ≡ length p.firsts * PAGE_SIZE + a % PAGE_SIZE → Ready p new a at
 page_ready p new a at x room e n s = rw (n, s) (made (absent (get_or p.places (a / PAGE_SIZE) None) refl e))
   where
-    absent : (o : Option ℕ) → get_or p.places (a / PAGE_SIZE) None ≡ o → spot_in o a ≡ None → get_or p.places (a / PAGE_SIZE) None ≡ None
+    absent : (o : Option ℕ) → get_or p.places (a / PAGE_SIZE) None ≡ o → cell_in o a ≡ None → get_or p.places (a / PAGE_SIZE) None ≡ None
     absent None o e = o
     absent (Some q) o e = absurd (cc)
 
     made : get_or p.places (a / PAGE_SIZE) None ≡ None → Ready p (with_page p a) a (length p.firsts * PAGE_SIZE + a % PAGE_SIZE)
     made absent = record {
       sound = page_sound p a x room absent;
-      spot = ap (λ (o : Option ℕ). spot_in o a) (get_or-set_same p.places (a / PAGE_SIZE) (Some (length p.firsts)) None room);
+      cell = ap (λ (o : Option ℕ). cell_in o a) (get_or-set_same p.places (a / PAGE_SIZE) (Some (length p.firsts)) None room);
       places = length-set p.places (a / PAGE_SIZE) (Some (length p.firsts));
       byte = λ b. page_byte_of p a b x room absent;
       owner = λ b. page_owner_of p a b x room absent;
@@ -134,44 +134,44 @@ page_ready p new a at x room e n s = rw (n, s) (made (absent (get_or p.places (a
         firsts q h true t = let l = ltb-true q (length p.firsts) t in inl ((l, get_or_append_left p.firsts (a ∷ []) 0 q l))
         firsts q h false t = let l = ltb-false q (length p.firsts) t in inr (get_or_push p.firsts a 0 q (omega arith))
 
-pub spot_ready : (p : Pages) (a at : ℕ) → ArePages p → spot_of p a ≡ Some at → Ready p p a at
-spot_ready p a at x e = record { sound = x; spot = e; places = refl; byte = λ b. refl; owner = λ b. refl; firsts = λ q h. inl ((h, refl)) }
+pub cell_ready : (p : Pages) (a at : ℕ) → ArePages p → cell_of p a ≡ Some at → Ready p p a at
+cell_ready p a at x e = record { sound = x; cell = e; places = refl; byte = λ b. refl; owner = λ b. refl; firsts = λ q h. inl ((h, refl)) }
 
 -- ---- a byte is claimed
 
 pub claimed : (old mid new : Pages) (a at byte i : ℕ) → AreUsed old → Ready old mid a at → new ≡ record mid { bytes = set mid.bytes at byte; owners = set mid.owners at (Some i) } → Claimed old new a byte i
 claimed old mid new a at byte i used r n = rw n made
   where
-    other : (b : ℕ) → b ≢ a → (o : Option ℕ) → spot_of mid b ≡ o
-        → (byte_at_spot (set mid.bytes at byte) o ≡ byte_at_spot mid.bytes o) × (owner_at_spot (set mid.owners at (Some i)) o ≡ owner_at_spot mid.owners o)
+    other : (b : ℕ) → b ≢ a → (o : Option ℕ) → cell_of mid b ≡ o
+        → (byte_at_cell (set mid.bytes at byte) o ≡ byte_at_cell mid.bytes o) × (owner_at_cell (set mid.owners at (Some i)) o ≡ owner_at_cell mid.owners o)
     other b ne None e = (refl, refl)
     other b ne (Some s) e =
-        let apart : s ≢ at = λ f. let g : Some s ≡ Some (at + 0) = ap Some (omega arith) in absurd (ne (let h = spot_back mid a at b 0 r.sound r.spot (omega arith) (e ∙ g) in omega arith)) in
+        let apart : s ≢ at = λ f. let g : Some s ≡ Some (at + 0) = ap Some (omega arith) in absurd (ne (let h = cell_back mid a at b 0 r.sound r.cell (omega arith) (e ∙ g) in omega arith)) in
         (get_or-set_other mid.bytes at s byte 0 apart, get_or-set_other mid.owners at s (Some i) None apart)
 
-    byte_there : (b : ℕ) → b ≢ a → byte_at_spot (set mid.bytes at byte) (spot_of mid b) ≡ byte_of old b
-    byte_there b ne = (other b ne (spot_of mid b) refl).0 ∙ r.byte b
+    byte_there : (b : ℕ) → b ≢ a → byte_at_cell (set mid.bytes at byte) (cell_of mid b) ≡ byte_of old b
+    byte_there b ne = (other b ne (cell_of mid b) refl).0 ∙ r.byte b
 
-    owner_there : (b : ℕ) → b ≢ a → owner_at_spot (set mid.owners at (Some i)) (spot_of mid b) ≡ owner_of old b
-    owner_there b ne = (other b ne (spot_of mid b) refl).1 ∙ r.owner b
+    owner_there : (b : ℕ) → b ≢ a → owner_at_cell (set mid.owners at (Some i)) (cell_of mid b) ≡ owner_of old b
+    owner_there b ne = (other b ne (cell_of mid b) refl).1 ∙ r.owner b
 
-    owner_here : owner_at_spot (set mid.owners at (Some i)) (spot_of mid a) ≡ Some i
-    owner_here = ap (owner_at_spot (set mid.owners at (Some i))) r.spot ∙ get_or-set_same mid.owners at (Some i) None (spot_owned mid a at r.sound r.spot)
+    owner_here : owner_at_cell (set mid.owners at (Some i)) (cell_of mid a) ≡ Some i
+    owner_here = ap (owner_at_cell (set mid.owners at (Some i))) r.cell ∙ get_or-set_same mid.owners at (Some i) None (cell_owned mid a at r.sound r.cell)
 
-    byte_here : byte_at_spot (set mid.bytes at byte) (spot_of mid a) ≡ byte
-    byte_here = ap (byte_at_spot (set mid.bytes at byte)) r.spot ∙ get_or-set_same mid.bytes at byte 0 (let q = spot_owned mid a at r.sound r.spot in omega (arith, (r.sound).owners))
+    byte_here : byte_at_cell (set mid.bytes at byte) (cell_of mid a) ≡ byte
+    byte_here = ap (byte_at_cell (set mid.bytes at byte)) r.cell ∙ get_or-set_same mid.bytes at byte 0 (let q = cell_owned mid a at r.sound r.cell in omega (arith, (r.sound).owners))
 
-    has : (b : ℕ) → (owner_of old b ≡ None → ⊥) → (t : Bool) → (b == a) ≡ t → owner_at_spot (set mid.owners at (Some i)) (spot_of mid b) ≡ None → ⊥
-    has b own true t e = let same = eqb-true b a t in absurd (let g : Some i ≡ None = sym owner_here ∙ ap (λ (c : ℕ). owner_at_spot (set mid.owners at (Some i)) (spot_of mid c)) (sym same) ∙ e in cc)
+    has : (b : ℕ) → (owner_of old b ≡ None → ⊥) → (t : Bool) → (b == a) ≡ t → owner_at_cell (set mid.owners at (Some i)) (cell_of mid b) ≡ None → ⊥
+    has b own true t e = let same = eqb-true b a t in absurd (let g : Some i ≡ None = sym owner_here ∙ ap (λ (c : ℕ). owner_at_cell (set mid.owners at (Some i)) (cell_of mid c)) (sym same) ∙ e in cc)
     has b own false t e = own (sym (owner_there b (eqb-false b a t)) ∙ e)
 
     first : (q : ℕ) → ((q < length old.firsts) × (get_or mid.firsts q 0 ≡ get_or old.firsts q 0)) ⊎ (get_or mid.firsts q 0 ≡ a)
-        → owner_at_spot (set mid.owners at (Some i)) (spot_of mid (get_or mid.firsts q 0)) ≡ None → ⊥
-    first q (inl p) e = has (get_or old.firsts q 0) (used.used q p.0) (get_or old.firsts q 0 == a) refl (ap (λ (c : ℕ). owner_at_spot (set mid.owners at (Some i)) (spot_of mid c)) (sym p.1) ∙ e)
-    first q (inr p) e = absurd (let g : Some i ≡ None = sym owner_here ∙ ap (λ (c : ℕ). owner_at_spot (set mid.owners at (Some i)) (spot_of mid c)) (sym p) ∙ e in cc)
+        → owner_at_cell (set mid.owners at (Some i)) (cell_of mid (get_or mid.firsts q 0)) ≡ None → ⊥
+    first q (inl p) e = has (get_or old.firsts q 0) (used.used q p.0) (get_or old.firsts q 0 == a) refl (ap (λ (c : ℕ). owner_at_cell (set mid.owners at (Some i)) (cell_of mid c)) (sym p.1) ∙ e)
+    first q (inr p) e = absurd (let g : Some i ≡ None = sym owner_here ∙ ap (λ (c : ℕ). owner_at_cell (set mid.owners at (Some i)) (cell_of mid c)) (sym p) ∙ e in cc)
 
-    blank : (b : ℕ) → owner_at_spot (set mid.owners at (Some i)) (spot_of mid b) ≡ None → (t : Bool) → (b == a) ≡ t → byte_at_spot (set mid.bytes at byte) (spot_of mid b) ≡ 0
-    blank b e true t = let same = eqb-true b a t in absurd (let g : Some i ≡ None = sym owner_here ∙ ap (λ (c : ℕ). owner_at_spot (set mid.owners at (Some i)) (spot_of mid c)) (sym same) ∙ e in cc)
+    blank : (b : ℕ) → owner_at_cell (set mid.owners at (Some i)) (cell_of mid b) ≡ None → (t : Bool) → (b == a) ≡ t → byte_at_cell (set mid.bytes at byte) (cell_of mid b) ≡ 0
+    blank b e true t = let same = eqb-true b a t in absurd (let g : Some i ≡ None = sym owner_here ∙ ap (λ (c : ℕ). owner_at_cell (set mid.owners at (Some i)) (cell_of mid c)) (sym same) ∙ e in cc)
     blank b e false t = let ne = eqb-false b a t in byte_there b ne ∙ used.blank b (sym (owner_there b ne) ∙ e)
 
     made : Claimed old (record mid { bytes = set mid.bytes at byte; owners = set mid.owners at (Some i) }) a byte i
@@ -340,16 +340,16 @@ lays_none = record {
     bytes = refl;
     owners = refl;
   };
-  used = record { used = λ q h e. absurd (omega arith); blank = λ a e. ap (byte_at_spot []) (ap (λ (o : Option ℕ). spot_in o a) (get_or-no_places PAGE_COUNT (a / PAGE_SIZE))) };
+  used = record { used = λ q h e. absurd (omega arith); blank = λ a e. ap (byte_at_cell []) (ap (λ (o : Option ℕ). cell_in o a) (get_or-no_places PAGE_COUNT (a / PAGE_SIZE))) };
   owned = record {
-    part = λ a i d e. absurd (let g : None ≡ Some i = sym (ap (owner_at_spot []) (ap (λ (o : Option ℕ). spot_in o a) (get_or-no_places PAGE_COUNT (a / PAGE_SIZE)))) ∙ e in cc);
+    part = λ a i d e. absurd (let g : None ≡ Some i = sym (ap (owner_at_cell []) (ap (λ (o : Option ℕ). cell_in o a) (get_or-no_places PAGE_COUNT (a / PAGE_SIZE)))) ∙ e in cc);
     owner = λ a i d l c. absurd (omega arith);
   };
   places = length-no_places PAGE_COUNT;
   made = refl;
 }
 
-pub if_ready : (p new : Pages) (a : ℕ) (E : Type 0) (r : Result ℕ E) → ArePages p → a / PAGE_SIZE < length p.places → spot_of p a ≡ None → OnOk r (new ≡ with_page p a)
+pub if_ready : (p new : Pages) (a : ℕ) (E : Type 0) (r : Result ℕ E) → ArePages p → a / PAGE_SIZE < length p.places → cell_of p a ≡ None → OnOk r (new ≡ with_page p a)
     → IfOk r (λ at. at ≡ length p.firsts * PAGE_SIZE + a % PAGE_SIZE) → IfOk r (λ at. Ready p new a at)
 if_ready p new a E (Ok at) x room e n s = page_ready p new a at x room e n s
 if_ready p new a E (Err f) x room e n s = tt

@@ -1,4 +1,4 @@
--- Pages: spots and addresses, and what stands in the segments that pages make.
+-- Pages: cells and addresses, and what stands in the segments that pages make.
 use Rattle.std.proofs.Common.{◌≡◌, ℕ, zero, suc, ◌+◌, ◌-◌, ◌*◌, ◌/◌, ◌%◌, ◌^◌, ◌<◌, ◌≤◌, ◌⊎◌, inl, inr, Bool, true, false, not, cond, if◌then◌else◌, ◌==◌, ◌&&◌, nat_lt, List, [], ◌∷◌, ◌++◌, length, get_or, map, take, drop, set, Option, Some, None, Ok, Err, refl, sym, ap, ◌∙◌, arith, le-leb}
 use Rattle.std.proofs.lemmas.List.{get_or-map, length-map, get_or_default, length-set, get_or-set_same, get_or-set_other, same_lists, get_or-drop}
 use Rattle.std.proofs.lemmas.Grind.{same_number_lists}
@@ -10,7 +10,7 @@ use Rattle.eh_bus.specs.Segment.{Segment, holds, number_at, with_number_at}
 use Rattle.eh_bus.specs.Memory.{Memory, fault_in, number_in, written, store, run_fault, first_fault, load_fault, fetch_fault, store_fault, is_closed, is_open_word, guard_hit}
 use Rattle.eh_bus.specs.Map.{AreApart, AreSegments}
 use Rattle.eh_bus.specs.Place.{IsPlace, IsWidth}
-use Rattle.bus_memories.specs.Pages.{Pages, ArePages, AreOwned, AreUsed, CanStore, PagesMake, HasPage, ArePageNumbers, spot_in, spot_of, byte_at_spot, owner_at_spot, byte_of, owner_of, bytes_from, segment_at, segments_at, covers, spans, IsSpan, IsOpen, IsCode, spot_at}
+use Rattle.bus_memories.specs.Pages.{Pages, ArePages, AreOwned, AreUsed, CanStore, PagesMake, HasPage, ArePageNumbers, cell_in, cell_of, byte_at_cell, owner_at_cell, byte_of, owner_of, bytes_from, segment_at, segments_at, covers, spans, IsSpan, IsOpen, IsCode, cell_at}
 use Rattle.bus_memories.specs.declared.part.Part.{Part}
 use Rattle.bus_memories.specs.declared.part.Span.{Span}
 use Rattle.bus_memories.specs.declared.paged.Found.{Found}
@@ -26,46 +26,46 @@ use Rattle.eh_bus.proofs.UndoLaws.{new_byte, length_put}
 pub no_part : Part
 no_part = record { start = 0; size = 0; write = false; exec = false }
 
--- ---- spots
+-- ---- cells
 
-pub record IsSpot (p : Pages) (a at : ℕ) : Type 0 where
+pub record IsCell (p : Pages) (a at : ℕ) : Type 0 where
   pub place : ℕ
   pub is : get_or p.places (a / PAGE_SIZE) None ≡ Some place
   pub within : place < length p.firsts
   pub number : get_or p.firsts place 0 / PAGE_SIZE ≡ a / PAGE_SIZE
-  pub spot : place * PAGE_SIZE + a % PAGE_SIZE ≡ at
+  pub cell : place * PAGE_SIZE + a % PAGE_SIZE ≡ at
 
-pub is_spot : (p : Pages) (a at : ℕ) → ArePages p → spot_of p a ≡ Some at → IsSpot p a at
-is_spot p a at x e = go (get_or p.places (a / PAGE_SIZE) None) refl e
+pub is_cell : (p : Pages) (a at : ℕ) → ArePages p → cell_of p a ≡ Some at → IsCell p a at
+is_cell p a at x e = go (get_or p.places (a / PAGE_SIZE) None) refl e
   where
-    go : (o : Option ℕ) → get_or p.places (a / PAGE_SIZE) None ≡ o → spot_in o a ≡ Some at → IsSpot p a at
+    go : (o : Option ℕ) → get_or p.places (a / PAGE_SIZE) None ≡ o → cell_in o a ≡ Some at → IsCell p a at
     go None o e = absurd (cc)
-    go (Some q) o e = let n = x.number (a / PAGE_SIZE) q o in record { place = q; is = o; within = n.0; number = n.1; spot = cc }
+    go (Some q) o e = let n = x.number (a / PAGE_SIZE) q o in record { place = q; is = o; within = n.0; number = n.1; cell = cc }
 
--- a spot lies in its page
-pub spot_room : (p : Pages) (a at n : ℕ) → ArePages p → spot_of p a ≡ Some at → a % PAGE_SIZE + n ≤ PAGE_SIZE → at + n ≤ length p.bytes
-spot_room p a at n x e h = let s = is_spot p a at x e in omega (arith, s.within, s.spot, x.bytes)
+-- a cell lies in its page
+pub cell_room : (p : Pages) (a at n : ℕ) → ArePages p → cell_of p a ≡ Some at → a % PAGE_SIZE + n ≤ PAGE_SIZE → at + n ≤ length p.bytes
+cell_room p a at n x e h = let s = is_cell p a at x e in omega (arith, s.within, s.cell, x.bytes)
 
--- the next addresses of the page have the next spots
-pub spot_next : (p : Pages) (a at k : ℕ) → spot_of p a ≡ Some at → a % PAGE_SIZE + k < PAGE_SIZE → spot_of p (a + k) ≡ Some (at + k)
-spot_next p a at k e h =
+-- the next addresses of the page have the next cells
+pub cell_next : (p : Pages) (a at k : ℕ) → cell_of p a ≡ Some at → a % PAGE_SIZE + k < PAGE_SIZE → cell_of p (a + k) ≡ Some (at + k)
+cell_next p a at k e h =
     let same : (a + k) / PAGE_SIZE ≡ a / PAGE_SIZE = omega arith in
     let rest : (a + k) % PAGE_SIZE ≡ a % PAGE_SIZE + k = omega arith in
     go (get_or p.places (a / PAGE_SIZE) None) refl same rest e
   where
-    go : (o : Option ℕ) → get_or p.places (a / PAGE_SIZE) None ≡ o → (a + k) / PAGE_SIZE ≡ a / PAGE_SIZE → (a + k) % PAGE_SIZE ≡ a % PAGE_SIZE + k → spot_in o a ≡ Some at
-        → spot_of p (a + k) ≡ Some (at + k)
+    go : (o : Option ℕ) → get_or p.places (a / PAGE_SIZE) None ≡ o → (a + k) / PAGE_SIZE ≡ a / PAGE_SIZE → (a + k) % PAGE_SIZE ≡ a % PAGE_SIZE + k → cell_in o a ≡ Some at
+        → cell_of p (a + k) ≡ Some (at + k)
     go None o same rest e = absurd (cc)
     go (Some q) o same rest e = rw (same, o, rest) (let f : q * PAGE_SIZE + a % PAGE_SIZE ≡ at = cc in ap Some (omega arith))
 
--- two addresses with one spot are equal
-pub spot_back : (p : Pages) (a at b k : ℕ) → ArePages p → spot_of p a ≡ Some at → a % PAGE_SIZE + k < PAGE_SIZE → spot_of p b ≡ Some (at + k) → b ≡ a + k
-spot_back p a at b k x e h f =
-    let s = is_spot p a at x e in
-    let t = is_spot p b (at + k) x f in
-    let same : t.place ≡ s.place = omega (arith, s.spot, t.spot) in
+-- two addresses with one cell are equal
+pub cell_back : (p : Pages) (a at b k : ℕ) → ArePages p → cell_of p a ≡ Some at → a % PAGE_SIZE + k < PAGE_SIZE → cell_of p b ≡ Some (at + k) → b ≡ a + k
+cell_back p a at b k x e h f =
+    let s = is_cell p a at x e in
+    let t = is_cell p b (at + k) x f in
+    let same : t.place ≡ s.place = omega (arith, s.cell, t.cell) in
     let number : b / PAGE_SIZE ≡ a / PAGE_SIZE = sym t.number ∙ ap (λ (q : ℕ). get_or p.firsts q 0 / PAGE_SIZE) same ∙ s.number in
-    omega (arith, s.spot, t.spot)
+    omega (arith, s.cell, t.cell)
 
 -- ---- bytes of a run of addresses
 
@@ -166,11 +166,11 @@ in_span s a n h = let p = and_parts _ _ h in record { low = leb-true _ _ p.0; hi
 pub span_covers : (places : List (Option ℕ)) (parts : List Part) (s : Span) (d : Part) (a n : ℕ) → IsSpan places parts s → spans s a n ≡ true → covers (get_or parts s.part d) a n ≡ true
 span_covers places parts s d a n x h = let i = in_span s a n h in covering (get_or parts s.part d) a n (omega (arith, i.low, x.low d)) (omega (arith, i.low, i.high, x.low d, x.high d))
 
-pub span_spot : (places : List (Option ℕ)) (parts : List Part) (s : Span) (a n : ℕ) → IsSpan places parts s → 0 < n → spans s a n ≡ true → spot_at places a ≡ Some (s.at + (a - s.start))
-span_spot places parts s a n x z h =
+pub span_cell : (places : List (Option ℕ)) (parts : List Part) (s : Span) (a n : ℕ) → IsSpan places parts s → 0 < n → spans s a n ≡ true → cell_at places a ≡ Some (s.at + (a - s.start))
+span_cell places parts s a n x z h =
     let i = in_span s a n h in
     let to : s.start + (a - s.start) ≡ a = omega (arith, i.low) in
-    rw to at (x.spot (a - s.start) (omega (arith, i.high)))
+    rw to at (x.cell (a - s.start) (omega (arith, i.high)))
 
 pub span_place : (f : ℕ → ℕ) (has : ℕ → Option ℕ) (places : List (Option ℕ)) (parts : List Part) (s : Span) (a n : ℕ) → AreOwned has parts → IsSpan places parts s → 0 < n → spans s a n ≡ true
     → IsPlace n (segments_at f parts) a s.part
@@ -179,22 +179,22 @@ span_place f has places parts s a n own x z h =
     owned_place f has parts no_part a n s.part own z (owned_part has parts no_part a s.part n own z x.inside c) c
 
 -- the bytes up to the end of a page stand one after the other
-pub span_more : (p : Pages) (start at size more : ℕ) → ((k : ℕ) → k < size → spot_of p (start + k) ≡ Some (at + k)) → spot_of p (start + size) ≡ Some (at + size)
-    → more ≤ PAGE_SIZE - (start + size) % PAGE_SIZE → (k : ℕ) → k < size + more → spot_of p (start + k) ≡ Some (at + k)
+pub span_more : (p : Pages) (start at size more : ℕ) → ((k : ℕ) → k < size → cell_of p (start + k) ≡ Some (at + k)) → cell_of p (start + size) ≡ Some (at + size)
+    → more ≤ PAGE_SIZE - (start + size) % PAGE_SIZE → (k : ℕ) → k < size + more → cell_of p (start + k) ≡ Some (at + k)
 span_more p start at size more old e h k l = go (nat_lt k size) refl
   where
-    go : (t : Bool) → nat_lt k size ≡ t → spot_of p (start + k) ≡ Some (at + k)
+    go : (t : Bool) → nat_lt k size ≡ t → cell_of p (start + k) ≡ Some (at + k)
     go true t = old k (ltb-true k size t)
     go false t =
         let b = ltb-false k size t in
         let to : start + size + (k - size) ≡ start + k = omega arith in
         let at_to : at + size + (k - size) ≡ at + k = omega arith in
-        rw (to, at_to) at (spot_next p (start + size) (at + size) (k - size) e (omega arith))
+        rw (to, at_to) at (cell_next p (start + size) (at + size) (k - size) e (omega arith))
 
 -- ---- numbers
 
 pub paged_number : (p : Pages) (parts : List Part) (d : Part) (a n i at : ℕ) → ArePages p → i < length parts → covers (get_or parts i d) a n ≡ true
-    → IsPlace n (segments_at (byte_of p) parts) a i → spot_of p a ≡ Some at → a % PAGE_SIZE + n ≤ PAGE_SIZE
+    → IsPlace n (segments_at (byte_of p) parts) a i → cell_of p a ≡ Some at → a % PAGE_SIZE + n ≤ PAGE_SIZE
     → number_in n (segments_at (byte_of p) parts) a ≡ little_number n (drop at p.bytes)
 paged_number p parts d a n i at x l h place e w =
     let part = get_or parts i d in
@@ -210,50 +210,50 @@ paged_number p parts d a n i at x l h place e w =
         let c = covered part a n h in
         let b : a - part.start + k < part.size = omega (arith, c.low, c.high) in
         let to : part.start + (a - part.start + k) ≡ a + k = omega (arith, c.low) in
-        let byte = from_at (byte_of p) part.start part.size (a - part.start + k) b ∙ ap (byte_of p) to ∙ ap (byte_at_spot p.bytes) (spot_next p a at k e (omega arith)) in
+        let byte = from_at (byte_of p) part.start part.size (a - part.start + k) b ∙ ap (byte_of p) to ∙ ap (byte_at_cell p.bytes) (cell_next p a at k e (omega arith)) in
         let z : 0 + k ≡ k = omega arith in
         rw (z, get_or-drop (a - part.start) (bytes_from (byte_of p) part.start part.size) k 0, get_or-drop at p.bytes k 0) byte
 
--- the owner of what stands nowhere, and of what stands at a spot
-pub no_spot : (p : Pages) (a : ℕ) → spot_of p a ≡ None → owner_of p a ≡ None
-no_spot p a e = ap (owner_at_spot p.owners) e
+-- the owner of what stands nowhere, and of what stands at a cell
+pub no_cell : (p : Pages) (a : ℕ) → cell_of p a ≡ None → owner_of p a ≡ None
+no_cell p a e = ap (owner_at_cell p.owners) e
 
-pub at_spot : (p : Pages) (a at : ℕ) → spot_of p a ≡ Some at → owner_of p a ≡ get_or p.owners at None
-at_spot p a at e = ap (owner_at_spot p.owners) e
+pub at_cell : (p : Pages) (a at : ℕ) → cell_of p a ≡ Some at → owner_of p a ≡ get_or p.owners at None
+at_cell p a at e = ap (owner_at_cell p.owners) e
 
-pub spot_owned : (p : Pages) (a at : ℕ) → ArePages p → spot_of p a ≡ Some at → at < length p.owners
-spot_owned p a at x e =
-    let s = is_spot p a at x e in
-    omega (arith, s.within, s.spot, x.bytes, x.owners)
+pub cell_owned : (p : Pages) (a at : ℕ) → ArePages p → cell_of p a ≡ Some at → at < length p.owners
+cell_owned p a at x e =
+    let s = is_cell p a at x e in
+    omega (arith, s.within, s.cell, x.bytes, x.owners)
 
 -- ---- stores
 
--- the pages with v in the n bytes from a spot on
-abbrev pub with_spot : Pages → ℕ → ℕ → ℕ → Pages
-with_spot p n at v = record p { bytes = take at p.bytes ++ (little_bytes n v ++ drop (at + n) p.bytes) }
+-- the pages with v in the n bytes from a cell on
+abbrev pub with_cell : Pages → ℕ → ℕ → ℕ → Pages
+with_cell p n at v = record p { bytes = take at p.bytes ++ (little_bytes n v ++ drop (at + n) p.bytes) }
 
-pub length-with_spot : (p : Pages) (n at v : ℕ) → at + n ≤ length p.bytes → length (with_spot p n at v).bytes ≡ length p.bytes
-length-with_spot p n at v h = length_put at n (little_bytes n v) p.bytes (length-bytes_low_first 0 n v) h
+pub length-with_cell : (p : Pages) (n at v : ℕ) → at + n ≤ length p.bytes → length (with_cell p n at v).bytes ≡ length p.bytes
+length-with_cell p n at v h = length_put at n (little_bytes n v) p.bytes (length-bytes_low_first 0 n v) h
 
-pub with_spot_pages : (p : Pages) (n at v : ℕ) → at + n ≤ length p.bytes → ArePages p → ArePages (with_spot p n at v)
-with_spot_pages p n at v h x =
-    let l = length-with_spot p n at v h in
+pub with_cell_pages : (p : Pages) (n at v : ℕ) → at + n ≤ length p.bytes → ArePages p → ArePages (with_cell p n at v)
+with_cell_pages p n at v h x =
+    let l = length-with_cell p n at v h in
     record { number = x.number; place = x.place; bytes = l ∙ x.bytes; owners = x.owners ∙ sym l }
 
-byte_in : (p : Pages) (a at n v k : ℕ) → spot_of p a ≡ Some at → a % PAGE_SIZE + n ≤ PAGE_SIZE → at + n ≤ length p.bytes → k < n
-    → byte_of (with_spot p n at v) (a + k) ≡ get_or (little_bytes n v) k 0
+byte_in : (p : Pages) (a at n v k : ℕ) → cell_of p a ≡ Some at → a % PAGE_SIZE + n ≤ PAGE_SIZE → at + n ≤ length p.bytes → k < n
+    → byte_of (with_cell p n at v) (a + k) ≡ get_or (little_bytes n v) k 0
 byte_in p a at n v k e w h l =
-    let next = spot_next p a at k e (omega arith) in
+    let next = cell_next p a at k e (omega arith) in
     let same : at + k - at ≡ k = omega arith in
-    ap (byte_at_spot (with_spot p n at v).bytes) next
+    ap (byte_at_cell (with_cell p n at v).bytes) next
     ∙ new_byte at n (at + k) (little_bytes n v) p.bytes (length-bytes_low_first 0 n v) h (omega arith) (omega arith)
     ∙ ap (λ (j : ℕ). get_or (little_bytes n v) j 0) same
 
-byte_out : (p : Pages) (a at n v b : ℕ) → ArePages p → spot_of p a ≡ Some at → a % PAGE_SIZE + n ≤ PAGE_SIZE → at + n ≤ length p.bytes → ((b < a) ⊎ (a + n ≤ b))
-    → byte_of (with_spot p n at v) b ≡ byte_of p b
-byte_out p a at n v b x e w h o = go (spot_of p b) refl
+byte_out : (p : Pages) (a at n v b : ℕ) → ArePages p → cell_of p a ≡ Some at → a % PAGE_SIZE + n ≤ PAGE_SIZE → at + n ≤ length p.bytes → ((b < a) ⊎ (a + n ≤ b))
+    → byte_of (with_cell p n at v) b ≡ byte_of p b
+byte_out p a at n v b x e w h o = go (cell_of p b) refl
   where
-    away : (s : ℕ) → spot_of p b ≡ Some s → ((b < a) ⊎ (a + n ≤ b)) → (t : Bool) → nat_lt s at ≡ t → (u : Bool) → nat_lt s (at + n) ≡ u → ((s < at) ⊎ (at + n ≤ s))
+    away : (s : ℕ) → cell_of p b ≡ Some s → ((b < a) ⊎ (a + n ≤ b)) → (t : Bool) → nat_lt s at ≡ t → (u : Bool) → nat_lt s (at + n) ≡ u → ((s < at) ⊎ (at + n ≤ s))
     away s f o true t u v = inl (ltb-true s at t)
     away s f o false t false u = inr (ltb-false s (at + n) u)
     away s f o false t true u =
@@ -261,19 +261,19 @@ byte_out p a at n v b x e w h o = go (spot_of p b) refl
         let high = ltb-true s (at + n) u in
         let k = s - at in
         let to : s ≡ at + (s - at) = omega arith in
-        let same = spot_back p a at b (s - at) x e (omega arith) (f ∙ ap Some to) in
+        let same = cell_back p a at b (s - at) x e (omega arith) (f ∙ ap Some to) in
         absurd (no o same (omega arith))
       where
         no : ((b < a) ⊎ (a + n ≤ b)) → b ≡ a + (s - at) → s - at < n → ⊥
         no (inl l) same m = omega arith
         no (inr l) same m = omega arith
 
-    go : (q : Option ℕ) → spot_of p b ≡ q → byte_of (with_spot p n at v) b ≡ byte_of p b
-    go None f = ap (byte_at_spot (with_spot p n at v).bytes) f ∙ sym (ap (byte_at_spot p.bytes) f)
+    go : (q : Option ℕ) → cell_of p b ≡ q → byte_of (with_cell p n at v) b ≡ byte_of p b
+    go None f = ap (byte_at_cell (with_cell p n at v).bytes) f ∙ sym (ap (byte_at_cell p.bytes) f)
     go (Some s) f =
-        ap (byte_at_spot (with_spot p n at v).bytes) f
+        ap (byte_at_cell (with_cell p n at v).bytes) f
         ∙ other_byte at n s (little_bytes n v) p.bytes (length-bytes_low_first 0 n v) h (away s f o (nat_lt s at) refl (nat_lt s (at + n)) refl)
-        ∙ sym (ap (byte_at_spot p.bytes) f)
+        ∙ sym (ap (byte_at_cell p.bytes) f)
 
 -- a part whose bytes change in the n bytes from a on alone
 part_with : (f g : ℕ → ℕ) (part : Part) (a n v : ℕ) → Covered part a n
@@ -311,28 +311,28 @@ pub part_same : (f g : ℕ → ℕ) (part : Part) → ((k : ℕ) → k < part.si
 part_same f g part h = ap (λ (bs : List ℕ). record { start = part.start; bytes = bs; write = part.write; exec = part.exec }) (same_from g f part.start part.size h)
 
 pub paged_written : (p : Pages) (parts : List Part) (d : Part) (a at n i v : ℕ) → ArePages p → AreOwned (owner_of p) parts → i < length parts → covers (get_or parts i d) a n ≡ true
-    → IsPlace n (segments_at (byte_of p) parts) a i → spot_of p a ≡ Some at → a % PAGE_SIZE + n ≤ PAGE_SIZE → at + n ≤ length p.bytes
-    → segments_at (byte_of (with_spot p n at v)) parts ≡ written n (segments_at (byte_of p) parts) a v
+    → IsPlace n (segments_at (byte_of p) parts) a i → cell_of p a ≡ Some at → a % PAGE_SIZE + n ≤ PAGE_SIZE → at + n ≤ length p.bytes
+    → segments_at (byte_of (with_cell p n at v)) parts ≡ written n (segments_at (byte_of p) parts) a v
 paged_written p parts d a at n i v x own l c place e w h =
     let s = segment_at (byte_of p) (get_or parts i d) in
-    same_lists _ _ (length-map parts (segment_at (byte_of (with_spot p n at v))) ∙ sym (length-set (segments_at (byte_of p) parts) i (with_number_at n (get_or (segments_at (byte_of p) parts) i s) a v) ∙ length-map parts (segment_at (byte_of p))))
-    (λ j t m. each j t (omega (arith, length-map parts (segment_at (byte_of (with_spot p n at v))))) (j == i) refl)
+    same_lists _ _ (length-map parts (segment_at (byte_of (with_cell p n at v))) ∙ sym (length-set (segments_at (byte_of p) parts) i (with_number_at n (get_or (segments_at (byte_of p) parts) i s) a v) ∙ length-map parts (segment_at (byte_of p))))
+    (λ j t m. each j t (omega (arith, length-map parts (segment_at (byte_of (with_cell p n at v))))) (j == i) refl)
     ∙ sym (place.change s v)
   where
     each : (j : ℕ) (t : Segment) → j < length parts → (q : Bool) → (j == i) ≡ q
-        → get_or (segments_at (byte_of (with_spot p n at v)) parts) j t
+        → get_or (segments_at (byte_of (with_cell p n at v)) parts) j t
         ≡ get_or (set (segments_at (byte_of p) parts) i (with_number_at n (get_or (segments_at (byte_of p) parts) i (segment_at (byte_of p) (get_or parts i d))) a v)) j t
     each j t m true q =
         let same : j ≡ i = eqb-true j i q in
         let there : i < length (segments_at (byte_of p) parts) = rw length-map l in
         rw same (
-        at_part (byte_of (with_spot p n at v)) parts i t d l
-        ∙ part_with (byte_of p) (byte_of (with_spot p n at v)) (get_or parts i d) a n v (covered (get_or parts i d) a n c) (λ k z. byte_in p a at n v k e w h z) (λ b z. byte_out p a at n v b x e w h z)
+        at_part (byte_of (with_cell p n at v)) parts i t d l
+        ∙ part_with (byte_of p) (byte_of (with_cell p n at v)) (get_or parts i d) a n v (covered (get_or parts i d) a n c) (λ k z. byte_in p a at n v k e w h z) (λ b z. byte_out p a at n v b x e w h z)
         ∙ sym (get_or-set_same (segments_at (byte_of p) parts) i _ t there ∙ ap (λ (z : Segment). with_number_at n z a v) (at_part (byte_of p) parts i (segment_at (byte_of p) (get_or parts i d)) d l))
         )
     each j t m false q =
-        at_part (byte_of (with_spot p n at v)) parts j t d m
-        ∙ part_same (byte_of p) (byte_of (with_spot p n at v)) (get_or parts j d) (λ k z. byte_out p a at n v ((get_or parts j d).start + k) x e w h (away k z (nat_lt ((get_or parts j d).start + k) a) refl (nat_lt ((get_or parts j d).start + k) (a + n)) refl))
+        at_part (byte_of (with_cell p n at v)) parts j t d m
+        ∙ part_same (byte_of p) (byte_of (with_cell p n at v)) (get_or parts j d) (λ k z. byte_out p a at n v ((get_or parts j d).start + k) x e w h (away k z (nat_lt ((get_or parts j d).start + k) a) refl (nat_lt ((get_or parts j d).start + k) (a + n)) refl))
         ∙ sym (get_or-set_other (segments_at (byte_of p) parts) i j _ t (eqb-false j i q) ∙ at_part (byte_of p) parts j t d m)
       where
         away : (k : ℕ) → k < (get_or parts j d).size → (t : Bool) → nat_lt ((get_or parts j d).start + k) a ≡ t → (u : Bool) → nat_lt ((get_or parts j d).start + k) (a + n) ≡ u
@@ -349,9 +349,9 @@ paged_written p parts d a at n i v x own l c place e w h =
             absurd (let g : Some j ≡ Some i = sym mine ∙ his in eqb-false j i q (cc))
 
 -- what no segment has stays 0
-pub with_spot_used : (p : Pages) (parts : List Part) (d : Part) (a at n i v : ℕ) → ArePages p → AreOwned (owner_of p) parts → i < length parts → covers (get_or parts i d) a n ≡ true
-    → spot_of p a ≡ Some at → a % PAGE_SIZE + n ≤ PAGE_SIZE → at + n ≤ length p.bytes → AreUsed p → AreUsed (with_spot p n at v)
-with_spot_used p parts d a at n i v x own l c e w h y = record {
+pub with_cell_used : (p : Pages) (parts : List Part) (d : Part) (a at n i v : ℕ) → ArePages p → AreOwned (owner_of p) parts → i < length parts → covers (get_or parts i d) a n ≡ true
+    → cell_of p a ≡ Some at → a % PAGE_SIZE + n ≤ PAGE_SIZE → at + n ≤ length p.bytes → AreUsed p → AreUsed (with_cell p n at v)
+with_cell_used p parts d a at n i v x own l c e w h y = record {
   used = y.used;
   blank = λ b z. byte_out p a at n v b x e w h (away b z (nat_lt b a) refl (nat_lt b (a + n)) refl) ∙ y.blank b z;
 }
@@ -388,18 +388,18 @@ fetch_aligned s a e = go (a % 2 == 0) refl e
     go true t e = refl
     go false t e = absurd (cc)
 
-pub spotted : (n : ℕ) (p : Pages) (parts : List Part) (a i at : ℕ) → IsWidth n → (a % n == 0) ≡ true → ArePages p → i < length parts → ((d : Part) → covers (get_or parts i d) a n ≡ true)
-    → IsPlace n (segments_at (byte_of p) parts) a i → spot_of p a ≡ Some at → CanStore n p parts a i at
-spotted n p parts a i at w e x l c place s =
+pub located : (n : ℕ) (p : Pages) (parts : List Part) (a i at : ℕ) → IsWidth n → (a % n == 0) ≡ true → ArePages p → i < length parts → ((d : Part) → covers (get_or parts i d) a n ≡ true)
+    → IsPlace n (segments_at (byte_of p) parts) a i → cell_of p a ≡ Some at → CanStore n p parts a i at
+located n p parts a i at w e x l c place s =
     let one = in_page n a w e in
-    record { inside = l; covering = c; place = place; spot = s; one_page = one; room = spot_room p a at n x s one }
+    record { inside = l; covering = c; place = place; cell = s; one_page = one; room = cell_room p a at n x s one }
 
-pub spot_number : (n : ℕ) (p : Pages) (parts : List Part) (a i at : ℕ) → ArePages p → CanStore n p parts a i at → number_in n (segments_at (byte_of p) parts) a ≡ little_number n (drop at p.bytes)
-spot_number n p parts a i at x c = paged_number p parts no_part a n i at x c.inside (c.covering no_part) c.place c.spot c.one_page
+pub cell_number : (n : ℕ) (p : Pages) (parts : List Part) (a i at : ℕ) → ArePages p → CanStore n p parts a i at → number_in n (segments_at (byte_of p) parts) a ≡ little_number n (drop at p.bytes)
+cell_number n p parts a i at x c = paged_number p parts no_part a n i at x c.inside (c.covering no_part) c.place c.cell c.one_page
 
-pub spot_fault : (n : ℕ) (p : Pages) (parts : List Part) (d : Part) (a i : ℕ) (f : Segment → Option BusFault) → i < length parts → IsPlace n (segments_at (byte_of p) parts) a i
+pub cell_fault : (n : ℕ) (p : Pages) (parts : List Part) (d : Part) (a i : ℕ) (f : Segment → Option BusFault) → i < length parts → IsPlace n (segments_at (byte_of p) parts) a i
     → fault_in f n (segments_at (byte_of p) parts) a ≡ f (segment_at (byte_of p) (get_or parts i d))
-spot_fault n p parts d a i f l place = place.fault (segment_at (byte_of p) (get_or parts i d)) f ∙ ap f (at_part (byte_of p) parts i (segment_at (byte_of p) (get_or parts i d)) d l)
+cell_fault n p parts d a i f l place = place.fault (segment_at (byte_of p) (get_or parts i d)) f ∙ ap f (at_part (byte_of p) parts i (segment_at (byte_of p) (get_or parts i d)) d l)
 
 pub exec_of : (parts : List Part) (i : ℕ) (d e : Part) → i < length parts → (get_or parts i d).exec ≡ (get_or parts i e).exec
 exec_of parts i d e h = ap (λ (part : Part). part.exec) (get_or_default parts i d e h)
@@ -416,7 +416,7 @@ pub near_can : (n : ℕ) (p : Pages) (parts : List Part) (s : Span) (a : ℕ) �
     → CanStore n p parts a s.part (s.at + (a - s.start))
 near_can n p parts s a w x own near h e =
     let z = positive n w in
-    spotted n p parts a s.part (s.at + (a - s.start)) w e x near.inside (λ d. span_covers p.places parts s d a n near h) (span_place (byte_of p) (owner_of p) p.places parts s a n own near z h) (span_spot p.places parts s a n near z h)
+    located n p parts a s.part (s.at + (a - s.start)) w e x near.inside (λ d. span_covers p.places parts s d a n near h) (span_place (byte_of p) (owner_of p) p.places parts s a n own near z h) (span_cell p.places parts s a n near z h)
   where
     positive : (n : ℕ) → IsWidth n → 0 < n
     positive n (inl e) = omega arith
@@ -425,7 +425,7 @@ near_can n p parts s a w x own near h e =
 
 near_fault : (n : ℕ) (p : Pages) (parts : List Part) (s : Span) (a at : ℕ) (f : Segment → Option BusFault) → CanStore n p parts a s.part at
     → fault_in f n (segments_at (byte_of p) parts) a ≡ f (segment_at (byte_of p) (get_or parts s.part no_part))
-near_fault n p parts s a at f can = spot_fault n p parts no_part a s.part f can.inside can.place
+near_fault n p parts s a at f can = cell_fault n p parts no_part a s.part f can.inside can.place
 
 open_above : (a : ℕ) → POOL_END ≤ a → is_closed a ≡ false
 open_above a h = rw (le-leb POOL_START a (omega arith), le-ltb a POOL_END h) refl
@@ -473,19 +473,19 @@ pub near_guarded : (n : ℕ) (guards : List ℕ) (p : Pages) (parts : List Part)
 near_guarded n guards p parts s a at g can o h e hit =
     near_fault n p parts s a at (λ t. store_fault n guards t a) can ∙ rw (e, o.writes no_part, hit) refl
 
--- ---- a store at its spot, whole
+-- ---- a store at its cell, whole
 
 pub pages_stored : (n : ℕ) (p new : Pages) (parts : List Part) (a i at v : ℕ) → ArePages p → AreUsed p → AreOwned (owner_of p) parts → AreSegments (segments_at (byte_of p) parts)
-    → CanStore n p parts a i at → new ≡ with_spot p n at v → PagesMake new parts (written n (segments_at (byte_of p) parts) a v)
+    → CanStore n p parts a i at → new ≡ with_cell p n at v → PagesMake new parts (written n (segments_at (byte_of p) parts) a v)
 pages_stored n p new parts a i at v x used own mapped can e = rw e made
   where
-    made : PagesMake (with_spot p n at v) parts (written n (segments_at (byte_of p) parts) a v)
+    made : PagesMake (with_cell p n at v) parts (written n (segments_at (byte_of p) parts) a v)
     made = record {
-      sound = with_spot_pages p n at v can.room x;
-      used = with_spot_used p parts no_part a at n i v x own can.inside (can.covering no_part) can.spot can.one_page can.room used;
+      sound = with_cell_pages p n at v can.room x;
+      used = with_cell_used p parts no_part a at n i v x own can.inside (can.covering no_part) can.cell can.one_page can.room used;
       owned = own;
       mapped = kept n a v (segments_at (byte_of p) parts) mapped;
-      made = paged_written p parts no_part a at n i v x own can.inside (can.covering no_part) can.place can.spot can.one_page can.room;
+      made = paged_written p parts no_part a at n i v x own can.inside (can.covering no_part) can.place can.cell can.one_page can.room;
     }
 
 -- what no segment holds isn't written
@@ -521,7 +521,7 @@ is_refused n m a v fault e = rw e refl
 -- ---- pages lent
 
 no_page : (p : Pages) (a : ℕ) → get_or p.places (a / PAGE_SIZE) None ≡ None → owner_of p a ≡ None
-no_page p a e = no_spot p a (ap (λ (o : Option ℕ). spot_in o a) e)
+no_page p a e = no_cell p a (ap (λ (o : Option ℕ). cell_in o a) e)
 
 -- an address that has an owner lies in its segment
 pub owned_holds : (p : Pages) (parts : List Part) (a i : ℕ) → AreOwned (owner_of p) parts → owner_of p a ≡ Some i
@@ -552,8 +552,8 @@ page_not p parts guards home n own e h =
     let g : None ≡ Some h.1 = sym his ∙ mine in
     cc
 
-pub page_spot : (p : Pages) (n q k : ℕ) → get_or p.places n None ≡ Some q → k < PAGE_SIZE → spot_of p (n * PAGE_SIZE + k) ≡ Some (q * PAGE_SIZE + k)
-page_spot p n q k e h =
+pub page_cell : (p : Pages) (n q k : ℕ) → get_or p.places n None ≡ Some q → k < PAGE_SIZE → cell_of p (n * PAGE_SIZE + k) ≡ Some (q * PAGE_SIZE + k)
+page_cell p n q k e h =
     let same : (n * PAGE_SIZE + k) / PAGE_SIZE ≡ n = omega arith in
     let rest : (n * PAGE_SIZE + k) % PAGE_SIZE ≡ k = omega arith in
     rw (same, e, rest) refl
@@ -565,14 +565,14 @@ page_byte p parts n q k x used own e h = go (owner_of p (n * PAGE_SIZE + k)) ref
   where
     go : (o : Option ℕ) → owner_of p (n * PAGE_SIZE + k) ≡ o → get_or p.bytes (q * PAGE_SIZE + k) 0 ≡ number_in 1 (segments_at (byte_of p) parts) (n * PAGE_SIZE + k)
     go None o =
-        let spot = page_spot p n q k e h in
-        let zero : get_or p.bytes (q * PAGE_SIZE + k) 0 ≡ 0 = sym (ap (byte_at_spot p.bytes) spot) ∙ used.blank (n * PAGE_SIZE + k) o in
+        let cell = page_cell p n q k e h in
+        let zero : get_or p.bytes (q * PAGE_SIZE + k) 0 ≡ 0 = sym (ap (byte_at_cell p.bytes) cell) ∙ used.blank (n * PAGE_SIZE + k) o in
         zero ∙ sym (unread 1 (n * PAGE_SIZE + k) (segments_at (byte_of p) parts) (unowned (byte_of p) (owner_of p) parts (n * PAGE_SIZE + k) 1 own (omega arith) o (λ s. None)))
     go (Some i) o =
-        let spot = page_spot p n q k e h in
+        let cell = page_cell p n q k e h in
         let own2 = own.part (n * PAGE_SIZE + k) i no_part o in
         let place = owned_place (byte_of p) (owner_of p) parts no_part (n * PAGE_SIZE + k) 1 i own (omega arith) o own2.1 in
-        let number = paged_number p parts no_part (n * PAGE_SIZE + k) 1 i (q * PAGE_SIZE + k) x own2.0 own2.1 place spot (omega arith) in
+        let number = paged_number p parts no_part (n * PAGE_SIZE + k) 1 i (q * PAGE_SIZE + k) x own2.0 own2.1 place cell (omega arith) in
         let same : get_or (drop (q * PAGE_SIZE + k) p.bytes) 0 0 ≡ get_or p.bytes (q * PAGE_SIZE + k) 0 = get_or-drop (q * PAGE_SIZE + k) p.bytes 0 0 ∙ ap (λ (j : ℕ). get_or p.bytes j 0) (omega arith) in
         let one : little_number 1 (drop (q * PAGE_SIZE + k) p.bytes) ≡ get_or (drop (q * PAGE_SIZE + k) p.bytes) 0 0 = omega arith in
         sym (number ∙ one ∙ same)
@@ -605,11 +605,11 @@ page_numbers p parts guards home x used own = record {
             let f = x.number (h.0 / PAGE_SIZE) q e in
             (q, (rw length-map f.0, number q f.0 ∙ f.1 ∙ h.2.0))
 
-pub if_spotted : (p : Pages) (parts : List Part) (a : ℕ) (found : Option Found) → a % 4 ≡ 0 → ArePages p
+pub if_located : (p : Pages) (parts : List Part) (a : ℕ) (found : Option Found) → a % 4 ≡ 0 → ArePages p
     → IfSome found (λ f. f.part < length parts)
     → IfSome found (λ f. (d : Part) → covers (get_or parts f.part d) a 4 ≡ true)
     → IfSome found (λ f. IsPlace 4 (segments_at (byte_of p) parts) a f.part)
-    → IfSome found (λ f. spot_of p a ≡ Some f.at)
+    → IfSome found (λ f. cell_of p a ≡ Some f.at)
     → IfSome found (λ f. CanStore 4 p parts a f.part f.at)
-if_spotted p parts a None e x l c place s = tt
-if_spotted p parts a (Some f) e x l c place s = spotted 4 p parts a f.part f.at (inr (inr refl)) (rw e refl) x l c place s
+if_located p parts a None e x l c place s = tt
+if_located p parts a (Some f) e x l c place s = located 4 p parts a f.part f.at (inr (inr refl)) (rw e refl) x l c place s

@@ -30,30 +30,30 @@ pub record ArePages (p : Pages) : Type 0 where
   pub bytes : length p.bytes ≡ length p.firsts * PAGE_SIZE
   pub owners : length p.owners ≡ length p.bytes
 
-abbrev pub spot_in : Option ℕ → ℕ → Option ℕ
-spot_in None a = None
-spot_in (Some q) a = Some (q * PAGE_SIZE + a % PAGE_SIZE)
+abbrev pub cell_in : Option ℕ → ℕ → Option ℕ
+cell_in None a = None
+cell_in (Some q) a = Some (q * PAGE_SIZE + a % PAGE_SIZE)
 
 -- where the byte at a stands among the bytes of the pages, by the places of the page numbers
-abbrev pub spot_at : List (Option ℕ) → ℕ → Option ℕ
-spot_at places a = spot_in (slice_index_or places (a / PAGE_SIZE) None) a
+abbrev pub cell_at : List (Option ℕ) → ℕ → Option ℕ
+cell_at places a = cell_in (slice_index_or places (a / PAGE_SIZE) None) a
 
-abbrev pub spot_of : Pages → ℕ → Option ℕ
-spot_of p a = spot_at p.places a
+abbrev pub cell_of : Pages → ℕ → Option ℕ
+cell_of p a = cell_at p.places a
 
-abbrev pub byte_at_spot : List ℕ → Option ℕ → ℕ
-byte_at_spot bytes None = 0
-byte_at_spot bytes (Some i) = slice_index bytes i
+abbrev pub byte_at_cell : List ℕ → Option ℕ → ℕ
+byte_at_cell bytes None = 0
+byte_at_cell bytes (Some i) = slice_index bytes i
 
-abbrev pub owner_at_spot : List (Option ℕ) → Option ℕ → Option ℕ
-owner_at_spot owners None = None
-owner_at_spot owners (Some i) = slice_index_or owners i None
+abbrev pub owner_at_cell : List (Option ℕ) → Option ℕ → Option ℕ
+owner_at_cell owners None = None
+owner_at_cell owners (Some i) = slice_index_or owners i None
 
 abbrev pub byte_of : Pages → ℕ → ℕ
-byte_of p a = byte_at_spot p.bytes (spot_of p a)
+byte_of p a = byte_at_cell p.bytes (cell_of p a)
 
 abbrev pub owner_of : Pages → ℕ → Option ℕ
-owner_of p a = owner_at_spot p.owners (spot_of p a)
+owner_of p a = owner_at_cell p.owners (cell_of p a)
 
 -- n bytes from an address on
 unfoldable pub bytes_from : (ℕ → ℕ) → ℕ → ℕ → List ℕ
@@ -79,7 +79,7 @@ pub record IsSpan (places : List (Option ℕ)) (parts : List Part) (s : Span) : 
   pub inside : s.part < length parts
   pub low : (d : Part) → (slice_index_or parts s.part d).start ≤ s.start
   pub high : (d : Part) → s.start + s.size ≤ (slice_index_or parts s.part d).start + (slice_index_or parts s.part d).size
-  pub spot : (k : ℕ) → k < s.size → spot_at places (s.start + k) ≡ Some (s.at + k)
+  pub cell : (k : ℕ) → k < s.size → cell_at places (s.start + k) ≡ Some (s.at + k)
 
 -- a span that no closed byte is in, of a part that may be written
 pub record IsOpen (parts : List Part) (s : Span) : Type 0 where
@@ -115,12 +115,12 @@ pub record ArePageNumbers (m : Memory) (numbers : List ℕ) : Type 0 where
   pub has : (i : ℕ) → i < length numbers → HasPage m (slice_index numbers i)
   pub every : (n : ℕ) → HasPage m n → (i : ℕ) × ((i < length numbers) × (slice_index numbers i ≡ n))
 
--- the n bytes from a on lie in one part, and in one page from a spot on
+-- the n bytes from a on lie in one part, and in one page from a cell on
 pub record CanStore (n : ℕ) (p : Pages) (parts : List Part) (a i at : ℕ) : Type 0 where
   pub inside : i < length parts
   pub covering : (d : Part) → covers (slice_index_or parts i d) a n ≡ true
   pub place : IsPlace n (segments_at (byte_of p) parts) a i
-  pub spot : spot_of p a ≡ Some at
+  pub cell : cell_of p a ≡ Some at
   pub one_page : a % PAGE_SIZE + n ≤ PAGE_SIZE
   pub room : at + n ≤ length p.bytes
 
@@ -143,10 +143,10 @@ with_page p a = record {
   owners = p.owners ++ no_places PAGE_SIZE;
 }
 
--- the byte at a has a spot, and nothing else has changed
+-- the byte at a has a cell, and nothing else has changed
 pub record Ready (old new : Pages) (a at : ℕ) : Type 0 where
   pub sound : ArePages new
-  pub spot : spot_of new a ≡ Some at
+  pub cell : cell_of new a ≡ Some at
   pub places : length new.places ≡ length old.places
   pub byte : (b : ℕ) → byte_of new b ≡ byte_of old b
   pub owner : (b : ℕ) → owner_of new b ≡ owner_of old b

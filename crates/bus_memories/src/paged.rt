@@ -8,7 +8,7 @@ ghost use Rattle.eh_bus.specs.Place.{IsPlace, IsWidth};
 ghost use Rattle.eh_bus.specs.Memory.{fault_in, number_in, load_fault, store_fault, fetch_fault, store, store_run, run_fault, run_written, written, host_store};
 ghost use Rattle.eh_bus.specs.Map.{AreApart, AreSegments, flat_home};
 ghost use Rattle.eh_bus.specs.Guards.{AreGuards, AreGuards-prop};
-ghost use Rattle.bus_memories.specs.Pages.{ArePages, AreOwned, AreUsed, spot_of, byte_of, owner_of, CanStore, Lays, PagesMake, segments_at, covers, IsSpan, IsOpen, IsCode, HasPage, IsPage, ArePageNumbers};
+ghost use Rattle.bus_memories.specs.Pages.{ArePages, AreOwned, AreUsed, cell_of, byte_of, owner_of, CanStore, Lays, PagesMake, segments_at, covers, IsSpan, IsOpen, IsCode, HasPage, IsPage, ArePageNumbers};
 ghost use Rattle.eh_bus.specs.declared.fault.BusFault.{BusFault as Fault};
 ghost use Rattle.eh_bus.specs.declared.fault.BusFault.TheVariants.{Unmapped};
 
@@ -22,7 +22,7 @@ use eh_bus::map::{PAGE_SIZE, POOL_SIZE, POOL_START, STACK_END, STACK_SIZE, STACK
 use eh_bus::segment::SegmentSpec;
 use std::alloc::{AllocError, Global};
 
-/// Where an access lies: the number of its segment, and the spot of its first byte.
+/// Where an access lies: the number of its segment, and the cell of its first byte.
 #[derive(Clone, Copy)]
 pub(crate) struct Found {
     pub(crate) part: usize,
@@ -38,10 +38,10 @@ fn look_up(pages: &Pages, parts: &[Part], a: u32, n: u32) -> Option<Found>
     ensures place { IfSome result (λ found. IsPlace n (segments_at (byte_of pages.now) parts.now) a found.part) }
     ensures covers { IfSome result (λ found. (d : Part) → covers (slice_index_or parts.now found.part d) a n ≡ true) }
     ensures inside { IfSome result (λ found. found.part < length parts.now) }
-    ensures spot { IfSome result (λ found. spot_of pages.now a ≡ Some found.at) }
+    ensures cell { IfSome result (λ found. cell_of pages.now a ≡ Some found.at) }
     ensures unmapped { IfNone result ((f : Segment → Option Fault) → fault_in f n (segments_at (byte_of pages.now) parts.now) a ≡ Some (Unmapped a)) }
 {
-    let Some(at) = pages.spot(a) else {
+    let Some(at) = pages.cell(a) else {
         return None;
     };
     let Some(owner) = pages.owner(at) else {
@@ -65,19 +65,19 @@ pub(crate) fn find(pages: &Pages, parts: &[Part], near: &Span, a: u32, n: u32) -
     ensures place { IfSome result (λ found. IsPlace n (segments_at (byte_of pages.now) parts.now) a found.part) }
     ensures covers { IfSome result (λ found. (d : Part) → covers (slice_index_or parts.now found.part d) a n ≡ true) }
     ensures inside { IfSome result (λ found. found.part < length parts.now) }
-    ensures spot { IfSome result (λ found. spot_of pages.now a ≡ Some found.at) }
+    ensures cell { IfSome result (λ found. cell_of pages.now a ≡ Some found.at) }
     ensures unmapped { IfNone result ((f : Segment → Option Fault) → fault_in f n (segments_at (byte_of pages.now) parts.now) a ≡ Some (Unmapped a)) }
 {
     if near.covers(a, n) {
         return Some(Found {
             part: near.part,
-            at: near.spot(a),
+            at: near.cell(a),
         });
     }
     look_up(pages, parts, a, n)
 }
 
-/// The spot of a load of `n` bytes, by the page of the first.
+/// The cell of a load of `n` bytes, by the page of the first.
 #[inline(never)]
 fn load_by_page(pages: &Pages, parts: &[Part], a: u32, n: u32) -> Result<usize, BusFault>
     requires width { IsWidth n }
@@ -97,9 +97,9 @@ fn load_by_page(pages: &Pages, parts: &[Part], a: u32, n: u32) -> Result<usize, 
     }
 }
 
-/// The spot of a load of `n` bytes.
+/// The cell of a load of `n` bytes.
 #[inline(always)]
-pub(crate) fn load_spot(
+pub(crate) fn load_cell(
     pages: &Pages,
     parts: &[Part],
     near: &Span,
@@ -117,12 +117,12 @@ pub(crate) fn load_spot(
     ensures fault { IfErr result (λ fault. fault_in (λ s. load_fault n a) n (segments_at (byte_of pages.now) parts.now) a ≡ Some fault) }
 {
     if near.covers(a, n) && is_aligned(a, n) {
-        return Ok(near.spot(a));
+        return Ok(near.cell(a));
     }
     load_by_page(pages, parts, a, n)
 }
 
-/// The spot of a fetch, by the page of its first byte.
+/// The cell of a fetch, by the page of its first byte.
 #[inline(never)]
 fn fetch_by_page(pages: &Pages, parts: &[Part], a: u32) -> Result<usize, BusFault>
     requires sound { ArePages pages.now }
@@ -141,9 +141,9 @@ fn fetch_by_page(pages: &Pages, parts: &[Part], a: u32) -> Result<usize, BusFaul
     }
 }
 
-/// The spot of a fetch.
+/// The cell of a fetch.
 #[inline(always)]
-pub(crate) fn fetch_spot(
+pub(crate) fn fetch_cell(
     pages: &Pages,
     parts: &[Part],
     near: &Span,
@@ -159,7 +159,7 @@ pub(crate) fn fetch_spot(
     ensures fault { IfErr result (λ fault. fault_in (λ s. fetch_fault s a) 2 (segments_at (byte_of pages.now) parts.now) a ≡ Some fault) }
 {
     if near.covers(a, 2) && is_aligned(a, 2) {
-        return Ok(near.spot(a));
+        return Ok(near.cell(a));
     }
     fetch_by_page(pages, parts, a)
 }
@@ -176,7 +176,7 @@ fn store_by_page(
     requires width { IsWidth n }
     requires sound { ArePages pages.now }
     requires owned { AreOwned (owner_of pages.now) parts.now }
-    ensures spot { IfOk result (λ found. CanStore n pages.now parts.now a found.part found.at) }
+    ensures cell { IfOk result (λ found. CanStore n pages.now parts.now a found.part found.at) }
     ensures ok { IfOk result (λ found. fault_in (λ s. store_fault n guards.now s a) n (segments_at (byte_of pages.now) parts.now) a ≡ None) }
     ensures fault { IfErr result (λ fault. fault_in (λ s. store_fault n guards.now s a) n (segments_at (byte_of pages.now) parts.now) a ≡ Some fault) }
 {
@@ -191,7 +191,7 @@ fn store_by_page(
 
 /// Where a store of `n` bytes goes.
 #[inline(always)]
-pub(crate) fn store_spot(
+pub(crate) fn store_cell(
     pages: &Pages,
     parts: &[Part],
     near: &Span,
@@ -204,7 +204,7 @@ pub(crate) fn store_spot(
     requires owned { AreOwned (owner_of pages.now) parts.now }
     requires near { IsSpan pages.now.places parts.now near.now }
     requires open { IsOpen parts.now near.now }
-    ensures spot { IfOk result (λ found. CanStore n pages.now parts.now a found.part found.at) }
+    ensures cell { IfOk result (λ found. CanStore n pages.now parts.now a found.part found.at) }
     ensures ok { IfOk result (λ found. fault_in (λ s. store_fault n guards.now s a) n (segments_at (byte_of pages.now) parts.now) a ≡ None) }
     ensures fault { IfErr result (λ fault. fault_in (λ s. store_fault n guards.now s a) n (segments_at (byte_of pages.now) parts.now) a ≡ Some fault) }
 {
@@ -214,7 +214,7 @@ pub(crate) fn store_spot(
         }
         return Ok(Found {
             part: near.part,
-            at: near.spot(a),
+            at: near.cell(a),
         });
     }
     store_by_page(pages, parts, guards, a, n)
@@ -222,7 +222,7 @@ pub(crate) fn store_spot(
 
 /// Where a word that begins at a multiple of 4 stands.
 #[inline(always)]
-pub(crate) fn word_spot(pages: &Pages, parts: &[Part], near: &Span, a: u32) -> Option<Found>
+pub(crate) fn word_cell(pages: &Pages, parts: &[Part], near: &Span, a: u32) -> Option<Found>
     requires aligned { a % 4 ≡ 0 }
     requires sound { ArePages pages.now }
     requires owned { AreOwned (owner_of pages.now) parts.now }
@@ -242,7 +242,7 @@ pub(crate) fn read_word(pages: &Pages, parts: &[Part], near: &Span, a: u32) -> u
     requires near { IsSpan pages.now.places parts.now near.now }
     ensures { result ≡ number_in 4 (segments_at (byte_of pages.now) parts.now) a }
 {
-    match word_spot(pages, parts, near, a) {
+    match word_cell(pages, parts, near, a) {
         Some(found) => pages.load32(found.at),
         None => 0,
     }
@@ -263,7 +263,7 @@ fn word_fault(
     requires open { IsOpen parts.now near.now }
     ensures { result ≡ fault_in (λ s. store_fault 4 guards.now s a) 4 (segments_at (byte_of pages.now) parts.now) a }
 {
-    match store_spot(pages, parts, near, guards, a, 4) {
+    match store_cell(pages, parts, near, guards, a, 4) {
         Ok(_) => None,
         Err(fault) => Some(fault),
     }
@@ -303,7 +303,7 @@ fn write_word(pages: &mut Pages, parts: &[Part], near: &Span, a: u32, v: u32)
     ensures made { PagesMake pages.new parts.now (written 4 (segments_at (byte_of pages.old) parts.now) a v) }
     ensures places { pages.new.places ≡ pages.old.places }
 {
-    match word_spot(pages, parts, near, a) {
+    match word_cell(pages, parts, near, a) {
         Some(found) => pages.store32(found.at, v),
         None => {}
     }
@@ -331,7 +331,7 @@ struct Laid {
     parts: Vec<Part>,
 }
 
-/// Lays a segment into pages behind those that are there.
+/// Lays a segment into pages after those that are there.
 fn lay(pages: &mut Pages, parts: &mut Vec<Part>, spec: &SegmentSpec) -> Result<(), AllocError>
     requires lays { Lays pages.old parts.old.items (segments_at (byte_of pages.old) parts.old.items) }
     requires fits { length spec.now.bytes.now ≤ spec.now.size }
@@ -385,28 +385,28 @@ fn lay_all(alloc: Global, specs: &[SegmentSpec]) -> Result<Laid, AllocError>
     Ok(Laid { pages, parts })
 }
 
-/// Whether the byte at so many behind `start` stands as many behind a spot.
+/// Whether the byte at so many after `start` stands as many after a cell.
 fn stands(pages: &Pages, start: u32, at: u32, k: u32) -> bool
-    ensures { result ≡ true → spot_of pages.now (start + k) ≡ Some (at + k) }
+    ensures { result ≡ true → cell_of pages.now (start + k) ≡ Some (at + k) }
 {
     let Some(a) = start.checked_add(k) else {
         return false;
     };
-    match pages.spot(a) {
-        Some(spot) => spot == at as usize + k as usize,
+    match pages.cell(a) {
+        Some(cell) => cell == at as usize + k as usize,
         None => false,
     }
 }
 
-/// The spot of an address, where it has one and a word can tell it.
-fn small_spot(pages: &Pages, a: u32) -> Option<u32> {
-    match pages.spot(a) {
+/// The cell of an address, where it has one and a word can tell it.
+fn small_cell(pages: &Pages, a: u32) -> Option<u32> {
+    match pages.cell(a) {
         Some(at) => u32::try_from(at).ok(),
         None => None,
     }
 }
 
-/// How many bytes lie between the byte at so many behind `start` and the end of its page.
+/// How many bytes lie between the byte at so many after `start` and the end of its page.
 fn left_of_page(start: u32, k: u32) -> u32
     ensures { result ≡ PAGE_SIZE - (start + k) % PAGE_SIZE }
 {
@@ -420,7 +420,7 @@ fn span_of(pages: &Pages, parts: &[Part], number: usize) -> Span
     ensures part { result.part ≡ number }
 {
     let part = parts[number];
-    let Some(at) = small_spot(pages, part.start) else {
+    let Some(at) = small_cell(pages, part.start) else {
         return Span {
             part: number,
             start: part.start,
@@ -512,7 +512,7 @@ impl PagedBus {
     fn put8(&mut self, a: u32, v: u8) -> Result<(), BusFault>
         ensures { (result, memory_of self.new) ≡ store 1 (memory_of self.old) a v }
     {
-        let found = store_spot(&self.pages, &self.parts, &self.stack, &self.guards, a, 1)?;
+        let found = store_cell(&self.pages, &self.parts, &self.stack, &self.guards, a, 1)?;
         self.pages.store8(found.at, v);
         Ok(())
     }
@@ -521,7 +521,7 @@ impl PagedBus {
     fn put16(&mut self, a: u32, v: u16) -> Result<(), BusFault>
         ensures { (result, memory_of self.new) ≡ store 2 (memory_of self.old) a v }
     {
-        let found = store_spot(&self.pages, &self.parts, &self.stack, &self.guards, a, 2)?;
+        let found = store_cell(&self.pages, &self.parts, &self.stack, &self.guards, a, 2)?;
         self.pages.store16(found.at, v);
         Ok(())
     }
@@ -530,7 +530,7 @@ impl PagedBus {
     fn put32(&mut self, a: u32, v: u32) -> Result<(), BusFault>
         ensures { (result, memory_of self.new) ≡ store 4 (memory_of self.old) a v }
     {
-        let found = store_spot(&self.pages, &self.parts, &self.stack, &self.guards, a, 4)?;
+        let found = store_cell(&self.pages, &self.parts, &self.stack, &self.guards, a, 4)?;
         self.pages.store32(found.at, v);
         Ok(())
     }
@@ -589,21 +589,21 @@ impl Bus for PagedBus {
     fn load8(&self, a: u32) -> Result<u8, BusFault> {
         Ok(
             self.pages
-                .load8(load_spot(&self.pages, &self.parts, &self.stack, a, 1)?),
+                .load8(load_cell(&self.pages, &self.parts, &self.stack, a, 1)?),
         )
     }
 
     fn load16(&self, a: u32) -> Result<u16, BusFault> {
         Ok(
             self.pages
-                .load16(load_spot(&self.pages, &self.parts, &self.stack, a, 2)?),
+                .load16(load_cell(&self.pages, &self.parts, &self.stack, a, 2)?),
         )
     }
 
     fn load32(&self, a: u32) -> Result<u32, BusFault> {
         Ok(
             self.pages
-                .load32(load_spot(&self.pages, &self.parts, &self.stack, a, 4)?),
+                .load32(load_cell(&self.pages, &self.parts, &self.stack, a, 4)?),
         )
     }
 
@@ -626,7 +626,7 @@ impl Bus for PagedBus {
     fn fetch16(&self, a: u32) -> Result<u16, BusFault> {
         Ok(
             self.pages
-                .load16(fetch_spot(&self.pages, &self.parts, &self.code, a)?),
+                .load16(fetch_cell(&self.pages, &self.parts, &self.code, a)?),
         )
     }
 

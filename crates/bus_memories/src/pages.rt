@@ -2,7 +2,7 @@
 ghost use Rattle.std.specs.Prelude.{◌≡◌, ℕ, ◌+◌, ◌-◌, ◌*◌, ◌/◌, ◌%◌, ◌<◌, ◌≤◌, ◌∷◌, [], length, take, drop, ◌++◌, Some, None, IfOk, OnOk, cond, ◌==◌, ◌&&◌, nat_le, nat_lt, slice_index_or, slice_index, slice_set, replicate};
 ghost use Rattle.byteorder.specs.Endian.{little_number, little_bytes};
 ghost use Rattle.eh_bus.specs.Segment.{AreBytes};
-ghost use Rattle.bus_memories.specs.Pages.{Pages as Lists, ArePages, AreUsed, Ready, Claimed, Filled, with_page, no_pages, no_places, spot_of, byte_of, owner_of};
+ghost use Rattle.bus_memories.specs.Pages.{Pages as Lists, ArePages, AreUsed, Ready, Claimed, Filled, with_page, no_pages, no_places, cell_of, byte_of, owner_of};
 
 use crate::segment::{put8, put16, put32};
 use byteorder::{ByteOrder, LittleEndian};
@@ -61,8 +61,8 @@ impl Pages {
     }
 
     /// Where the byte at `a` stands.
-    pub(crate) fn spot(&self, a: u32) -> Option<usize>
-        ensures { result ≡ spot_of self.now a }
+    pub(crate) fn cell(&self, a: u32) -> Option<usize>
+        ensures { result ≡ cell_of self.now a }
     {
         match self.place((a / PAGE_SIZE) as usize) {
             Some(place) => Some(place as usize * PAGE_SIZE as usize + (a % PAGE_SIZE) as usize),
@@ -70,7 +70,7 @@ impl Pages {
         }
     }
 
-    /// The segment that has the byte at a spot.
+    /// The segment that has the byte at a cell.
     pub(crate) fn owner(&self, at: usize) -> Option<u32>
         requires { at < length self.now.owners }
         ensures { result ≡ slice_index_or self.now.owners at None }
@@ -130,11 +130,11 @@ impl Pages {
         put32(&mut self.bytes, at, v);
     }
 
-    /// Adds the page of `a`, which is not there yet, all zeros and with no owner. Answers the spot of `a`.
+    /// Adds the page of `a`, which is not there yet, all zeros and with no owner. Answers the cell of `a`.
     fn add_page(&mut self, a: u32) -> Result<usize, AllocError>
         requires { a / PAGE_SIZE < length self.old.places }
         ensures page { OnOk result (self.new ≡ with_page self.old a) }
-        ensures spot { IfOk result (λ at. at ≡ length self.old.firsts * PAGE_SIZE + a % PAGE_SIZE) }
+        ensures cell { IfOk result (λ at. at ≡ length self.old.firsts * PAGE_SIZE + a % PAGE_SIZE) }
     {
         let Ok(place) = u32::try_from(self.firsts.len()) else {
             return Err(AllocError);
@@ -146,19 +146,19 @@ impl Pages {
         Ok(place as usize * PAGE_SIZE as usize + (a % PAGE_SIZE) as usize)
     }
 
-    /// The spot of `a`, whose page is added where it is not there.
+    /// The cell of `a`, whose page is added where it is not there.
     fn ready(&mut self, a: u32) -> Result<usize, AllocError>
         requires room { a / PAGE_SIZE < length self.old.places }
         requires sound { ArePages self.old }
         ensures { IfOk result (λ at. Ready self.old self.new a at) }
     {
-        match self.spot(a) {
+        match self.cell(a) {
             Some(at) => Ok(at),
             None => self.add_page(a),
         }
     }
 
-    /// Gives the byte at a spot a value and an owner.
+    /// Gives the byte at a cell a value and an owner.
     fn set(&mut self, at: usize, byte: u8, owner: u32)
         requires bytes { at < length self.old.bytes }
         requires owners { at < length self.old.owners }
@@ -203,7 +203,7 @@ impl Pages {
     }
 }
 
-/// The byte at a place, or 0 behind the last.
+/// The byte at a place, or 0 after the last.
 fn byte_or_zero(given: &[u8], k: usize) -> u8
     ensures { result ≡ slice_index given.now k }
 {

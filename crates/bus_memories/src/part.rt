@@ -27,7 +27,7 @@ pub(crate) struct Span {
     pub(crate) part: usize,
     pub(crate) start: u32,
     pub(crate) size: u32,
-    /// The spot of the first byte.
+    /// The cell of the first byte.
     pub(crate) at: u32,
 }
 
@@ -39,8 +39,8 @@ impl Span {
         self.start <= a && u64::from(a - self.start) + u64::from(n) <= u64::from(self.size)
     }
 
-    /// The spot of the byte at `a`.
-    pub(crate) fn spot(&self, a: u32) -> usize
+    /// The cell of the byte at `a`.
+    pub(crate) fn cell(&self, a: u32) -> usize
         requires { self.now.start ≤ a }
         ensures { result ≡ self.now.at + (a - self.now.start) }
     {

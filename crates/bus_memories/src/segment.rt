@@ -120,7 +120,7 @@ impl Segment {
     }
 }
 
-/// These bytes, and zeros behind them up to the size.
+/// These bytes, and zeros after them up to the size.
 #[tactic(auto, unfolding(eh_list::specs::Bytes::zeros))]
 fn filled(alloc: Global, given: &[u8], size: usize) -> Result<Vec<u8>, AllocError>
     requires { length given.now ≤ size }

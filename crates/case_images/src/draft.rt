@@ -10,7 +10,7 @@ use elf_write::parts::{
 use elf_write::write::write_image;
 use std::alloc::Global;
 
-/// How far behind its segment's start a byte may stand.
+/// How far after its segment's start a byte may stand.
 const FARTHEST: u32 = 0x2_0000;
 
 /// Memory of `size` bytes from `start` on, the first of them given.
@@ -33,7 +33,7 @@ pub struct Draft {
 }
 
 impl DraftSegment {
-    /// Puts bytes at an address behind those that are there, with zeros between them.
+    /// Puts bytes at an address after those that are there, with zeros between them.
     fn put(&mut self, at: u32, bytes: &[u8]) -> Result<(), Unanswered> {
         let offset = at.wrapping_sub(self.start);
         if offset > FARTHEST || (offset as usize) < self.bytes.len() {

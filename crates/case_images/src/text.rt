@@ -1,8 +1,8 @@
 //! An image by a text: parts with ` ; ` between them, each of words. What stands in a segment follows it, in rising order.
 //!
-//! - `segment START SIZE` and `writable START SIZE`: memory, from which bytes are missing behind the last that is put
+//! - `segment START SIZE` and `writable START SIZE`: memory, from which bytes are missing after the last that is put
 //! - `words ADDRESS WORD ..`, `code ADDRESS HALFWORD ..` `text ADDRESS TEXT`, and `names ADDRESS NAME ..`, each
-//!   name with a zero byte behind it
+//!   name with a zero byte after it
 //! - `entry ADDRESS`, `index ADDRESS SIZE`, `function NAME ADDRESS SIZE`, `object NAME ADDRESS SIZE`, `thumb ADDRESS`
 //! - `vtables`: the vtables of the kinds of types
 use crate::draft::Draft;

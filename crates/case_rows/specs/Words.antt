@@ -10,6 +10,6 @@ is_space byte = byte == 32
 abbrev pub word_in_front : List ℕ → List ℕ
 word_in_front question = before_first is_space question
 
--- what stands behind the first space, or nothing where there is none
-abbrev pub words_behind : List ℕ → List ℕ
-words_behind question = after_first is_space question
+-- what stands after the first space, or nothing where there is none
+abbrev pub words_after : List ℕ → List ℕ
+words_after question = after_first is_space question

@@ -1,6 +1,6 @@
 //! The words of a question: words with one space between them, of which most are numbers.
 ghost use Rattle.std.specs.Prelude.{◌≡◌, ◌<◌, ◌↔◌, length, IsOk, IfOk, slice_get, Some, []};
-ghost use Rattle.case_rows.specs.Words.{word_in_front, words_behind};
+ghost use Rattle.case_rows.specs.Words.{word_in_front, words_after};
 ghost use Rattle.std.specs.Str.Parse.{ParsesUnsigned};
 
 use crate::unanswered::Unanswered;
@@ -26,10 +26,10 @@ pub fn decimal(word: &str) -> Result<u32, Unanswered>
     }
 }
 
-/// The first word of a question, and the words behind it.
+/// The first word of a question, and the words after it.
 pub fn first_word(question: &str) -> (&str, &str)
     ensures first { result.0.now ≡ word_in_front question.now }
-    ensures rest { result.1.now ≡ words_behind question.now }
+    ensures rest { result.1.now ≡ words_after question.now }
 {
     match question.split_once(' ') {
         Some(parts) => parts,

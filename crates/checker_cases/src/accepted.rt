@@ -14,8 +14,8 @@ use std::alloc::{AllocError, Global};
 const FRONT: &str =
     "entry 8000 ; index 8100 18 ; function main 8000 A ; function leaf 8010 2 ; function far 20000000 6 ; segment 8000 200 ; code 8000 B518 2401 F000 F804 BD18 ; code 8010 4770 ; words 8100";
 
-/// What stands behind them.
-const BEHIND: &str = "segment 20000000 6 ; code 20000000 B580 DF12 BD80";
+/// What stands after them.
+const AFTER: &str = "segment 20000000 6 ; code 20000000 B580 DF12 BD80";
 
 /// What images are asked.
 #[derive(Clone, Copy)]
@@ -43,7 +43,7 @@ fn file_of(
     further: &str,
 ) -> Result<Vec<u8>, Unanswered> {
     let text = format!(in alloc;
-        "{FRONT} >8000 {main} >{second} 80B0B0B0 >20000000 {far} ; {BEHIND}{further}"
+        "{FRONT} >8000 {main} >{second} 80B0B0B0 >20000000 {far} ; {AFTER}{further}"
     )?;
     image_of(alloc, text.as_str())
 }

@@ -3,11 +3,11 @@ use crate::causes::cause_text;
 use crate::facts::{difference, fact_of, registers_text, usual_prologue};
 use crate::source::instruction;
 use case_rows::{Asked, Unanswered, first_word, number};
-use frame_facts::{Fact, after, forget, is_same, join};
+use frame_facts::{Fact, after, clobber, is_same, join};
 use std::alloc::Global;
 
-/// An address behind the prologue, and the entry.
-const BEHIND: u32 = 0x8010;
+/// An address after the prologue, and the entry.
+const AFTER: u32 = 0x8010;
 
 const ENTRY: u32 = 0x8000;
 
@@ -22,13 +22,13 @@ impl Asked for Effects {
         let fact = fact_of(fact)?;
         match what {
             "fact" => Ok(registers_text(alloc, &fact)?),
-            "effect" => effect(alloc, &fact, rest, BEHIND, false),
-            "lowers" => effect(alloc, &fact, rest, BEHIND, true),
+            "effect" => effect(alloc, &fact, rest, AFTER, false),
+            "lowers" => effect(alloc, &fact, rest, AFTER, true),
             "first" => effect(alloc, &fact, rest, ENTRY, false),
             "forget" => Ok(difference(
                 alloc,
                 &fact,
-                &forget(&fact, (number(rest)? % 0x1_0000) as u16),
+                &clobber(&fact, (number(rest)? % 0x1_0000) as u16),
             )?),
             "meet" => meeting(alloc, &fact, &fact_of(rest)?),
             "same" => same(alloc, &fact, &fact_of(rest)?),
@@ -38,7 +38,7 @@ impl Asked for Effects {
 }
 
 /// `effect FACT ; INSTRUCTION`, `lowers ..` where sp is lowered by an unknown amount there, and `first ..` at the entry: what of
-/// the fact differs behind it, or its cause.
+/// the fact differs after it, or its cause.
 fn effect(
     alloc: Global,
     fact: &Fact,

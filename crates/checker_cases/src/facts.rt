@@ -1,6 +1,6 @@
 //! Facts and prologues in words.
 //!
-//! A fact is `entry`, that of a function's entry, `behind`, that behind `push {r4, lr}` there, or `mixed`, the same with r1
+//! A fact is `entry`, that of a function's entry, `after`, that after `push {r4, lr}` there, or `mixed`, the same with r1
 //! unknown, the CFA minus 8 in r2, r5's value in r3 and the CFA minus 4 in r7; and then its changes, in decimal: `depth=N`,
 //! `kept=N`, `below=yes`, and for a register, as `r7=cfa-4`, `r7=r5` or `r7=?`, what it holds.
 //!
@@ -21,7 +21,7 @@ pub fn usual_prologue() -> Prologue {
     }
 }
 
-fn behind() -> Fact {
+fn after() -> Fact {
     let mut fact = entry_fact();
     fact.depth = 8;
     fact.kept = 2;
@@ -29,7 +29,7 @@ fn behind() -> Fact {
 }
 
 fn mixed() -> Fact {
-    let mut fact = behind();
+    let mut fact = after();
     fact.regs[1] = Source::Other;
     fact.regs[2] = Source::SpAt(8);
     fact.regs[3] = Source::Entry(5);
@@ -103,7 +103,7 @@ pub fn fact_of(text: &str) -> Result<Fact, Unanswered> {
     let (name, changes) = first_word(text);
     let mut fact = match name {
         "entry" => entry_fact(),
-        "behind" => behind(),
+        "after" => after(),
         "mixed" => mixed(),
         _ => return Err(Unanswered::NotKnown),
     };
@@ -180,21 +180,14 @@ fn push_frame(
     alloc: Global,
     text: &mut String,
     before: &Fact,
-    behind: &Fact,
+    after: &Fact,
 ) -> Result<(), AllocError> {
-    let (depth, kept) = (behind.depth, behind.kept);
+    let (depth, kept) = (after.depth, after.kept);
     if before.depth != depth {
         push_words(text, format!(in alloc; "depth={depth}")?.as_str())?;
     }
-    if before.below != behind.below {
-        push_words(
-            text,
-            if behind.below {
-                "below=yes"
-            } else {
-                "below=no"
-            },
-        )?;
+    if before.below != after.below {
+        push_words(text, if after.below { "below=yes" } else { "below=no" })?;
     }
     if before.kept != kept {
         push_words(text, format!(in alloc; "kept={kept}")?.as_str())?;
@@ -203,10 +196,10 @@ fn push_frame(
 }
 
 /// What of a fact differs from another one before it, or `the same`.
-pub fn difference(alloc: Global, before: &Fact, behind: &Fact) -> Result<String, AllocError> {
+pub fn difference(alloc: Global, before: &Fact, after: &Fact) -> Result<String, AllocError> {
     let mut text = String::new(alloc);
-    push_frame(alloc, &mut text, before, behind)?;
-    for (place, (old, new)) in before.regs.iter().zip(&behind.regs).enumerate() {
+    push_frame(alloc, &mut text, before, after)?;
+    for (place, (old, new)) in before.regs.iter().zip(&after.regs).enumerate() {
         if old != new {
             let register = register_text(alloc, place)?;
             let source = source_text(alloc, *new)?;

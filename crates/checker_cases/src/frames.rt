@@ -6,8 +6,8 @@ use case_rows::{Asked, Unanswered, first_word, want_of_memory};
 use eh_index::Index;
 use elf_image::image::Image;
 use frame_facts::Prologue;
-use frame_flow::{FrameFault, Framed, settle};
-use frame_scene::Scene;
+use frame_flow::{FrameFault, Framed, solve};
+use frame_graph::FlowGraph;
 use std::alloc::{AllocError, Global};
 
 const START: u32 = 0x8000;
@@ -17,7 +17,7 @@ const START: u32 = 0x8000;
 pub struct Frames;
 
 impl Asked for Frames {
-    /// `ENTRY ; SAVES ; PADS ; HALFWORDS`, where ENTRY is the second word of the function's row, with a table's words behind it at
+    /// `ENTRY ; SAVES ; PADS ; HALFWORDS`, where ENTRY is the second word of the function's row, with a table's words after it at
     /// 9000, PADS a letter for each halfword, `p` for a landing pad.
     fn answer(&self, alloc: Global, question: &str) -> Result<String, Unanswered> {
         let Some((entry, rest)) = question.split_once(" ; ") else {
@@ -32,7 +32,7 @@ impl Asked for Frames {
         let file = file_of(alloc, entry, code)?;
         let image = opened(alloc, &file)?;
         let end = end_of(code);
-        settled(
+        solved(
             alloc,
             &image,
             end,
@@ -53,7 +53,7 @@ fn file_of(alloc: Global, entry: &str, code: &str) -> Result<Vec<u8>, Unanswered
     image_of(alloc, text.as_str())
 }
 
-/// The address behind so many halfwords.
+/// The address after so many halfwords.
 fn end_of(code: &str) -> u32 {
     let mut end = START;
     for _ in code.split(' ') {
@@ -71,7 +71,7 @@ fn pads_of(alloc: Global, letters: &str) -> Result<Vec<bool>, AllocError> {
 }
 
 /// What the facts of the function at the start say, which ends at an address.
-fn settled(
+fn solved(
     alloc: Global,
     image: &Image,
     end: u32,
@@ -84,8 +84,8 @@ fn settled(
     if end <= START {
         return Err(Unanswered::NoWord);
     }
-    let scene = Scene::new(&index, START, end);
-    match settle(alloc, &Framed::new(&scene, prologue, pads)) {
+    let flow_graph = FlowGraph::new(&index, START, end);
+    match solve(alloc, &Framed::new(&flow_graph, prologue, pads)) {
         Ok(()) => Ok(format!(in alloc; "fine")?),
         Err(FrameFault::Stands(place, cause)) => {
             let cause = cause_text(alloc, cause)?;

@@ -4,8 +4,8 @@ use case_images::{image_of, opened};
 use case_rows::{Asked, Unanswered, decimal, first_word, want_of_memory};
 use eh_index::Index;
 use elf_image::image::Image;
+use frame_graph::FlowGraph;
 use frame_reach::{ReachFault, Reached, reach};
-use frame_scene::Scene;
 use std::alloc::{AllocError, Global};
 
 const CODE: u32 = 0x9000;
@@ -74,12 +74,17 @@ fn letter(reached: &Reached, place: u32) -> char {
 }
 
 /// What is told of a function: its places as letters, its prologue, and the reached places in the order in which they were found.
-fn told(alloc: Global, scene: &Scene, reached: &Reached, count: u32) -> Result<String, AllocError> {
+fn told(
+    alloc: Global,
+    flow_graph: &FlowGraph,
+    reached: &Reached,
+    count: u32,
+) -> Result<String, AllocError> {
     let mut text = String::new(alloc);
     for place in 0..count {
         text.push(letter(reached, place))?;
     }
-    let prologue = reached.prologue(scene);
+    let prologue = reached.prologue(flow_graph);
     let end = prologue.end;
     let saves = saves_text(alloc, &prologue)?;
     text.push_str(format!(in alloc; ", to {end:X}, saves {saves}, places")?.as_str())?;
@@ -94,9 +99,9 @@ fn told_of(alloc: Global, image: &Image, count: u32) -> Result<String, Unanswere
         return Err(Unanswered::Because("no index"));
     };
     let end = CODE.saturating_add(count.saturating_mul(2));
-    let scene = Scene::new(&index, CODE, end);
-    match reach(alloc, &scene) {
-        Ok(reached) => Ok(told(alloc, &scene, &reached, count)?),
+    let flow_graph = FlowGraph::new(&index, CODE, end);
+    match reach(alloc, &flow_graph) {
+        Ok(reached) => Ok(told(alloc, &flow_graph, &reached, count)?),
         Err(ReachFault::TooLong) => Err(Unanswered::Because("too long")),
         Err(ReachFault::OutOfMemory) => Err(want_of_memory()),
     }
@@ -115,7 +120,7 @@ fn count_in(alloc: Global, image: &Image, count: u32) -> Result<String, Unanswer
         return Err(Unanswered::Because("no index"));
     };
     let end = CODE.saturating_add(count.saturating_mul(2));
-    match reach(alloc, &Scene::new(&index, CODE, end)) {
+    match reach(alloc, &FlowGraph::new(&index, CODE, end)) {
         Ok(reached) => {
             let places = reached.places().len();
             let word = if places == 1 { "place" } else { "places" };
@@ -147,7 +152,7 @@ fn split(alloc: Global, rows: &str, code: &str) -> Result<String, Unanswered> {
         return Err(Unanswered::Because("no index"));
     };
     let end = CODE.saturating_add(count_of(code).saturating_mul(2));
-    let whole = Scene::new(&index, CODE, end);
+    let whole = FlowGraph::new(&index, CODE, end);
     let Ok(reached) = reach(alloc, &whole) else {
         return Err(Unanswered::Because("not reached"));
     };

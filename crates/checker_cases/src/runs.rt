@@ -36,7 +36,7 @@ fn run_of(lines: &[(Instr, u32)]) -> Option<Straight> {
     Some(straight)
 }
 
-/// A run's end, its saves, and the depth behind it.
+/// A run's end, its saves, and the depth after it.
 fn told(alloc: Global, run: Option<Straight>) -> Result<String, Unanswered> {
     let Some(straight) = run else {
         return Ok(format!(in alloc; "no prologue")?);

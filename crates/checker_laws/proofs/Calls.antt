@@ -14,22 +14,22 @@ use Rattle.thumb_core.specs.Outcome.{Outcome}
 use Rattle.thumb_core.specs.Branch.{passes, branch, call_to}
 use Rattle.thumb_core.specs.Step.{effect}
 use Rattle.eh_phase.specs.Frames.{site_of as frame_site}
-use Rattle.step_ahead.specs.declared.instruction.Ahead.TheVariants.{Level, Pushes, Jumps, Other}
-use Rattle.step_ahead.specs.Ahead.{is_level, branches}
-use Rattle.frame_scene.specs.Ways.{goes_on}
-use Rattle.frame_scene.specs.Sites.{site_of}
-use Rattle.checker_laws.specs.WayLaws.{IsWay, WhatIsAheadIsAWay, CallsStandAtTheirSites}
-use Rattle.checker_laws.proofs.Ways.{branch_to}
+use Rattle.step_ahead.specs.declared.instruction.Ahead.TheVariants.{FallThrough, Pushes, Jumps, Other}
+use Rattle.step_ahead.specs.Ahead.{is_fall_through, branches}
+use Rattle.frame_graph.specs.Edges.{reaches_next}
+use Rattle.frame_graph.specs.Sites.{site_of}
+use Rattle.checker_laws.specs.EdgeLaws.{IsEdge, WhatIsAheadIsAnEdge, CallsStandAtTheirSites}
+use Rattle.checker_laws.proofs.Edges.{branch_to}
 
-level_on : (i : Instr) (regs : Regs) → is_level i ≡ true → branches i regs ≡ false → goes_on i ≡ true
-level_on (B off) regs level taken = absurd cc
-level_on (Bx k) regs level taken = absurd cc
-level_on (Pop list) regs level taken = absurd cc
-level_on (AddHigh d k) regs level taken = ap not taken
-level_on (MovHigh d k) regs level taken = ap not taken
-level_on i regs level taken = refl
+fall_through_on : (i : Instr) (regs : Regs) → is_fall_through i ≡ true → branches i regs ≡ false → reaches_next i ≡ true
+fall_through_on (B off) regs fall_through taken = absurd cc
+fall_through_on (Bx k) regs fall_through taken = absurd cc
+fall_through_on (Pop list) regs fall_through taken = absurd cc
+fall_through_on (AddHigh d k) regs fall_through taken = ap not taken
+fall_through_on (MovHigh d k) regs fall_through taken = ap not taken
+fall_through_on i regs fall_through taken = refl
 
-jumps : (i : Instr) (regs : Regs) (m : Memory) (to : ℕ) → branches i regs ≡ true → effect i 2 regs m ≡ (Done, record regs { pc = to }, m) → IsWay i regs (Jumps to)
+jumps : (i : Instr) (regs : Regs) (m : Memory) (to : ℕ) → branches i regs ≡ true → effect i 2 regs m ≡ (Done, record regs { pc = to }, m) → IsEdge i regs (Jumps to)
 jumps (B off) regs m to taken goes =
     inl (record { target = forward (regs.pc + 4) off; is = refl; pc = sym (ap (λ (o : Outcome). o.1.pc) goes) ∙ branch_to off regs })
 jumps (BCond condition off) regs m to taken goes =
@@ -43,22 +43,22 @@ jumps (AddHigh d k) regs m to taken goes = inr (record { on = ap not taken; targ
 jumps (MovHigh d k) regs m to taken goes = inr (record { on = ap not taken; target = refl })
 jumps i regs m to taken goes = absurd cc
 
-pub ahead : WhatIsAheadIsAWay
-ahead i regs m Level h = level_on i regs h.level h.taken
-ahead i regs m (Pushes count) h = level_on i regs h.level h.taken
+pub ahead : WhatIsAheadIsAnEdge
+ahead i regs m FallThrough h = fall_through_on i regs h.fall_through h.taken
+ahead i regs m (Pushes count) h = fall_through_on i regs h.fall_through h.taken
 ahead i regs m (Jumps to) h = jumps i regs m to h.taken (h.goes 2 m)
 ahead i regs m (Other taken) h = tt
 
 -- ---- calls
 
-site_behind : (a size ret back : ℕ) → a % 2 ≡ 0 → a + size < 2 ^ 32 → (a + size) % 2 ≡ 0 → 2 ≤ size → ret ≡ even ((a + size) % 2 ^ 32) + 1 → back ≡ ret
+site_after : (a size ret back : ℕ) → a % 2 ≡ 0 → a + size < 2 ^ 32 → (a + size) % 2 ≡ 0 → 2 ≤ size → ret ≡ even ((a + size) % 2 ^ 32) + 1 → back ≡ ret
     → (back - back % 2 + (2 ^ 32 - 2)) % 2 ^ 32 ≡ a + size - 2
-site_behind a size ret back aligned low e two is same = omega (arith, aligned, low, e, two, is, same)
+site_after a size ret back aligned low e two is same = omega (arith, aligned, low, e, two, is, same)
 
 pub calls : CallsStandAtTheirSites
 calls (Bl off) size target ret regs m r sized aligned low gone back =
     let link : ret ≡ even ((regs.pc + size) % 2 ^ 32) + 1 = cc in
-    let site = site_behind regs.pc size ret (slice_index r 15) aligned low (omega (arith, sized, aligned)) (omega (arith, sized)) link back in
+    let site = site_after regs.pc size ret (slice_index r 15) aligned low (omega (arith, sized, aligned)) (omega (arith, sized)) link back in
     ap (λ (x : ℕ). Some x) (let n : (regs.pc + 2) % 2 ^ 32 ≡ frame_site r = omega (arith, site, sized, low) in n)
 calls (Blx k) size target ret regs m r sized aligned low gone back = go (operand regs k % 2 == 0) gone
   where
@@ -66,6 +66,6 @@ calls (Blx k) size target ret regs m r sized aligned low gone back = go (operand
     go true gone = absurd cc
     go false gone =
         let link : ret ≡ even ((regs.pc + size) % 2 ^ 32) + 1 = cc in
-        let site = site_behind regs.pc size ret (slice_index r 15) aligned low (omega (arith, sized, aligned)) (omega (arith, sized)) link back in
+        let site = site_after regs.pc size ret (slice_index r 15) aligned low (omega (arith, sized, aligned)) (omega (arith, sized)) link back in
         ap (λ (x : ℕ). Some x) (let n : regs.pc ≡ frame_site r = omega (arith, site, sized, low) in n)
 calls i size target ret regs m r sized aligned low gone back = absurd sized

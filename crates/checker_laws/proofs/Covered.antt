@@ -17,10 +17,10 @@ use Rattle.eh_bytecode.specs.declared.recipe.RecipeFault.TheVariants.{BadCode, R
 use Rattle.eh_desc.specs.Grammar.{items_of}
 use Rattle.eh_phase.specs.declared.walk.Covered.{Covered}
 use Rattle.eh_phase.specs.Frames.{codes_of, with_items, covered_by, covered_at}
-use Rattle.frame_scene.specs.declared.unwinding.Unwinding.TheVariants.{Finds}
-use Rattle.frame_scene.specs.Scene.{Scene}
-use Rattle.frame_scene.specs.Sites.{entry_at, unwinding_by, unwinding_at, items_by, items_at}
-use Rattle.frame_scene.specs.Unwinding.{pop_once, by_recipe, of_codes, of_fault, of_read, of_body}
+use Rattle.frame_graph.specs.declared.unwinding.Unwinding.TheVariants.{Finds}
+use Rattle.frame_graph.specs.FlowGraph.{FlowGraph}
+use Rattle.frame_graph.specs.Sites.{entry_at, unwinding_by, unwinding_at, items_by, items_at}
+use Rattle.frame_graph.specs.Unwinding.{pop_once, by_recipe, of_codes, of_fault, of_read, of_body}
 use Rattle.checker_laws.specs.SiteLaws.{HasRecipe, EntriesAreOne}
 
 -- codes, with their recipe
@@ -53,7 +53,7 @@ body_finds (Inline word) bytes of e = let w = read_finds (inline_codes word) of 
 body_finds (Table a) None of e = absurd cc
 body_finds (Table a) (Some bytes) of e = let w = read_finds (table_codes bytes) of e in record { codes = w.0; are = w.1; recipe = w.2; once = w.3 }
 
-found : (s : Scene) (site : ℕ) (of : Recipe) → unwinding_at s site ≡ Finds of → HasRecipe s site of
+found : (s : FlowGraph) (site : ℕ) (of : Recipe) → unwinding_at s site ≡ Finds of → HasRecipe s site of
 unfolding unwinding_at covered_at
 found s site of e = go (entry_at s site) refl e
   where
@@ -91,7 +91,7 @@ with_codes x bytes None c e = absurd cc
 with_codes x bytes (Some codes) c e =
     let same : with_items x bytes codes ≡ c = cc in (ap (λ (v : Covered). Some v.codes) same, ap (λ (v : Covered). v.descs) same)
 
-finds : (s : Scene) (site : ℕ) (of : Recipe) → HasRecipe s site of → unwinding_at s site ≡ Finds of
+finds : (s : FlowGraph) (site : ℕ) (of : Recipe) → HasRecipe s site of → unwinding_at s site ≡ Finds of
 unfolding unwinding_at covered_at
 finds s site of h = go (entry_at s site) refl
   where
@@ -101,7 +101,7 @@ finds s site of h = go (entry_at s site) refl
         let some = with_codes x (table_of s.image x) _ h.covered (sym (ap (covered_by s.image) is) ∙ h.covers) in
         ap (unwinding_by s) is ∙ body_back x.body (table_of s.image x) h.covered.codes of some.0 h.recipe h.once
 
-items : (s : Scene) (site : ℕ) (c : Covered) → covered_at s.image site ≡ Some c → items_at s site ≡ c.descs
+items : (s : FlowGraph) (site : ℕ) (c : Covered) → covered_at s.image site ≡ Some c → items_at s site ≡ c.descs
 unfolding items_at covered_at
 items s site c e = go (entry_at s site) refl
   where

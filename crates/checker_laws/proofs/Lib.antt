@@ -1,6 +1,6 @@
 mod Covered
 mod Pads
-mod Ways
+mod Edges
 mod Calls
 mod Scopes
 mod Common

@@ -7,7 +7,7 @@ use Rattle.eh_phase.specs.declared.phase2.Entered.{Entered}
 use Rattle.eh_phase.specs.declared.phase2.Entered.TheVariants as enters
 use Rattle.eh_phase.specs.declared.phase2.Goal.{Goal}
 use Rattle.eh_phase.specs.Phases.{Frame, is_goal, spec_entered, entered_by, entered_item}
-use Rattle.frame_scene.specs.Sites.{covers, cleans, pad_of, pad_for, is_cleanup}
+use Rattle.frame_graph.specs.Sites.{covers, cleans, pad_of, pad_for, is_cleanup}
 use Rattle.checker_laws.specs.SiteLaws.{PadsAreOne, pad_entered, is_cleanup_entered}
 
 -- what a descriptor in scope enters

@@ -1,3 +1,3 @@
 pub mod SiteLaws
-pub mod WayLaws
+pub mod EdgeLaws
 pub mod MeetingLaws

@@ -1,4 +1,4 @@
--- What the checker and phase 2 say of one site is one: its scope, the entry that covers it, and the landing pads (IHI 0038; docs/scenes.md, "Sites";
+-- What the checker and phase 2 say of one site is one: its scope, the entry that covers it, and the landing pads (IHI 0038; docs/flow-graphs.md, "Sites";
 -- docs/phases.md).
 use Rattle.std.specs.Prelude.{◌≡◌, ◌↔◌, ℕ, ◌+◌, ◌<◌, ◌≤◌, true, false, Bool, Option, Some, None, Ok}
 use Rattle.unwind_codes.specs.Cut.{cut}
@@ -12,10 +12,10 @@ use Rattle.eh_phase.specs.declared.walk.Covered.{Covered}
 use Rattle.eh_phase.specs.Verdict.{in_scope}
 use Rattle.eh_phase.specs.Phases.{Frame, entered_item}
 use Rattle.eh_phase.specs.Frames.{covered_at}
-use Rattle.frame_scene.specs.declared.unwinding.Unwinding.TheVariants.{Finds}
-use Rattle.frame_scene.specs.Scene.{Scene}
-use Rattle.frame_scene.specs.Sites.{covers, cleans, pad_for, items_at, unwinding_at}
-use Rattle.frame_scene.specs.Unwinding.{pop_once}
+use Rattle.frame_graph.specs.declared.unwinding.Unwinding.TheVariants.{Finds}
+use Rattle.frame_graph.specs.FlowGraph.{FlowGraph}
+use Rattle.frame_graph.specs.Sites.{covers, cleans, pad_for, items_at, unwinding_at}
+use Rattle.frame_graph.specs.Unwinding.{pop_once}
 
 -- A scope is the sites from its start to below its end, so many bytes above the start. One whose end passes the last address has none.
 pub record IsInScope (site : ℕ) (d : Desc) : Type 0 where
@@ -32,7 +32,7 @@ pub record ScopesAreOne : Type 0 where
 -- ---- the covering entry
 
 -- the checker finds a recipe at a site: phase 2 has codes there, of which it is the recipe
-pub record HasRecipe (s : Scene) (site : ℕ) (of : Recipe) : Type 0 where
+pub record HasRecipe (s : FlowGraph) (site : ℕ) (of : Recipe) : Type 0 where
   pub covered : Covered
   pub covers : covered_at s.image site ≡ Some covered
   pub recipe : recipe (cut covered.codes) ≡ Ok of
@@ -40,9 +40,9 @@ pub record HasRecipe (s : Scene) (site : ℕ) (of : Recipe) : Type 0 where
 
 -- Exactly where it has such codes, that pop no register twice, the checker finds their recipe; and the descriptors are the same.
 pub record EntriesAreOne : Type 0 where
-  pub found : (s : Scene) (site : ℕ) (of : Recipe) → unwinding_at s site ≡ Finds of → HasRecipe s site of
-  pub finds : (s : Scene) (site : ℕ) (of : Recipe) → HasRecipe s site of → unwinding_at s site ≡ Finds of
-  pub items : (s : Scene) (site : ℕ) (c : Covered) → covered_at s.image site ≡ Some c → items_at s site ≡ c.descs
+  pub found : (s : FlowGraph) (site : ℕ) (of : Recipe) → unwinding_at s site ≡ Finds of → HasRecipe s site of
+  pub finds : (s : FlowGraph) (site : ℕ) (of : Recipe) → HasRecipe s site of → unwinding_at s site ≡ Finds of
+  pub items : (s : FlowGraph) (site : ℕ) (c : Covered) → covered_at s.image site ≡ Some c → items_at s site ≡ c.descs
 
 -- ---- landing pads
 
@@ -61,7 +61,7 @@ is_cleanup_entered (Spec vrs pad) = false
 is_cleanup_entered Unexpected = false
 is_cleanup_entered (Terminate cause) = false
 
--- What phase 2 enters at a descriptor of a frame is the pad to which the checker has a way from the frame's site, and a cleanup exactly where
+-- What phase 2 enters at a descriptor of a frame is the pad to which the checker has an edge from the frame's site, and a cleanup exactly where
 -- the checker takes it for one. Nothing is entered out of scope, and every cleanup in scope is.
 pub record PadsAreOne : Type 0 where
   pub pad : (g : Goal) (f : Frame) (d : Desc) (e : Entered) → entered_item g f (Ok d) ≡ Some e → pad_for f.site d ≡ pad_entered e

@@ -1,10 +1,10 @@
 //! Two definitions of one thing are one: what the checker of frames says of a site or of an instruction is what phase 2 and the core do there
-//! (docs/scenes.md, "Laws").
+//! (docs/flow-graphs.md, "Laws").
 #![tactic(auto)]
 
 ghost use Rattle.checker_laws.specs.SiteLaws.{ScopesAreOne, EntriesAreOne, PadsAreOne};
 ghost use Rattle.checker_laws.specs.MeetingLaws.{MeetingsAreCommon};
-ghost use Rattle.checker_laws.specs.WayLaws.{InstructionsGoTheirWays, WhatIsAheadIsAWay, CallsStandAtTheirSites};
+ghost use Rattle.checker_laws.specs.EdgeLaws.{InstructionsFollowEdges, WhatIsAheadIsAnEdge, CallsStandAtTheirSites};
 
 /// A descriptor has the same sites in its scope for the checker and for the phases: those from its start to below its end.
 pub fn scopes_are_one()
@@ -16,19 +16,19 @@ pub fn entries_are_one()
     ensures { EntriesAreOne }
 {}
 
-/// What phase 2 enters at a site is the landing pad to which the checker has a way, and a cleanup for both or for neither.
+/// What phase 2 enters at a site is the landing pad to which the checker has an edge, and a cleanup for both or for neither.
 pub fn pads_are_one()
     ensures { PadsAreOne }
 {}
 
-/// The core goes from an instruction where the checker has a way.
-pub fn instructions_go_their_ways()
-    ensures { InstructionsGoTheirWays }
+/// The core goes from an instruction where the checker has an edge.
+pub fn instructions_follow_edges()
+    ensures { InstructionsFollowEdges }
 {}
 
-/// What is told of an instruction before it is done is a way of the checker.
-pub fn what_is_ahead_is_a_way()
-    ensures { WhatIsAheadIsAWay }
+/// What is told of an instruction before it is done is an edge of the checker.
+pub fn what_is_ahead_is_an_edge()
+    ensures { WhatIsAheadIsAnEdge }
 {}
 
 /// A frame that has called stands at the site that the checker looked at.

@@ -101,7 +101,7 @@ more_bytes specs i spec h b n = rw (take_more specs i spec h) (All-push (λ (s :
 
 -- ---- segments that begin a step apart
 
--- the segment of each number begins so many steps behind the first, and has at most a step's bytes
+-- the segment of each number begins so many steps after the first, and has at most a step's bytes
 pub record Spaced (specs : List SegmentSpec) (first step : ℕ) : Type 0 where
   pub start : (i : ℕ) (d : SegmentSpec) → i < length specs → (get_or specs i d).start ≡ first + i * step
   pub size : (i : ℕ) (d : SegmentSpec) → i < length specs → (get_or specs i d).size ≤ step

@@ -7,7 +7,7 @@ use Rattle.eh_bus.specs.Map.{AreApart}
 use Rattle.eh_bus.specs.declared.segment.SegmentSpec.{SegmentSpec}
 use Rattle.eh_bus.specs.declared.map.TheConstants.{IMAGE_END, MAX_IMAGE_SIZE, POOL_END, POOL_SIZE, POOL_START, STACK_END, STACK_SIZE, STACK_START}
 
--- the bytes that are given, and zeros behind them up to the size
+-- the bytes that are given, and zeros after them up to the size
 abbrev pub segment_of : SegmentSpec → Segment
 segment_of spec = record {
   start = spec.start;

@@ -11,7 +11,7 @@ pub record Memory : Type 0 where
   pub segments : List Segment
   -- addresses of words of the stack, strictly rising
   pub guards : List ℕ
-  -- the running stack: its first address, and the one behind its last
+  -- the running stack: its first address, and the one after its last
   pub home : ℕ × ℕ
 
 -- the pool has 64 slots of 512 bytes; the first 128 bytes of a slot are closed to the guest

@@ -79,7 +79,7 @@ pub trait Bus {
         ensures undone { host_store (memory self.new) a (host_load (memory self.old) a) ≡ memory self.old }
         ensures keeps { Keeps (memory self.old) (memory self.new) };
 
-    /// The running stack: its first address, and the one behind its last.
+    /// The running stack: its first address, and the one after its last.
     fn home(&self) -> (u32, u32)
         ensures { result ≡ (memory self.now).home };
 

@@ -7,7 +7,7 @@ pub const STACK_START: u32 = 0x3FFF_0000;
 /// The size of the stack.
 pub const STACK_SIZE: u32 = 0x1_0000;
 
-/// The address behind the stack.
+/// The address after the stack.
 pub const STACK_END: u32 = STACK_START + STACK_SIZE;
 
 /// The words of the stack.
@@ -19,7 +19,7 @@ pub const POOL_START: u32 = 0x3800_0000;
 /// The size of the pool.
 pub const POOL_SIZE: u32 = 0x8000;
 
-/// The address behind the pool.
+/// The address after the pool.
 pub const POOL_END: u32 = POOL_START + POOL_SIZE;
 
 /// The size of a slot of the pool.
@@ -31,7 +31,7 @@ pub const CLOSED_SIZE: u32 = 128;
 /// Where the one word of the closed part stands in its slot that the guest may load.
 pub const OPEN_WORD: u32 = 84;
 
-/// The address behind the last that a segment of an image may have.
+/// The address after the last that a segment of an image may have.
 pub const IMAGE_END: u32 = 0x3000_0000;
 
 /// The most bytes that the segments of an image have together.

@@ -5,7 +5,7 @@ use Rattle.std.proofs.lemmas.Bool.Decides.{nat_tests}
 use Rattle.std.proofs.lemmas.Grind.{common_steps}
 use Rattle.byteorder.specs.Endian.{little_number}
 use Rattle.unwind_codes.specs.declared.words.TheConstants.{COMPACT_MARK, COMPACT_TOP}
-use Rattle.unwind_codes.specs.Words.{bytes_of_word, personality_of_word, code_words_behind, code_in_first, code_of_words}
+use Rattle.unwind_codes.specs.Words.{bytes_of_word, personality_of_word, code_words_after, code_in_first, code_of_words}
 use Rattle.eh_bytecode.specs.declared.codes.CodesFault.TheVariants.{Short, Generic, Reserved}
 use Rattle.eh_bytecode.specs.Codes.{words_in, turned, is_reserved, table_codes}
 
@@ -100,16 +100,16 @@ short_first a b c d more s h =
     let none : (personality_of_word w == 0) ≡ true = grind (arith, nat_tests) in
     let bytes : bytes_of_word w ≡ d ∷ c ∷ b ∷ a ∷ [] = word_bytes a b c d ha hb hc s.small_d in
     let first : code_in_first w ≡ c ∷ b ∷ a ∷ [] = ap (λ t. drop (cond t 1 2) (bytes_of_word w)) none ∙ ap (drop 1) bytes in
-    let behind : code_words_behind w ≡ 0 = ap (λ t. cond t 0 (w / 2 ^ 16 % 2 ^ 8)) none in
-    rw (high a b c d s (omega arith), kept_test w d top (omega arith) (omega arith)) (short_cases w more (c ∷ b ∷ a ∷ []) first behind)
+    let after : code_words_after w ≡ 0 = ap (λ t. cond t 0 (w / 2 ^ 16 % 2 ^ 8)) none in
+    rw (high a b c d s (omega arith), kept_test w d top (omega arith) (omega arith)) (short_cases w more (c ∷ b ∷ a ∷ []) first after)
   where
-    short_cases : (w : ℕ) (more own : List ℕ) → code_in_first w ≡ own → code_words_behind w ≡ 0 →
-        cond (nat_lt (length (words_in more)) (code_words_behind w)) (Err Short) (Ok (code_of_words (w ∷ words_in more))) ≡ Ok own
-    short_cases w more own first behind =
-        ap (λ n. cond (nat_lt (length (words_in more)) n) (Err Short) (Ok (code_in_first w ++ flat_map bytes_of_word (take n (words_in more))))) behind
+    short_cases : (w : ℕ) (more own : List ℕ) → code_in_first w ≡ own → code_words_after w ≡ 0 →
+        cond (nat_lt (length (words_in more)) (code_words_after w)) (Err Short) (Ok (code_of_words (w ∷ words_in more))) ≡ Ok own
+    short_cases w more own first after =
+        ap (λ n. cond (nat_lt (length (words_in more)) n) (Err Short) (Ok (code_in_first w ++ flat_map bytes_of_word (take n (words_in more))))) after
         ∙ rw (let e : nat_lt (length (words_in more)) 0 ≡ false = grind (arith, nat_tests) in e) (ap Ok (append-nil (code_in_first w) ∙ first))
 
-long_words : (a b c d : ℕ) → FirstWord a b c d → 0x81 ≤ d → d ≤ 0x82 → (code_in_first (word_of a b c d) ≡ b ∷ a ∷ []) × (code_words_behind (word_of a b c d) ≡ c)
+long_words : (a b c d : ℕ) → FirstWord a b c d → 0x81 ≤ d → d ≤ 0x82 → (code_in_first (word_of a b c d) ≡ b ∷ a ∷ []) × (code_words_after (word_of a b c d) ≡ c)
 long_words a b c d s l h =
     let w : ℕ = word_of a b c d in
     let ha : a < 2 ^ 8 = s.small_a in

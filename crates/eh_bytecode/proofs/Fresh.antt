@@ -154,18 +154,18 @@ left_twice codes left seen new place code size o list m b is lists some marked o
     let k : Marked seen new (listed list) false = subst (λ x. Marked seen new (listed list) x) out marked in
     fresh_is (cut codes) b (f ∙ sym (k w.0 rest w.1) ∙ ap (are_fresh w.0) (sym e) ∙ w.2)
 
-pub left_on : (codes left behind : List ℕ) (seen new : List Bool) (place : ℕ) (code : Code) (size : ℕ) (o : Option ℕ) (list : ℕ) (m : Bool) → Some (code, size) ≡ front left
-    → ((more : List ℕ) → popped_first (effect code) more ≡ popped_by o more) → o ≡ Some list → Marked seen new (listed list) m → m ≡ true → behind ≡ drop size left → length left ≤ length codes → place ≡ length codes - length left
-    → Left codes seen (cut_from place left) → Left codes new (cut_from (length codes - length behind) behind)
-left_on codes left behind seen new place code size o list m is lists some marked well past fits at w =
+pub left_on : (codes left following : List ℕ) (seen new : List Bool) (place : ℕ) (code : Code) (size : ℕ) (o : Option ℕ) (list : ℕ) (m : Bool) → Some (code, size) ≡ front left
+    → ((more : List ℕ) → popped_first (effect code) more ≡ popped_by o more) → o ≡ Some list → Marked seen new (listed list) m → m ≡ true → following ≡ drop size left → length left ≤ length codes → place ≡ length codes - length left
+    → Left codes seen (cut_from place left) → Left codes new (cut_from (length codes - length following) following)
+left_on codes left following seen new place code size o list m is lists some marked well past fits at w =
     let rest = popped (cut_from (place + size) (drop size left)) in
     let e : popped (cut_from place left) ≡ listed list ++ rest = popped_code place left code size is ∙ lists rest ∙ ap (λ p. popped_by p rest) some in
     let k : Marked seen new (listed list) true = subst (λ x. Marked seen new (listed list) x) well marked in
     let v = k w.0 rest w.1 in
     let bounds = front_bounds left code size is in
-    let short : length behind ≡ length left - size = ap length past ∙ length-drop size left in
-    let there : length codes - length behind ≡ place + size = omega (arith, bounds.0, bounds.1) in
-    (v.0, v.1, ap (λ n. are_fresh v.0 (popped (cut_from n behind))) there ∙ ap (λ l. are_fresh v.0 (popped (cut_from (place + size) l))) past ∙ sym v.2 ∙ ap (are_fresh w.0) (sym e) ∙ w.2)
+    let short : length following ≡ length left - size = ap length past ∙ length-drop size left in
+    let there : length codes - length following ≡ place + size = omega (arith, bounds.0, bounds.1) in
+    (v.0, v.1, ap (λ n. are_fresh v.0 (popped (cut_from n following))) there ∙ ap (λ l. are_fresh v.0 (popped (cut_from (place + size) l))) past ∙ sym v.2 ∙ ap (are_fresh w.0) (sym e) ∙ w.2)
 
 -- what a code pops is a list
 pub first_list : (code : Code) (xs : List ℕ) (list : ℕ) → effect code ≡ Pops xs → xs ≡ listed list → (more : List ℕ) → popped_first (effect code) more ≡ popped_by (Some list) more

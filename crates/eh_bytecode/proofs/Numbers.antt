@@ -7,7 +7,7 @@ use Rattle.std.proofs.lemmas.Bool.Decides.{nat_tests}
 use Rattle.std.proofs.lemmas.Grind.{common_steps}
 use Rattle.eh_word.specs.declared.fault.WordFault.{WordFault}
 use Rattle.eh_word.specs.declared.fault.WordFault.TheVariants.{Ends, TooWide}
-use Rattle.eh_word.specs.Words.{goes_on, base_128, uleb128_front, uleb128_of, placed_at}
+use Rattle.eh_word.specs.Words.{has_more, base_128, uleb128_front, uleb128_of, placed_at}
 use Rattle.unwind_codes.specs.declared.code.Code.TheVariants.{RaiseLong}
 use Rattle.unwind_codes.specs.Table.{code_front}
 use Rattle.unwind_codes.proofs.Table.{long, long_by}
@@ -29,7 +29,7 @@ fifth (a ∷ b ∷ c ∷ []) = refl
 fifth (a ∷ b ∷ c ∷ d ∷ []) = refl
 fifth (a ∷ b ∷ c ∷ d ∷ e ∷ more) = refl
 
-few : (xs : List ℕ) → prefix_len goes_on (take 4 xs) ≤ 4
+few : (xs : List ℕ) → prefix_len has_more (take 4 xs) ≤ 4
 few xs = grind (arith, common_steps)
 
 shorter : (last n m : ℕ) → last ≤ 4 → m ≡ min 5 n → nat_le m last ≡ nat_le n last
@@ -38,7 +38,7 @@ shorter last n m h e = grind (arith, nat_tests)
 front_of : ℕ → ℕ → ℕ → ℕ → Result (ℕ × ℕ) WordFault
 front_of size last top number = cond (nat_le size last) (Err Ends) (cond (last == 4 && nat_lt 15 top) (Err TooWide) (Ok (number, last + 1)))
 
-as_front : (xs : List ℕ) → uleb128_front xs ≡ front_of (length xs) (prefix_len goes_on (take 4 xs)) (get_or xs 4 0) (base_128 (take (prefix_len goes_on (take 4 xs) + 1) xs))
+as_front : (xs : List ℕ) → uleb128_front xs ≡ front_of (length xs) (prefix_len has_more (take 4 xs)) (get_or xs 4 0) (base_128 (take (prefix_len has_more (take 4 xs) + 1) xs))
 unfolding front_of
 as_front xs = refl
 
@@ -54,10 +54,10 @@ take_less (suc n) (suc m) (x ∷ xs) h = ap (λ l. x ∷ l) (take_less n m xs (o
 
 pub five_enough : (xs : List ℕ) → uleb128_front (take 5 xs) ≡ uleb128_front xs
 five_enough xs =
-    let last : ℕ = prefix_len goes_on (take 4 xs) in
+    let last : ℕ = prefix_len has_more (take 4 xs) in
     let number : ℕ = base_128 (take (last + 1) xs) in
     as_front (take 5 xs)
-    ∙ ap (λ l. front_of (length (take 5 xs)) (prefix_len goes_on l) (get_or (take 5 xs) 4 0) (base_128 (take (prefix_len goes_on l + 1) (take 5 xs)))) (take_four xs)
+    ∙ ap (λ l. front_of (length (take 5 xs)) (prefix_len has_more l) (get_or (take 5 xs) 4 0) (base_128 (take (prefix_len has_more l + 1) (take 5 xs)))) (take_four xs)
     ∙ ap (λ f. front_of (length (take 5 xs)) last f (base_128 (take (last + 1) (take 5 xs)))) (fifth xs)
     ∙ ap (λ l. front_of (length (take 5 xs)) last (get_or xs 4 0) (base_128 l)) (take_less (last + 1) 5 xs (let few_bytes = few xs in omega arith))
     ∙ same_size (length xs) (length (take 5 xs)) last (get_or xs 4 0) number (few xs) (length_five xs)
@@ -66,7 +66,7 @@ five_enough xs =
     length_five : (xs : List ℕ) → length (take 5 xs) ≡ min 5 (length xs)
     length_five xs = grind (arith, common_steps)
 
--- a long raise by its first five bytes behind the first
+-- a long raise by its first five bytes after the first
 pub long_by_five : (xs front : List ℕ) → front ≡ take 5 xs → code_front 0xB2 xs ≡ long_by (result_ok (uleb128_of front 0))
 unfolding uleb128_of
 long_by_five xs front e = long 0xB2 xs refl ∙ ap (λ r. long_by (result_ok r)) (sym (five_enough xs) ∙ ap uleb128_front (sym e) ∙ placed (uleb128_front front))

@@ -21,8 +21,8 @@ use Rattle.eh_bytecode.specs.declared.recipe.Recipe.{Recipe}
 use Rattle.eh_bytecode.specs.declared.recipe.RecipeFault.{RecipeFault}
 use Rattle.eh_bytecode.specs.declared.recipe.RecipeFault.TheVariants as fault
 use Rattle.eh_bytecode.specs.declared.recipe.Sum.{Sum}
-use Rattle.eh_bytecode.specs.Meaning.{after, pops, goes_on, runs, finished, begins, unwound}
-use Rattle.eh_bytecode.specs.Recipe.{Goes, Ends, sum_after, sums_on, sums, recipe, recipe_of, nothing_summed, within, is_same, is_far, IsNear, from, filled}
+use Rattle.eh_bytecode.specs.Meaning.{after, pops, continued, runs, finished, begins, unwound}
+use Rattle.eh_bytecode.specs.Recipe.{Goes, Ends, sum_after, sums_on, sums, recipe, recipe_of, nothing_summed, unless_far, is_same, is_far, IsNear, from, filled}
 use Rattle.eh_bytecode.specs.RecipeLaw.{Loads, loads_at, in_front, loads_more, loads_on, loads_of, is_loaded, put_back, or_unreadable, Small, RecipesRun}
 use Rattle.eh_bytecode.proofs.Near.{near_high, near_low}
 
@@ -98,9 +98,9 @@ keeps_on (Ok x) f src last j of r new sources wide other each h =
     let all = each x wider longer h in (
       all.0,
       λ k own.
-          let behind = all.1 k own in
-          let first = one_set src r j k (word_in j x) of sources wide other behind.0 in
-          (first.0, behind.1 ∙ first.1),
+          let following = all.1 k own in
+          let first = one_set src r j k (word_in j x) of sources wide other following.0 in
+          (first.0, following.1 ∙ first.1),
     )
 
 keeps : (m : List Segment) (b : ℕ) (based : Bool) (at off : ℤ) (registers : List ℕ) (src : List Src) (r new : List ℕ) → length src ≡ 16 → length r ≡ 16 →
@@ -139,12 +139,12 @@ none_from_sp off (Is code ∷ more) = none_more (effect code) off (λ o. none_fr
     none_more Refuses off each = refl
     none_more Finishes off each = refl
 
-with_near : (s : Sum) (of : Recipe) (f : Sum → Result Recipe RecipeFault) (P : Type 0) → sums_on f (within s) ≡ Ok of → (IsNear s.vsp → f s ≡ Ok of → P) → P
+with_near : (s : Sum) (of : Recipe) (f : Sum → Result Recipe RecipeFault) (P : Type 0) → sums_on f (unless_far s) ≡ Ok of → (IsNear s.vsp → f s ≡ Ok of → P) → P
 with_near s of f P h each = near_cases (is_far s.vsp) refl
   where
     near_cases : (far : Bool) → is_far s.vsp ≡ far → P
     near_cases true e =
-        let none : ◌≡◌ {A = Result Recipe RecipeFault} (sums_on f (within s)) (Ok of) = h in
+        let none : ◌≡◌ {A = Result Recipe RecipeFault} (sums_on f (unless_far s)) (Ok of) = h in
         absurd (grind (arith, e, none))
     near_cases false e = each e (let some : f s ≡ Ok of = grind (arith, e, h) in some)
 
@@ -213,14 +213,14 @@ pc_base true a c d e = refl
 pc_base false a c d e = sym e
 
 on_read : (o : Result (List ℕ) BusFault) (t : Unwinding) (registers : List ℕ) (further : Unwinding → Result (List ℕ) UnwindEnd) (g : List ℕ → Result (List ℕ) BusFault) (h : List ℕ → Result (List ℕ) UnwindEnd) →
-    ((r : List ℕ) → o ≡ Ok r → further (popped t registers r) ≡ or_unreadable (g r) h) → goes_on further (pops t registers o) ≡ or_unreadable (o >>= g) h
+    ((r : List ℕ) → o ≡ Ok r → further (popped t registers r) ≡ or_unreadable (g r) h) → continued further (pops t registers o) ≡ or_unreadable (o >>= g) h
 on_read (Ok r) t registers further g h each = each r refl
 on_read (Err e) t registers further g h each = refl
 
 pops_sp : (m : List Segment) (old : List ℕ) (of : Recipe) (t : Unwinding) (registers : List ℕ) (off : ℤ) (l : Loads) (further : Unwinding → Result (List ℕ) UnwindEnd) →
     IsNear off → t.vsp ≡ moved (slice_index old 13) off →
     ((r : List ℕ) → load_words m (slice_index old 13) (loads_at off registers) t.r ≡ Ok r → further (popped t registers r) ≡ run_on m old of (popped t registers r) l) →
-    goes_on further (pops t registers (load_words m t.vsp (loads_from 0 registers) t.r)) ≡ run_on m old of t (in_front false (loads_at off registers) l)
+    continued further (pops t registers (load_words m t.vsp (loads_from 0 registers) t.r)) ≡ run_on m old of t (in_front false (loads_at off registers) l)
 pops_sp m old of t registers off l further near place each =
     let first : List Load = loads_at off registers in
     let pc : Bool = t.popped_pc || (is_loaded 15 (first ++ l.from_sp) || is_loaded 15 l.from_base) in
@@ -228,7 +228,7 @@ pops_sp m old of t registers off l further near place each =
     let same : ((t.popped_pc || list_any (λ k. k == 15) registers) || (is_loaded 15 l.from_sp || is_loaded 15 l.from_base)) ≡ pc =
     pc_sp t.popped_pc (list_any (λ k. k == 15) registers) (is_loaded 15 l.from_sp) (is_loaded 15 l.from_base) (is_loaded 15 (first ++ l.from_sp))
     (loaded-append first l.from_sp ∙ ap (λ b. b || is_loaded 15 l.from_sp) (loaded_same off registers)) in
-    ap (λ o. goes_on further (pops t registers o)) (loads_first m (slice_index old 13) t.vsp off registers t.r near place)
+    ap (λ o. continued further (pops t registers o)) (loads_first m (slice_index old 13) t.vsp off registers t.r near place)
     ∙ on_read (load_words m (slice_index old 13) first t.r) t registers further (λ r. load_words m (slice_index old 13) l.from_sp r) rest
     (λ r is. each r is ∙ ap (λ b. run_to m old of b r l.from_sp l.from_base) same)
     ∙ ap (λ o. or_unreadable o rest) (sym (load-append m (slice_index old 13) first l.from_sp t.r))
@@ -236,26 +236,26 @@ pops_sp m old of t registers off l further near place each =
 pops_base : (m : List Segment) (old : List ℕ) (of : Recipe) (t : Unwinding) (registers : List ℕ) (off : ℤ) (base : List Load) (further : Unwinding → Result (List ℕ) UnwindEnd) →
     IsNear off → t.vsp ≡ moved (slice_index old of.base) off →
     ((r : List ℕ) → load_words m (slice_index old of.base) (loads_at off registers) t.r ≡ Ok r → further (popped t registers r) ≡ run_to m old of ((popped t registers r).popped_pc || is_loaded 15 base) r [] base) →
-    goes_on further (pops t registers (load_words m t.vsp (loads_from 0 registers) t.r)) ≡ run_to m old of (t.popped_pc || is_loaded 15 (loads_at off registers ++ base)) t.r [] (loads_at off registers ++ base)
+    continued further (pops t registers (load_words m t.vsp (loads_from 0 registers) t.r)) ≡ run_to m old of (t.popped_pc || is_loaded 15 (loads_at off registers ++ base)) t.r [] (loads_at off registers ++ base)
 pops_base m old of t registers off base further near place each =
     let first : List Load = loads_at off registers in
     let pc : Bool = t.popped_pc || is_loaded 15 (first ++ base) in
     let same : ((t.popped_pc || list_any (λ k. k == 15) registers) || is_loaded 15 base) ≡ pc =
     pc_base t.popped_pc (list_any (λ k. k == 15) registers) (is_loaded 15 base) (is_loaded 15 (first ++ base))
     (loaded-append first base ∙ ap (λ b. b || is_loaded 15 base) (loaded_same off registers)) in
-    ap (λ o. goes_on further (pops t registers o)) (loads_first m (slice_index old of.base) t.vsp off registers t.r near place)
+    ap (λ o. continued further (pops t registers o)) (loads_first m (slice_index old of.base) t.vsp off registers t.r near place)
     ∙ on_read (load_words m (slice_index old of.base) first t.r) t registers further (λ r. load_words m (slice_index old of.base) base r) (λ u. Ok (put_back of pc old u))
     (λ r is. each r is ∙ ap (λ b. run_to m old of b r [] base) same)
     ∙ ap (λ o. or_unreadable o (λ u. Ok (put_back of pc old u))) (sym (load-append m (slice_index old of.base) first base t.r))
 
 -- ---- one effect more
 
--- what is known of the codes behind an effect
+-- what is known of the codes after an effect
 abbrev pub Further : List Segment → List ℕ → Recipe → List Item → Type 0
 Further m old of more = (s : Sum) (t : Unwinding) → Stands old s t → sums s more ≡ Ok of → runs m t more ≡ run_on m old of t (loads_on (is_some s.base) s.vsp more)
 
 rise : (m : List Segment) (old : List ℕ) (of : Recipe) (more : List Item) (s : Sum) (t : Unwinding) (by : ℕ) → Stands old s t → sums_on (λ n. sums n more) (sum_after s (Rises by)) ≡ Ok of → Further m old of more →
-    goes_on (λ n. runs m n more) (after m t (Rises by)) ≡ run_on m old of t (loads_on (is_some s.base) (s.vsp +ℤ pos by) more)
+    continued (λ n. runs m n more) (after m t (Rises by)) ≡ run_on m old of t (loads_on (is_some s.base) (s.vsp +ℤ pos by) more)
 rise m old of more s t by h is each =
     let next : Sum = record s { vsp = s.vsp +ℤ pos by } in
     let moved_to : Unwinding = record t { vsp = (t.vsp + by) % 2 ^ 32 } in
@@ -264,7 +264,7 @@ rise m old of more s t by h is each =
     (record { place = vsp_rises (slice_index old (unwrap_or s.base 13)) t.vsp by s.vsp h.near h.place; near = near; wide = h.wide; sources = h.sources; same = h.same }) further)
 
 fall : (m : List Segment) (old : List ℕ) (of : Recipe) (more : List Item) (s : Sum) (t : Unwinding) (by : ℕ) → Stands old s t → sums_on (λ n. sums n more) (sum_after s (Falls by)) ≡ Ok of → Further m old of more →
-    goes_on (λ n. runs m n more) (after m t (Falls by)) ≡ run_on m old of t (loads_on (is_some s.base) (s.vsp -ℤ pos by) more)
+    continued (λ n. runs m n more) (after m t (Falls by)) ≡ run_on m old of t (loads_on (is_some s.base) (s.vsp -ℤ pos by) more)
 fall m old of more s t by h is each =
     let next : Sum = record s { vsp = s.vsp -ℤ pos by } in
     let moved_to : Unwinding = record t { vsp = (t.vsp + (2 ^ 32 - by)) % 2 ^ 32 } in
@@ -278,7 +278,7 @@ not_or false true h = (refl, refl)
 not_or false false h = cc
 
 takes_on : (m : List Segment) (old : List ℕ) (of : Recipe) (more : List Item) (s : Sum) (t : Unwinding) (k : ℕ) → Small old → Stands old s t → sums_on (λ n. sums n more) (sum_after s (Takes k)) ≡ Ok of → Further m old of more →
-    goes_on (λ n. runs m n more) (after m t (Takes k)) ≡ run_on m old of t (loads_on true (pos 0) more)
+    continued (λ n. runs m n more) (after m t (Takes k)) ≡ run_on m old of t (loads_on true (pos 0) more)
 takes_on m old of more s t k small h is each =
     let next : Sum = record s { base = Some k; vsp = pos 0 } in
     let two = taken (is_some s.base || not (is_same (slice_index_or s.src k Same))) next of (λ n. sums n more) is in
@@ -286,11 +286,11 @@ takes_on m old of more s t k small h is each =
     each next (record t { vsp = slice_index t.r k })
     (record { place = own ∙ at_base (slice_index old k) (small k); near = refl; wide = h.wide; sources = h.sources; same = h.same }) two.1
 
--- the state behind pops
-behind_pops : (m : List Segment) (old : List ℕ) (s : Sum) (t : Unwinding) (registers r : List ℕ) (b : ℕ) → Stands old s t → IsNear (s.vsp +ℤ pos (4 * length registers)) →
+-- the state after pops
+after_pops : (m : List Segment) (old : List ℕ) (s : Sum) (t : Unwinding) (registers r : List ℕ) (b : ℕ) → Stands old s t → IsNear (s.vsp +ℤ pos (4 * length registers)) →
     load_words m b (loads_at s.vsp registers) t.r ≡ Ok r →
     Stands old (record s { vsp = s.vsp +ℤ pos (4 * length registers); src = filled (is_some s.base) s.vsp registers s.src }) (popped t registers r)
-behind_pops m old s t registers r b h near is =
+after_pops m old s t registers r b h near is =
     let kept = keeps m b (is_some s.base) s.vsp s.vsp registers s.src t.r r h.sources h.wide is in
     record {
       place = vsp_rises (slice_index old (unwrap_or s.base 13)) t.vsp (4 * length registers) s.vsp h.near h.place;
@@ -301,25 +301,25 @@ behind_pops m old s t registers r b h near is =
     }
 
 pop_on : (m : List Segment) (old : List ℕ) (of : Recipe) (more : List Item) (s : Sum) (t : Unwinding) (registers : List ℕ) → Stands old s t → sums_on (λ n. sums n more) (sum_after s (Pops registers)) ≡ Ok of → Further m old of more →
-    goes_on (λ n. runs m n more) (after m t (Pops registers))
+    continued (λ n. runs m n more) (after m t (Pops registers))
     ≡ run_on m old of t (in_front (is_some s.base) (loads_at s.vsp registers) (loads_on (is_some s.base) (s.vsp +ℤ pos (4 * length registers)) more))
 pop_on m old of more s t registers h is each =
     let next : Sum = record s { vsp = s.vsp +ℤ pos (4 * length registers); src = filled (is_some s.base) s.vsp registers s.src } in
     with_near next of (λ n. sums n more)
-    (goes_on (λ n. runs m n more) (after m t (Pops registers)) ≡ run_on m old of t (in_front (is_some s.base) (loads_at s.vsp registers) (loads_on (is_some s.base) (s.vsp +ℤ pos (4 * length registers)) more))) is
+    (continued (λ n. runs m n more) (after m t (Pops registers)) ≡ run_on m old of t (in_front (is_some s.base) (loads_at s.vsp registers) (loads_on (is_some s.base) (s.vsp +ℤ pos (4 * length registers)) more))) is
     (λ near further. go s.base refl near further)
   where
     next_off : ℤ
     next_off = s.vsp +ℤ pos (4 * length registers)
 
     go : (o : Option ℕ) → s.base ≡ o → IsNear (s.vsp +ℤ pos (4 * length registers)) → sums (record s { vsp = s.vsp +ℤ pos (4 * length registers); src = filled (is_some s.base) s.vsp registers s.src }) more ≡ Ok of →
-        goes_on (λ n. runs m n more) (after m t (Pops registers)) ≡ run_on m old of t (in_front (is_some s.base) (loads_at s.vsp registers) (loads_on (is_some s.base) (s.vsp +ℤ pos (4 * length registers)) more))
+        continued (λ n. runs m n more) (after m t (Pops registers)) ≡ run_on m old of t (in_front (is_some s.base) (loads_at s.vsp registers) (loads_on (is_some s.base) (s.vsp +ℤ pos (4 * length registers)) more))
     go None e near further =
         let l : Loads = loads_on (is_some s.base) (s.vsp +ℤ pos (4 * length registers)) more in
         let none : is_some s.base ≡ false = ap is_some e in
         let place : t.vsp ≡ moved (slice_index old 13) s.vsp = h.place ∙ ap (λ b. moved (slice_index old (unwrap_or b 13)) s.vsp) e in
         pops_sp m old of t registers s.vsp l (λ n. runs m n more) h.near place
-        (λ r is. each _ (popped t registers r) (behind_pops m old s t registers r (slice_index old 13) h near is) further)
+        (λ r is. each _ (popped t registers r) (after_pops m old s t registers r (slice_index old 13) h near is) further)
         ∙ ap (λ b. run_on m old of t (in_front b (loads_at s.vsp registers) l)) (sym none)
     go (Some k) e near further =
         let l : Loads = loads_on (is_some s.base) (s.vsp +ℤ pos (4 * length registers)) more in
@@ -328,13 +328,13 @@ pop_on m old of more s t registers h is each =
         let place : t.vsp ≡ moved (slice_index old of.base) s.vsp = h.place ∙ ap (λ b. moved (slice_index old (unwrap_or b 13)) s.vsp) e ∙ ap (λ b. moved (slice_index old b) s.vsp) (sym base) in
         let nothing : l.from_sp ≡ [] = ap (λ b. (loads_on b (s.vsp +ℤ pos (4 * length registers)) more).from_sp) some ∙ none_from_sp (s.vsp +ℤ pos (4 * length registers)) more in
         pops_base m old of t registers s.vsp l.from_base (λ n. runs m n more) h.near place
-        (λ r is. each _ (popped t registers r) (behind_pops m old s t registers r (slice_index old of.base) h near is) further
+        (λ r is. each _ (popped t registers r) (after_pops m old s t registers r (slice_index old of.base) h near is) further
         ∙ ap (λ sp. run_to m old of ((popped t registers r).popped_pc || (is_loaded 15 sp || is_loaded 15 l.from_base)) r sp l.from_base) nothing)
         ∙ ap (λ sp. run_to m old of (t.popped_pc || (is_loaded 15 sp || is_loaded 15 (loads_at s.vsp registers ++ l.from_base))) t.r sp (loads_at s.vsp registers ++ l.from_base)) (sym nothing)
         ∙ ap (λ b. run_on m old of t (in_front b (loads_at s.vsp registers) l)) (sym some)
 
 effect_on : (m : List Segment) (old : List ℕ) (of : Recipe) (more : List Item) (s : Sum) (t : Unwinding) (e : Effect) → Small old → Stands old s t → sums_on (λ n. sums n more) (sum_after s e) ≡ Ok of → Further m old of more →
-    goes_on (λ n. runs m n more) (after m t e) ≡ run_on m old of t (loads_more (λ based offset. loads_on based offset more) (is_some s.base) s.vsp e)
+    continued (λ n. runs m n more) (after m t e) ≡ run_on m old of t (loads_more (λ based offset. loads_on based offset more) (is_some s.base) s.vsp e)
 effect_on m old of more s t (Rises by) small h is each = rise m old of more s t by h is each
 effect_on m old of more s t (Falls by) small h is each = fall m old of more s t by h is each
 effect_on m old of more s t (Pops registers) small h is each = pop_on m old of more s t registers h is each

@@ -9,22 +9,22 @@ use Rattle.eh_bytecode.specs.declared.recipe.RecipeFault.{RecipeFault}
 use Rattle.eh_bytecode.specs.declared.recipe.RecipeFault.TheVariants.{BadCode}
 use Rattle.eh_bytecode.specs.declared.recipe.Sum.{Sum}
 use Rattle.eh_bytecode.specs.Codes.{front}
-use Rattle.eh_bytecode.specs.Recipe.{Total, Goes, Ends, sum_after, within, sums, sums_on, recipe, recipe_of, nothing_summed}
+use Rattle.eh_bytecode.specs.Recipe.{Total, Goes, Ends, sum_after, unless_far, sums, sums_on, recipe, recipe_of, nothing_summed}
 use Rattle.eh_bytecode.proofs.Unwinds.{front_bounds, cut_code, cut_none, cut_empty}
 
 pub sum_code : (s : Sum) (place : ℕ) (left : List ℕ) (code : Code) (size : ℕ) → Some (code, size) ≡ front left →
     sums s (cut_from place left) ≡ sums_on (λ next. sums next (cut_from (place + size) (drop size left))) (sum_after s (effect code))
 sum_code s place left code size is = ap (sums s) (cut_code place left code size is)
 
-pub sum_goes : (s next : Sum) (total place : ℕ) (left behind : List ℕ) (code : Code) (size : ℕ) → Some (code, size) ≡ front left →
-    sum_after s (effect code) ≡ Goes next → behind ≡ drop size left → length left ≤ total → place ≡ total - length left →
-    sums next (cut_from (total - length behind) behind) ≡ sums s (cut_from place left)
-sum_goes s next total place left behind code size is goes e fits at =
+pub sum_goes : (s next : Sum) (total place : ℕ) (left after : List ℕ) (code : Code) (size : ℕ) → Some (code, size) ≡ front left →
+    sum_after s (effect code) ≡ Goes next → after ≡ drop size left → length left ≤ total → place ≡ total - length left →
+    sums next (cut_from (total - length after) after) ≡ sums s (cut_from place left)
+sum_goes s next total place left after code size is goes e fits at =
     let bounds = front_bounds left code size is in
-    let rest : length behind ≡ length left - size = ap length e ∙ length-drop size left in
-    let there : total - length behind ≡ place + size = omega (arith, bounds.0, bounds.1) in
+    let rest : length after ≡ length left - size = ap length e ∙ length-drop size left in
+    let there : total - length after ≡ place + size = omega (arith, bounds.0, bounds.1) in
     sym (sum_code s place left code size is ∙ ap (sums_on (λ next. sums next (cut_from (place + size) (drop size left)))) goes
-    ∙ ap (λ l. sums next (cut_from (place + size) l)) (sym e) ∙ ap (λ p. sums next (cut_from p behind)) (sym there))
+    ∙ ap (λ l. sums next (cut_from (place + size) l)) (sym e) ∙ ap (λ p. sums next (cut_from p after)) (sym there))
 
 pub sum_ends : (s : Sum) (end : Result Recipe RecipeFault) (place : ℕ) (left : List ℕ) (code : Code) (size : ℕ) → Some (code, size) ≡ front left →
     sum_after s (effect code) ≡ Ends end → sums s (cut_from place left) ≡ end
@@ -48,8 +48,8 @@ last_recipe x w r last s to_do ends e f = ap Ok (e ∙ ap recipe_of f) ∙ sym e
 pub pops_listed : (s : Sum) (code : Code) (xs ys : List ℕ) (t : Total) → effect code ≡ Pops xs → xs ≡ ys → sum_after s (Pops ys) ≡ t → sum_after s (effect code) ≡ t
 pops_listed s code xs ys t is e h = ap (sum_after s) is ∙ ap (λ l. sum_after s (Pops l)) e ∙ h
 
-pub moved_as : (s : Sum) (code : Code) (by : ℕ) (to : ℤ) (t : Total) → effect code ≡ Rises by → to ≡ s.vsp +ℤ pos by → within (record s { vsp = to }) ≡ t → sum_after s (effect code) ≡ t
-moved_as s code by to t is e h = ap (sum_after s) is ∙ ap (λ (v : ℤ). within (record s { vsp = v })) (sym e) ∙ h
+pub moved_as : (s : Sum) (code : Code) (by : ℕ) (to : ℤ) (t : Total) → effect code ≡ Rises by → to ≡ s.vsp +ℤ pos by → unless_far (record s { vsp = to }) ≡ t → sum_after s (effect code) ≡ t
+moved_as s code by to t is e h = ap (sum_after s) is ∙ ap (λ (v : ℤ). unless_far (record s { vsp = v })) (sym e) ∙ h
 
-pub moved_less : (s : Sum) (code : Code) (by : ℕ) (to : ℤ) (t : Total) → effect code ≡ Falls by → to ≡ s.vsp -ℤ pos by → within (record s { vsp = to }) ≡ t → sum_after s (effect code) ≡ t
-moved_less s code by to t is e h = ap (sum_after s) is ∙ ap (λ (v : ℤ). within (record s { vsp = v })) (sym e) ∙ h
+pub moved_less : (s : Sum) (code : Code) (by : ℕ) (to : ℤ) (t : Total) → effect code ≡ Falls by → to ≡ s.vsp -ℤ pos by → unless_far (record s { vsp = to }) ≡ t → sum_after s (effect code) ≡ t
+moved_less s code by to t is e h = ap (sum_after s) is ∙ ap (λ (v : ℤ). unless_far (record s { vsp = v })) (sym e) ∙ h

@@ -16,7 +16,7 @@ use Rattle.eh_bytecode.specs.declared.frame.Unwinding.{Unwinding}
 use Rattle.eh_bytecode.specs.declared.frame.Vrs.{Vrs}
 use Rattle.eh_bytecode.proofs.Lists.{pc_popped}
 use Rattle.eh_bytecode.specs.Codes.{front}
-use Rattle.eh_bytecode.specs.Meaning.{Step, Goes, Ends, after, goes_on, runs, finished, begins, unwound, answer, pops}
+use Rattle.eh_bytecode.specs.Meaning.{Step, Goes, Ends, after, continued, runs, finished, begins, unwound, answer, pops}
 
 -- a code has a byte, and no more than are left
 pub front_bounds : (left : List ℕ) (code : Code) (size : ℕ) → Some (code, size) ≡ front left → (1 ≤ size) × (size ≤ length left)
@@ -24,23 +24,23 @@ front_bounds [] code size is = cc
 front_bounds (first ∷ more) code size is = front_within first more code size (sym is)
 
 pub on_code : (segments : List Segment) (s : Unwinding) (place : ℕ) (left : List ℕ) (code : Code) (size : ℕ) → Some (code, size) ≡ front left →
-    runs segments s (cut_from place left) ≡ goes_on (λ next. runs segments next (cut_from (place + size) (drop size left))) (after segments s (effect code))
+    runs segments s (cut_from place left) ≡ continued (λ next. runs segments next (cut_from (place + size) (drop size left))) (after segments s (effect code))
 on_code segments s place [] code size is = cc
 on_code segments s place (first ∷ more) code size is = ap (runs segments s) (cut_one place first more code size (sym is))
 
-pub on_goes : (segments : List Segment) (s next : Unwinding) (total place : ℕ) (left behind : List ℕ) (code : Code) (size : ℕ) → Some (code, size) ≡ front left →
-    after segments s (effect code) ≡ Goes next → behind ≡ drop size left → length left ≤ total → place ≡ total - length left →
-    runs segments next (cut_from (total - length behind) behind) ≡ runs segments s (cut_from place left)
-on_goes segments s next total place left behind code size is goes e fits at =
+pub on_goes : (segments : List Segment) (s next : Unwinding) (total place : ℕ) (left following : List ℕ) (code : Code) (size : ℕ) → Some (code, size) ≡ front left →
+    after segments s (effect code) ≡ Goes next → following ≡ drop size left → length left ≤ total → place ≡ total - length left →
+    runs segments next (cut_from (total - length following) following) ≡ runs segments s (cut_from place left)
+on_goes segments s next total place left following code size is goes e fits at =
     let bounds = front_bounds left code size is in
-    let rest : length behind ≡ length left - size = ap length e ∙ length-drop size left in
-    let there : total - length behind ≡ place + size = omega (arith, bounds.0, bounds.1) in
-    sym (on_code segments s place left code size is ∙ ap (goes_on (λ next. runs segments next (cut_from (place + size) (drop size left)))) goes
-    ∙ ap (λ l. runs segments next (cut_from (place + size) l)) (sym e) ∙ ap (λ p. runs segments next (cut_from p behind)) (sym there))
+    let rest : length following ≡ length left - size = ap length e ∙ length-drop size left in
+    let there : total - length following ≡ place + size = omega (arith, bounds.0, bounds.1) in
+    sym (on_code segments s place left code size is ∙ ap (continued (λ next. runs segments next (cut_from (place + size) (drop size left)))) goes
+    ∙ ap (λ l. runs segments next (cut_from (place + size) l)) (sym e) ∙ ap (λ p. runs segments next (cut_from p following)) (sym there))
 
 pub on_ends : (segments : List Segment) (s : Unwinding) (end : Result (List ℕ) UnwindEnd) (place : ℕ) (left : List ℕ) (code : Code) (size : ℕ) → Some (code, size) ≡ front left →
     after segments s (effect code) ≡ Ends end → runs segments s (cut_from place left) ≡ end
-on_ends segments s end place left code size is ends = on_code segments s place left code size is ∙ ap (goes_on (λ next. runs segments next (cut_from (place + size) (drop size left)))) ends
+on_ends segments s end place left code size is ends = on_code segments s place left code size is ∙ ap (continued (λ next. runs segments next (cut_from (place + size) (drop size left)))) ends
 
 pub on_bad : (segments : List Segment) (s : Unwinding) (place : ℕ) (left : List ℕ) → None ≡ front left → 0 < length left → runs segments s (cut_from place left) ≡ Err (BadCode place)
 on_bad segments s place [] is some = absurd (omega arith)

@@ -4,11 +4,11 @@ use Rattle.byteorder.specs.Endian.{little_number}
 use Rattle.unwind_codes.specs.declared.code.Code.{Code}
 use Rattle.unwind_codes.specs.declared.words.TheConstants.{COMPACT_MARK, MOST_PERSONALITY}
 use Rattle.unwind_codes.specs.Table.{code_front}
-use Rattle.unwind_codes.specs.Words.{personality_of_word, code_words_behind, code_in_first, code_of_words}
+use Rattle.unwind_codes.specs.Words.{personality_of_word, code_words_after, code_in_first, code_of_words}
 use Rattle.eh_bytecode.specs.declared.codes.CodesFault.{CodesFault}
 use Rattle.eh_bytecode.specs.declared.codes.CodesFault.TheVariants.{Short, Generic, Reserved}
 
--- the words whose bytes stand one behind the other, each with its lowest byte first
+-- the words whose bytes stand one after the other, each with its lowest byte first
 abbrev pub words_in : List ℕ → List ℕ
 words_in (a ∷ b ∷ c ∷ d ∷ more) = little_number 4 (a ∷ b ∷ c ∷ d ∷ []) ∷ words_in more
 words_in _ = []
@@ -34,7 +34,7 @@ codes_of_words [] = Err Short
 codes_of_words (first ∷ more) =
     if nat_lt first COMPACT_MARK then Err Generic
     else (if is_reserved first then Err Reserved
-    else (if nat_lt (length more) (code_words_behind first) then Err Short else Ok (code_of_words (first ∷ more))))
+    else (if nat_lt (length more) (code_words_after first) then Err Short else Ok (code_of_words (first ∷ more))))
 
 unfoldable pub table_codes : List ℕ → Result (List ℕ) CodesFault
 table_codes bytes = codes_of_words (words_in bytes)

@@ -37,7 +37,7 @@ address_of (SavedSlot a) = a
 address_of (Protected a) = a
 address_of (NotExecutable a) = a
 
--- registers are popped: where their words can be read the virtual stack pointer stands behind these
+-- registers are popped: where their words can be read the virtual stack pointer stands after these
 abbrev pub pops : Unwinding → List ℕ → Result (List ℕ) BusFault → Step
 pops s registers (Ok r) = Goes (record {
   vsp = (s.vsp + 4 * length registers) % 2 ^ 32;
@@ -55,15 +55,15 @@ after segments s (Takes register) = Goes (record s { vsp = slice_index s.r regis
 after segments s Refuses = Ends (Err Refused)
 after segments s Finishes = Ends (Ok (finished s))
 
-abbrev pub goes_on : (Unwinding → Result (List ℕ) UnwindEnd) → Step → Result (List ℕ) UnwindEnd
-goes_on further (Goes s) = further s
-goes_on further (Ends end) = end
+abbrev pub continued : (Unwinding → Result (List ℕ) UnwindEnd) → Step → Result (List ℕ) UnwindEnd
+continued further (Goes s) = further s
+continued further (Ends end) = end
 
 -- the codes in order, to the first that ends the unwinding or the end of the bytes
 abbrev pub runs : List Segment → Unwinding → List Item → Result (List ℕ) UnwindEnd
 runs segments s [] = Ok (finished s)
 runs segments s (Bad place ∷ _) = Err (BadCode place)
-runs segments s (Is code ∷ more) = goes_on (λ next. runs segments next more) (after segments s (effect code))
+runs segments s (Is code ∷ more) = continued (λ next. runs segments next more) (after segments s (effect code))
 
 -- unwinding from registers: the new registers, or why there are none
 unfoldable pub unwound : List Segment → List ℕ → List Item → Result (List ℕ) UnwindEnd

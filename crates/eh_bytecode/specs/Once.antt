@@ -4,7 +4,7 @@ use Rattle.std.specs.List.{IsDistinct}
 use Rattle.unwind_codes.specs.Cut.{Item, Is, Bad}
 use Rattle.unwind_codes.specs.Meaning.{Effect, Rises, Falls, Pops, Takes, Refuses, Finishes, effect}
 
--- the registers that an effect pops, in front of those that the codes behind it pop; a code that refuses or finishes ends the codes
+-- the registers that an effect pops, in front of those that the codes after it pop; a code that refuses or finishes ends the codes
 abbrev pub popped_first : Effect → List ℕ → List ℕ
 popped_first (Rises by) more = more
 popped_first (Falls by) more = more

@@ -25,7 +25,7 @@ is_same _ = false
 abbrev pub from : Bool → ℤ → Src
 from based offset = if based then FromBase offset else FromSp offset
 
--- registers come from words that stand one behind the other
+-- registers come from words that stand one after the other
 abbrev pub filled : Bool → ℤ → List ℕ → List Src → List Src
 filled based offset [] src = src
 filled based offset (k ∷ more) src = filled based (offset +ℤ pos 4) more (slice_set src k (from based offset))
@@ -34,8 +34,8 @@ filled based offset (k ∷ more) src = filled based (offset +ℤ pos 4) more (sl
 abbrev pub is_far : ℤ → Bool
 is_far offset = int_lt (pos MOST_OFFSET) offset || int_lt offset (pos 0 -ℤ pos MOST_OFFSET)
 
-abbrev pub within : Sum → Total
-within sum = if is_far sum.vsp then Ends (Err fault.NotStatic) else Goes sum
+abbrev pub unless_far : Sum → Total
+unless_far sum = if is_far sum.vsp then Ends (Err fault.NotStatic) else Goes sum
 
 -- the recipe of a sum: where pc wasn't popped it comes from where the link register comes
 abbrev pub recipe_of : Sum → Recipe
@@ -52,9 +52,9 @@ takes sum register =
     else Goes (record sum { base = Some register; vsp = pos 0 })
 
 abbrev pub sum_after : Sum → Effect → Total
-sum_after sum (Rises by) = within (record sum { vsp = sum.vsp +ℤ pos by })
-sum_after sum (Falls by) = within (record sum { vsp = sum.vsp -ℤ pos by })
-sum_after sum (Pops registers) = within (record sum {
+sum_after sum (Rises by) = unless_far (record sum { vsp = sum.vsp +ℤ pos by })
+sum_after sum (Falls by) = unless_far (record sum { vsp = sum.vsp -ℤ pos by })
+sum_after sum (Pops registers) = unless_far (record sum {
   vsp = sum.vsp +ℤ pos (4 * length registers);
   src = filled (is_some sum.base) sum.vsp registers sum.src;
 })

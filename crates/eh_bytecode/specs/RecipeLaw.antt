@@ -15,7 +15,7 @@ use Rattle.eh_bytecode.specs.declared.recipe.Recipe.{Recipe}
 use Rattle.eh_bytecode.specs.Meaning.{address_of, unwound}
 use Rattle.eh_bytecode.specs.Recipe.{recipe}
 
--- ---- the words that codes load, each with its register and its offset from the stack pointer, and behind a `1001nnnn` from that
+-- ---- the words that codes load, each with its register and its offset from the stack pointer, and after a `1001nnnn` from that
 -- register's value. An offset below 0 stands for itself modulo 2 ^ 32.
 
 pub record Loads : Type 0 where
@@ -25,7 +25,7 @@ pub record Loads : Type 0 where
 abbrev pub nothing_loaded : Loads
 nothing_loaded = record { from_sp = []; from_base = [] }
 
--- registers from words that stand one behind the other
+-- registers from words that stand one after the other
 abbrev pub loads_at : ℤ → List ℕ → List Load
 loads_at offset [] = []
 loads_at offset (k ∷ more) = record { reg = k; at = cast_unsigned w32 offset } ∷ loads_at (offset +ℤ pos 4) more
@@ -34,7 +34,7 @@ abbrev pub in_front : Bool → List Load → Loads → Loads
 in_front true first loads = record loads { from_base = first ++ loads.from_base }
 in_front false first loads = record loads { from_sp = first ++ loads.from_sp }
 
--- what an effect loads, in front of what the codes behind it load from their offset on
+-- what an effect loads, in front of what the codes after it load from their offset on
 abbrev pub loads_more : (Bool → ℤ → Loads) → Bool → ℤ → Effect → Loads
 loads_more further based offset (Rises by) = further based (offset +ℤ pos by)
 loads_more further based offset (Falls by) = further based (offset -ℤ pos by)

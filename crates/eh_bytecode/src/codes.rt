@@ -193,14 +193,14 @@ impl<'a> Codes<'a> {
         ensures code { result ≡ front self.now }
         ensures fits { IfSome result (λ found. IsCode found.0) }
     {
-        let mut behind = self.again();
-        let first = behind.next()?;
+        let mut after = self.again();
+        let first = after.next()?;
         if first < LOWER {
             Some((Code::Raise(first % 64), 1))
         } else if first < POP_MASK {
             Some((Code::Lower(first % 64), 1))
         } else if first < RESTORE {
-            behind.mask(first)
+            after.mask(first)
         } else if first < POP_RANGE {
             restore(first)
         } else if first < POP_RANGE_AND_LR {
@@ -210,9 +210,9 @@ impl<'a> Codes<'a> {
         } else if first == FINISH {
             Some((Code::Finish, 1))
         } else if first == POP_LOW {
-            behind.low_mask()
+            after.low_mask()
         } else if first == RAISE_LONG {
-            behind.long_raise()
+            after.long_raise()
         } else {
             None
         }
@@ -233,7 +233,7 @@ impl<'a> Codes<'a> {
 fn restore(first: u8) -> Option<(Code, usize)>
     requires low { RESTORE ≤ first }
     requires high { first < POP_RANGE }
-    ensures code { (behind : List ℕ) → result ≡ code_front first behind }
+    ensures code { (after : List ℕ) → result ≡ code_front first after }
     ensures fits { IfSome result (λ found. IsCode found.0) }
 {
     let register = first % 16;

@@ -43,7 +43,7 @@ pub struct Unwinding {
     pub popped_pc: bool,
 }
 
-/// How an unwinding goes on behind a code.
+/// How an unwinding goes on after a code.
 #[derive(Clone, Copy)]
 pub enum Next {
     /// With the next code.

@@ -42,7 +42,7 @@ fn mark(seen: &mut [bool; 16], list: u16) -> bool
 }
 
 /// Whether the codes that are left pop no register twice before they end: at the first that finishes or refuses, at bytes that begin
-/// no code, or behind the last byte. It takes no memory.
+/// no code, or after the last byte. It takes no memory.
 pub fn pops_once(codes: &Codes) -> bool
     ensures { IsTrue result ↔ PopsOnce (cut codes.now) }
 {

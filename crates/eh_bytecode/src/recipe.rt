@@ -6,7 +6,7 @@ ghost use Rattle.thumb_core.specs.Words.{listed};
 ghost use Rattle.unwind_codes.specs.Bytes.{IsCode};
 ghost use Rattle.unwind_codes.specs.Cut.{cut};
 ghost use Rattle.unwind_codes.specs.Meaning.{effect, Pops};
-ghost use Rattle.eh_bytecode.specs.Recipe.{filled, from, is_same, is_far, within, takes, recipe_of, sum_after, recipe, total_of, nothing_summed, IsNear};
+ghost use Rattle.eh_bytecode.specs.Recipe.{filled, from, is_same, is_far, unless_far, takes, recipe_of, sum_after, recipe, total_of, nothing_summed, IsNear};
 
 use crate::codes::Codes;
 use crate::frame::range;
@@ -61,7 +61,7 @@ pub struct Sum {
     pub src: [Src; 16],
 }
 
-/// How a sum goes on behind a code.
+/// How a sum goes on after a code.
 #[derive(Clone, Copy)]
 pub enum Summed {
     /// With the next code.
@@ -94,7 +94,7 @@ fn from(based: bool, offset: i32) -> Src
     }
 }
 
-/// The offset of a word behind others.
+/// The offset of a word after others.
 #[tactic(auto, using(crate::proofs::Near::near_high, crate::proofs::Near::near_low, crate::proofs::Near::signs))]
 fn offset_at(offset: i32, words: u8) -> i32
     requires near { IsNear offset }
@@ -104,11 +104,11 @@ fn offset_at(offset: i32, words: u8) -> i32
     offset + i32::from(4 * words)
 }
 
-/// The registers of a list come from words from an offset on; answers the offset behind them.
+/// The registers of a list come from words from an offset on; answers the offset after them.
 #[tactic(auto, using(thumb_core::proofs::Listed::listed_all, thumb_core::proofs::Listed::listed_more, thumb_core::proofs::Listed::listed_none))]
 fn fill(based: bool, offset: i32, list: u16, src: &mut [Src; 16]) -> i32
     requires { IsNear offset }
-    ensures behind { result ≡ offset +ℤ pos (4 * length (listed list)) }
+    ensures after { result ≡ offset +ℤ pos (4 * length (listed list)) }
     ensures filled { src.new ≡ filled based offset (listed list) src.old }
 {
     let mut words = 0u8;
@@ -142,7 +142,7 @@ impl Sum {
 
     /// Moves the virtual stack pointer.
     fn moves(&mut self, to: i64) -> Summed
-        ensures moved { within (record self.old { vsp = to }) ≡ total_of result self.new }
+        ensures moved { unless_far (record self.old { vsp = to }) ≡ total_of result self.new }
         ensures near { result ≡ Summed.Goes → IsNear self.new.vsp }
     {
         if is_far(to) {
@@ -157,7 +157,7 @@ impl Sum {
     fn rise(&mut self, by: u64) -> Summed
         requires near { IsNear self.old.vsp }
         requires fits { by < 2 ^ 40 }
-        ensures risen { within (record self.old { vsp = self.old.vsp +ℤ pos by }) ≡ total_of result self.new }
+        ensures risen { unless_far (record self.old { vsp = self.old.vsp +ℤ pos by }) ≡ total_of result self.new }
         ensures near { result ≡ Summed.Goes → IsNear self.new.vsp }
     {
         self.moves(i64::from(self.vsp) + by as i64)
@@ -168,7 +168,7 @@ impl Sum {
     fn fall(&mut self, by: u64) -> Summed
         requires near { IsNear self.old.vsp }
         requires fits { by < 2 ^ 40 }
-        ensures fallen { within (record self.old { vsp = self.old.vsp -ℤ pos by }) ≡ total_of result self.new }
+        ensures fallen { unless_far (record self.old { vsp = self.old.vsp -ℤ pos by }) ≡ total_of result self.new }
         ensures near { result ≡ Summed.Goes → IsNear self.new.vsp }
     {
         self.moves(i64::from(self.vsp) - by as i64)
@@ -180,8 +180,8 @@ impl Sum {
         ensures popped { sum_after self.old (Pops (listed list)) ≡ total_of result self.new }
         ensures near { result ≡ Summed.Goes → IsNear self.new.vsp }
     {
-        let behind = fill(self.base.is_some(), self.vsp, list, &mut self.src);
-        self.moves(i64::from(behind))
+        let after = fill(self.base.is_some(), self.vsp, list, &mut self.src);
+        self.moves(i64::from(after))
     }
 
     /// Takes the virtual stack pointer from a register.

@@ -28,9 +28,9 @@ pub record Aside (l : Lists) (s : ℕ) : Type 0 where
   pub idle : Has (slots l.cleanups) s → ⊥
 
 pub aside : (w : Pool) (g : Globals) (l : Lists) (s : ℕ) → Stands w g l → count_in (entry l s) ≡ pos 0 → (state_in (entry l s) ≡ Some Flying → ⊥) → Aside l s
-aside w g l s x none calm = record {
+aside w g l s x none fault_free = record {
   uncounted = λ p. (x.valid.counted s).0 p none;
-  idle = λ p. calm (x.valid.flying s p);
+  idle = λ p. fault_free (x.valid.flying s p);
 }
 
 -- words of its slot are written, and its entry is replaced by one without a count

@@ -34,7 +34,7 @@ pub record Lists : Type 0 where
   -- modulo 2^32
   pub uncaught : ℕ
 
--- what the slot holds; there is none behind the last
+-- what the slot holds; there is none after the last
 abbrev pub entry : Lists → ℕ → Entry
 entry l s = get_or l.entries s OutOfUse
 

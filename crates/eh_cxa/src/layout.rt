@@ -2,7 +2,7 @@
 
 use eh_bus::map::{CLOSED_SIZE, POOL_SIZE, SLOT_SIZE};
 
-/// How many slots the pool has, one behind the other.
+/// How many slots the pool has, one after the other.
 pub const SLOTS: u32 = POOL_SIZE / SLOT_SIZE;
 
 /// The words of a slot.
@@ -45,7 +45,7 @@ pub const NEXT_CAUGHT: u32 = 5;
 /// The exception class: the bytes `EHABIRT` and a zero byte.
 pub const CLASS: u32 = 10;
 
-/// The barrier's frame, by its sp. Words 0 to 4 of the barrier cache stand behind it.
+/// The barrier's frame, by its sp. Words 0 to 4 of the barrier cache stand after it.
 pub const BARRIER_SP: u32 = 18;
 
 /// The address that a handler is given: the object, seen as the handler's type.

@@ -3,7 +3,7 @@ use Rattle.std.proofs.Common.{◌≡◌, ℕ, zero, suc, ◌+◌, ◌-◌, ◌*�
 use Rattle.std.specs.Prelude.{Result, Ok, Err, nat_le, nat_lt, not}
 use Rattle.std.proofs.lemmas.Bool.Decides.{nat_tests}
 use Rattle.eh_word.specs.Words.{number_at}
-use Rattle.unwind_codes.specs.Words.{personality_of_word, code_words_behind}
+use Rattle.unwind_codes.specs.Words.{personality_of_word, code_words_after}
 use Rattle.unwind_codes.specs.declared.words.TheConstants.{LANDING_PAD_MARK, WIDE_PERSONALITY}
 use Rattle.eh_bytecode.specs.declared.codes.CodesFault.{CodesFault}
 use Rattle.eh_bytecode.specs.Codes.{table_codes}
@@ -14,11 +14,11 @@ use Rattle.eh_desc.specs.declared.descriptor.DescKind.TheVariants.{Spec}
 use Rattle.eh_desc.specs.declared.descriptor.Found.{Found}
 use Rattle.eh_desc.specs.declared.descriptor.Found.TheVariants.{End, One, Fault}
 use Rattle.eh_desc.specs.declared.descriptor.TheConstants.{MOST_TYPES}
-use Rattle.eh_desc.specs.Grammar.{Form, word_at, address_at, with_word, cleanup_at, catch_at, has_types, padded_at, types_at, specification_at, kind_at, found_at, found, listed, items_in, items_from, where_codes, items_behind}
+use Rattle.eh_desc.specs.Grammar.{Form, word_at, address_at, with_word, cleanup_at, catch_at, has_types, padded_at, types_at, specification_at, kind_at, found_at, found, listed, items_in, items_from, where_codes, items_after}
 use Rattle.eh_desc.specs.Laws.{Follow, DescriptorsFollow}
 use Rattle.eh_desc.proofs.Room.{room}
 
--- a descriptor that stands at a place names its address and that of the place behind it, which is further on
+-- a descriptor that stands at a place names its address and that of the place after it, which is further on
 abbrev pub IsNext : Form → ℕ → Found → Type 0
 IsNext t place End = Unit {0}
 IsNext t place (Fault fault) = Unit {0}
@@ -140,9 +140,9 @@ where_follow (Err fault) address items h = tt
 
 pub law_of_descriptors : DescriptorsFollow
 law_of_descriptors start address bytes first is =
-    where_follow (table_codes bytes) _ (items_behind start address bytes (number_at 4 bytes 0))
-    (subst (λ (o : Option ℕ). Follow ((address + (4 + 4 * code_words_behind first)) % 2 ^ 32) (items_behind start address bytes o)) (sym is)
-    (follow_from (record { bytes = bytes; address = address; start = start; wide = personality_of_word first == WIDE_PERSONALITY }) (4 + 4 * code_words_behind first)))
+    where_follow (table_codes bytes) _ (items_after start address bytes (number_at 4 bytes 0))
+    (subst (λ (o : Option ℕ). Follow ((address + (4 + 4 * code_words_after first)) % 2 ^ 32) (items_after start address bytes o)) (sym is)
+    (follow_from (record { bytes = bytes; address = address; start = start; wide = personality_of_word first == WIDE_PERSONALITY }) (4 + 4 * code_words_after first)))
 
 -- ---- what is left, as the iterator keeps it
 

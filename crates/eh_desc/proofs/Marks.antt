@@ -59,7 +59,7 @@ marked count = grind (arith, nat_tests)
 pub law_of_specifications : SpecificationsMarkTheOffset
 law_of_specifications t place length offset at count l o low there = (
   λ first. rw (set offset o, clear length l, first, count_alone count low, few count low, unmarked count low, there, even_marked offset o, even_same length l) refl,
-  λ pad first behind. rw (set offset o, clear length l, first, count_marked count low, few count low, marked count, there, behind, even_marked offset o, even_same length l) refl,
+  λ pad first after. rw (set offset o, clear length l, first, count_marked count low, few count low, marked count, there, after, even_marked offset o, even_same length l) refl,
 )
 
 pub law_of_both : BothMarksAreRefused

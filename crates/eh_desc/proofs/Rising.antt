@@ -13,7 +13,7 @@ use Rattle.eh_desc.specs.declared.descriptor.DescKind.TheVariants.{Spec}
 use Rattle.eh_desc.specs.declared.descriptor.Found.{Found}
 use Rattle.eh_desc.specs.declared.descriptor.Found.TheVariants.{End, One, Fault}
 use Rattle.eh_desc.specs.declared.descriptor.TheConstants.{MOST_TYPES}
-use Rattle.eh_desc.specs.Grammar.{Form, word_at, address_at, with_word, cleanup_at, catch_at, has_types, padded_at, types_at, specification_at, kind_at, found_at, found, listed, items_in, items_from, where_codes, items_behind}
+use Rattle.eh_desc.specs.Grammar.{Form, word_at, address_at, with_word, cleanup_at, catch_at, has_types, padded_at, types_at, specification_at, kind_at, found_at, found, listed, items_in, items_from, where_codes, items_after}
 use Rattle.eh_desc.specs.Laws.{Rise, DescriptorsRise}
 use Rattle.eh_desc.proofs.Room.{room}
 use Rattle.eh_desc.proofs.Items.{one_next}
@@ -93,9 +93,9 @@ where_rise : (r : Result (List ℕ) CodesFault) (items : List (Result Desc DescF
 where_rise (Ok codes) items h = h
 where_rise (Err fault) items h = tt
 
-behind_rise : (start address : ℕ) (bytes : List ℕ) (o : Option ℕ) → address + length bytes < 2 ^ 32 → Rise (items_behind start address bytes o)
-behind_rise start address bytes None low = tt
-behind_rise start address bytes (Some first) low = rise_from _ _ low
+after_rise : (start address : ℕ) (bytes : List ℕ) (o : Option ℕ) → address + length bytes < 2 ^ 32 → Rise (items_after start address bytes o)
+after_rise start address bytes None low = tt
+after_rise start address bytes (Some first) low = rise_from _ _ low
 
 pub law_of_rising : DescriptorsRise
-law_of_rising start address bytes low = where_rise (table_codes bytes) _ (behind_rise start address bytes (number_at 4 bytes 0) low)
+law_of_rising start address bytes low = where_rise (table_codes bytes) _ (after_rise start address bytes (number_at 4 bytes 0) low)

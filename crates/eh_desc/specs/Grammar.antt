@@ -5,7 +5,7 @@ use Rattle.eh_word.specs.Words.{number_at, prel31_of}
 use Rattle.elf_image.specs.Segments.{Segment}
 use Rattle.eh_index.specs.Places.{bytes_at}
 use Rattle.unwind_codes.specs.Rows.{even}
-use Rattle.unwind_codes.specs.Words.{personality_of_word, code_words_behind}
+use Rattle.unwind_codes.specs.Words.{personality_of_word, code_words_after}
 use Rattle.unwind_codes.specs.declared.words.TheConstants.{REFERENCE_MARK, LANDING_PAD_MARK, WIDE_PERSONALITY}
 use Rattle.unwind_codes.specs.declared.row.Entry.{Entry}
 use Rattle.unwind_codes.specs.declared.row.EntryBody.{EntryBody}
@@ -53,7 +53,7 @@ abbrev pub with_word : Option ℕ → (ℕ → Found) → Found
 with_word None further = Fault Short
 with_word (Some word) further = further word
 
--- a descriptor at a place, with its scope, its kind and the place behind it
+-- a descriptor at a place, with its scope, its kind and the place after it
 abbrev pub found : Form → ℕ → ℕ → ℕ → DescKind → ℕ → Found
 found t place len off kind next = One (record {
   at = address_at t place;
@@ -63,7 +63,7 @@ found t place len off kind next = One (record {
   kind = kind;
 }) next
 
--- ---- behind the scope: a cleanup's landing pad; a catch's landing pad and type; a specification's count, types and landing pad
+-- ---- after the scope: a cleanup's landing pad; a catch's landing pad and type; a specification's count, types and landing pad
 
 abbrev pub cleanup_at : Form → ℕ → ℕ → ℕ → ℕ → Found
 cleanup_at t place len off at = with_word (word_at t at) (λ pad. found t place len off (Cleanup (pad_by t at pad)) (at + 4))
@@ -123,19 +123,19 @@ items_in (suc most) t place = listed (λ next. items_in most t next) (found_at t
 unfoldable pub items_from : Form → ℕ → List (Result Desc DescFault)
 items_from t place = items_in (length t.bytes - place) t place
 
--- ---- a table's descriptors stand behind its codes. With personality index 2 lengths and offsets are words
+-- ---- a table's descriptors stand after its codes. With personality index 2 lengths and offsets are words
 
-abbrev pub items_behind : ℕ → ℕ → List ℕ → Option ℕ → List (Result Desc DescFault)
-items_behind start address bytes None = []
-items_behind start address bytes (Some first) =
-    items_from (record { bytes = bytes; address = address; start = start; wide = personality_of_word first == WIDE_PERSONALITY }) (4 + 4 * code_words_behind first)
+abbrev pub items_after : ℕ → ℕ → List ℕ → Option ℕ → List (Result Desc DescFault)
+items_after start address bytes None = []
+items_after start address bytes (Some first) =
+    items_from (record { bytes = bytes; address = address; start = start; wide = personality_of_word first == WIDE_PERSONALITY }) (4 + 4 * code_words_after first)
 
 abbrev pub where_codes : Result (List ℕ) CodesFault → List (Result Desc DescFault) → List (Result Desc DescFault)
 where_codes (Ok _) items = items
 where_codes (Err _) items = []
 
 abbrev pub table_items : ℕ → ℕ → List ℕ → List (Result Desc DescFault)
-table_items start address bytes = where_codes (table_codes bytes) (items_behind start address bytes (number_at 4 bytes 0))
+table_items start address bytes = where_codes (table_codes bytes) (items_after start address bytes (number_at 4 bytes 0))
 
 abbrev pub body_items : ℕ → EntryBody → List ℕ → List (Result Desc DescFault)
 body_items start (body.Table address) bytes = table_items start address bytes

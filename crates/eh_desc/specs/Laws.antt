@@ -1,9 +1,9 @@
--- Descriptors stand one behind the other, and their marks say what they are.
+-- Descriptors stand one after the other, and their marks say what they are.
 use Rattle.std.specs.Prelude.{◌≡◌, ℕ, ◌+◌, ◌*◌, ◌%◌, ◌^◌, ◌<◌, ◌≤◌, true, false, List, [], ◌∷◌, length, Some, None, Result, Ok, Err}
 use Rattle.eh_word.specs.Words.{prel31_of, number_at}
 use Rattle.unwind_codes.specs.declared.words.TheConstants.{REFERENCE_MARK, LANDING_PAD_MARK}
 use Rattle.unwind_codes.specs.Rows.{even}
-use Rattle.unwind_codes.specs.Words.{code_words_behind}
+use Rattle.unwind_codes.specs.Words.{code_words_after}
 use Rattle.eh_desc.specs.declared.descriptor.Desc.{Desc}
 use Rattle.eh_desc.specs.declared.descriptor.DescKind.{DescKind}
 use Rattle.eh_desc.specs.declared.descriptor.DescKind.TheVariants.{Cleanup, Catch, Spec}
@@ -14,19 +14,19 @@ use Rattle.eh_desc.specs.declared.descriptor.DescFault.TheVariants.{Kind}
 use Rattle.eh_desc.specs.declared.descriptor.TheConstants.{MOST_TYPES}
 use Rattle.eh_desc.specs.Grammar.{Form, word_at, address_at, catch_type, has_types, kind_at, table_items}
 
--- the first descriptor stands at an address, each further one at the address behind the one before it, and a fault is the last
+-- the first descriptor stands at an address, each further one at the address after the one before it, and a fault is the last
 abbrev pub Follow : ℕ → List (Result Desc DescFault) → Type 0
 Follow address [] = Unit {0}
 Follow address (Ok desc ∷ more) = (desc.at ≡ address) × Follow desc.next more
 Follow address (Err fault ∷ more) = more ≡ []
 
--- a table's descriptors follow each other behind its code words
+-- a table's descriptors follow each other after its code words
 abbrev pub DescriptorsFollow : Type 0
 DescriptorsFollow =
     (start address : ℕ) (bytes : List ℕ) (first : ℕ) → number_at 4 bytes 0 ≡ Some first
-    → Follow ((address + (4 + 4 * code_words_behind first)) % 2 ^ 32) (table_items start address bytes)
+    → Follow ((address + (4 + 4 * code_words_after first)) % 2 ^ 32) (table_items start address bytes)
 
--- each descriptor stands below the address behind it
+-- each descriptor stands below the address after it
 abbrev pub Rise : List (Result Desc DescFault) → Type 0
 Rise [] = Unit {0}
 Rise (Ok desc ∷ more) = (desc.at < desc.next) × Rise more
@@ -38,7 +38,7 @@ DescriptorsRise = (start address : ℕ) (bytes : List ℕ) → address + length 
 
 -- ---- marks
 
--- the descriptor at a place, of a scope of this length and from this offset on, and the place behind it
+-- the descriptor at a place, of a scope of this length and from this offset on, and the place after it
 abbrev pub IsOf : Form → ℕ → ℕ → ℕ → DescKind → ℕ → Found → Type 0
 IsOf t place length offset kind next found =
     found ≡ One (record { at = address_at t place; next = address_at t next; start = (t.start + offset) % 2 ^ 32; size = length; kind = kind }) next
@@ -62,7 +62,7 @@ CatchesMarkTheLength =
     × (word_at t at ≡ Some (pad + REFERENCE_MARK)
     → IsOf t place length offset (Catch (pad_of t at pad) true (catch_type (address_at t (at + 4)) type)) (at + 8) (kind_at t place (length + 1) offset at))
 
--- with bit 0 of the offset set it is a specification's, with a landing pad behind the types where bit 31 of their count is set as well
+-- with bit 0 of the offset set it is a specification's, with a landing pad after the types where bit 31 of their count is set as well
 abbrev pub SpecificationsMarkTheOffset : Type 0
 SpecificationsMarkTheOffset =
     (t : Form) (place length offset at count : ℕ) → length % 2 ≡ 0 → offset % 2 ≡ 0 → count ≤ MOST_TYPES → has_types t (at + 4) count ≡ true

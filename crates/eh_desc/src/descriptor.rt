@@ -11,7 +11,7 @@ use eh_word::{get_word, prel31};
 use std::marker::Model;
 use unwind_codes::row::even;
 use unwind_codes::words::{LANDING_PAD_MARK, REFERENCE_MARK, WIDE_PERSONALITY};
-use unwind_codes::{Entry, EntryBody, code_words_behind, personality_of_word};
+use unwind_codes::{Entry, EntryBody, code_words_after, personality_of_word};
 
 /// The type word of a catch that takes everything.
 pub const ALL: u32 = 0xFFFF_FFFF;
@@ -57,7 +57,7 @@ pub enum DescKind {
 pub struct Desc {
     /// Its own address, in bytes.
     pub at: u32,
-    /// The address of the one behind it.
+    /// The address of the one after it.
     pub next: u32,
     /// The first address of its scope.
     pub start: u32,
@@ -100,14 +100,14 @@ pub struct Table<'a> {
     pub wide: bool,
 }
 
-/// A descriptor's scope, and the place behind it.
+/// A descriptor's scope, and the place after it.
 #[derive(Clone, Copy)]
 pub struct Scope {
     /// How many bytes the scope has; bit 0 is a mark.
     pub length: u32,
-    /// How many bytes behind the function's start it begins; bit 0 is a mark.
+    /// How many bytes after the function's start it begins; bit 0 is a mark.
     pub offset: u32,
-    /// The place of the words behind it.
+    /// The place of the words after it.
     pub place: usize,
 }
 
@@ -116,7 +116,7 @@ pub struct Scope {
 pub enum Found {
     /// The end of the list.
     End,
-    /// A descriptor, and the place behind it.
+    /// A descriptor, and the place after it.
     One(Desc, usize),
     /// What can't be read.
     Fault(DescFault),
@@ -208,7 +208,7 @@ impl<'a> Table<'a> {
         self.found(place, scope, kind, scope.place + 8)
     }
 
-    /// A specification whose types stand at a place, with a landing pad behind them.
+    /// A specification whose types stand at a place, with a landing pad after them.
     fn padded(&self, place: usize, scope: Scope, types: usize, count: u32) -> Found
         requires types { types ≤ length self.now.bytes.now }
         requires count { count ≤ MOST_TYPES }
@@ -232,8 +232,8 @@ impl<'a> Table<'a> {
         requires count { count ≤ MOST_TYPES }
         ensures { result ≡ types_at (form self.now) place scope.length scope.offset types count padded }
     {
-        let behind = types + 4 * count as usize;
-        if behind > self.bytes.len() {
+        let after = types + 4 * count as usize;
+        if after > self.bytes.len() {
             return Found::Fault(DescFault::Short);
         }
         if padded {
@@ -244,7 +244,7 @@ impl<'a> Table<'a> {
             count,
             pad: None,
         };
-        self.found(place, scope, kind, behind)
+        self.found(place, scope, kind, after)
     }
 
     fn specification(&self, place: usize, scope: Scope) -> Found
@@ -261,7 +261,7 @@ impl<'a> Table<'a> {
         self.types(place, scope, scope.place + 4, count, padded)
     }
 
-    /// What the marks of a scope say stands behind it.
+    /// What the marks of a scope say stands after it.
     fn kind(&self, place: usize, scope: Scope) -> Found
         ensures { result ≡ kind_at (form self.now) place scope.length scope.offset scope.place }
     {
@@ -341,8 +341,8 @@ impl<'a> Descs<'a> {
         }
     }
 
-    /// The descriptors behind the codes of a table.
-    fn behind(start: u32, address: u32, bytes: &'a [u8]) -> Descs<'a>
+    /// The descriptors after the codes of a table.
+    fn after(start: u32, address: u32, bytes: &'a [u8]) -> Descs<'a>
         ensures { result ≡ table_items start address bytes.now }
     {
         if Codes::table(bytes).is_err() {
@@ -359,7 +359,7 @@ impl<'a> Descs<'a> {
         };
         Descs {
             table,
-            place: 4 + 4 * code_words_behind(first) as usize,
+            place: 4 + 4 * code_words_after(first) as usize,
             over: false,
         }
     }
@@ -370,7 +370,7 @@ impl<'a> Descs<'a> {
         ensures { result ≡ items_of e.now (table_of index.now e.now) }
     {
         match (e.body, index.table(e)) {
-            (EntryBody::Table(address), Some(bytes)) => Descs::behind(e.start, address, bytes),
+            (EntryBody::Table(address), Some(bytes)) => Descs::after(e.start, address, bytes),
             (EntryBody::Table(_) | EntryBody::CantUnwind | EntryBody::Inline(_), _) =>
                 Descs::none(),
         }

@@ -8,7 +8,7 @@ pub mod descriptor;
 
 pub use descriptor::{CatchType, Desc, DescFault, DescKind, Descs, spec_type};
 
-/// The first descriptor of a table stands behind its code words, each further one at the address that the one before it names as
+/// The first descriptor of a table stands after its code words, each further one at the address that the one before it names as
 /// the next, and what can't be read is the last item.
 pub fn descriptors_follow()
     ensures { DescriptorsFollow }
@@ -21,7 +21,7 @@ pub fn descriptors_rise()
 
 /// The marks of a descriptor say what it is: bit 0 of the scope's length makes it a catch, bit 0 of its offset a specification, and
 /// without both it is a cleanup; with both it is refused. Bit 31 of a catch's landing pad word makes it one of a reference, and bit 31
-/// of a specification's count says that a landing pad stands behind the types. Nothing else depends on these bits.
+/// of a specification's count says that a landing pad stands after the types. Nothing else depends on these bits.
 pub fn descriptors_are_marked()
     ensures cleanups { CleanupsHaveNoMark }
     ensures catches { CatchesMarkTheLength }

@@ -28,7 +28,7 @@ use Rattle.thumb_core.specs.Registers.{all_of}
 use Rattle.thumb_core.specs.declared.regs.TheConstants.{SP}
 use Rattle.thumb_core.specs.declared.ends.End.{End}
 use Rattle.eh_gates.specs.declared.gates.TheConstants.{ALLOCATE_GATE, FREE_GATE, THROW_GATE, BEGIN_CATCH_GATE, END_CATCH_GATE, RETHROW_GATE, END_CLEANUP_GATE, UNEXPECTED_GATE, TERMINATE_GATE, UNCAUGHT_GATE}
-use Rattle.eh_gates.specs.State.{State, Guide, Outcome, reg}
+use Rattle.eh_gates.specs.State.{State, Tables, Outcome, reg}
 use Rattle.eh_gates.specs.CallGates.{allocated, freed, caught, dropped}
 use Rattle.eh_gates.specs.Landing.{entered, words_of}
 use Rattle.eh_gates.specs.Throwing.{frames_from, barrier_words, with_barrier, handed, throw_to, sought, from_barrier, flies_to, flies, first_flight, throws, thrown_first, thrown_of_block, second_flight, rethrows}
@@ -127,13 +127,13 @@ lands s block object (enters.Spec vrs pad) h = h
 lands s block object enters.Unexpected h = h
 lands s block object (enters.Terminate why) h = h
 
-throws_to : (g : Guide) (s : State) (site block : ℕ) (b : Barrier) → AreHeads s.globals → AreHeads (throw_to g s site block b).1.globals
+throws_to : (g : Tables) (s : State) (site block : ℕ) (b : Barrier) → AreHeads s.globals → AreHeads (throw_to g s site block b).1.globals
 unfolding throw_to
 throws_to g s site block b h =
     let u = with_barrier s block (barrier_words block b) in
     lands u block (handed block b.hit) (phase2 (goal_of b) 0 (frames_from g u None site)) h
 
-flies_heads : (g : Guide) (s : State) (given : ℕ) (b : Barrier) (r : Result ℕ CxaFault) → AreHeads s.globals → AreHeads (flies_to g s given b r).1.globals
+flies_heads : (g : Tables) (s : State) (given : ℕ) (b : Barrier) (r : Result ℕ CxaFault) → AreHeads s.globals → AreHeads (flies_to g s given b r).1.globals
 flies_heads g s given b (Ok block) h = throws_to g s s.regs.pc block b h
 flies_heads g s given b (Err why) h = h
 
@@ -142,40 +142,40 @@ from_heads : (further : Barrier → State → Outcome) (p : Result Barrier End �
 from_heads further (Ok b, t) h f = f b t h
 from_heads further (Err end, t) h f = h
 
-sought_heads : (g : Guide) (s : State) (what : EventKind) (thrown : Thrown) → AreHeads s.globals → AreHeads (sought g s what thrown).1.globals
+sought_heads : (g : Tables) (s : State) (what : EventKind) (thrown : Thrown) → AreHeads s.globals → AreHeads (sought g s what thrown).1.globals
 unfolding sought
 sought_heads g s what thrown h = either (λ (p : Result Barrier End × State). AreHeads p.1.globals) (is_some (row_of g.types thrown.ty)) _ _ h h
 
-throws_heads : (g : Guide) (s : State) (r : Result (Unit {0}) CxaFault) → AreHeads s.globals → AreHeads (throws g s r).1.globals
+throws_heads : (g : Tables) (s : State) (r : Result (Unit {0}) CxaFault) → AreHeads s.globals → AreHeads (throws g s r).1.globals
 throws_heads g s (Err why) h = h
 throws_heads g s (Ok may) h =
     from_heads (λ b t. flies g t (reg s 0) (first_flight t) b) (sought g s kind.Throw (thrown_first s)) (sought_heads g s kind.Throw (thrown_first s) h)
     (λ b t k. flies_heads g (record t { globals = (first_flight t).globals; memory = put_all (first_flight t).writes t.memory }) (reg s 0) b (first_flight t).answer
     (throw_heads (word t.memory) t.globals (object_slot (reg t 0)) _ k))
 
-rethrows_heads : (g : Guide) (s : State) (r : Result ℕ CxaFault) → AreHeads s.globals → AreHeads (rethrows g s r).1.globals
+rethrows_heads : (g : Tables) (s : State) (r : Result ℕ CxaFault) → AreHeads s.globals → AreHeads (rethrows g s r).1.globals
 rethrows_heads g s (Err why) h = h
 rethrows_heads g s (Ok block) h =
     from_heads (λ b t. flies g t block (second_flight t) b) (sought g s kind.Rethrow (thrown_of_block s block)) (sought_heads g s kind.Rethrow (thrown_of_block s block) h)
     (λ b t k. flies_heads g (record t { globals = (second_flight t).globals; memory = put_all (second_flight t).writes t.memory }) block b (second_flight t).answer
     (rethrow_heads (word t.memory) t.globals (block_slot t.globals.caught) k))
 
-goes_heads : (g : Guide) (s : State) (vrs : Vrs) (r : Result (ℕ × CleanupWords) CxaFault) → AreHeads s.globals → AreHeads (goes_on g s vrs r).1.globals
+goes_heads : (g : Tables) (s : State) (vrs : Vrs) (r : Result (ℕ × CleanupWords) CxaFault) → AreHeads s.globals → AreHeads (goes_on g s vrs r).1.globals
 goes_heads g s vrs (Ok (block, w)) h = lands s block _ _ h
 goes_heads g s vrs (Err why) h = h
 
-resumes_in_heads : (g : Guide) (s : State) (o : Option Vrs) → AreHeads s.globals → AreHeads (resumes_in g s o).1.globals
+resumes_in_heads : (g : Tables) (s : State) (o : Option Vrs) → AreHeads s.globals → AreHeads (resumes_in g s o).1.globals
 resumes_in_heads g s None h = h
 resumes_in_heads g s (Some vrs) h =
     let d = end_cleanup_of (word s.memory) s.globals (slice_index vrs.r SP) in
     goes_heads g (record s { globals = d.globals; memory = put_all d.writes s.memory }) vrs d.answer
     (cleanup_heads (word s.memory) s.globals (slice_index vrs.r SP) (block_slot s.globals.cleanup) h)
 
-resumes_heads : (g : Guide) (s : State) (o : Option ℕ) → AreHeads s.globals → AreHeads (resumes g s o).1.globals
+resumes_heads : (g : Tables) (s : State) (o : Option ℕ) → AreHeads s.globals → AreHeads (resumes g s o).1.globals
 resumes_heads g s None h = h
 resumes_heads g s (Some sp) h = resumes_in_heads g s (caller_at g.image s.memory.segments s.regs.pc (all_of s.regs)) h
 
-pub gate_heads : (g : Guide) (number next : ℕ) (s : State) → AreHeads s.globals → AreHeads (gate_of g number next s).1.globals
+pub gate_heads : (g : Tables) (number next : ℕ) (s : State) → AreHeads s.globals → AreHeads (gate_of g number next s).1.globals
 unfolding gate_of
 gate_heads g number next s h =
     let P : Outcome → Type 0 = λ o. AreHeads o.1.globals in

@@ -32,7 +32,7 @@ use Rattle.thumb_core.specs.declared.ends.End.{End}
 use Rattle.eh_gates.specs.declared.state.Turned.{Turned}
 use Rattle.eh_gates.specs.declared.state.Turned.TheVariants.{Went, Ended}
 use Rattle.eh_gates.specs.declared.gates.TheConstants.{ALLOCATE_GATE, FREE_GATE, THROW_GATE, BEGIN_CATCH_GATE, END_CATCH_GATE, RETHROW_GATE, END_CLEANUP_GATE, UNEXPECTED_GATE, TERMINATE_GATE, UNCAUGHT_GATE}
-use Rattle.eh_gates.specs.State.{State, Guide, Outcome, reg}
+use Rattle.eh_gates.specs.State.{State, Tables, Outcome, reg}
 use Rattle.eh_gates.specs.CallGates.{fault_end, refused, allocated, freed, caught, dropped}
 use Rattle.eh_gates.specs.Landing.{entered}
 use Rattle.eh_gates.specs.Throwing.{frames_from, barrier_words, with_barrier, handed, throw_to, barrier_in, searched, sought, from_barrier, flies_to, flies, first_flight, throws, throw_gate, thrown_first, rethrow_end, thrown_of_block, second_flight, rethrows, rethrow_gate}
@@ -94,7 +94,7 @@ lands_honest s block object (enters.Spec vrs pad) = went
 lands_honest s block object enters.Unexpected = ended _ refl
 lands_honest s block object (enters.Terminate why) = ended _ refl
 
-throw_to_honest : (g : Guide) (s : State) (site block : ℕ) (b : Barrier) → IsHonest (throw_to g s site block b).0
+throw_to_honest : (g : Tables) (s : State) (site block : ℕ) (b : Barrier) → IsHonest (throw_to g s site block b).0
 unfolding throw_to
 throw_to_honest g s site block b =
     let t = with_barrier s block (barrier_words block b) in
@@ -118,7 +118,7 @@ either : {A : Type 0} (P : A → Type 0) (b : Bool) (x y : A) → P x → P y �
 either P true x y px py = px
 either P false x y px py = py
 
-sought_fine : (g : Guide) (s : State) (what : EventKind) (thrown : Thrown) → IsFine (sought g s what thrown).0
+sought_fine : (g : Tables) (s : State) (what : EventKind) (thrown : Thrown) → IsFine (sought g s what thrown).0
 unfolding sought
 sought_fine g s what thrown =
     either (λ (p : Result Barrier End × State). IsFine p.0) (is_some (row_of g.types thrown.ty)) _ _ (found_fine s.regs.pc (searched g s thrown)) (fine_err _ refl)
@@ -128,40 +128,40 @@ from_barrier_honest : (further : Barrier → State → Outcome) (p : Result Barr
 from_barrier_honest further (Ok b, s) f fine = f b s
 from_barrier_honest further (Err end, s) f fine = ended end (fine end refl)
 
-flies_to_honest : (g : Guide) (s : State) (given : ℕ) (b : Barrier) (r : Result ℕ CxaFault) → IsHonest (flies_to g s given b r).0
+flies_to_honest : (g : Tables) (s : State) (given : ℕ) (b : Barrier) (r : Result ℕ CxaFault) → IsHonest (flies_to g s given b r).0
 flies_to_honest g s given b (Ok block) = throw_to_honest g s s.regs.pc block b
 flies_to_honest g s given b (Err why) = refusal why given s
 
-flies_honest : (g : Guide) (s : State) (given : ℕ) (d : Done (Result ℕ CxaFault)) (b : Barrier) → IsHonest (flies g s given d b).0
+flies_honest : (g : Tables) (s : State) (given : ℕ) (d : Done (Result ℕ CxaFault)) (b : Barrier) → IsHonest (flies g s given d b).0
 flies_honest g s given d b = flies_to_honest g _ given b d.answer
 
-throws_honest : (g : Guide) (s : State) (r : Result (Unit {0}) CxaFault) → IsHonest (throws g s r).0
+throws_honest : (g : Tables) (s : State) (r : Result (Unit {0}) CxaFault) → IsHonest (throws g s r).0
 throws_honest g s (Err why) = refusal why (reg s 0) s
 throws_honest g s (Ok may) =
     from_barrier_honest (λ b t. flies g t (reg s 0) (first_flight t) b) (sought g s kind.Throw (thrown_first s))
     (λ b t. flies_honest g t (reg s 0) (first_flight t) b) (sought_fine g s kind.Throw (thrown_first s))
 
-rethrows_honest : (g : Guide) (s : State) (r : Result ℕ CxaFault) → IsHonest (rethrows g s r).0
+rethrows_honest : (g : Tables) (s : State) (r : Result ℕ CxaFault) → IsHonest (rethrows g s r).0
 rethrows_honest g s (Err why) = ended _ (rethrow_fine why s.globals.caught s.regs.pc)
 rethrows_honest g s (Ok block) =
     from_barrier_honest (λ b t. flies g t block (second_flight t) b) (sought g s kind.Rethrow (thrown_of_block s block))
     (λ b t. flies_honest g t block (second_flight t) b) (sought_fine g s kind.Rethrow (thrown_of_block s block))
 
-goes_on_honest : (g : Guide) (s : State) (vrs : Vrs) (r : Result (ℕ × CleanupWords) CxaFault) → IsHonest (goes_on g s vrs r).0
+goes_on_honest : (g : Tables) (s : State) (vrs : Vrs) (r : Result (ℕ × CleanupWords) CxaFault) → IsHonest (goes_on g s vrs r).0
 goes_on_honest g s vrs (Ok (block, w)) = lands_honest s block _ _
 goes_on_honest g s vrs (Err why) = refusal why _ s
 
-resumes_in_honest : (g : Guide) (s : State) (o : Option Vrs) → IsHonest (resumes_in g s o).0
+resumes_in_honest : (g : Tables) (s : State) (o : Option Vrs) → IsHonest (resumes_in g s o).0
 resumes_in_honest g s None = refusal fault.CleanupElsewhere 0 s
 resumes_in_honest g s (Some vrs) =
     let d = end_cleanup_of (word s.memory) s.globals (slice_index vrs.r SP) in
     goes_on_honest g (record s { globals = d.globals; memory = put_all d.writes s.memory }) vrs d.answer
 
-resumes_honest : (g : Guide) (s : State) (o : Option ℕ) → IsHonest (resumes g s o).0
+resumes_honest : (g : Tables) (s : State) (o : Option ℕ) → IsHonest (resumes g s o).0
 resumes_honest g s None = refusal fault.NoCleanup 0 s
 resumes_honest g s (Some sp) = resumes_in_honest g s (caller_at g.image s.memory.segments s.regs.pc (all_of s.regs))
 
-pub gate_honest : (g : Guide) (number next : ℕ) (s : State) → IsHonest (gate_of g number next s).0
+pub gate_honest : (g : Tables) (number next : ℕ) (s : State) → IsHonest (gate_of g number next s).0
 unfolding gate_of
 gate_honest g number next s =
     let P : Outcome → Type 0 = λ o. IsHonest o.0 in

@@ -34,7 +34,7 @@ use Rattle.thumb_core.specs.declared.ends.End.TheVariants as the_end
 use Rattle.eh_gates.specs.declared.state.Turned.{Turned}
 use Rattle.eh_gates.specs.declared.state.Turned.TheVariants.{Went, Ended}
 use Rattle.eh_gates.specs.declared.gates.TheConstants.{ALLOCATE_GATE, FREE_GATE, THROW_GATE, BEGIN_CATCH_GATE, END_CATCH_GATE, RETHROW_GATE, END_CLEANUP_GATE, UNEXPECTED_GATE, TERMINATE_GATE, UNCAUGHT_GATE}
-use Rattle.eh_gates.specs.State.{State, Guide, Outcome, reg, logged}
+use Rattle.eh_gates.specs.State.{State, Tables, Outcome, reg, logged}
 use Rattle.eh_gates.specs.CallGates.{fault_end, refused, allocated, freed, caught, dropped}
 use Rattle.eh_gates.specs.Landing.{entered}
 use Rattle.eh_gates.specs.Throwing.{frames_from, barrier_words, with_barrier, handed, throw_to, throw_event, size_of, barrier_in, searched, sought, from_barrier, flies_to, flies, first_flight, throws, throw_gate, thrown_first, rethrow_end, thrown_of_block, second_flight, rethrows, rethrow_gate}
@@ -81,7 +81,7 @@ lands s t block object (enters.Spec vrs pad) r = tt
 lands s t block object enters.Unexpected r = ended_terminate _ s t r
 lands s t block object (enters.Terminate why) r = ended_terminate why s t r
 
-throws_to : (g : Guide) (s t : State) (site block : ℕ) (b : Barrier) → t.regs ≡ s.regs → Leaves s (throw_to g t site block b)
+throws_to : (g : Tables) (s t : State) (site block : ℕ) (b : Barrier) → t.regs ≡ s.regs → Leaves s (throw_to g t site block b)
 unfolding throw_to
 throws_to g s t site block b r =
     let u = with_barrier t block (barrier_words block b) in
@@ -117,7 +117,7 @@ cleanup_at_still : (w : Pool) (g : Globals) (sp : ℕ) (o : Option ℕ) → Stil
 cleanup_at_still w g sp None = record { globals = λ why e. refl; writes = λ why e. refl }
 cleanup_at_still w g sp (Some s) = cleanup_by_still (w s CLEANUP_SP == sp) w g s
 
--- the state behind a call that was refused
+-- the state after a call that was refused
 still_left : {A : Type 0} (s t : State) (d : Done (Result A CxaFault)) (why : CxaFault) (end : End) → Still t.globals d → d.answer ≡ Err why → IsLeft end s t
     → IsLeft end s (record t { globals = d.globals; memory = put_all d.writes t.memory })
 still_left s t d why end k e l = record {
@@ -132,7 +132,7 @@ still_left s t d why end k e l = record {
 AsLeft : State → State → Type 0
 AsLeft s t = (end : End) → IsLeft end s t
 
-flies_by : (g : Guide) (s t : State) (given : ℕ) (b : Barrier) (d : Done (Result ℕ CxaFault)) (r : Result ℕ CxaFault) → d.answer ≡ r → Still t.globals d → ((end : End) → IsLeft end s t)
+flies_by : (g : Tables) (s t : State) (given : ℕ) (b : Barrier) (d : Done (Result ℕ CxaFault)) (r : Result ℕ CxaFault) → d.answer ≡ r → Still t.globals d → ((end : End) → IsLeft end s t)
     → Leaves s (flies_to g (record t { globals = d.globals; memory = put_all d.writes t.memory }) given b r)
 flies_by g s t given b d (Ok block) e k l =
     throws_to g s (record t { globals = d.globals; memory = put_all d.writes t.memory }) t.regs.pc block b ((l the_end.Budget).regs)
@@ -143,19 +143,19 @@ from_left : (further : Barrier → State → Outcome) (s : State) (p : Result Ba
 from_left further s (Ok b, t) l f = f b t l
 from_left further s (Err end, t) l f = l end
 
-sought_left : (g : Guide) (s : State) (what : EventKind) (thrown : Thrown) (end : End) → IsLeft end s (sought g s what thrown).1
+sought_left : (g : Tables) (s : State) (what : EventKind) (thrown : Thrown) (end : End) → IsLeft end s (sought g s what thrown).1
 unfolding sought
 sought_left g s what thrown end =
     either (λ (p : Result Barrier End × State). IsLeft end s p.1) (is_some (row_of g.types thrown.ty)) _ _
     (record { regs = refl; globals = λ h. refl; memory = λ h. refl }) (stays end s)
 
-throws_left : (g : Guide) (s : State) (r : Result (Unit {0}) CxaFault) → Leaves s (throws g s r)
+throws_left : (g : Tables) (s : State) (r : Result (Unit {0}) CxaFault) → Leaves s (throws g s r)
 throws_left g s (Err why) = stays _ s
 throws_left g s (Ok may) =
     from_left (λ b t. flies g t (reg s 0) (first_flight t) b) s (sought g s kind.Throw (thrown_first s)) (sought_left g s kind.Throw (thrown_first s))
     (λ b t l. flies_by g s t (reg s 0) b (first_flight t) (first_flight t).answer refl (throw_still (word t.memory) t.globals (object_slot (reg t 0)) _) l)
 
-rethrows_left : (g : Guide) (s : State) (r : Result ℕ CxaFault) → Leaves s (rethrows g s r)
+rethrows_left : (g : Tables) (s : State) (r : Result ℕ CxaFault) → Leaves s (rethrows g s r)
 rethrows_left g s (Err why) = stays _ s
 rethrows_left g s (Ok block) =
     from_left (λ b t. flies g t block (second_flight t) b) s (sought g s kind.Rethrow (thrown_of_block s block)) (sought_left g s kind.Rethrow (thrown_of_block s block))
@@ -163,23 +163,23 @@ rethrows_left g s (Ok block) =
 
 -- ---- the end of a cleanup
 
-goes_on_left : (g : Guide) (s : State) (vrs : Vrs) (d : Done (Result (ℕ × CleanupWords) CxaFault)) (r : Result (ℕ × CleanupWords) CxaFault) → d.answer ≡ r → Still s.globals d
+goes_on_left : (g : Tables) (s : State) (vrs : Vrs) (d : Done (Result (ℕ × CleanupWords) CxaFault)) (r : Result (ℕ × CleanupWords) CxaFault) → d.answer ≡ r → Still s.globals d
     → Leaves s (goes_on g (record s { globals = d.globals; memory = put_all d.writes s.memory }) vrs r)
 goes_on_left g s vrs d (Ok (block, w)) e k =
     lands s (record s { globals = d.globals; memory = put_all d.writes s.memory }) block _ _ refl
 goes_on_left g s vrs d (Err why) e k = still_left s s d why _ k e (stays _ s)
 
-resumes_in_left : (g : Guide) (s : State) (o : Option Vrs) → Leaves s (resumes_in g s o)
+resumes_in_left : (g : Tables) (s : State) (o : Option Vrs) → Leaves s (resumes_in g s o)
 resumes_in_left g s None = stays _ s
 resumes_in_left g s (Some vrs) =
     let d = end_cleanup_of (word s.memory) s.globals (slice_index vrs.r SP) in
     goes_on_left g s vrs d d.answer refl (cleanup_at_still (word s.memory) s.globals (slice_index vrs.r SP) (block_slot s.globals.cleanup))
 
-resumes_left : (g : Guide) (s : State) (o : Option ℕ) → Leaves s (resumes g s o)
+resumes_left : (g : Tables) (s : State) (o : Option ℕ) → Leaves s (resumes g s o)
 resumes_left g s None = stays _ s
 resumes_left g s (Some sp) = resumes_in_left g s (caller_at g.image s.memory.segments s.regs.pc (all_of s.regs))
 
-pub gate_left : (g : Guide) (number next : ℕ) (s : State) → Leaves s (gate_of g number next s)
+pub gate_left : (g : Tables) (number next : ℕ) (s : State) → Leaves s (gate_of g number next s)
 unfolding gate_of
 gate_left g number next s =
     let P : Outcome → Type 0 = λ o. Leaves s o in
@@ -202,7 +202,7 @@ same_end s t u end why e o =
     let two : u ≡ t = ap (λ (p : Outcome). p.1) e in
     (cc, subst (λ (v : State). OnlyThrown s v) two o)
 
-found_none : (g : Guide) (s : State) (why : End) → is_some (row_of g.types (reg s 1)) ≡ true → barrier_in s.regs.pc (searched g s (thrown_first s)) ≡ Err why
+found_none : (g : Tables) (s : State) (why : End) → is_some (row_of g.types (reg s 1)) ≡ true → barrier_in s.regs.pc (searched g s (thrown_first s)) ≡ Err why
     → ◌≡◌ {A = Result Barrier End × State} (sought g s kind.Throw (thrown_first s)) (Err why, logged s (throw_event kind.Throw s.memory (thrown_first s) (size_of s (thrown_first s))))
 unfolding sought
 found_none g s why holds none =
@@ -210,7 +210,7 @@ found_none g s why holds none =
     let one : Result Barrier End → Result Barrier End × State = λ r. (r, after) in
     rw holds (ap one none)
 
-pub thrown_only : (g : Guide) (s t : State) (end why : End) → throw_fault (word s.memory) (object_slot (reg s 0)) ≡ Ok tt → is_some (row_of g.types (reg s 1)) ≡ true
+pub thrown_only : (g : Tables) (s t : State) (end why : End) → throw_fault (word s.memory) (object_slot (reg s 0)) ≡ Ok tt → is_some (row_of g.types (reg s 1)) ≡ true
     → barrier_in s.regs.pc (searched g s (thrown_first s)) ≡ Err why → ◌≡◌ {A = Outcome} (throw_gate g s) (Ended end, t) → (end ≡ why) × OnlyThrown s t
 thrown_only g s t end why may holds none e =
     same_end s t (logged s (throw_event kind.Throw s.memory (thrown_first s) (size_of s (thrown_first s)))) end why (sym is_ended ∙ e)
@@ -221,7 +221,7 @@ thrown_only g s t end why may holds none e =
 
 -- ---- a rethrow without a barrier
 
-rethrown_none : (g : Guide) (s : State) (why : End) (thrown : Thrown) → is_some (row_of g.types thrown.ty) ≡ true → barrier_in s.regs.pc (searched g s thrown) ≡ Err why
+rethrown_none : (g : Tables) (s : State) (why : End) (thrown : Thrown) → is_some (row_of g.types thrown.ty) ≡ true → barrier_in s.regs.pc (searched g s thrown) ≡ Err why
     → ◌≡◌ {A = Result Barrier End × State} (sought g s kind.Rethrow thrown) (Err why, logged s (throw_event kind.Rethrow s.memory thrown (size_of s thrown)))
 unfolding sought
 rethrown_none g s why thrown holds none =
@@ -229,7 +229,7 @@ rethrown_none g s why thrown holds none =
     let one : Result Barrier End → Result Barrier End × State = λ r. (r, after) in
     rw holds (ap one none)
 
-pub rethrown_only : (g : Guide) (s t : State) (end why : End) (block : ℕ) → (second_flight s).answer ≡ Ok block → is_some (row_of g.types (thrown_of_block s block).ty) ≡ true
+pub rethrown_only : (g : Tables) (s t : State) (end why : End) (block : ℕ) → (second_flight s).answer ≡ Ok block → is_some (row_of g.types (thrown_of_block s block).ty) ≡ true
     → barrier_in s.regs.pc (searched g s (thrown_of_block s block)) ≡ Err why → ◌≡◌ {A = Outcome} (rethrow_gate g s) (Ended end, t) → (end ≡ why) × OnlyRethrown s t
 rethrown_only g s t end why block may holds none e =
     let after = logged s (throw_event kind.Rethrow s.memory (thrown_of_block s block) (size_of s (thrown_of_block s block))) in

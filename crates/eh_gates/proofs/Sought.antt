@@ -15,7 +15,7 @@ use Rattle.eh_trace.specs.declared.event.EventKind.{EventKind}
 use Rattle.eh_trace.specs.Trace.{Trace, pushed}
 use Rattle.thumb_core.specs.Registers.{all_of}
 use Rattle.thumb_core.specs.declared.ends.End.{End}
-use Rattle.eh_gates.specs.State.{State, Guide}
+use Rattle.eh_gates.specs.State.{State, Tables}
 use Rattle.eh_gates.specs.Throwing.{size_of, throw_event, barrier_in, searched, sought}
 
 pair : {A B : Type 0} (x y : A) (v w : B) → x ≡ y → v ≡ w → ◌≡◌ {A = A × B} (x, v) (y, w)
@@ -24,7 +24,7 @@ pair {A} {B} x y v w e f =
     let two : B → A × B = λ b. (y, b) in
     ap one e ∙ ap two f
 
-pub sought_found : (g : Guide) (s : State) (what : EventKind) (thrown : Thrown) (size : ℕ) (event : Event) (new : Trace) (limit : Option ℕ) (r : List ℕ) (found : Found) (answer : Result Barrier End)
+pub sought_found : (g : Tables) (s : State) (what : EventKind) (thrown : Thrown) (size : ℕ) (event : Event) (new : Trace) (limit : Option ℕ) (r : List ℕ) (found : Found) (answer : Result Barrier End)
     → is_some (row_of g.types thrown.ty) ≡ true → size ≡ size_of s thrown → event ≡ throw_event what s.memory thrown size → new ≡ pushed s.events event
     → limit ≡ innermost_of (word s.memory) s.globals → r ≡ all_of s.regs
     → found ≡ phase1 (meeting g.image g.types s.memory.segments thrown) (frames_of g.image (stack_of s.memory) limit s.regs.pc r)

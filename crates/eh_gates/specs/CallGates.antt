@@ -15,7 +15,7 @@ use Rattle.thumb_core.specs.declared.ends.TrapKind.TheVariants as kind
 use Rattle.thumb_core.specs.declared.ends.End.{End}
 use Rattle.thumb_core.specs.declared.ends.End.TheVariants as the_end
 use Rattle.eh_gates.specs.declared.state.Turned.TheVariants.{Went, Ended}
-use Rattle.eh_gates.specs.State.{State, Outcome, behind, reg}
+use Rattle.eh_gates.specs.State.{State, Outcome, at_next, reg}
 
 -- how a refused call ends the run, by what the call was given
 abbrev pub fault_end : CxaFault → ℕ → ℕ → End
@@ -37,21 +37,21 @@ abbrev pub with_r1 : ℕ → Regs → Regs
 with_r1 x regs = record regs { r = slice_set regs.r 1 x }
 
 abbrev pub allocated : ℕ → State → Result ℕ CxaFault × Memory → Outcome
-allocated next s (Ok object, memory) = (Went, record s { regs = with_r0 object (behind next s.regs); memory = memory })
+allocated next s (Ok object, memory) = (Went, record s { regs = with_r0 object (at_next next s.regs); memory = memory })
 allocated next s (Err why, memory) = refused why (reg s 0) s
 
 abbrev pub freed : ℕ → State → Result (Unit {0}) CxaFault × Memory → Outcome
-freed next s (Ok done, memory) = (Went, record s { regs = behind next s.regs; memory = memory })
+freed next s (Ok done, memory) = (Went, record s { regs = at_next next s.regs; memory = memory })
 freed next s (Err why, memory) = refused why (reg s 0) s
 
 abbrev pub caught : ℕ → State → Result ℕ CxaFault × Globals × Memory → Outcome
 caught next s (Ok object, globals, memory) =
-    (Went, record s { regs = with_r0 object (behind next s.regs); globals = globals; memory = memory })
+    (Went, record s { regs = with_r0 object (at_next next s.regs); globals = globals; memory = memory })
 caught next s (Err why, globals, memory) = refused why (reg s 0) s
 
 abbrev pub dropped : ℕ → State → Result (ℕ × ℕ) CxaFault × Globals × Memory → Outcome
 dropped next s (Ok (object, destructor), globals, memory) =
-    (Went, record s { regs = with_r1 destructor (with_r0 object (behind next s.regs)); globals = globals; memory = memory })
+    (Went, record s { regs = with_r1 destructor (with_r0 object (at_next next s.regs)); globals = globals; memory = memory })
 dropped next s (Err why, globals, memory) = refused why 0 s
 
 -- ---- the gates
@@ -74,4 +74,4 @@ end_catch_gate next s = dropped next s (made (end_catch_of (word s.memory) s.glo
 
 -- r0 is how many exceptions are uncaught
 abbrev pub uncaught_gate : ℕ → State → Outcome
-uncaught_gate next s = (Went, record s { regs = with_r0 s.globals.uncaught (behind next s.regs) })
+uncaught_gate next s = (Went, record s { regs = with_r0 s.globals.uncaught (at_next next s.regs) })

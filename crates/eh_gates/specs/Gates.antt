@@ -3,13 +3,13 @@ use Rattle.std.specs.Prelude.{ℕ, ◌==◌, if◌then◌else◌}
 use Rattle.thumb_core.specs.declared.ends.Cause.TheVariants as cause
 use Rattle.thumb_core.specs.declared.ends.TrapKind.TheVariants as kind
 use Rattle.eh_gates.specs.declared.gates.TheConstants.{ALLOCATE_GATE, FREE_GATE, THROW_GATE, BEGIN_CATCH_GATE, END_CATCH_GATE, RETHROW_GATE, END_CLEANUP_GATE, UNEXPECTED_GATE, TERMINATE_GATE, UNCAUGHT_GATE}
-use Rattle.eh_gates.specs.State.{State, Guide, Outcome, trapped, terminated}
+use Rattle.eh_gates.specs.State.{State, Tables, Outcome, trapped, terminated}
 use Rattle.eh_gates.specs.CallGates.{allocate_gate, free_gate, begin_catch_gate, end_catch_gate, uncaught_gate}
 use Rattle.eh_gates.specs.Throwing.{throw_gate, rethrow_gate}
 use Rattle.eh_gates.specs.Resuming.{end_cleanup_gate}
 
 -- what a gate does in the state before its instruction, where the next one is at `next`
-unfoldable pub gate_of : Guide → ℕ → ℕ → State → Outcome
+unfoldable pub gate_of : Tables → ℕ → ℕ → State → Outcome
 gate_of g number next s =
     if number == ALLOCATE_GATE then allocate_gate next s
     else (if number == FREE_GATE then free_gate next s

@@ -9,7 +9,7 @@ use Rattle.eh_trace.specs.declared.event.EventKind.TheVariants as kind
 use Rattle.thumb_core.specs.declared.ends.End.{End}
 use Rattle.thumb_core.specs.declared.ends.End.TheVariants as the_end
 use Rattle.eh_gates.specs.declared.state.Turned.TheVariants.{Ended}
-use Rattle.eh_gates.specs.State.{State, Guide, Outcome, reg}
+use Rattle.eh_gates.specs.State.{State, Tables, Outcome, reg}
 use Rattle.eh_gates.specs.Throwing.{throw_gate, rethrow_gate, barrier_in, searched, thrown_first, thrown_of_block, second_flight}
 use Rattle.eh_gates.specs.Gates.{gate_of}
 
@@ -28,7 +28,7 @@ pub record IsLeft (end : End) (s t : State) : Type 0 where
   pub memory : is_terminate end ≡ false → t.memory ≡ s.memory
 
 abbrev pub GatesLeave : Type 0
-GatesLeave = (g : Guide) (number next : ℕ) (s t : State) (end : End) → gate_of g number next s ≡ (Ended end, t) → IsLeft end s t
+GatesLeave = (g : Tables) (number next : ℕ) (s t : State) (end : End) → gate_of g number next s ≡ (Ended end, t) → IsLeft end s t
 
 -- only a throw was added to the events
 pub record OnlyThrown (s t : State) : Type 0 where
@@ -43,7 +43,7 @@ pub record OnlyThrown (s t : State) : Type 0 where
 -- found, nothing was entered, and the exception doesn't fly
 abbrev pub FailedSearchesEnterNothing : Type 0
 FailedSearchesEnterNothing =
-    (g : Guide) (s t : State) (end why : End) → throw_fault (word s.memory) (object_slot (reg s 0)) ≡ Ok tt → is_some (row_of g.types (reg s 1)) ≡ true
+    (g : Tables) (s t : State) (end why : End) → throw_fault (word s.memory) (object_slot (reg s 0)) ≡ Ok tt → is_some (row_of g.types (reg s 1)) ≡ true
     → barrier_in s.regs.pc (searched g s (thrown_first s)) ≡ Err why → throw_gate g s ≡ (Ended end, t) → (end ≡ why) × OnlyThrown s t
 
 -- the same of a rethrow of what is on top of the caught stack
@@ -58,7 +58,7 @@ pub record OnlyRethrown (s t : State) : Type 0 where
 
 abbrev pub FailedRethrowsEnterNothing : Type 0
 FailedRethrowsEnterNothing =
-    (g : Guide) (s t : State) (end why : End) (block : ℕ) → (second_flight s).answer ≡ Ok block
+    (g : Tables) (s t : State) (end why : End) (block : ℕ) → (second_flight s).answer ≡ Ok block
     → is_some (row_of g.types (thrown_of_block s block).ty) ≡ true → barrier_in s.regs.pc (searched g s (thrown_of_block s block)) ≡ Err why
     → rethrow_gate g s ≡ (Ended end, t) → (end ≡ why) × OnlyRethrown s t
 
@@ -70,6 +70,6 @@ pub record AreHeads (g : Globals) : Type 0 where
   pub caught : IsHead g.caught
   pub cleanup : IsHead g.cleanup
 
--- where the heads of both chains are heads before a gate, they are behind it
+-- where the heads of both chains are heads before a gate, they are after it
 abbrev pub HeadsStay : Type 0
-HeadsStay = (g : Guide) (number next : ℕ) (s : State) → AreHeads s.globals → AreHeads (gate_of g number next s).1.globals
+HeadsStay = (g : Tables) (number next : ℕ) (s : State) → AreHeads s.globals → AreHeads (gate_of g number next s).1.globals

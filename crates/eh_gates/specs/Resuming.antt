@@ -15,7 +15,7 @@ use Rattle.eh_phase.specs.Frames.{frames_of, caller_at}
 use Rattle.eh_phase.specs.Calls.{stack_of}
 use Rattle.thumb_core.specs.Registers.{all_of}
 use Rattle.thumb_core.specs.declared.regs.TheConstants.{SP}
-use Rattle.eh_gates.specs.State.{State, Guide, Outcome}
+use Rattle.eh_gates.specs.State.{State, Tables, Outcome}
 use Rattle.eh_gates.specs.CallGates.{refused}
 use Rattle.eh_gates.specs.Landing.{entered}
 
@@ -23,25 +23,25 @@ abbrev pub goal_in : BarrierWords → Goal
 goal_in b = record { sp = b.sp; desc = b.desc }
 
 -- phase 2 goes on from registers, the kept site and the kept next descriptor, to the barrier of the control block
-abbrev pub goes_on_to : Guide → State → Vrs → CleanupWords → ℕ → BarrierWords → Outcome
+abbrev pub goes_on_to : Tables → State → Vrs → CleanupWords → ℕ → BarrierWords → Outcome
 goes_on_to g s vrs w block b = entered s block b.object (phase2 (goal_in b) w.next (frames_of g.image (stack_of s.memory) None w.site vrs.r))
 
-abbrev pub goes_on : Guide → State → Vrs → Result (ℕ × CleanupWords) CxaFault → Outcome
+abbrev pub goes_on : Tables → State → Vrs → Result (ℕ × CleanupWords) CxaFault → Outcome
 goes_on g s vrs (Ok (block, w)) = goes_on_to g s vrs w block (barrier_of (word s.memory) (block_slot block))
 goes_on g s vrs (Err why) = refused why (slice_index vrs.r SP) s
 
 -- the cleanup ends
-abbrev pub ends_cleanup : Guide → State → Vrs → Done (Result (ℕ × CleanupWords) CxaFault) → Outcome
+abbrev pub ends_cleanup : Tables → State → Vrs → Done (Result (ℕ × CleanupWords) CxaFault) → Outcome
 ends_cleanup g s vrs d = goes_on g (record s { globals = d.globals; memory = put_all d.writes s.memory }) vrs d.answer
 
 -- in the caller of the gate's frame; where that can't be unwound no frame was found
-abbrev pub resumes_in : Guide → State → Option Vrs → Outcome
+abbrev pub resumes_in : Tables → State → Option Vrs → Outcome
 resumes_in g s None = refused fault.CleanupElsewhere 0 s
 resumes_in g s (Some vrs) = ends_cleanup g s vrs (end_cleanup_of (word s.memory) s.globals (slice_index vrs.r SP))
 
-abbrev pub resumes : Guide → State → Option ℕ → Outcome
+abbrev pub resumes : Tables → State → Option ℕ → Outcome
 resumes g s None = refused fault.NoCleanup 0 s
 resumes g s (Some sp) = resumes_in g s (caller_at g.image s.memory.segments s.regs.pc (all_of s.regs))
 
-abbrev pub end_cleanup_gate : Guide → State → Outcome
+abbrev pub end_cleanup_gate : Tables → State → Outcome
 end_cleanup_gate g s = resumes g s (innermost_of (word s.memory) s.globals)

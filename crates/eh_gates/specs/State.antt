@@ -25,12 +25,12 @@ abbrev pub state_of : Core → Memory → Trace → State
 state_of core memory events = record { regs = core.regs; globals = core.globals; memory = memory; events = events }
 
 -- what a throw reads of a program: its image, whose index is accepted, and its types
-pub record Guide : Type 0 where
+pub record Tables : Type 0 where
   pub image : Image
   pub types : List Row
 
-abbrev pub guide_of : Image → List Row → Guide
-guide_of image types = record { image = image; types = types }
+abbrev pub tables_of : Image → List Row → Tables
+tables_of image types = record { image = image; types = types }
 
 -- ---- what a gate does
 
@@ -49,9 +49,9 @@ terminated cause s = (Ended (the_end.Terminate cause), s)
 abbrev pub logged : State → Event → State
 logged s e = record s { events = pushed s.events e }
 
--- the registers behind a gate's instruction, where the next one is at `next`
-abbrev pub behind : ℕ → Regs → Regs
-behind next regs = record regs { pc = next }
+-- the registers after a gate's instruction, where the next one is at `next`
+abbrev pub at_next : ℕ → Regs → Regs
+at_next next regs = record regs { pc = next }
 
 abbrev pub reg : State → ℕ → ℕ
 reg s k = slice_index s.regs.r k

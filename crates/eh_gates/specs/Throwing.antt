@@ -34,18 +34,18 @@ use Rattle.thumb_core.specs.declared.ends.End.{End}
 use Rattle.thumb_core.specs.declared.ends.End.TheVariants as the_end
 use Rattle.eh_gates.specs.declared.state.Turned.TheVariants.{Ended}
 use Rattle.eh_gates.specs.declared.throwing.TheConstants.{POINTER_AT}
-use Rattle.eh_gates.specs.State.{State, Guide, Outcome, reg, trapped, terminated, logged}
+use Rattle.eh_gates.specs.State.{State, Tables, Outcome, reg, trapped, terminated, logged}
 use Rattle.eh_gates.specs.CallGates.{fault_end, refused}
 use Rattle.eh_gates.specs.Landing.{entered}
 
 -- ---- the frames of a state
 
 -- from a site and the registers as they are outwards; a limit hides those above it
-abbrev pub frames_from : Guide → State → Option ℕ → ℕ → Frames
+abbrev pub frames_from : Tables → State → Option ℕ → ℕ → Frames
 frames_from g s limit site = frames_of g.image (stack_of s.memory) limit site (all_of s.regs)
 
 -- at a gate: the innermost frame stands at the gate, and none is seen above the innermost cleanup in progress
-abbrev pub frames_seen : Guide → State → Frames
+abbrev pub frames_seen : Tables → State → Frames
 frames_seen g s = frames_from g s (innermost_of (word s.memory) s.globals) s.regs.pc
 
 -- ---- to a barrier
@@ -70,10 +70,10 @@ abbrev pub with_barrier : State → ℕ → BarrierWords → State
 with_barrier s block w = record s { memory = put_all (set_barrier_of (block_slot block) w) s.memory }
 
 -- the barrier is written, and phase 2 goes from the registers and a site to it
-abbrev pub lands : Guide → State → ℕ → ℕ → Barrier → Outcome
+abbrev pub lands : Tables → State → ℕ → ℕ → Barrier → Outcome
 lands g s site block b = entered s block (handed block b.hit) (phase2 (goal_of b) 0 (frames_from g s None site))
 
-unfoldable pub throw_to : Guide → State → ℕ → ℕ → Barrier → Outcome
+unfoldable pub throw_to : Tables → State → ℕ → ℕ → Barrier → Outcome
 throw_to g s site block b = lands g (with_barrier s block (barrier_words block b)) site block b
 
 -- ---- the search
@@ -82,7 +82,7 @@ throw_to g s site block b = lands g (with_barrier s block (barrier_words block b
 abbrev pub byte_of : Memory → ℕ → ℕ → ℕ → ℕ
 byte_of memory at count k = if nat_lt k count then unwrap_or (result_ok (load 1 memory ((at + k) % 2 ^ 32))) 0 else 0
 
--- the first bytes of an object, at most sixteen, and zeros behind them
+-- the first bytes of an object, at most sixteen, and zeros after them
 abbrev pub bytes_of : Memory → ℕ → ℕ → List ℕ
 bytes_of memory at count = map (byte_of memory at count) numbers
 
@@ -96,14 +96,14 @@ barrier_in pc (found.Barrier b) = Ok b
 barrier_in pc (found.Terminate why) = Err (the_end.Terminate why)
 barrier_in pc (found.ObjectRead a) = Err (the_end.Trap trap.ObjectRead a pc)
 
-abbrev pub searched : Guide → State → Thrown → Found
+abbrev pub searched : Tables → State → Thrown → Found
 searched g s thrown = phase1 (meeting g.image g.types s.memory.segments thrown) (frames_seen g s)
 
 abbrev pub size_of : State → Thrown → ℕ
 size_of s thrown = size_at (word s.memory) (object_slot thrown.object)
 
--- of a type that the graph holds, behind the event of the throw
-unfoldable pub sought : Guide → State → EventKind → Thrown → Result Barrier End × State
+-- of a type that the graph holds, after the event of the throw
+unfoldable pub sought : Tables → State → EventKind → Thrown → Result Barrier End × State
 sought g s what thrown =
     if is_some (row_of g.types thrown.ty)
     then (barrier_in s.regs.pc (searched g s thrown), logged s (throw_event what s.memory thrown (size_of s thrown)))
@@ -115,11 +115,11 @@ from_barrier further (Err end, s) = (Ended end, s)
 
 -- ---- the exception flies to its barrier
 
-abbrev pub flies_to : Guide → State → ℕ → Barrier → Result ℕ CxaFault → Outcome
+abbrev pub flies_to : Tables → State → ℕ → Barrier → Result ℕ CxaFault → Outcome
 flies_to g s given b (Ok block) = throw_to g s s.regs.pc block b
 flies_to g s given b (Err why) = refused why given s
 
-abbrev pub flies : Guide → State → ℕ → Done (Result ℕ CxaFault) → Barrier → Outcome
+abbrev pub flies : Tables → State → ℕ → Done (Result ℕ CxaFault) → Barrier → Outcome
 flies g s given d b = flies_to g (record s { globals = d.globals; memory = put_all d.writes s.memory }) given b d.answer
 
 -- ---- a throw of the object at r0, of the type at r1, with the destructor at r2
@@ -130,12 +130,12 @@ thrown_first s = record { object = reg s 0; ty = reg s 1 }
 abbrev pub first_flight : State → Done (Result ℕ CxaFault)
 first_flight s = start_throw_of (word s.memory) s.globals (object_slot (reg s 0)) (record { ty = reg s 1; destructor = reg s 2 })
 
-abbrev pub throws : Guide → State → Result (Unit {0}) CxaFault → Outcome
+abbrev pub throws : Tables → State → Result (Unit {0}) CxaFault → Outcome
 throws g s (Err why) = refused why (reg s 0) s
 throws g s (Ok may) =
     from_barrier (λ b t. flies g t (reg s 0) (first_flight t) b) (sought g s kind.Throw (thrown_first s))
 
-abbrev pub throw_gate : Guide → State → Outcome
+abbrev pub throw_gate : Tables → State → Outcome
 throw_gate g s = throws g s (throw_fault (word s.memory) (object_slot (reg s 0)))
 
 -- ---- a rethrow of the top of the caught stack
@@ -161,10 +161,10 @@ thrown_of_block s block = thrown_again (thrown_of (word s.memory) (block_slot bl
 abbrev pub second_flight : State → Done (Result ℕ CxaFault)
 second_flight s = rethrow_of (word s.memory) s.globals
 
-abbrev pub rethrows : Guide → State → Result ℕ CxaFault → Outcome
+abbrev pub rethrows : Tables → State → Result ℕ CxaFault → Outcome
 rethrows g s (Err why) = (Ended (rethrow_end why s.globals.caught s.regs.pc), s)
 rethrows g s (Ok block) =
     from_barrier (λ b t. flies g t block (second_flight t) b) (sought g s kind.Rethrow (thrown_of_block s block))
 
-abbrev pub rethrow_gate : Guide → State → Outcome
+abbrev pub rethrow_gate : Tables → State → Outcome
 rethrow_gate g s = rethrows g s (second_flight s).answer

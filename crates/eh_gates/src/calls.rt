@@ -1,5 +1,5 @@
 //! The gates that are calls on exceptions alone (docs/machine.md, "Gates"). A call that is refused ends the run and leaves everything as it
-//! was; else its answer stands in r0, and in r1, and the run goes on behind the gate, at `next`.
+//! was; else its answer stands in r0, and in r1, and the run goes on after the gate, at `next`.
 ghost use Rattle.std.specs.Prelude.{◌≡◌};
 ghost use Rattle.eh_trace.specs.Trace.{Trace};
 ghost use Rattle.eh_gates.specs.State.{state_of};

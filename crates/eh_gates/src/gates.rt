@@ -2,7 +2,7 @@
 ghost use Rattle.std.specs.Prelude.{◌≡◌, false};
 ghost use Rattle.guest_gates.specs.Ends.{is_fault};
 ghost use Rattle.thumb_core.specs.declared.ends.End.{End as TheEnd};
-ghost use Rattle.eh_gates.specs.State.{state_of, guide_of};
+ghost use Rattle.eh_gates.specs.State.{state_of, tables_of};
 ghost use Rattle.eh_gates.specs.Gates.{gate_of};
 
 use crate::calls::{allocate_gate, begin_catch_gate, end_catch_gate, free_gate, uncaught_gate};
@@ -45,7 +45,7 @@ fn perform<B: Bus>(
     bus: &mut B,
     events: &mut Events,
 ) -> Turned
-    ensures { (result, state_of core.new (B.memory bus.new) events.new) ≡ gate_of (guide_of t.now.index t.now.types.now) number next (state_of core.old (B.memory bus.old) events.old) }
+    ensures { (result, state_of core.new (B.memory bus.new) events.new) ≡ gate_of (tables_of t.now.index t.now.types.now) number next (state_of core.old (B.memory bus.old) events.old) }
 {
     match number {
         ALLOCATE_GATE => allocate_gate(next, core, bus),
@@ -72,7 +72,7 @@ pub fn gate<B: Bus>(
     bus: &mut B,
     events: &mut Events,
 ) -> Turned
-    ensures does { (result, state_of core.new (B.memory bus.new) events.new) ≡ gate_of (guide_of t.now.index t.now.types.now) number next (state_of core.old (B.memory bus.old) events.old) }
+    ensures does { (result, state_of core.new (B.memory bus.new) events.new) ≡ gate_of (tables_of t.now.index t.now.types.now) number next (state_of core.old (B.memory bus.old) events.old) }
     ensures inside { (end : TheEnd) → result ≡ Turned.Ended end → is_fault end ≡ false }
 {
     perform(t, number, next, core, bus, events)

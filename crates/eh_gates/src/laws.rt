@@ -16,7 +16,7 @@ pub fn failed_rethrows_enter_nothing()
     ensures { FailedRethrowsEnterNothing }
 {}
 
-/// Where the heads of the caught stack and of the cleanups in progress are each none or a slot's control block, they are so behind every gate.
+/// Where the heads of the caught stack and of the cleanups in progress are each none or a slot's control block, they are so after every gate.
 pub fn heads_stay()
     ensures { HeadsStay }
 {}

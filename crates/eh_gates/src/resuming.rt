@@ -1,6 +1,6 @@
 //! A cleanup ends and its throw goes on (IHI 0038, "Phase 2 unwinding"; docs/machine.md, "The end of a cleanup").
 ghost use Rattle.std.specs.Prelude.{◌≡◌};
-ghost use Rattle.eh_gates.specs.State.{state_of, guide_of};
+ghost use Rattle.eh_gates.specs.State.{state_of, tables_of};
 ghost use Rattle.eh_gates.specs.Resuming.{goal_in, end_cleanup_gate};
 
 use crate::calls::fault_end;
@@ -32,7 +32,7 @@ pub(crate) fn end_cleanup_gate<B: Bus>(
     bus: &mut B,
     events: &mut Events,
 ) -> Turned
-    ensures { (result, state_of core.new (B.memory bus.new) events.new) ≡ end_cleanup_gate (guide_of t.now.index t.now.types.now) (state_of core.old (B.memory bus.old) events.old) }
+    ensures { (result, state_of core.new (B.memory bus.new) events.new) ≡ end_cleanup_gate (tables_of t.now.index t.now.types.now) (state_of core.old (B.memory bus.old) events.old) }
 {
     let pc = core.regs.pc;
     if innermost_sp(bus, &core.globals).is_none() {

@@ -2,7 +2,7 @@
 ghost use Rattle.std.specs.Prelude.{◌≡◌, ◌<◌, ◌≤◌, IsSome};
 ghost use Rattle.eh_cxa.specs.Words.{block_slot, object_slot};
 ghost use Rattle.thumb_core.specs.Registers.{all_of};
-ghost use Rattle.eh_gates.specs.State.{state_of, guide_of};
+ghost use Rattle.eh_gates.specs.State.{state_of, tables_of};
 ghost use Rattle.eh_gates.specs.Throwing.{barrier_words, handed, pointed, throw_to, byte_of, throw_event, barrier_in, sought, throw_gate, rethrow_end, rethrow_gate};
 
 use crate::calls::fault_end;
@@ -82,7 +82,7 @@ pub fn throw_to<B: Bus>(
     b: &Barrier,
 ) -> Turned
     requires { IsSome (block_slot block) }
-    ensures { (result, state_of core.new (B.memory bus.new) events.new) ≡ throw_to (guide_of t.now.index t.now.types.now) (state_of core.old (B.memory bus.old) events.old) site block b.now }
+    ensures { (result, state_of core.new (B.memory bus.new) events.new) ≡ throw_to (tables_of t.now.index t.now.types.now) (state_of core.old (B.memory bus.old) events.old) site block b.now }
 {
     let words = barrier_words(block, b);
     set_barrier(bus, block, &words);
@@ -94,7 +94,7 @@ pub fn throw_to<B: Bus>(
     entered(core, bus, events, block, words.object, what)
 }
 
-/// One of the first `count` bytes of an object, and 0 behind them.
+/// One of the first `count` bytes of an object, and 0 after them.
 fn byte_of<B: Bus>(bus: &B, at: u32, count: u32, k: u32) -> u8
     ensures { result ≡ byte_of (B.memory bus.now) at count k }
 {
@@ -150,7 +150,7 @@ fn barrier_in(pc: u32, found: Found) -> Result<Barrier, End>
     }
 }
 
-/// The barrier of a throw, behind its event, or how the run ends. `BadType` where the graph doesn't hold the type, and then there is no
+/// The barrier of a throw, after its event, or how the run ends. `BadType` where the graph doesn't hold the type, and then there is no
 /// event.
 #[tactic(auto, unfolding(crate::specs::Throwing::sought))]
 fn sought<B: Bus>(
@@ -162,7 +162,7 @@ fn sought<B: Bus>(
     what: &Thrown,
 ) -> Result<Barrier, End>
     requires { IsSome (object_slot what.now.object) }
-    ensures { (result, state_of core.now (B.memory bus.now) events.new) ≡ sought (guide_of t.now.index t.now.types.now) (state_of core.now (B.memory bus.now) events.old) kind what.now }
+    ensures { (result, state_of core.now (B.memory bus.now) events.new) ≡ sought (tables_of t.now.index t.now.types.now) (state_of core.now (B.memory bus.now) events.old) kind what.now }
 {
     let pc = core.regs.pc;
     if !t.types.holds(what.ty) {
@@ -182,7 +182,7 @@ pub(crate) fn throw_gate<B: Bus>(
     bus: &mut B,
     events: &mut Events,
 ) -> Turned
-    ensures { (result, state_of core.new (B.memory bus.new) events.new) ≡ throw_gate (guide_of t.now.index t.now.types.now) (state_of core.old (B.memory bus.old) events.old) }
+    ensures { (result, state_of core.new (B.memory bus.new) events.new) ≡ throw_gate (tables_of t.now.index t.now.types.now) (state_of core.old (B.memory bus.old) events.old) }
 {
     let pc = core.regs.pc;
     let [object, ty, destructor, ..] = core.regs.r;
@@ -228,7 +228,7 @@ pub(crate) fn rethrow_gate<B: Bus>(
     bus: &mut B,
     events: &mut Events,
 ) -> Turned
-    ensures { (result, state_of core.new (B.memory bus.new) events.new) ≡ rethrow_gate (guide_of t.now.index t.now.types.now) (state_of core.old (B.memory bus.old) events.old) }
+    ensures { (result, state_of core.new (B.memory bus.new) events.new) ≡ rethrow_gate (tables_of t.now.index t.now.types.now) (state_of core.old (B.memory bus.old) events.old) }
 {
     let pc = core.regs.pc;
     let block = match may_rethrow(bus, &core.globals) {

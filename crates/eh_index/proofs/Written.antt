@@ -1,4 +1,4 @@
--- Rows that are written one behind the other are read as the entries that they were written for.
+-- Rows that are written one after the other are read as the entries that they were written for.
 use Rattle.std.proofs.Common.{◌≡◌, ℕ, suc, ◌+◌, ◌-◌, ◌*◌, ◌%◌, ◌^◌, ◌<◌, List, [], ◌∷◌, length, map, Some, refl, sym, ◌∙◌, ap, arith, subst}
 use Rattle.std.specs.Prelude.{slice_get}
 use Rattle.std.specs.List.{range_with_len, All}
@@ -21,9 +21,9 @@ maps_are f low [] each = refl
 maps_are f low (row ∷ rows) each =
     let here : low + 0 ≡ low = omega arith in
     let first : f low ≡ row = ap f (sym here) ∙ each 0 row refl in
-    let behind : (k : ℕ) (r : Entry) → slice_get rows k ≡ Some r → f (low + 1 + k) ≡ r =
+    let after : (k : ℕ) (r : Entry) → slice_get rows k ≡ Some r → f (low + 1 + k) ≡ r =
     λ k r e. ap f (let same : low + 1 + k ≡ low + suc k = omega arith in same) ∙ each (suc k) r e in
-    ap (λ (r : Entry). r ∷ map f (range_with_len (low + 1) (length rows))) first ∙ ap (λ (rs : List Entry). row ∷ rs) (maps_are f (low + 1) rows behind)
+    ap (λ (r : Entry). r ∷ map f (range_with_len (low + 1) (length rows))) first ∙ ap (λ (rs : List Entry). row ∷ rs) (maps_are f (low + 1) rows after)
 
 row_at : (rows : List Entry) (k : ℕ) (row : Entry) → All IsRow rows → slice_get rows k ≡ Some row → IsRow row
 row_at rows k row all e = subst IsRow (get_or_from_slice_get rows k row row e) (All-get_or IsRow rows k row (slice_get_within rows k row e) all)

@@ -6,7 +6,7 @@ use Rattle.unwind_codes.specs.declared.row.Entry.{Entry}
 abbrev pub covering : List Entry → ℕ → Option Entry
 covering entries site = fold (λ found e. if nat_le e.start site then Some e else found) None entries
 
--- the entry begins at the address or below it, and every entry behind it begins above it
+-- the entry begins at the address or below it, and every entry after it begins above it
 pub record Covers (entries : List Entry) (site : ℕ) (e : Entry) : Type 0 where
   pub before : List Entry
   pub after : List Entry

@@ -1,4 +1,4 @@
--- Pieces of text that are added one behind the other are the lines of a function. Each lemma stands first over any pieces.
+-- Pieces of text that are added one after the other are the lines of a function. Each lemma stands first over any pieces.
 use Rattle.std.proofs.Common.{◌≡◌, ℕ, ◌+◌, add-one, zero-add, ap, map, cond, List, [], ◌∷◌, ◌++◌, Result, Ok, Err, append_assoc, append-nil, ◌∙◌, sym, refl}
 use Rattle.std.specs.Prelude.{OnOk, codes, flat_map, is_ok}
 use Rattle.std.specs.List.{range_with_len}
@@ -9,12 +9,12 @@ use Rattle.eh_kit.specs.declared.program.Name.TheVariants.{Numbered}
 use Rattle.eh_kit.specs.declared.program.Kind.{Kind}
 use Rattle.eh_kit.specs.declared.program.Caller.{Caller}
 use Rattle.eh_kit.specs.Program.{drawn, next_number, numbered, kind_of, callee_of, main_function, callers}
-use Rattle.eh_kit.specs.ProgramText.{line_text, caller_lines, boom_lines, generated_text, name_text, lines_text, call_lines, behind_catch, caught_lines, scope_lines}
+use Rattle.eh_kit.specs.ProgramText.{line_text, caller_lines, boom_lines, generated_text, name_text, lines_text, call_lines, after_catch, caught_lines, scope_lines}
 
-call_shape : (out n m nl typed isfun start save push at call behind pops : List ℕ)
-    → (((((((((((out ++ typed) ++ n) ++ (isfun ++ nl)) ++ n) ++ (start ++ (nl ++ (save ++ (nl ++ (push ++ (nl ++ at))))))) ++ n) ++ call) ++ m) ++ (nl ++ behind)) ++ n) ++ (pops ++ nl))
-    ≡ out ++ flat_map (λ (line : List ℕ). line ++ nl) ((typed ++ n ++ isfun) ∷ (n ++ start) ∷ save ∷ push ∷ (at ++ n ++ call ++ m) ∷ (behind ++ n ++ pops) ∷ [])
-call_shape out n m nl typed isfun start save push at call behind pops = simp (append_assoc, append-nil)
+call_shape : (out n m nl typed isfun start save push at call after pops : List ℕ)
+    → (((((((((((out ++ typed) ++ n) ++ (isfun ++ nl)) ++ n) ++ (start ++ (nl ++ (save ++ (nl ++ (push ++ (nl ++ at))))))) ++ n) ++ call) ++ m) ++ (nl ++ after)) ++ n) ++ (pops ++ nl))
+    ≡ out ++ flat_map (λ (line : List ℕ). line ++ nl) ((typed ++ n ++ isfun) ∷ (n ++ start) ∷ save ∷ push ∷ (at ++ n ++ call ++ m) ∷ (after ++ n ++ pops) ∷ [])
+call_shape out n m nl typed isfun start save push at call after pops = simp (append_assoc, append-nil)
 
 call_joined : (out : List ℕ) (name callee : Name)
     → (((((((((((out ++ codes ".type ") ++ name_text name) ++ codes ", %function\n") ++ name_text name) ++ codes ": .fnstart\n.save {r4, lr}\npush {r4, lr}\n.Lb") ++ name_text name) ++ codes ": bl ") ++ name_text callee) ++ codes "\n.Le") ++ name_text name) ++ codes ": pop {r4, pc}\n")
@@ -35,24 +35,24 @@ pub called : {E : Type 0} (r : Result (Unit {0}) E) (name callee : Name) (out a 
 called (Ok u) name callee out a b c d e f ea eb ec ed ee ef = rw (ef, ee, ed, ec, eb, ea) (call_joined out name callee)
 called (Err x) name callee out a b c d e f ea eb ec ed ee ef = tt
 
-caught_shape : (out n nl pad begins ends : List ℕ) (behind : List (List ℕ))
-    → (((out ++ pad) ++ n) ++ (begins ++ (nl ++ (ends ++ nl)))) ++ flat_map (λ (line : List ℕ). line ++ nl) behind
-    ≡ out ++ flat_map (λ (line : List ℕ). line ++ nl) ((pad ++ n ++ begins) ∷ ends ∷ behind)
-caught_shape out n nl pad begins ends behind = simp append_assoc
+caught_shape : (out n nl pad begins ends : List ℕ) (after : List (List ℕ))
+    → (((out ++ pad) ++ n) ++ (begins ++ (nl ++ (ends ++ nl)))) ++ flat_map (λ (line : List ℕ). line ++ nl) after
+    ≡ out ++ flat_map (λ (line : List ℕ). line ++ nl) ((pad ++ n ++ begins) ∷ ends ∷ after)
+caught_shape out n nl pad begins ends after = simp append_assoc
 
 caught_joined : (out : List ℕ) (name : Name)
-    → (((out ++ codes ".Lp") ++ name_text name) ++ codes ": bl __cxa_begin_catch\nbl __cxa_end_catch\n") ++ lines_text (behind_catch name) ≡ out ++ lines_text (caught_lines name)
+    → (((out ++ codes ".Lp") ++ name_text name) ++ codes ": bl __cxa_begin_catch\nbl __cxa_end_catch\n") ++ lines_text (after_catch name) ≡ out ++ lines_text (caught_lines name)
 unfolding caught_lines
-caught_joined out name = caught_shape out (name_text name) (codes "\n") (codes ".Lp") (codes ": bl __cxa_begin_catch") (codes "bl __cxa_end_catch") (behind_catch name)
+caught_joined out name = caught_shape out (name_text name) (codes "\n") (codes ".Lp") (codes ": bl __cxa_begin_catch") (codes "bl __cxa_end_catch") (after_catch name)
 
-pub caught : {E : Type 0} (r : Result (Unit {0}) E) (name : Name) (out a b c behind : List ℕ)
-    → behind ≡ lines_text (behind_catch name)
+pub caught : {E : Type 0} (r : Result (Unit {0}) E) (name : Name) (out a b c after : List ℕ)
+    → after ≡ lines_text (after_catch name)
     → a ≡ out ++ codes ".Lp" ++ name_text name
     → b ≡ a ++ codes ": bl __cxa_begin_catch\nbl __cxa_end_catch\n"
-    → c ≡ cond (is_ok r) (b ++ behind) b
+    → c ≡ cond (is_ok r) (b ++ after) b
     → OnOk r (c ≡ out ++ lines_text (caught_lines name))
-caught (Ok u) name out a b c behind eo ea eb ec = rw (ec, eb, ea, eo) (caught_joined out name)
-caught (Err x) name out a b c behind eo ea eb ec = tt
+caught (Ok u) name out a b c after eo ea eb ec = rw (ec, eb, ea, eo) (caught_joined out name)
+caught (Err x) name out a b c after eo ea eb ec = tt
 
 scope_shape : (out n nl index handler half begin mark comma minus word prel what : List ℕ)
     → ((((((((((((((out ++ (index ++ (nl ++ (handler ++ (nl ++ half))))) ++ n) ++ begin) ++ n) ++ mark) ++ comma) ++ n) ++ minus) ++ n) ++ (nl ++ word)) ++ n) ++ prel) ++ what) ++ nl)
@@ -84,13 +84,13 @@ scope_told (Err x) name mark what out a b c d e f g h i ea eb ec ed ee ef eg eh 
 pub lines-append : (p q : List (List ℕ)) → lines_text (p ++ q) ≡ lines_text p ++ lines_text q
 lines-append p q = flat_map-append line_text p q
 
--- lines behind lines
-pub behind_lines : {E : Type 0} (r : Result (Unit {0}) E) (out a b : List ℕ) (p q : List (List ℕ))
+-- lines after lines
+pub after_lines : {E : Type 0} (r : Result (Unit {0}) E) (out a b : List ℕ) (p q : List (List ℕ))
     → a ≡ out ++ lines_text p → OnOk r (b ≡ a ++ lines_text q) → OnOk r (b ≡ out ++ lines_text (p ++ q))
-behind_lines (Ok u) out a b p q ea eb = rw (eb, ea, lines-append p q) (append_assoc out (lines_text p) (lines_text q))
-behind_lines (Err x) out a b p q ea eb = tt
+after_lines (Ok u) out a b p q ea eb = rw (eb, ea, lines-append p q) (append_assoc out (lines_text p) (lines_text q))
+after_lines (Err x) out a b p q ea eb = tt
 
--- ---- the functions one behind the other
+-- ---- the functions one after the other
 
 -- what stands in the text before the function of number i
 unfoldable pub before : ℕ → ℕ → ℕ → List ℕ

@@ -15,7 +15,7 @@ use Rattle.eh_kit.specs.declared.program.Kind.TheVariants.{Plain, Cleanup, Catch
 use Rattle.eh_kit.specs.declared.program.Caller.{Caller}
 use Rattle.eh_kit.specs.declared.program_text.TheConstants.{MAX_FUNCTIONS}
 use Rattle.eh_kit.specs.Program.{numbered, callee_of, callers, main_function}
-use Rattle.eh_kit.specs.ProgramText.{name_text, lines_text, call_lines, behind_catch, caught_lines, cleanup_lines, scope_lines, pad_lines, caller_lines, boom_lines, generated_lines, generated_text}
+use Rattle.eh_kit.specs.ProgramText.{name_text, lines_text, call_lines, after_catch, caught_lines, cleanup_lines, scope_lines, pad_lines, caller_lines, boom_lines, generated_lines, generated_text}
 use Rattle.eh_kit.specs.Laws.{is_printable, is_plain, LinesArePlain, LinesAreRead}
 
 -- ---- tests
@@ -75,7 +75,7 @@ name_begins Boom more h e = e
 
 call_plain : (n m : Name) → IsSmall n → Prints (name_text m) → ArePlain (call_lines n m)
 unfolding call_lines
-call_plain n m h e = and_true _ _ typed (and_true _ _ begun (and_true _ _ called behind))
+call_plain n m h e = and_true _ _ typed (and_true _ _ begun (and_true _ _ called after))
   where
     typed : is_plain (codes ".type " ++ name_text n ++ codes ", %function") ≡ true
     typed = both (name_text n) (codes ", %function") (name_prints n h) refl
@@ -86,17 +86,17 @@ call_plain n m h e = and_true _ _ typed (and_true _ _ begun (and_true _ _ called
     called : is_plain (codes ".Lb" ++ name_text n ++ codes ": bl " ++ name_text m) ≡ true
     called = both (name_text n ++ codes ": bl ") (name_text m) (both (name_text n) (codes ": bl ") (name_prints n h) refl) e
 
-    behind : ArePlain ((codes ".Le" ++ name_text n ++ codes ": pop {r4, pc}") ∷ [])
-    behind = and_true _ _ (both (name_text n) (codes ": pop {r4, pc}") (name_prints n h) refl) refl
+    after : ArePlain ((codes ".Le" ++ name_text n ++ codes ": pop {r4, pc}") ∷ [])
+    after = and_true _ _ (both (name_text n) (codes ": pop {r4, pc}") (name_prints n h) refl) refl
 
-behind_plain : (n : Name) → ArePlain (behind_catch n)
-behind_plain Main = refl
-behind_plain (Numbered i) = refl
-behind_plain Boom = refl
+after_plain : (n : Name) → ArePlain (after_catch n)
+after_plain Main = refl
+after_plain (Numbered i) = refl
+after_plain Boom = refl
 
 caught_plain : (n : Name) → IsSmall n → ArePlain (caught_lines n)
 unfolding caught_lines
-caught_plain n h = and_true _ _ (both (name_text n) (codes ": bl __cxa_begin_catch") (name_prints n h) refl) (behind_plain n)
+caught_plain n h = and_true _ _ (both (name_text n) (codes ": bl __cxa_begin_catch") (name_prints n h) refl) (after_plain n)
 
 cleanup_plain : (n : Name) → IsSmall n → ArePlain (cleanup_lines n)
 unfolding cleanup_lines

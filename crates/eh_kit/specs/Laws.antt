@@ -17,7 +17,7 @@ use Rattle.eh_kit.specs.ProgramText.{name_text, generated_lines, generated_text}
 abbrev pub rand_of : ℕ → ℕ
 rand_of x = x / 65536 % 32768
 
--- the first results of that example behind `srand(1)`, and a function does what the result for it says modulo 4
+-- the first results of that example after `srand(1)`, and a function does what the result for it says modulo 4
 abbrev pub DrawnAsRand : Type 0
 DrawnAsRand =
     (map (λ i. rand_of (drawn 1 i)) (1 ∷ 2 ∷ 3 ∷ 4 ∷ 5 ∷ 6 ∷ []) ≡ 16838 ∷ 5758 ∷ 10113 ∷ 17515 ∷ 31051 ∷ 5627 ∷ [])
@@ -43,7 +43,7 @@ FirstOfNumberOne =
 abbrev pub names : ℕ → ℕ → List Name
 names number functions = map (λ (f : Caller). f.name) (callers number functions) ++ Boom ∷ []
 
--- what the functions but the last call are the names behind the first
+-- what the functions but the last call are the names after the first
 abbrev pub EachCallsTheNext : Type 0
 EachCallsTheNext = (number functions : ℕ) → 0 < functions → map (λ (f : Caller). f.callee) (callers number functions) ≡ drop 1 (names number functions)
 

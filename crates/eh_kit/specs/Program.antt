@@ -13,7 +13,7 @@ use Rattle.eh_kit.specs.declared.program.TheConstants.{MULTIPLIER, INCREMENT}
 abbrev pub next_number : ℕ → ℕ
 next_number x = (x * MULTIPLIER + INCREMENT) % 2 ^ 32
 
--- the number of the program, and those that are drawn from it one behind the other
+-- the number of the program, and those that are drawn from it one after the other
 unfoldable pub drawn : ℕ → ℕ → ℕ
 drawn number zero = number
 drawn number (suc times) = next_number (drawn number times)

@@ -20,7 +20,7 @@ name_text Main = codes "main"
 name_text (Numbered i) = codes "f" ++ decimal i
 name_text Boom = codes "boom"
 
--- a function saves r4 and lr, calls another one and returns; its labels stand at the call and behind it
+-- a function saves r4 and lr, calls another one and returns; its labels stand at the call and after it
 unfoldable pub call_lines : Name → Name → List (List ℕ)
 call_lines name callee =
     (codes ".type " ++ name_text name ++ codes ", %function")
@@ -31,24 +31,24 @@ call_lines name callee =
     ∷ (codes ".Le" ++ name_text name ++ codes ": pop {r4, pc}")
     ∷ []
 
--- behind a catch `main` returns 0, and every other function throws again
-abbrev pub behind_catch : Name → List (List ℕ)
-behind_catch Main = codes "movs r0, #0" ∷ codes "pop {r4, pc}" ∷ []
-behind_catch (Numbered i) = codes "bl boom" ∷ []
-behind_catch Boom = codes "bl boom" ∷ []
+-- after a catch `main` returns 0, and every other function throws again
+abbrev pub after_catch : Name → List (List ℕ)
+after_catch Main = codes "movs r0, #0" ∷ codes "pop {r4, pc}" ∷ []
+after_catch (Numbered i) = codes "bl boom" ∷ []
+after_catch Boom = codes "bl boom" ∷ []
 
 -- the pad of a catch
 unfoldable pub caught_lines : Name → List (List ℕ)
 caught_lines name =
     (codes ".Lp" ++ name_text name ++ codes ": bl __cxa_begin_catch")
     ∷ codes "bl __cxa_end_catch"
-    ∷ behind_catch name
+    ∷ after_catch name
 
 -- the pad of a cleanup
 unfoldable pub cleanup_lines : Name → List (List ℕ)
 cleanup_lines name = (codes ".Lp" ++ name_text name ++ codes ": bl __cxa_end_cleanup") ∷ []
 
--- the descriptor of the call: its size with a mark in bit 0, where it begins, the pad, and what stands behind that
+-- the descriptor of the call: its size with a mark in bit 0, where it begins, the pad, and what stands after that
 unfoldable pub scope_lines : Name → List ℕ → List ℕ → List (List ℕ)
 scope_lines name mark what =
     codes ".personalityindex 0"
@@ -58,7 +58,7 @@ scope_lines name mark what =
     ∷ (codes ".word .Lp" ++ name_text name ++ codes "(prel31), " ++ what)
     ∷ []
 
--- a cleanup's mark is even and 0 ends its list; a catch's is odd, and behind its type stands the end
+-- a cleanup's mark is even and 0 ends its list; a catch's is odd, and after its type stands the end
 unfoldable pub pad_lines : Name → Kind → List (List ℕ)
 pad_lines name Plain = []
 pad_lines name Cleanup = cleanup_lines name ++ scope_lines name [] (codes "0")

@@ -12,7 +12,7 @@ pub fn first_functions_of_number_one()
     ensures { FirstOfNumberOne }
 {}
 
-/// Each function calls the one behind it, and the last but one calls `boom`.
+/// Each function calls the one after it, and the last but one calls `boom`.
 pub fn each_function_calls_the_next()
     ensures { EachCallsTheNext }
 {}
@@ -27,7 +27,7 @@ pub fn a_longer_program_begins_alike()
     ensures { LongerBeginsAlike }
 {}
 
-/// A text is read as its lines, one behind the other.
+/// A text is read as its lines, one after the other.
 pub fn texts_are_read_as_their_lines()
     ensures { LinesAreRead }
 {}

@@ -39,7 +39,7 @@ pub struct Caller {
     pub kind: Kind,
 }
 
-/// The number that is drawn behind another one, modulo 2^32.
+/// The number that is drawn after another one, modulo 2^32.
 pub(crate) fn next_number(number: u32) -> u32
     ensures { result ≡ next_number number }
 {

@@ -1,7 +1,7 @@
 //! The source text of a generated program (docs/generated-programs.md).
 ghost use Rattle.std.specs.Prelude.{◌≡◌, ◌<◌, ◌≤◌, ◌++◌, OnOk, IfOk};
 ghost use Rattle.eh_kit.specs.declared.program_text.KitMemory.TheVariants.{OutOfMemory};
-ghost use Rattle.eh_kit.specs.ProgramText.{name_text, call_lines, behind_catch, caught_lines, scope_lines, pad_lines, caller_lines, boom_lines, lines_text, generated_text};
+ghost use Rattle.eh_kit.specs.ProgramText.{name_text, call_lines, after_catch, caught_lines, scope_lines, pad_lines, caller_lines, boom_lines, lines_text, generated_text};
 
 use crate::program::{Caller, Kind, Name, callee_of, kind_of, next_number};
 use itoa::Buffer;
@@ -51,7 +51,7 @@ fn push_name(out: &mut Vec<u8>, name: Name) -> Result<(), AllocError>
     }
 }
 
-/// Adds a text and a name behind it.
+/// Adds a text and a name after it.
 fn push_named(out: &mut Vec<u8>, text: &[u8], name: Name) -> Result<(), AllocError>
     ensures { OnOk result (out.new.items ≡ out.old.items ++ text.now ++ name_text name) }
 {
@@ -72,9 +72,9 @@ fn push_call(out: &mut Vec<u8>, name: Name, callee: Name) -> Result<(), AllocErr
     out.extend_from_slice(b": pop {r4, pc}\n")
 }
 
-/// The lines behind a catch: `main` returns 0, every other function throws again.
-fn behind_catch(name: Name) -> &'static [u8]
-    ensures { result.now ≡ lines_text (behind_catch name) }
+/// The lines after a catch: `main` returns 0, every other function throws again.
+fn after_catch(name: Name) -> &'static [u8]
+    ensures { result.now ≡ lines_text (after_catch name) }
 {
     match name {
         Name::Main => b"movs r0, #0\npop {r4, pc}\n",
@@ -89,10 +89,10 @@ fn push_caught(out: &mut Vec<u8>, name: Name) -> Result<(), AllocError>
 {
     push_named(out, b".Lp", name)?;
     out.extend_from_slice(b": bl __cxa_begin_catch\nbl __cxa_end_catch\n")?;
-    out.extend_from_slice(behind_catch(name))
+    out.extend_from_slice(after_catch(name))
 }
 
-/// Adds the lines of a descriptor that covers the call: `mark` is its low bit, `what` stands behind the pad's address.
+/// Adds the lines of a descriptor that covers the call: `mark` is its low bit, `what` stands after the pad's address.
 #[tactic(auto, unfolding(crate::specs::ProgramText::scope_lines))]
 fn push_scope(out: &mut Vec<u8>, name: Name, mark: &[u8], what: &[u8]) -> Result<(), AllocError>
     ensures { OnOk result (out.new.items ≡ out.old.items ++ lines_text (scope_lines name mark.now what.now)) }
@@ -141,7 +141,7 @@ fn push_caller(out: &mut Vec<u8>, caller: &Caller) -> Result<(), AllocError>
     out.extend_from_slice(b".fnend\n")
 }
 
-/// The source text of the program of this number with so many functions, behind `main` and before `boom`: `main` calls the
+/// The source text of the program of this number with so many functions, after `main` and before `boom`: `main` calls the
 /// first of them, each calls the next, and the last calls `boom`, which throws. What each does with the exception is drawn
 /// from the number, so the same number and the same functions give the same text.
 pub fn generate(alloc: Global, number: u32, functions: u32) -> Result<Vec<u8>, KitMemory>

@@ -28,10 +28,10 @@ use Rattle.eh_link.specs.declared.field.Change.TheVariants.{Half, Word}
 use Rattle.eh_link.specs.Layout.{address_at}
 use Rattle.eh_link.specs.Fields.{size_of, relative, branch, filling, change_of, written_at, changed, filled, lower, unreachable_at, unreachable_in}
 use Rattle.relocatable_object.specs.Relocations.{width, field_size}
-use Rattle.eh_link.specs.EquationLaw.{target_of, way_of, IsField, Stands, Decodes, AbsoluteFields, RelativeFields, Prel31Fields, Calls, Jumps, CondJumps}
+use Rattle.eh_link.specs.EquationLaw.{target_of, displacement_of, IsField, CodeAt, Decodes, AbsoluteFields, RelativeFields, Prel31Fields, Calls, Jumps, CondJumps}
 use Rattle.eh_link.proofs.Changes.{filling_fits}
-use Rattle.eh_link.proofs.Holding.{word_length, half_length, changed_length, change_within, filled_length, same_behind, law_of_fields}
-use Rattle.eh_link.proofs.Words.{Reads, number_is, number_reads, word_reads, half_reads, reads_behind, reads_same, word_halves, seen_same}
+use Rattle.eh_link.proofs.Holding.{word_length, half_length, changed_length, change_within, filled_length, same_after, law_of_fields}
+use Rattle.eh_link.proofs.Words.{Reads, number_is, number_reads, word_reads, half_reads, reads_after, reads_same, word_halves, seen_same}
 use Rattle.eh_link.proofs.Branches.{IsSmall, bl_means, b_means, b_cond_means, bl_is_small, b_is_small, b_cond_is_small}
 
 -- ---- what is written over bytes
@@ -40,7 +40,7 @@ written_is : (offset : ℕ) (new bytes : List ℕ) (n k x : ℕ) → offset + le
     → Reads n (new ++ drop (length new) (drop offset bytes)) k x → Reads n (written_at offset new bytes) (offset + k) x
 unfolding written_at
 written_is offset new bytes n k x h r =
-    reads_behind n offset k (offset + k) x (take offset bytes) (new ++ drop (length new) (drop offset bytes)) (length-take-le offset bytes (omega arith)) refl r
+    reads_after n offset k (offset + k) x (take offset bytes) (new ++ drop (length new) (drop offset bytes)) (length-take-le offset bytes (omega arith)) refl r
 
 word_written : (offset v : ℕ) (bytes : List ℕ) → offset + 4 ≤ length bytes → v < 2 ^ 32 → Reads 4 (written_at offset (word v) bytes) offset v
 word_written offset v bytes h low =
@@ -54,7 +54,7 @@ abbrev ReadsCode : Code → List ℕ → ℕ → Type 0
 ReadsCode (code.Half first) bytes offset = Reads 2 bytes offset first
 ReadsCode (code.Pair first second) bytes offset = Reads 2 bytes offset first × Reads 2 bytes (offset + 2) second
 
-stands : (c : Code) (bytes : List ℕ) (offset : ℕ) → ReadsCode c bytes offset → Stands c bytes offset
+stands : (c : Code) (bytes : List ℕ) (offset : ℕ) → ReadsCode c bytes offset → CodeAt c bytes offset
 stands (code.Half first) bytes offset r = number_is 2 bytes offset first r
 stands (code.Pair first second) bytes offset r = (number_is 2 bytes offset first r.0, number_is 2 bytes (offset + 2) second r.1)
 
@@ -71,7 +71,7 @@ code_written (code.Pair first second) offset bytes h small =
     let size : offset + length (word v) ≤ length bytes = omega (arith, word_length v) in
     let split : word v ++ rest ≡ half first ++ (half second ++ rest) = ap (λ xs. xs ++ rest) (word_halves first second small.0) ∙ append_assoc (half first) (half second) rest in
     let one : Reads 2 (word v ++ rest) 0 first = rw split (half_reads first (half second ++ rest) small.0) in
-    let two : Reads 2 (word v ++ rest) 2 second = rw split (reads_behind 2 2 0 2 second (half first) (half second ++ rest) (half_length first) refl (half_reads second rest small.1)) in
+    let two : Reads 2 (word v ++ rest) 2 second = rw split (reads_after 2 2 0 2 second (half first) (half second ++ rest) (half_length first) refl (half_reads second rest small.1)) in
     let same : offset + 0 ≡ offset = omega arith in
     let there : Reads 2 (written_at offset (word v) bytes) (offset + 0) first = written_is offset (word v) bytes 2 0 first size one in
     (rw same at there, written_is offset (word v) bytes 2 2 second size two)
@@ -95,7 +95,7 @@ pub record Alone : Type 0 where
   pub is : IsField means section bytes (before ++ after) reloc kind meaning
   pub low : start + reloc.offset < 2 ^ 32
 
--- the bytes of the section behind all relocations
+-- the bytes of the section after all relocations
 result_of : Alone → List ℕ
 result_of f = filled f.means f.section f.start f.bytes (f.before ++ f.reloc ∷ f.after)
 
@@ -148,14 +148,14 @@ back_31 : (target place old : ℕ) → target < 2 ^ 32 → place < 2 ^ 32
     → (prel31_to place target + old / PREL31_LIMIT * PREL31_LIMIT + place) % PREL31_LIMIT ≡ target % PREL31_LIMIT
 back_31 target place old t p = omega arith
 
-kept_31 : (way old : ℕ) → old < 2 ^ 32 → (way % PREL31_LIMIT + old / PREL31_LIMIT * PREL31_LIMIT) / PREL31_LIMIT ≡ old / PREL31_LIMIT
-kept_31 way old h = omega arith
+kept_31 : (displacement old : ℕ) → old < 2 ^ 32 → (displacement % PREL31_LIMIT + old / PREL31_LIMIT * PREL31_LIMIT) / PREL31_LIMIT ≡ old / PREL31_LIMIT
+kept_31 displacement old h = omega arith
 
-low_31 : (way old : ℕ) → (way % PREL31_LIMIT + old / PREL31_LIMIT * PREL31_LIMIT) % PREL31_LIMIT ≡ way % PREL31_LIMIT % PREL31_LIMIT
-low_31 way old = omega arith
+low_31 : (displacement old : ℕ) → (displacement % PREL31_LIMIT + old / PREL31_LIMIT * PREL31_LIMIT) % PREL31_LIMIT ≡ displacement % PREL31_LIMIT % PREL31_LIMIT
+low_31 displacement old = omega arith
 
-below_32 : (way old : ℕ) → old < 2 ^ 32 → way % PREL31_LIMIT + old / PREL31_LIMIT * PREL31_LIMIT < 2 ^ 32
-below_32 way old h = omega arith
+below_32 : (displacement old : ℕ) → old < 2 ^ 32 → displacement % PREL31_LIMIT + old / PREL31_LIMIT * PREL31_LIMIT < 2 ^ 32
+below_32 displacement old h = omega arith
 
 pub law_of_absolute : AbsoluteFields
 unfolding result_of written_by
@@ -179,16 +179,16 @@ law_of_prel31 means section start bytes before reloc after meaning is low old th
     let f : Alone = record { means = means; section = section; start = start; bytes = bytes; before = before; reloc = reloc; after = after; kind = Prel31; meaning = meaning; is = is; low = low } in
     let target = target_of meaning reloc.addend in
     let place = start + reloc.offset in
-    let way = relative meaning reloc.addend place in
-    let v = way % PREL31_LIMIT + old / PREL31_LIMIT * PREL31_LIMIT in
+    let displacement = relative meaning reloc.addend place in
+    let v = displacement % PREL31_LIMIT + old / PREL31_LIMIT * PREL31_LIMIT in
     let number : little_number 4 (drop reloc.offset bytes) ≡ old = (number_reads 4 bytes reloc.offset old there).is in
-    let writes : written_by f ≡ Word v = ap (λ n. Word (way % PREL31_LIMIT + n / PREL31_LIMIT * PREL31_LIMIT)) number in
+    let writes : written_by f ≡ Word v = ap (λ n. Word (displacement % PREL31_LIMIT + n / PREL31_LIMIT * PREL31_LIMIT)) number in
     record {
       word = v;
-      there = word_field f v writes refl (below_32 way old small);
+      there = word_field f v writes refl (below_32 displacement old small);
       sum = back_31 target place old (target_below meaning reloc.addend) low;
-      kept = kept_31 way old small;
-      leads = λ p t. seen_same place v (prel31_to place target) (low_31 way old) ∙ seen_back place target p t;
+      kept = kept_31 displacement old small;
+      leads = λ p t. seen_same place v (prel31_to place target) (low_31 displacement old) ∙ seen_back place target p t;
     }
 
 -- ---- branches
@@ -223,7 +223,7 @@ branch_field : (f : Alone) (i : Instr) → written_by f ≡ branch (encoded_of i
 unfolding written_by
 branch_field f i e reached means small =
     let change : change_of f.means f.section f.start (filled f.means f.section f.start f.bytes f.before) f.reloc ≡ branch (encoded_of i) =
-    same_behind f.means f.section f.start f.bytes f.before f.reloc f.after f.is.alone ∙ change_is f ∙ e in
+    same_after f.means f.section f.start f.bytes f.before f.reloc f.after f.is.alone ∙ change_is f ∙ e in
     let there = reached_here f.means f.section f.start f.bytes f.before f.reloc f.after reached in
     let encoded = has_code (encoded_of i) (address_at f.start f.reloc.offset) (ap (λ k. unreachable_at k (address_at f.start f.reloc.offset)) (sym change) ∙ there) in
     let c = encoded.0 in
@@ -241,21 +241,21 @@ pub law_of_calls : Calls
 unfolding result_of written_by
 law_of_calls means section start bytes before reloc after meaning is low reached =
     let f : Alone = record { means = means; section = section; start = start; bytes = bytes; before = before; reloc = reloc; after = after; kind = Call; meaning = meaning; is = is; low = low } in
-    let way = way_of meaning reloc.addend (start + reloc.offset) in
-    branch_field f (Bl way) refl reached (bl_means way) (bl_is_small way)
+    let displacement = displacement_of meaning reloc.addend (start + reloc.offset) in
+    branch_field f (Bl displacement) refl reached (bl_means displacement) (bl_is_small displacement)
 
 pub law_of_jumps : Jumps
 unfolding result_of written_by
 law_of_jumps means section start bytes before reloc after meaning is low reached =
     let f : Alone = record { means = means; section = section; start = start; bytes = bytes; before = before; reloc = reloc; after = after; kind = Jump; meaning = meaning; is = is; low = low } in
-    let way = way_of meaning reloc.addend (start + reloc.offset) in
-    branch_field f (B way) refl reached (b_means way) (b_is_small way)
+    let displacement = displacement_of meaning reloc.addend (start + reloc.offset) in
+    branch_field f (B displacement) refl reached (b_means displacement) (b_is_small displacement)
 
 pub law_of_cond_jumps : CondJumps
 unfolding result_of written_by
 law_of_cond_jumps means section start bytes before reloc after meaning is low reached old there =
     let f : Alone = record { means = means; section = section; start = start; bytes = bytes; before = before; reloc = reloc; after = after; kind = CondJump; meaning = meaning; is = is; low = low } in
-    let way = way_of meaning reloc.addend (start + reloc.offset) in
+    let displacement = displacement_of meaning reloc.addend (start + reloc.offset) in
     let number : little_number 2 (drop reloc.offset bytes) ≡ old = (number_reads 2 bytes reloc.offset old there).is in
-    let writes : written_by f ≡ branch (encoded_of (BCond (field old 8 4) way)) = ap (λ n. branch (encoded_of (BCond (n / 2 ^ 8 % 2 ^ 4) way))) number in
-    branch_field f (BCond (field old 8 4) way) writes reached (b_cond_means (field old 8 4) way) (b_cond_is_small (field old 8 4) way)
+    let writes : written_by f ≡ branch (encoded_of (BCond (field old 8 4) displacement)) = ap (λ n. branch (encoded_of (BCond (n / 2 ^ 8 % 2 ^ 4) displacement))) number in
+    branch_field f (BCond (field old 8 4) displacement) writes reached (b_cond_means (field old 8 4) displacement) (b_cond_is_small (field old 8 4) displacement)

@@ -225,9 +225,9 @@ no_field_right section j [] ys h = h
 no_field_right section j (x ∷ xs) ys h = no_field_right section j xs ys h.1
 
 -- the relocations before it leave what it writes
-pub same_behind : (means : List ℕ → Option Meaning) (section : Section) (start : ℕ) (bytes : List ℕ) (before : List Reloc) (r : Reloc) (after : List Reloc)
+pub same_after : (means : List ℕ → Option Meaning) (section : Section) (start : ℕ) (bytes : List ℕ) (before : List Reloc) (r : Reloc) (after : List Reloc)
     → StandsAlone section r (before ++ after) → change_of means section start (filled means section start bytes before) r ≡ change_of means section start bytes r
-same_behind means section start bytes before r after alone =
+same_after means section start bytes before r after alone =
     same_change means section start (filled means section start bytes before) bytes r (filled_length means section start bytes before)
     (λ k in_field. stay means section start bytes before k (no_field_left section k before after (alone k in_field)))
 
@@ -235,7 +235,7 @@ hold : FieldsHold
 hold means section start bytes before r after j alone at =
     let so_far = filled means section start bytes before in
     let len : length so_far ≡ length bytes = filled_length means section start bytes before in
-    let same : change_of means section start so_far r ≡ change_of means section start bytes r = same_behind means section start bytes before r after alone in
+    let same : change_of means section start so_far r ≡ change_of means section start bytes r = same_after means section start bytes before r after alone in
     ap (λ xs. get_or xs j 0) (filled_append means section start bytes before (r ∷ after))
     ∙ stay means section start (changed (change_of means section start so_far r) r.offset so_far) after j (no_field_right section j before after (alone j at))
     ∙ ap (λ c. get_or (changed c r.offset so_far) j 0) same

@@ -9,7 +9,7 @@ use Rattle.eh_link.specs.declared.places.Addresses.{Addresses}
 use Rattle.eh_link.specs.declared.places.Layout.{Layout}
 use Rattle.eh_link.specs.declared.places.TheConstants.{CODE_START, PAGE, MOST_MEMORY, REACH}
 use Rattle.eh_link.specs.Placed.{Placed}
-use Rattle.eh_link.specs.Layout.{size_in, end_of, index_size, page_behind, layout_of, code_size, data_size, is_too_large, Rises, firsts, all_aligned, ends, placed_from, placed_of, aligned}
+use Rattle.eh_link.specs.Layout.{size_in, end_of, index_size, page_after, layout_of, code_size, data_size, is_too_large, Rises, firsts, all_aligned, ends, placed_from, placed_of, aligned}
 
 pub end_ge : (section : Section) (at : ℕ) (xs : List Object) → at ≤ end_of section at xs
 end_ge section at [] = omega arith
@@ -28,7 +28,7 @@ pub record Ends (objects : List Object) : Type 0 where
   pub extab : (layout_of objects).extab_end ≡ end_of Extab (layout_of objects).rodata_end objects
   pub index : (layout_of objects).index_start ≡ aligned (layout_of objects).extab_end
   pub code : (layout_of objects).code_end ≡ (layout_of objects).index_start + index_size objects
-  pub start : (layout_of objects).data_start ≡ page_behind (layout_of objects).code_end
+  pub start : (layout_of objects).data_start ≡ page_after (layout_of objects).code_end
   pub init : (layout_of objects).init_end ≡ end_of Init (layout_of objects).data_start objects
   pub bss : (layout_of objects).bss_end ≡ end_of Bss (layout_of objects).init_end objects
 
@@ -130,15 +130,15 @@ index_past objects t d x i e f g k h =
     none_past objects (omega (arith, h, same, ends.code, r.start, r.init, r.bss))
 
 start_is : (objects : List Object) (t d x i c s : ℕ) → t ≡ end_of Text CODE_START objects → d ≡ end_of Rodata t objects → x ≡ end_of Extab d objects
-    → i ≡ aligned x → c ≡ i + index_size objects → s ≡ page_behind c → s ≡ (layout_of objects).data_start
+    → i ≡ aligned x → c ≡ i + index_size objects → s ≡ page_after c → s ≡ (layout_of objects).data_start
 start_is objects t d x i c s e f g k m n =
     let ends = ends_of objects in
     let index : i ≡ (layout_of objects).index_start = k ∙ ap aligned (extab_is objects t d x e f g) ∙ sym ends.index in
     let code : c ≡ (layout_of objects).code_end = m ∙ ap (λ a. a + index_size objects) index ∙ sym ends.code in
-    n ∙ ap page_behind code ∙ sym ends.start
+    n ∙ ap page_after code ∙ sym ends.start
 
 pub init_past : (objects : List Object) (t d x i c s : ℕ) → t ≡ end_of Text CODE_START objects → d ≡ end_of Rodata t objects → x ≡ end_of Extab d objects
-    → i ≡ aligned x → c ≡ i + index_size objects → s ≡ page_behind c → REACH < end_of Init s objects
+    → i ≡ aligned x → c ≡ i + index_size objects → s ≡ page_after c → REACH < end_of Init s objects
     → None ≡ cond (is_too_large (layout_of objects)) None (Some (layout_of objects))
 init_past objects t d x i c s e f g k m n h =
     let r = rising objects in
@@ -146,7 +146,7 @@ init_past objects t d x i c s e f g k m n h =
     none_past objects (omega (arith, h, same, r.bss))
 
 pub bss_past : (objects : List Object) (t d x i c s z : ℕ) → t ≡ end_of Text CODE_START objects → d ≡ end_of Rodata t objects → x ≡ end_of Extab d objects
-    → i ≡ aligned x → c ≡ i + index_size objects → s ≡ page_behind c → z ≡ end_of Init s objects → REACH < end_of Bss z objects
+    → i ≡ aligned x → c ≡ i + index_size objects → s ≡ page_after c → z ≡ end_of Init s objects → REACH < end_of Bss z objects
     → None ≡ cond (is_too_large (layout_of objects)) None (Some (layout_of objects))
 bss_past objects t d x i c s z e f g k m n w h =
     let ends = ends_of objects in
@@ -155,7 +155,7 @@ bss_past objects t d x i c s z e f g k m n w h =
     none_past objects (omega (arith, h, same))
 
 pub layout_is : (objects : List Object) (t d x i c s z b : ℕ) → t ≡ end_of Text CODE_START objects → d ≡ end_of Rodata t objects → x ≡ end_of Extab d objects
-    → i ≡ aligned x → c ≡ i + index_size objects → s ≡ page_behind c → z ≡ end_of Init s objects → b ≡ end_of Bss z objects
+    → i ≡ aligned x → c ≡ i + index_size objects → s ≡ page_after c → z ≡ end_of Init s objects → b ≡ end_of Bss z objects
     → record { text_end = t; rodata_end = d; extab_end = x; index_start = i; code_end = c; data_start = s; init_end = z; bss_end = b } ≡ layout_of objects
 unfolding layout_of
 layout_is objects t d x i c s z b e f g k m n w v = rw (v, w, n, m, k, g, f, e) refl

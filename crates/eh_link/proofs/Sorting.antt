@@ -1,4 +1,4 @@
--- The stable sort of rows by their starts is the one that puts each row behind those with the same start.
+-- The stable sort of rows by their starts is the one that puts each row after those with the same start.
 use Rattle.std.proofs.Common.{◌≡◌, ℕ, zero, suc, ◌==◌, length, get_or, subst, ◌<◌, ◌≤◌, Bool, true, false, cond, not, ◌&&◌, ◌⊎◌, inl, inr, nat_lt, nat_eq, List, [], ◌∷◌, ◌++◌, filter, fold, refl, sym, ap, ◌∙◌, arith, append_assoc}
 use Rattle.std.proofs.Math.Path.{fun_ext}
 use Rattle.std.proofs.lemmas.List.{append-nil}

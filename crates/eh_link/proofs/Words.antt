@@ -36,8 +36,8 @@ word_reads x rest h = record { inside = omega (arith, length-append (word x) res
 pub half_reads : (x : ℕ) (rest : List ℕ) → x < 2 ^ 16 → Reads 2 (half x ++ rest) 0 x
 half_reads x rest h = record { inside = omega (arith, length-append (half x) rest, half_length x); is = half_back x rest h }
 
-pub reads_behind : (n k at j x : ℕ) (front rest : List ℕ) → length front ≡ k → j ≡ k + at → Reads n rest at x → Reads n (front ++ rest) j x
-reads_behind n k at j x front rest e f r = record {
+pub reads_after : (n k at j x : ℕ) (front rest : List ℕ) → length front ≡ k → j ≡ k + at → Reads n rest at x → Reads n (front ++ rest) j x
+reads_after n k at j x front rest e f r = record {
   inside = omega (arith, length-append front rest, r.inside, e, f);
   is = rw (f, ← e, drop_more (length front) at (front ++ rest), drop-append_seam front rest) r.is;
 }

@@ -1,4 +1,4 @@
--- What the bytes of a field are behind all relocations, where the field shares no byte with another one and lies within its
+-- What the bytes of a field are after all relocations, where the field shares no byte with another one and lies within its
 -- section: the equation of its kind (IHI 0044, "Relocation types"). S is the address that its name means, T is 1 where that is a
 -- function's, A the addend, P the field's own address.
 use Rattle.std.specs.Prelude.{◌≡◌, ℕ, ◌+◌, ◌/◌, ◌%◌, ◌^◌, ◌<◌, ◌≤◌, true, List, ◌∷◌, ◌++◌, length, bit_or, All, Option, Some, None, Ok, ℤ, pos, ◌+ℤ◌, ◌-ℤ◌}
@@ -33,8 +33,8 @@ abbrev pub target_of : Meaning → ℤ → ℕ
 target_of meaning addend = bit_or (moved meaning.address addend) (from_bool meaning.function)
 
 -- S + A - P, a whole number
-abbrev pub way_of : Meaning → ℤ → ℕ → ℤ
-way_of meaning addend place = (pos meaning.address +ℤ addend) -ℤ pos place
+abbrev pub displacement_of : Meaning → ℤ → ℕ → ℤ
+displacement_of meaning addend place = (pos meaning.address +ℤ addend) -ℤ pos place
 
 -- the word at an offset and its address P make the target, modulo 2 ^ 32
 pub record IsRelative (target place : ℕ) (bytes : List ℕ) (offset : ℕ) : Type 0 where
@@ -51,14 +51,14 @@ pub record IsPrel31 (old target place : ℕ) (bytes : List ℕ) (offset : ℕ) :
   pub leads : place < 2 ^ 30 → target < 2 ^ 30 → prel31_of place word ≡ target
 
 -- the halfwords of a code stand at an offset
-abbrev pub Stands : Code → List ℕ → ℕ → Type 0
-Stands (code.Half first) bytes offset = number_at 2 bytes offset ≡ Some first
-Stands (code.Pair first second) bytes offset = (number_at 2 bytes offset ≡ Some first) × (number_at 2 bytes (offset + 2) ≡ Some second)
+abbrev pub CodeAt : Code → List ℕ → ℕ → Type 0
+CodeAt (code.Half first) bytes offset = number_at 2 bytes offset ≡ Some first
+CodeAt (code.Pair first second) bytes offset = (number_at 2 bytes offset ≡ Some first) × (number_at 2 bytes (offset + 2) ≡ Some second)
 
 -- the halfwords at an offset decode to an instruction
 pub record Decodes (instruction : Instr) (bytes : List ℕ) (offset : ℕ) : Type 0 where
   pub encoding : Code
-  pub there : Stands encoding bytes offset
+  pub there : CodeAt encoding bytes offset
   pub means : IsCodeOf encoding instruction
 
 -- ---- the law
@@ -72,7 +72,7 @@ pub record IsField (means : List ℕ → Option Meaning) (section : Section) (by
   pub alone : StandsAlone section reloc others
   pub name : means reloc.name ≡ Some meaning
 
--- what each field of a kind says, by S and T, A, P, its offset, the object's bytes of its section and those behind all relocations
+-- what each field of a kind says, by S and T, A, P, its offset, the object's bytes of its section and those after all relocations
 abbrev pub FieldsSay : FieldKind → (Meaning → ℤ → ℕ → ℕ → List ℕ → List ℕ → Type 0) → Type 0
 FieldsSay kind Says =
     (means : List ℕ → Option Meaning) (section : Section) (start : ℕ) (bytes : List ℕ) (before : List Reloc) (reloc : Reloc) (after : List Reloc) (meaning : Meaning)
@@ -99,16 +99,16 @@ Prel31Fields =
     (word : ℕ) → number_at 4 old offset ≡ Some word → word < 2 ^ 32 → IsPrel31 word (target_of meaning addend) place new offset)
 
 abbrev pub Calls : Type 0
-Calls = BranchesSay Call (λ meaning addend place offset old new. Decodes (Bl (way_of meaning addend place)) new offset)
+Calls = BranchesSay Call (λ meaning addend place offset old new. Decodes (Bl (displacement_of meaning addend place)) new offset)
 
 abbrev pub Jumps : Type 0
-Jumps = BranchesSay Jump (λ meaning addend place offset old new. Decodes (B (way_of meaning addend place)) new offset)
+Jumps = BranchesSay Jump (λ meaning addend place offset old new. Decodes (B (displacement_of meaning addend place)) new offset)
 
 -- the condition is in bits 11 to 8 of the halfword that was there
 abbrev pub CondJumps : Type 0
 CondJumps =
     BranchesSay CondJump (λ meaning addend place offset old new.
-    (half : ℕ) → number_at 2 old offset ≡ Some half → Decodes (BCond (field half 8 4) (way_of meaning addend place)) new offset)
+    (half : ℕ) → number_at 2 old offset ≡ Some half → Decodes (BCond (field half 8 4) (displacement_of meaning addend place)) new offset)
 
 -- in objects that link to an image, each branch reaches its label
 abbrev pub ImagesReach : Type 0

@@ -1,4 +1,4 @@
--- What the bytes of a section are behind its relocations: a byte in no field is the object's, and a field that shares no byte
+-- What the bytes of a section are after its relocations: a byte in no field is the object's, and a field that shares no byte
 -- with another one holds what its own relocation writes into the object's bytes (docs/linking.md, "Relocations"; IHI 0044).
 use Rattle.std.specs.Prelude.{◌≡◌, ℕ, ◌+◌, ◌<◌, ◌≤◌, true, List, [], ◌∷◌, ◌++◌, slice_index, Option}
 use Rattle.relocatable_object.specs.declared.place.Section.{Section}

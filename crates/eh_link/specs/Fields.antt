@@ -89,7 +89,7 @@ changed (Half value) offset bytes = written_at offset (half value) bytes
 changed (Word value) offset bytes = written_at offset (word value) bytes
 changed Unreachable offset bytes = bytes
 
--- the bytes of a section behind its relocations, one after the other
+-- the bytes of a section after its relocations, one after the other
 abbrev pub filled : (List ℕ → Option Meaning) → Section → ℕ → List ℕ → List Reloc → List ℕ
 filled means section start bytes [] = bytes
 filled means section start bytes (reloc ∷ more) =

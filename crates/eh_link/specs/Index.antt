@@ -27,7 +27,7 @@ row_of at row = record { start = address_at at.text row.offset; body = body_at a
 abbrev pub rows_in : Placed → List Entry
 rows_in placed = map (row_of placed.at) placed.object.rows
 
--- a row among rows in rising order: behind those with the same start
+-- a row among rows in rising order: after those with the same start
 abbrev pub row_among : List Entry → Entry → List Entry
 row_among [] row = row ∷ []
 row_among (first ∷ more) row = if nat_lt row.start first.start then row ∷ first ∷ more else first ∷ row_among more row
@@ -35,12 +35,12 @@ row_among (first ∷ more) row = if nat_lt row.start first.start then row ∷ fi
 unfoldable pub in_order : List Entry → List Entry
 in_order rows = fold row_among [] rows
 
--- the row behind the others: from there on nothing can be unwound
+-- the row after the others: from there on nothing can be unwound
 abbrev pub closing : ℕ → Entry
 closing end = record { start = end; body = CantUnwind }
 
 -- ---- their bytes
 
--- the rows from a place on, and the row behind them, which begins where the last text ends
+-- the rows from a place on, and the row after them, which begins where the last text ends
 abbrev pub index_of : ℕ → ℕ → List Placed → List ℕ
 index_of end start all = rows_bytes start (in_order (flat_map rows_in all) ++ closing end ∷ [])

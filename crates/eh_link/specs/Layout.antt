@@ -1,5 +1,5 @@
 -- Where everything of an image stands. The first segment begins at 0x8000 and holds the texts of the objects, then their
--- rodata, then their exception tables, then the index. The second one begins at the next multiple of 4,096 behind it and
+-- rodata, then their exception tables, then the index. The second one begins at the next multiple of 4,096 after it and
 -- holds the data with given bytes, then the data that begins as zeros. Each object's part of a section, an empty one too,
 -- and the index begin at the next multiple of 4 (docs/linking.md, "Layout").
 use Rattle.std.specs.Prelude.{ℕ, ◌+◌, ◌-◌, ◌*◌, ◌%◌, ◌^◌, ◌≤◌, Bool, nat_lt, List, [], ◌∷◌, length, sum_by}
@@ -30,7 +30,7 @@ address_in Bss at = at.bss
 abbrev pub aligned : ℕ → ℕ
 aligned at = next_multiple at 4
 
--- the end of the objects' parts of a section that begins behind an address
+-- the end of the objects' parts of a section that begins after an address
 abbrev pub end_of : Section → ℕ → List Object → ℕ
 end_of section at [] = at
 end_of section at (object ∷ more) = end_of section (aligned at + size_in section object) more
@@ -40,8 +40,8 @@ abbrev pub index_size : List Object → ℕ
 index_size objects = ROW_SIZE * (sum_by (λ object. length object.rows) objects + 1)
 
 -- the next multiple of a page
-abbrev pub page_behind : ℕ → ℕ
-page_behind at = next_multiple at PAGE
+abbrev pub page_after : ℕ → ℕ
+page_after at = next_multiple at PAGE
 
 unfoldable pub layout_of : List Object → Layout
 layout_of objects =
@@ -49,14 +49,14 @@ layout_of objects =
     let rodata_end = end_of Rodata text_end objects in
     let extab_end = end_of Extab rodata_end objects in
     let code_end = aligned extab_end + index_size objects in
-    let init_end = end_of Init (page_behind code_end) objects in
+    let init_end = end_of Init (page_after code_end) objects in
     record {
       text_end = text_end;
       rodata_end = rodata_end;
       extab_end = extab_end;
       index_start = aligned extab_end;
       code_end = code_end;
-      data_start = page_behind code_end;
+      data_start = page_after code_end;
       init_end = init_end;
       bss_end = end_of Bss init_end objects;
     }
@@ -123,6 +123,6 @@ placed_from at (object ∷ more) =
 abbrev pub placed_of : List Object → List Placed
 placed_of objects = placed_from (firsts (layout_of objects)) objects
 
--- the address behind so many bytes of a part
+-- the address after so many bytes of a part
 abbrev pub address_at : ℕ → ℕ → ℕ
 address_at start offset = (start + offset) % 2 ^ 32

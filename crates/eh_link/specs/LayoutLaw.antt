@@ -1,4 +1,4 @@
--- Where the bytes of the segments stand: each object's part at its address, the index behind the parts, and as many bytes as the
+-- Where the bytes of the segments stand: each object's part at its address, the index after the parts, and as many bytes as the
 -- layout tells. Addresses are sums of the parts' sizes, and the bytes are the parts joined: the law says that both agree.
 -- (docs/linking.md, "Layout")
 use Rattle.std.specs.Prelude.{◌≡◌, ℕ, ◌+◌, ◌-◌, ◌==◌, if◌then◌else◌, List, [], ◌∷◌, ◌++◌, length, map, All, Ok}
@@ -54,7 +54,7 @@ ImagesHaveTheseBytes =
     × (image.index ≡ ((layout_of objects).index_start, length (linked_index objects)))
 
 -- the size of the first segment is the number of its bytes, and that of the second one the number of its bytes and of the
--- zeros behind them
+-- zeros after them
 abbrev pub SizesAreOfBytes : Type 0
 SizesAreOfBytes =
     (objects : List Object)

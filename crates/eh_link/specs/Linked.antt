@@ -19,7 +19,7 @@ use Rattle.eh_link.specs.Index.{index_of}
 
 -- ---- the segments
 
--- parts behind some bytes, each at the next multiple of 4, with zeros between them
+-- parts after some bytes, each at the next multiple of 4, with zeros between them
 abbrev pub joined : List ℕ → List (List ℕ) → List ℕ
 joined so_far [] = so_far
 joined so_far (part ∷ more) = joined (so_far ++ zeros (gap (length so_far) 4) ++ part) more

@@ -52,7 +52,7 @@ fn sort_rows(rows: &mut Vec<Entry>) -> Result<(), AllocError>
     Ok(())
 }
 
-/// The row behind the others: from there on nothing can be unwound.
+/// The row after the others: from there on nothing can be unwound.
 fn closing(end: u32) -> Entry
     ensures { result ≡ closing end }
 {

@@ -40,7 +40,7 @@ pub fn fields_satisfy_their_equations()
 {}
 
 /// In the segments of the image that objects link to, each object's part stands at its address and the index stands last in the
-/// first one. A segment's size is the number of its bytes, with that of the zeros behind them in the second one.
+/// first one. A segment's size is the number of its bytes, with that of the zeros after them in the second one.
 pub fn parts_stand_at_their_addresses()
     ensures images { ImagesHaveTheseBytes }
     ensures sizes { SizesAreOfBytes }

@@ -1,6 +1,6 @@
 //! Where everything of an image stands (docs/linking.md).
 ghost use Rattle.std.specs.Prelude.{◌≡◌, ◌+◌, ◌*◌, ◌^◌, ◌<◌, ◌≤◌, Bool, false, None, Some, if◌then◌else◌, length, IfOk, IfSome, IfNone};
-ghost use Rattle.eh_link.specs.Layout.{aligned, size_in, address_in, end_of, index_size, page_behind, Rises, layout_of, is_too_large, firsts, all_aligned, ends, placed_of, address_at};
+ghost use Rattle.eh_link.specs.Layout.{aligned, size_in, address_in, end_of, index_size, page_after, Rises, layout_of, is_too_large, firsts, all_aligned, ends, placed_of, address_at};
 
 use eh_list::bytes::next_multiple_32;
 use relocatable_object::object::Object;
@@ -36,21 +36,21 @@ pub struct Addresses {
 /// Where the sections of an image end, and where its index and its data begin: addresses in bytes.
 #[derive(Clone, Copy, PartialEq, Eq, Debug)]
 pub struct Layout {
-    /// Behind the last byte of code.
+    /// After the last byte of code.
     pub text_end: u32,
-    /// Behind the last byte of read-only data.
+    /// After the last byte of read-only data.
     pub rodata_end: u32,
-    /// Behind the last byte of the exception tables.
+    /// After the last byte of the exception tables.
     pub extab_end: u32,
     /// The first byte of the exception index.
     pub index_start: u32,
-    /// Behind the index, and so behind the first segment, which begins at 0x8000.
+    /// After the index, and so after the first segment, which begins at 0x8000.
     pub code_end: u32,
     /// The first byte of the second segment.
     pub data_start: u32,
-    /// Behind the last data with given bytes.
+    /// After the last data with given bytes.
     pub init_end: u32,
-    /// Behind the last data that begins as zeros, and so behind the second segment.
+    /// After the last data that begins as zeros, and so after the second segment.
     pub bss_end: u32,
 }
 
@@ -93,9 +93,9 @@ pub(crate) fn aligned(at: u32) -> u32
 }
 
 /// The next multiple of a page.
-fn page_behind(at: u32) -> u32
+fn page_after(at: u32) -> u32
     requires { at + PAGE ≤ 2 ^ 32 }
-    ensures { result ≡ page_behind at }
+    ensures { result ≡ page_after at }
 {
     next_multiple_32(at, PAGE)
 }
@@ -113,14 +113,14 @@ pub(crate) fn address_in(section: Section, at: Addresses) -> u32
     }
 }
 
-/// The address behind so many bytes.
+/// The address after so many bytes.
 pub(crate) fn address_at(start: u32, offset: u32) -> u32
     ensures { result ≡ address_at start offset }
 {
     start.wrapping_add(offset)
 }
 
-/// The end of the objects' parts of a section that begins behind an address. None above `REACH`.
+/// The end of the objects' parts of a section that begins after an address. None above `REACH`.
 fn end_of(section: Section, start: u32, objects: &[Object]) -> Option<u32>
     requires { start ≤ REACH }
     ensures some { IfSome result (λ end. (end ≡ end_of section start objects.now) × (end ≤ REACH)) }
@@ -168,7 +168,7 @@ pub(crate) fn lay_out(objects: &[Object]) -> Option<Layout>
     let extab_end = end_of(Section::Extab, rodata_end, objects)?;
     let index_start = aligned(extab_end);
     let code_end = index_end(index_start, objects)?;
-    let data_start = page_behind(code_end);
+    let data_start = page_after(code_end);
     let init_end = end_of(Section::Init, data_start, objects)?;
     let bss_end = end_of(Section::Bss, init_end, objects)?;
     if code_end - CODE_START + (bss_end - data_start) > MOST_MEMORY {

@@ -1,4 +1,4 @@
-//! Vectors that contracts see as their lists, and what many crates do with bytes and sizes. No standard is behind them.
+//! Vectors that contracts see as their lists, and what many crates do with bytes and sizes. No standard is after them.
 #![tactic(auto)]
 
 pub mod bytes;

@@ -77,7 +77,7 @@ impl<T: Drop> Seq<T> {
         Ok(())
     }
 
-    /// Adds elements behind these.
+    /// Adds elements after these.
     pub fn append(&mut self, more: Seq<T>) -> Result<(), AllocError>
         ensures { OnOk result (self.new ≡ self.old ++ more) }
     {

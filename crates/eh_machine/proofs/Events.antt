@@ -18,9 +18,9 @@ use Rattle.eh_gates.specs.declared.state.Turned.{Turned}
 use Rattle.eh_gates.specs.declared.state.Turned.TheVariants.{Went, Ended}
 use Rattle.elf_image.specs.Image.{Image}
 use Rattle.eh_types.specs.Graph.{Row}
-use Rattle.eh_gates.specs.State.{State, Outcome, guide_of}
+use Rattle.eh_gates.specs.State.{State, Outcome, tables_of}
 use Rattle.eh_gates.specs.Gates.{gate_of}
-use Rattle.two_machines.specs.Program.{Program, guide}
+use Rattle.two_machines.specs.Program.{Program, program_tables}
 use Rattle.two_machines.specs.Machine.{Passed, passed, event_of, in_state, acted, onward, machine_event, passed_fails, may_fail, with_pc_of}
 use Rattle.eh_machine.specs.Turns.{TurnedOnce, IsCounted, CountsFaults}
 
@@ -87,7 +87,7 @@ plain_turned (Some input) before p s what new e h =
 
 -- a gate of exceptions
 pub gate_turned : (told before : Option (List ℕ)) (p : Program) (s t new : State) (number : ℕ) (result : Turned) → (Ok (Gate number), t) ≡ passed p s
-    → nat_lt INPUT_GATE number ≡ true → (result, new) ≡ gate_of (guide p) number t.regs.pc s → ((end : End) → result ≡ Ended end → is_fault end ≡ false)
+    → nat_lt INPUT_GATE number ≡ true → (result, new) ≡ gate_of (program_tables p) number t.regs.pc s → ((end : End) → result ≡ Ended end → is_fault end ≡ false)
     → IfSome told (λ input. TurnedOnce p s input result new told before before)
 gate_turned None before p s t new number result e high g honest = tt
 gate_turned (Some input) before p s t new number result e high g honest =
@@ -122,13 +122,13 @@ plain_gate_turned (Some input) left before now p s t number old regs (Some end) 
 -- ---- as the calls are made: the registers before a gate are put back first
 
 pub gate_told : (told before : Option (List ℕ)) (p : Program) (s t new back : State) (number : ℕ) (result : Turned) (image : Image) (types : List Row)
-    → (Ok (Gate number), t) ≡ passed p s → nat_lt INPUT_GATE number ≡ true → (result, new) ≡ gate_of (guide_of image types) number t.regs.pc back
+    → (Ok (Gate number), t) ≡ passed p s → nat_lt INPUT_GATE number ≡ true → (result, new) ≡ gate_of (tables_of image types) number t.regs.pc back
     → image ≡ p.image → types ≡ p.types → back ≡ s → ((end : End) → result ≡ Ended end → is_fault end ≡ false)
     → IfSome told (λ input. TurnedOnce p s input result new told before before)
 gate_told told before p s t new back number result image types e high g ei et eb honest =
     gate_turned told before p s t new number result e high
-    (g ∙ ap (λ (i : Image). gate_of (guide_of i types) number t.regs.pc back) ei ∙ ap (λ (ts : List Row). gate_of (guide_of p.image ts) number t.regs.pc back) et
-    ∙ ap (λ (b : State). gate_of (guide p) number t.regs.pc b) eb) honest
+    (g ∙ ap (λ (i : Image). gate_of (tables_of i types) number t.regs.pc back) ei ∙ ap (λ (ts : List Row). gate_of (tables_of p.image ts) number t.regs.pc back) et
+    ∙ ap (λ (b : State). gate_of (program_tables p) number t.regs.pc b) eb) honest
 
 pub plain_gate_told : (told left before now : Option (List ℕ)) (p : Program) (s t : State) (number pc : ℕ) (regs : Regs) (result : Option End) → (Ok (Gate number), t) ≡ passed p s
     → nat_lt INPUT_GATE number ≡ false → with_pc_of t pc ≡ s
@@ -164,7 +164,7 @@ pub given_plain : (before : Option (List ℕ)) (p : Program) (s : State) (what :
 given_plain before p s what new e h = given_none p s Went new before (plain_turned (Some []) before p s what new e h)
 
 pub given_gate_told : (before : Option (List ℕ)) (p : Program) (s t new back : State) (number : ℕ) (result : Turned) (image : Image) (types : List Row)
-    → (Ok (Gate number), t) ≡ passed p s → nat_lt INPUT_GATE number ≡ true → (result, new) ≡ gate_of (guide_of image types) number t.regs.pc back
+    → (Ok (Gate number), t) ≡ passed p s → nat_lt INPUT_GATE number ≡ true → (result, new) ≡ gate_of (tables_of image types) number t.regs.pc back
     → image ≡ p.image → types ≡ p.types → back ≡ s → ((end : End) → result ≡ Ended end → is_fault end ≡ false)
     → OnGiven (λ bytes left. TurnedOnce p s bytes result new left before before)
 given_gate_told before p s t new back number result image types e high g ei et eb honest =
@@ -181,6 +181,16 @@ pub given_gate : (before now : Option (List ℕ)) (p : Program) (s t : State) (n
 given_gate before now p s t number pc regs result e low back g =
     record { bytes = g.bytes; left = g.left; are = g.are; done = plain_gate_told (Some g.bytes) (Some g.left) before now p s t number pc regs result e low back g.done }
 
+-- ---- from a state that is the one before
+
+pub turned_as_before : (told left before now : Option (List ℕ)) (p : Program) (s t new : State) (result : Turned) → t ≡ s
+    → IfSome told (λ bytes. TurnedOnce p t bytes result new left before now) → IfSome told (λ bytes. TurnedOnce p s bytes result new left before now)
+turned_as_before told left before now p s t new result e h = subst (λ (x : State). IfSome told (λ bytes. TurnedOnce p x bytes result new left before now)) e h
+
+pub given_as_before : (before now : Option (List ℕ)) (p : Program) (s t new : State) (result : Turned) → t ≡ s
+    → OnGiven (λ bytes left. TurnedOnce p t bytes result new left before now) → OnGiven (λ bytes left. TurnedOnce p s bytes result new left before now)
+given_as_before before now p s t new result e h = subst (λ (x : State). OnGiven (λ bytes left. TurnedOnce p x bytes result new left before now)) e h
+
 -- ---- the counts of faults
 
 -- one that stayed, where no fault of it ended the call
@@ -188,14 +198,14 @@ stays : (failed : Type 0) (n : ℕ) → (failed → ⊥) → IsCounted failed n 
 stays failed n never = record { rose = λ f. absurd (never f); later = omega arith; kept = λ h. refl }
 
 -- whatever ended the call was no fault of the outside, and nothing was counted
-pub calm : (IsEnd : End → Type 0) (read wrote : ℕ) → ((end : End) → IsEnd end → is_fault end ≡ false) → CountsFaults IsEnd read read wrote wrote
-calm IsEnd read wrote inside = record {
+pub fault_free : (IsEnd : End → Type 0) (read wrote : ℕ) → ((end : End) → IsEnd end → is_fault end ≡ false) → CountsFaults IsEnd read read wrote wrote
+fault_free IsEnd read wrote inside = record {
   input = stays (IsEnd ReadFault) read (λ e. let h = inside ReadFault e in cc);
   out = stays (IsEnd WriteFault) wrote (λ e. let h = inside WriteFault e in cc);
 }
 
-pub calm_end : (end : End) (read wrote : ℕ) → is_fault end ≡ false → CountsFaults (λ other. Ended end ≡ Ended other) read read wrote wrote
-calm_end end read wrote fine = calm (λ other. Ended end ≡ Ended other) read wrote (λ other e. subst (λ (x : End). is_fault x ≡ false) (ended_is end other e) fine)
+pub fault_free_end : (end : End) (read wrote : ℕ) → is_fault end ≡ false → CountsFaults (λ other. Ended end ≡ Ended other) read read wrote wrote
+fault_free_end end read wrote fine = fault_free (λ other. Ended end ≡ Ended other) read wrote (λ other e. subst (λ (x : End). is_fault x ≡ false) (ended_is end other e) fine)
 
 -- an end of an event is that of the run; the counts stood as at its start
 counted_from : (failed failed' : Type 0) (first before now : ℕ) → before ≡ first → (failed' → failed) → (failed → failed') → IsCounted failed before now → IsCounted failed' first now
@@ -208,5 +218,5 @@ ended_counts end read before read' wrote between wrote' r o w = record {
   out = counted_from (Ended end ≡ Ended WriteFault) (end ≡ WriteFault) wrote between wrote' o (λ e. ap Ended e) (ended_is end WriteFault) w.out;
 }
 
-pub calm_went : (read wrote : ℕ) → CountsFaults (λ end. Went ≡ Ended end) read read wrote wrote
-calm_went read wrote = calm (λ end. Went ≡ Ended end) read wrote (λ end e. went_ended end _ e)
+pub fault_free_went : (read wrote : ℕ) → CountsFaults (λ end. Went ≡ Ended end) read read wrote wrote
+fault_free_went read wrote = fault_free (λ end. Went ≡ Ended end) read wrote (λ end e. went_ended end _ e)

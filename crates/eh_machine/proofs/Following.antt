@@ -53,7 +53,7 @@ module _ (p : Program) (s : Recorded) (end : End) where
 
   tests_same : KnowsLanding s → (number : ℕ) (regs : Regs) → bytes.tests p (bytes_of s) (Gate number) regs ≡ acts.tests p s (Gate number) regs
   tests_same landing number regs =
-      ap (λ (l : Option ℕ). option_or (bytes.sp_end l s.home.0 s.regs.pc (reg_in s SP) (slice_index regs.r SP)) (bytes.way_end p (branches_some (instr_at (memory_of s) s.regs.pc) s.regs) s.regs.pc (Gate number) regs)) landing
+      ap (λ (l : Option ℕ). option_or (bytes.sp_end l s.home.0 s.regs.pc (reg_in s SP) (slice_index regs.r SP)) (bytes.control_flow_trap p (branches_some (instr_at (memory_of s) s.regs.pc) s.regs) s.regs.pc (Gate number) regs)) landing
 
   stepped_same : KnowsLanding s → (o : Stepping) → bytes.passed_fails (bytes.stepped p (bytes_of s) o) end ≡ acts.passed_fails (acts.stepped p s o) end
   stepped_same landing (Done, regs, m) =

@@ -14,10 +14,10 @@ use Rattle.eh_phase.specs.declared.phase1.Barrier.{Barrier}
 use Rattle.thumb_core.specs.declared.ends.End.{End}
 use Rattle.eh_gates.specs.declared.state.Turned.{Turned}
 use Rattle.eh_gates.specs.declared.state.Turned.TheVariants.{Went, Ended}
-use Rattle.eh_gates.specs.State.{State, Outcome, guide_of}
+use Rattle.eh_gates.specs.State.{State, Outcome, tables_of}
 use Rattle.eh_gates.specs.Throwing.{throw_to}
 use Rattle.frame_check.specs.Accepts.{Accepted, IsSound}
-use Rattle.two_machines.specs.Program.{guide}
+use Rattle.two_machines.specs.Program.{program_tables}
 use Rattle.two_machines.specs.Start.{start_of}
 use Rattle.two_machines.specs.Checked.{program_of}
 use Rattle.two_machines.specs.Activations.{Recorded, bytes_of}
@@ -48,7 +48,7 @@ start_told x regs globals memory events entry image of sound r at g m e whose =
 
 module _ (x : Accepted) (is : IsProgram x) (s : Recorded) (k : Keeps x s) (site slot : ℕ) (b : Barrier) (can : CanFly x s site slot b) where
   -- an outcome over bytes that matches one with recorded activations
-  alike : (result : Turned) (new : State) (q : acts.Outcome) → acts.throw_to (guide (program_of x)) site (block slot) b s ≡ q → OutcomesMatch (result, new) q → Keeps x q.1
+  alike : (result : Turned) (new : State) (q : acts.Outcome) → acts.throw_to (program_tables (program_of x)) site (block slot) b s ≡ q → OutcomesMatch (result, new) q → Keeps x q.1
       → FlownAlike x s site (block slot) b result new
   alike Went new (Went, t) e m keeps = record { state = t; is = sym e; stands = record { same = m; keeps = keeps } }
   alike (Ended end) new (Ended why, t) e m keeps =
@@ -57,26 +57,26 @@ module _ (x : Accepted) (is : IsProgram x) (s : Recorded) (k : Keeps x s) (site 
   alike Went new (Ended why, t) e m keeps = absurd m
   alike (Ended end) new (Went, t) e m keeps = absurd m
 
-  pub flown : (result : Turned) (new : State) → ◌≡◌ {A = Outcome} (result, new) (throw_to (guide (program_of x)) (bytes_of s) site (block slot) b)
+  pub flown : (result : Turned) (new : State) → ◌≡◌ {A = Outcome} (result, new) (throw_to (program_tables (program_of x)) (bytes_of s) site (block slot) b)
       → FlownAlike x s site (block slot) b result new
   flown result new e =
       let w = flights_match x s site slot b is k can in
-      let f = gates_fly (guide (program_of x)) site (block slot) b s in
-      let q = fly_from (guide (program_of x)) site (block slot) b s in
+      let f = gates_fly (program_tables (program_of x)) site (block slot) b s in
+      let q = fly_from (program_tables (program_of x)) site (block slot) b s in
       alike result new q f (subst (λ (o : Outcome). OutcomesMatch o q) (sym e) w.same.same) w.keeps
 
 flight_follows : (x : Accepted) (old new : State) (site control : ℕ) (b : Barrier) (result : Turned) → IsImage x.image → IsSound x
-    → ◌≡◌ {A = Outcome} (result, new) (throw_to (guide (program_of x)) old site control b) → FollowsFlight x old site control b result new
+    → ◌≡◌ {A = Outcome} (result, new) (throw_to (program_tables (program_of x)) old site control b) → FollowsFlight x old site control b result new
 flight_follows x old new site control b result image sound e = λ s r slot at can.
     let is_block : control ≡ block slot = slot_block control slot at in
-    let told : ◌≡◌ {A = Outcome} (result, new) (throw_to (guide (program_of x)) (bytes_of s) site (block slot) b) =
-    e ∙ ap (λ (o : State). throw_to (guide (program_of x)) o site control b) r.same
-    ∙ ap (λ (c : ℕ). throw_to (guide (program_of x)) (bytes_of s) site c b) is_block in
+    let told : ◌≡◌ {A = Outcome} (result, new) (throw_to (program_tables (program_of x)) (bytes_of s) site (block slot) b) =
+    e ∙ ap (λ (o : State). throw_to (program_tables (program_of x)) o site control b) r.same
+    ∙ ap (λ (c : ℕ). throw_to (program_tables (program_of x)) (bytes_of s) site c b) is_block in
     subst (λ (c : ℕ). FlownAlike x s site c b result new) (sym is_block) (flown x (accepted_is x image sound) s r.keeps site slot b can result new told)
 
 -- as the call is made: the guide is that of the program
 pub flight_told : (x : Accepted) (old new : State) (site control : ℕ) (b : Barrier) (result : Turned) (image : Image) (types : List Row) → IsImage x.image → IsSound x
-    → ◌≡◌ {A = Outcome} (result, new) (throw_to (guide_of image types) old site control b) → image ≡ x.image → types ≡ x.types → FollowsFlight x old site control b result new
+    → ◌≡◌ {A = Outcome} (result, new) (throw_to (tables_of image types) old site control b) → image ≡ x.image → types ≡ x.types → FollowsFlight x old site control b result new
 flight_told x old new site control b result image types of sound e i t =
     flight_follows x old new site control b result of sound
-    (e ∙ ap (λ (v : Image). throw_to (guide_of v types) old site control b) i ∙ ap (λ (v : List Row). throw_to (guide_of x.image v) old site control b) t)
+    (e ∙ ap (λ (v : Image). throw_to (tables_of v types) old site control b) i ∙ ap (λ (v : List Row). throw_to (tables_of x.image v) old site control b) t)

@@ -3,7 +3,7 @@ use Rattle.std.specs.Prelude.{option_map}
 use Rattle.std.proofs.Common.{◌≡◌, ℕ, zero, suc, Bool, true, false, List, ◌++◌, Option, Some, None, IfSome, refl, sym, ap, subst, ◌∙◌}
 use Rattle.std.specs.Io.KnownBytes.{Appends}
 use Rattle.eh_port.specs.Writing.{AppendsPart}
-use Rattle.event_runs.specs.Runs.{Event, Goes, Ends, Reached, behind, reached, reached_after, ran_of, StopsAt, Runs}
+use Rattle.event_runs.specs.Runs.{Event, Goes, Ends, Reached, prepended, reached, reached_after, ran_of, StopsAt, Runs}
 use Rattle.event_runs.specs.Laws.{SameRan}
 use Rattle.guest_gates.specs.Ends.{is_fault}
 use Rattle.thumb_core.specs.declared.ends.End.{End}
@@ -32,11 +32,11 @@ module _ (S T E : Type 0) (Fits : List ℕ → Type 0) (Related : S → T → Ty
   ReachedAlike None (Some b) = ⊥
   ReachedAlike (Some a) None = ⊥
 
-  behind_alike : (text : List ℕ) (o : Option (Reached S)) (q : Option (Reached T)) → ReachedAlike o q → ReachedAlike (option_map (behind text) o) (option_map (behind text) q)
-  behind_alike text None None h = tt
-  behind_alike text (Some a) (Some b) h = (ap (λ y. text ++ y) h.0, h.1, h.2)
-  behind_alike text None (Some b) h = absurd h
-  behind_alike text (Some a) None h = absurd h
+  after_alike : (text : List ℕ) (o : Option (Reached S)) (q : Option (Reached T)) → ReachedAlike o q → ReachedAlike (option_map (prepended text) o) (option_map (prepended text) q)
+  after_alike text None None h = tt
+  after_alike text (Some a) (Some b) h = (ap (λ y. text ++ y) h.0, h.1, h.2)
+  after_alike text None (Some b) h = absurd h
+  after_alike text (Some a) None h = absurd h
 
   module _ (one : S → List ℕ → Event S E) (two : T → List ℕ → Event T E) (alike : (s : S) (t : T) (input : List ℕ) → Fits input → Related s t → AlikeOn S T E Fits Related (one s input) (two t input)) where
     pub reached_on : (n : ℕ) (s : S) (t : T) (input : List ℕ) → Fits input → Related s t → ReachedAlike (reached one n s input) (reached two n t input)
@@ -48,9 +48,9 @@ module _ (S T E : Type 0) (Fits : List ℕ → Type 0) (Related : S → T → Ty
             → ((s : S) (t : T) (input : List ℕ) → Fits input → Related s t → ReachedAlike (reached one n s input) (reached two n t input))
             → ReachedAlike (reached_after e (reached one n)) (reached_after d (reached two n))
         go (Goes u text left) (Goes v said rest) a next =
-            subst (λ (y : List ℕ). ReachedAlike (option_map (behind text) (reached one n u left)) (option_map (behind y) (reached two n v rest))) a.1
-            (subst (λ (y : List ℕ). ReachedAlike (option_map (behind text) (reached one n u left)) (option_map (behind text) (reached two n v y))) a.2
-            (behind_alike text (reached one n u left) (reached two n v left) (next u v left a.3 a.0)))
+            subst (λ (y : List ℕ). ReachedAlike (option_map (prepended text) (reached one n u left)) (option_map (prepended y) (reached two n v rest))) a.1
+            (subst (λ (y : List ℕ). ReachedAlike (option_map (prepended text) (reached one n u left)) (option_map (prepended text) (reached two n v y))) a.2
+            (after_alike text (reached one n u left) (reached two n v left) (next u v left a.3 a.0)))
         go (Ends end u) (Ends why v) a next = tt
         go (Goes u text left) (Ends why v) a next = absurd a
         go (Ends end u) (Goes v said rest) a next = absurd a

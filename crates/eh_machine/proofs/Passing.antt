@@ -26,18 +26,19 @@ use Rattle.thumb_core.specs.declared.regs.Stepped.TheVariants.{Done, Call, Retur
 use Rattle.thumb_core.specs.declared.ends.TrapKind.TheVariants as kind
 use Rattle.thumb_core.specs.declared.ends.End.{End}
 use Rattle.thumb_core.specs.declared.ends.End.TheVariants as the_end
-use Rattle.step_ahead.specs.declared.kept.Kept.{Kept}
-use Rattle.step_ahead.specs.declared.kept.Kept.TheVariants.{Nothing}
-use Rattle.step_ahead.specs.Ahead.{branches, branches_some, pushed, pushes_some, IsLevel, IsJump}
-use Rattle.step_ahead.specs.Kept.{put_back, TakesBack, InStack, PushesInStack, lowest}
+use Rattle.step_ahead.specs.declared.undo_record.UndoRecord.{UndoRecord}
+use Rattle.step_ahead.specs.declared.undo_record.UndoRecord.TheVariants.{Nothing}
+use Rattle.step_ahead.specs.Ahead.{branches, branches_some, pushed, pushes_some, IsFallThrough, IsJump}
+use Rattle.step_ahead.specs.UndoRecord.{restore, Restores, InStack, PushesInStack, lowest}
 use Rattle.step_ahead.proofs.Stored.{AreWords, OnGo, on_go, step_is, step_pushed, nothing_back}
 use Rattle.step_ahead.proofs.Straight.{GoesOn, effect_goes}
 use Rattle.eh_trace.specs.Trace.{Trace}
 use Rattle.eh_gates.specs.declared.state.Core.{Core}
 use Rattle.eh_gates.specs.State.{State, state_of, reg}
 use Rattle.two_machines.specs.Program.{Program}
-use Rattle.eh_machine.specs.Passes.{Passes, Tried}
-use Rattle.two_machines.specs.Machine.{Passed, leaves_cleanup, way_end, refusal, tests, settled, settled_at, saved_words, tested, stepped, passed, with_pc_of}
+use Rattle.eh_machine.specs.Passes.{Passes, Tried, IsFound}
+use Rattle.eh_machine.specs.declared.pass.Fetched.{Fetched}
+use Rattle.two_machines.specs.Machine.{Passed, leaves_cleanup, control_flow_trap, refusal, tests, reguarded, reguarded_at, saved_words, tested, stepped, passed, with_pc_of}
 
 -- ---- what a call has done, by its end
 
@@ -74,11 +75,16 @@ module _ (p : Program) (before : Core) (m : Memory) (after : Core) (new : Memory
   pub was_done : Passes p before m (Ok Done) after new → Tried p before m true after new
   was_done h = record { done = λ e. h; left = λ e. absurd (cc) }
 
--- what a call has done behind one that changed nothing
-pub as_before : (p : Program) (core before after : Core) (n m new : Memory) (result : Result Stepped End) → (before ≡ core) × (m ≡ n) → Passes p before m result after new
-    → Passes p core n result after new
-as_before p core before after n m new result same passes =
-    subst (λ (c : Core). Passes p c n result after new) same.0 (subst (λ (k : Memory). Passes p before k result after new) same.1 passes)
+-- ---- after a call that changed nothing
+
+pub same_state : (core before : Core) (m n : Memory) (events : Trace) → (before ≡ core) × (n ≡ m) → state_of before n events ≡ state_of core m events
+same_state core before m n events same = ap (λ (c : Core). state_of c n events) same.0 ∙ ap (λ (k : Memory). state_of core k events) same.1
+
+pub same_reached : (p : Program) (core before : Core) → before ≡ core → (p.look core.regs.pc).is_instr ≡ true → (p.look before.regs.pc).is_instr ≡ true
+same_reached p core before same reached = subst (λ (c : Core). (p.look c.regs.pc).is_instr ≡ true) (sym same) reached
+
+pub same_found : (core before : Core) (m n : Memory) (at : Fetched) → (before ≡ core) × (n ≡ m) → IsFound core m at → IsFound before n at
+same_found core before m n at same found = subst (λ (c : Core). IsFound c n at) (sym same.0) (subst (λ (k : Memory). IsFound core k at) (sym same.1) found)
 
 -- not a trap
 abbrev pub Goes : Stepped → Type 0
@@ -120,14 +126,14 @@ module _ (p : Program) (s : State) where
         ap two em ∙ is_tested (Some end) g
 
     -- no test did
-    pub tested_passes : (new : Memory) → tests p s what regs ≡ None → new ≡ settled_at p s regs m → ◌≡◌ {A = Passed} (Ok what, record s { regs = regs; memory = new }) (passed p s)
+    pub tested_passes : (new : Memory) → tests p s what regs ≡ None → new ≡ reguarded_at p s regs m → ◌≡◌ {A = Passed} (Ok what, record s { regs = regs; memory = new }) (passed p s)
     tested_passes new g en =
         let two : Memory → Passed = λ n. (Ok what, record s { regs = regs; memory = n }) in
         ap two en ∙ is_tested None g
 
     -- what was kept gives the memory back
-    pub kept_back : (kept : Kept) (back : Memory) → TakesBack kept s.regs s.memory → what ≡ Done → back ≡ put_back kept m → back ≡ s.memory
-    kept_back kept back t d eb = eb ∙ t regs m (sym f ∙ ap (λ (w : Stepped). (w, regs, m)) d)
+    pub restored : (kept : UndoRecord) (back : Memory) → Restores kept s.regs s.memory → what ≡ Done → back ≡ restore kept m → back ≡ s.memory
+    restored kept back t d eb = eb ∙ t regs m (sym f ∙ ap (λ (w : Stepped). (w, regs, m)) d)
 
     -- and what is neither done nor a trap left it
     left_back : (w : Stepped) → Goes w → (w ≡ Done → ⊥) → LeavesMemory w s.memory m → m ≡ s.memory
@@ -151,16 +157,16 @@ tests_are p s what regs landing low branches o el eh eb eo =
     ∙ ap (λ (b : Bool). refusal p (innermost_of (word s.memory) s.globals, s.memory.home.0) (s.regs.pc, reg s SP) b what regs) eb)
 
 -- the guards, from what was told of the instruction
-pub settled_is : (p : Program) (s : State) (regs : Regs) (m new : Memory) (saves count old sp : ℕ) → saves ≡ (p.look s.regs.pc).saves → count ≡ pushes_some (instr_at s.memory s.regs.pc)
-    → old ≡ reg s SP → sp ≡ slice_index regs.r SP → new ≡ settled saves count old sp m → new ≡ settled_at p s regs m
-settled_is p s regs m new saves count old sp ea ec eo es e =
-    e ∙ ap (λ (n : ℕ). settled n count old sp m) ea ∙ ap (λ (n : ℕ). settled (p.look s.regs.pc).saves n old sp m) ec
-    ∙ ap (λ (n : ℕ). settled (p.look s.regs.pc).saves (pushes_some (instr_at s.memory s.regs.pc)) n sp m) eo
-    ∙ ap (λ (n : ℕ). settled (p.look s.regs.pc).saves (pushes_some (instr_at s.memory s.regs.pc)) (reg s SP) n m) es
+pub reguarded_is : (p : Program) (s : State) (regs : Regs) (m new : Memory) (saves count old sp : ℕ) → saves ≡ (p.look s.regs.pc).saves → count ≡ pushes_some (instr_at s.memory s.regs.pc)
+    → old ≡ reg s SP → sp ≡ slice_index regs.r SP → new ≡ reguarded saves count old sp m → new ≡ reguarded_at p s regs m
+reguarded_is p s regs m new saves count old sp ea ec eo es e =
+    e ∙ ap (λ (n : ℕ). reguarded n count old sp m) ea ∙ ap (λ (n : ℕ). reguarded (p.look s.regs.pc).saves n old sp m) ec
+    ∙ ap (λ (n : ℕ). reguarded (p.look s.regs.pc).saves (pushes_some (instr_at s.memory s.regs.pc)) n sp m) eo
+    ∙ ap (λ (n : ℕ). reguarded (p.look s.regs.pc).saves (pushes_some (instr_at s.memory s.regs.pc)) (reg s SP) n m) es
 
 -- sp does not rise: the words of a push are guarded
 pub guarded_is : (p : Program) (s : State) (regs : Regs) (m new : Memory) (saves count sp : ℕ) → saves ≡ (p.look s.regs.pc).saves → count ≡ pushes_some (instr_at s.memory s.regs.pc)
-    → sp ≡ slice_index regs.r SP → slice_index regs.r SP ≤ reg s SP → new ≡ guard_all (saved_words saves count sp) m → new ≡ settled_at p s regs m
+    → sp ≡ slice_index regs.r SP → slice_index regs.r SP ≤ reg s SP → new ≡ guard_all (saved_words saves count sp) m → new ≡ reguarded_at p s regs m
 guarded_is p s regs m new saves count sp ea ec es high e =
     e ∙ ap (λ (n : ℕ). guard_all (saved_words n count sp) m) ea ∙ ap (λ (n : ℕ). guard_all (saved_words (p.look s.regs.pc).saves n sp) m) ec
     ∙ ap (λ (n : ℕ). guard_all (saved_words (p.look s.regs.pc).saves (pushes_some (instr_at s.memory s.regs.pc)) n) m) es
@@ -172,8 +178,8 @@ guarded_is p s regs m new saves count sp ea ec es high e =
     go false f guards = refl
 
 -- no word is pushed and sp stays: the guards stay
-settled_none : (saves sp : ℕ) (m : Memory) → settled saves 0 sp sp m ≡ m
-settled_none saves sp m = go (nat_lt sp sp) (not_below sp)
+reguarded_none : (saves sp : ℕ) (m : Memory) → reguarded saves 0 sp sp m ≡ m
+reguarded_none saves sp m = go (nat_lt sp sp) (not_below sp)
   where
     not_below : (n : ℕ) → nat_lt n n ≡ false
     not_below n = grind (arith)
@@ -184,14 +190,14 @@ settled_none saves sp m = go (nat_lt sp sp) (not_below sp)
 
 -- at a gate
 pub gate_stays : (saves count old sp number : ℕ) (s : State) (regs : Regs) (m new : Memory) → Leaves (instr_at s.memory s.regs.pc) (Gate number) s.regs s.memory regs → m ≡ s.memory
-    → count ≡ pushes_some (instr_at s.memory s.regs.pc) → old ≡ reg s SP → sp ≡ slice_index regs.r SP → new ≡ settled saves count old sp m
+    → count ≡ pushes_some (instr_at s.memory s.regs.pc) → old ≡ reg s SP → sp ≡ slice_index regs.r SP → new ≡ reguarded saves count old sp m
     → with_pc_of (record s { regs = regs; memory = new }) s.regs.pc ≡ s
 gate_stays saves count old sp number s regs m new l em ec eo es en =
     let none : count ≡ 0 = ec ∙ ap pushes_some l.1 in
     let same : sp ≡ reg s SP = es ∙ ap (λ (r : Regs). slice_index r.r SP) l.2 in
     let kept : new ≡ s.memory =
-    en ∙ ap (λ (n : ℕ). settled saves n old sp m) none ∙ ap (λ (n : ℕ). settled saves 0 n sp m) eo ∙ ap (λ (n : ℕ). settled saves 0 (reg s SP) n m) same
-    ∙ settled_none saves (reg s SP) m ∙ em in
+    en ∙ ap (λ (n : ℕ). reguarded saves n old sp m) none ∙ ap (λ (n : ℕ). reguarded saves 0 n sp m) eo ∙ ap (λ (n : ℕ). reguarded saves 0 (reg s SP) n m) same
+    ∙ reguarded_none saves (reg s SP) m ∙ em in
     let one : Regs → State = λ r. with_pc_of (record s { regs = r; memory = new }) s.regs.pc in
     let two : Memory → State = λ n. record s { memory = n } in
     ap one l.2 ∙ ap two kept
@@ -202,7 +208,7 @@ gate_done what number e = cc
 
 pub gate_passes : (what : Stepped) (saves count old sp number : ℕ) (s : State) (regs : Regs) (m new : Memory) → what ≡ Gate number
     → Leaves (instr_at s.memory s.regs.pc) what s.regs s.memory regs → LeavesMemory what s.memory m
-    → count ≡ pushes_some (instr_at s.memory s.regs.pc) → old ≡ reg s SP → sp ≡ slice_index regs.r SP → new ≡ settled saves count old sp m
+    → count ≡ pushes_some (instr_at s.memory s.regs.pc) → old ≡ reg s SP → sp ≡ slice_index regs.r SP → new ≡ reguarded saves count old sp m
     → with_pc_of (record s { regs = regs; memory = new }) s.regs.pc ≡ s
 gate_passes what saves count old sp number s regs m new e l lm ec eo es en =
     gate_stays saves count old sp number s regs m new (subst (λ (w : Stepped). Leaves (instr_at s.memory s.regs.pc) w s.regs s.memory regs) e l)
@@ -214,7 +220,7 @@ pub above_low : (p : Program) (landing : Option ℕ) (low : ℕ) (at : ℕ × �
 above_low p landing low at branches what regs e = go (leaves_cleanup landing at.1 (slice_index regs.r SP)) (nat_lt (slice_index regs.r SP) low) refl e
   where
     go : (a b : Bool) → nat_lt (slice_index regs.r SP) low ≡ b
-        → option_or (cond a (Some (the_end.Trap kind.SpInCleanup (slice_index regs.r SP) at.0)) (cond b (Some (the_end.Trap kind.StackLimit (slice_index regs.r SP) at.0)) None)) (way_end p branches at.0 what regs) ≡ None
+        → option_or (cond a (Some (the_end.Trap kind.SpInCleanup (slice_index regs.r SP) at.0)) (cond b (Some (the_end.Trap kind.StackLimit (slice_index regs.r SP) at.0)) None)) (control_flow_trap p branches at.0 what regs) ≡ None
         → low ≤ slice_index regs.r SP
     go true b f e = absurd (cc)
     go false true f e = absurd (cc)
@@ -242,7 +248,7 @@ module _ (regs : Regs) (m : Memory) (at : Instr × ℕ) where
       subst (λ (k : ℕ). PushesInStack k regs m) (sym (pushes_there n there e)) (step_pushed regs m x count) what after new (sym did) h
 
   -- one that stores nothing
-  pub none_stored : AreWords regs → instr_at m regs.pc ≡ Some at → stores_of at.0 regs ≡ None → TakesBack Nothing regs m
+  pub none_stored : AreWords regs → instr_at m regs.pc ≡ Some at → stores_of at.0 regs ≡ None → Restores Nothing regs m
   none_stored small there e = nothing_back regs m small (ap (λ (o : Option (Instr × ℕ)). stores_of_some o regs) there ∙ e)
 
 -- a test ended the run: registers and memory are back
@@ -255,15 +261,15 @@ stopped p s at what regs m back landing low taken o end reached there e h words 
     (tests_are p s what regs landing low taken o words home (branches_there s.regs s.memory at taken there is_taken) is ∙ some) same
 
 -- what is told to go straight on does
-pub straight : (regs : Regs) (m : Memory) (at : Instr × ℕ) (n : ℕ) (what : Stepped) (after : Regs) (new : Memory) → IsLevel at.0 regs n → InRange at.0 → length regs.r ≡ 15 → AreWords regs
+pub straight : (regs : Regs) (m : Memory) (at : Instr × ℕ) (n : ℕ) (what : Stepped) (after : Regs) (new : Memory) → IsFallThrough at.0 regs n → InRange at.0 → length regs.r ≡ 15 → AreWords regs
     → 4 * n ≤ reg_of regs SP → (what, after, new) ≡ effect at.0 at.1 regs m → Goes what → GoesOn n at.1 regs what after
 straight regs m at n what after new told range count small room e h =
     let k = length (pushed at.0) in
     let room_k : 4 * k ≤ reg_of regs SP = subst (λ (j : ℕ). 4 * j ≤ reg_of regs SP) told.count room in
-    let on = subst (λ (o : Stepping). OnGo o.0 (GoesOn k at.1 regs o.0 o.1)) (sym e) (effect_goes at.0 at.1 regs m told.level told.taken range count small room_k) in
+    let on = subst (λ (o : Stepping). OnGo o.0 (GoesOn k at.1 regs o.0 o.1)) (sym e) (effect_goes at.0 at.1 regs m told.fall_through told.taken range count small room_k) in
     subst (λ (j : ℕ). GoesOn j at.1 regs what after) (sym told.count) (on_go what (GoesOn k at.1 regs what after) h on)
 
--- no test ends a run where sp stays in the running stack and doesn't rise, and no function begins behind the instruction
+-- no test ends a run where sp stays in the running stack and doesn't rise, and no function begins after the instruction
 not_left : (landing : Option ℕ) (old new : ℕ) → new ≤ old → leaves_cleanup landing old new ≡ false
 not_left None old new h = refl
 not_left (Some landing) old new h = go (nat_lt old new) (le-ltb old new h)
@@ -286,7 +292,7 @@ none_refused p landing low pc old regs high above next =
     go false false true ea eb ef = absurd (cc)
     go false false false ea eb ef = refl
 
-pub no_test : (p : Program) (s : State) (at : Instr × ℕ) (n low : ℕ) (what : Stepped) (after : Regs) → instr_at s.memory s.regs.pc ≡ Some at → IsLevel at.0 s.regs n → low ≡ s.memory.home.0
+pub no_test : (p : Program) (s : State) (at : Instr × ℕ) (n low : ℕ) (what : Stepped) (after : Regs) → instr_at s.memory s.regs.pc ≡ Some at → IsFallThrough at.0 s.regs n → low ≡ s.memory.home.0
     → GoesOn n at.1 s.regs what after → low ≤ lowest (reg_of s.regs SP) n → (p.look (even ((s.regs.pc + at.1) % 2 ^ 32))).is_function ≡ false → tests p s what after ≡ None
 no_test p s at n low what after there told home on room next =
     let landing = innermost_of (word s.memory) s.globals in

@@ -1,6 +1,6 @@
 -- The memory of an accepted image at the start is one that a bus may have.
 use Rattle.std.specs.Prelude.{All, map}
-use Rattle.std.proofs.Common.{◌≡◌, ℕ, zero, suc, ◌+◌, ◌-◌, ◌<◌, ◌≤◌, List, [], ◌∷◌, length, get_or, sym, ap, ◌∙◌, arith, lit≤, inl}
+use Rattle.std.proofs.Common.{◌≡◌, ℕ, zero, suc, ◌+◌, ◌-◌, ◌<◌, ◌≤◌, List, [], ◌∷◌, length, get_or, ap, ◌∙◌, arith, lit≤, inl}
 use Rattle.std.proofs.lemmas.List.{length-append}
 use Rattle.std.proofs.lemmas.List.Elements.{All-append}
 use Rattle.eh_bus.specs.Built.{zeros_at}
@@ -48,11 +48,11 @@ ends low (s ∷ more) h zero d k = rw (whole s h.2) (top (s.start + s.size) more
 ends low (s ∷ more) h (suc i) d k = ends (s.start + s.size) more h.3 i d (omega arith)
 
 module _ (image : List Segment) (within : (i : ℕ) (d : Segment) → i < length image → Ends (get_or image i d)) where
-  ends_behind : (i : ℕ) (d : Segment) → 2 ≤ i → i < length (zeros_at STACK_START STACK_SIZE ∷ zeros_at POOL_START POOL_SIZE ∷ image)
+  ends_after : (i : ℕ) (d : Segment) → 2 ≤ i → i < length (zeros_at STACK_START STACK_SIZE ∷ zeros_at POOL_START POOL_SIZE ∷ image)
       → Ends (get_or (zeros_at STACK_START STACK_SIZE ∷ zeros_at POOL_START POOL_SIZE ∷ image) i d)
-  ends_behind zero d l h = absurd (omega arith)
-  ends_behind (suc zero) d l h = absurd (omega arith)
-  ends_behind (suc (suc i)) d l h = within i d (omega arith)
+  ends_after zero d l h = absurd (omega arith)
+  ends_after (suc zero) d l h = absurd (omega arith)
+  ends_after (suc (suc i)) d l h = within i d (omega arith)
 
 -- ---- bytes
 
@@ -84,7 +84,7 @@ starts_in_map image sound bytes =
         two = omega arith;
         stack = λ d. zeros_data STACK_START STACK_SIZE;
         pool = λ d. zeros_data POOL_START POOL_SIZE;
-        image = ends_behind placed within;
+        image = ends_after placed within;
         apart = apart_all placed within (disjoint_apart placed (disjoint 0 image.segments sound.rise));
         bytes = all_bytes placed (loaded_bytes image.segments bytes);
       };

@@ -9,7 +9,7 @@ use Rattle.eh_gates.specs.declared.state.Turned.{Turned}
 use Rattle.eh_gates.specs.declared.state.Turned.TheVariants.{Went, Ended}
 use Rattle.eh_gates.specs.State.{State}
 use Rattle.frame_check.specs.Accepts.{Accepted}
-use Rattle.two_machines.specs.Program.{guide}
+use Rattle.two_machines.specs.Program.{program_tables}
 use Rattle.two_machines.specs.Checked.{program_of}
 use Rattle.two_machines.specs.Activations.{Recorded, recorded_start}
 use Rattle.two_machines.specs.ActivationMachine.{Outcome, recorded_event, recorded_may_fail, recorded_machine, throw_to}
@@ -66,7 +66,7 @@ StartsAlike x new = StandsFor x new (recorded_start (program_of x))
 -- what a throw does with recorded activations from a site, and what the call left stands for what it leaves
 pub record FlownAlike (x : Accepted) (s : Recorded) (site control : ℕ) (b : Barrier) (result : Turned) (new : State) : Type 0 where
   pub state : Recorded
-  pub is : ◌≡◌ {A = Outcome} (result, state) (throw_to (guide (program_of x)) site control b s)
+  pub is : ◌≡◌ {A = Outcome} (result, state) (throw_to (program_tables (program_of x)) site control b s)
   pub stands : StandsFor x new state
 
 abbrev pub FollowsFlight : Accepted → State → ℕ → ℕ → Barrier → Turned → State → Type 0

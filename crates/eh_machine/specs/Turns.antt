@@ -16,13 +16,13 @@ abbrev pub TurnedOnce : Program → State → List ℕ → Turned → State → 
 TurnedOnce p old input Went new left before now = GoesOn (machine_event p old input) new left before now
 TurnedOnce p old input (Ended end) new left before now = EndsBy is_fault (may_fail p old) (machine_event p old input) end old new input left before now
 
--- a count of faults behind a call that one of them may have ended: it rose where one did, it never fell, and in all other cases it stayed
+-- a count of faults after a call that one of them may have ended: it rose where one did, it never fell, and in all other cases it stayed
 pub record IsCounted (failed : Type 0) (before now : ℕ) : Type 0 where
   pub rose : failed → Rose before now
   pub later : before ≤ now
   pub kept : (failed → ⊥) → now ≡ before
 
--- the counts of a source and of a sink, behind a call that ended as `IsEnd` says
+-- the counts of a source and of a sink, after a call that ended as `IsEnd` says
 pub record CountsFaults (IsEnd : End → Type 0) (read read' wrote wrote' : ℕ) : Type 0 where
   pub input : IsCounted (IsEnd ReadFault) read read'
   pub out : IsCounted (IsEnd WriteFault) wrote wrote'

@@ -1,20 +1,20 @@
 //! One event of the machine (docs/machine.md, "An event").
-ghost use Rattle.std.specs.Prelude.{◌≡◌, IfSome};
+ghost use Rattle.std.specs.Prelude.{◌≡◌, true, IfSome};
 ghost use Rattle.eh_gates.specs.State.{State, state_of};
 ghost use Rattle.given_input.specs.Given.{OnGiven};
 ghost use Rattle.two_machines.specs.Checked.{program_of};
+ghost use Rattle.eh_machine.specs.Passes.{IsFound};
 ghost use Rattle.eh_machine.specs.Turns.{TurnedOnce, CountsFaults};
 ghost use Rattle.eh_machine.specs.Follows.{FollowsOnce};
 
 use crate::accepted::{holds, tables};
-use crate::pass::{found, goes_on, pass};
+use crate::pass::{Fetched, found, goes_on, pass};
 use eh_bus::bus::Bus;
 use eh_gates::{Core, Turned, gate};
 use eh_port::{Sink, Source};
 use eh_trace::Events;
 use frame_check::Accepted;
 use guest_gates::INPUT_GATE;
-use step_ahead::look_ahead;
 use thumb_core::ends::End;
 use thumb_core::regs::Stepped;
 
@@ -55,7 +55,8 @@ pub fn turn<B: Bus, I: Source, O: Sink>(
     turn_from(a, &mut known, core, shared, events, input, out)
 }
 
-/// The same where it is known whether the checker reached an instruction at pc, and is told of the pc that the event leads to.
+/// The same where it is known whether the checker reached an instruction at pc, and is told of the pc that the event leads to. In this order: the
+/// instruction is found; most go on at once, by tests that are told before they are done; the others are done first.
 #[inline(always)]
 pub(crate) fn turn_from<B: Bus, I: Source, O: Sink>(
     a: &Accepted,
@@ -78,42 +79,57 @@ pub(crate) fn turn_from<B: Bus, I: Source, O: Sink>(
         TurnedOnce (program_of a.now) old bytes result new left (O.written out.old) (O.written out.new)) }
     ensures faults { CountsFaults (λ end. result ≡ Turned.Ended end) (I.faults input.old) (I.faults input.new) (O.faults out.old) (O.faults out.new) }
 {
-    let pc = core.regs.pc;
     let at = match found(*known, core, &shared.bus) {
         Ok(at) => at,
         Err(end) => return Turned::Ended(end),
     };
-    let ahead = look_ahead(at.0, &core.regs);
     // most instructions, and they are not to pay for what the others go on to
-    if goes_on(a, at, ahead, known, core, &mut shared.bus) {
+    if goes_on(a, at, known, core, &mut shared.bus) {
         return Turned::Went;
     }
-    let what = match pass(a, at, ahead, core, &mut shared.bus) {
+    let turned = rest(a, at, core, shared, events, input, out);
+    *known = a.is_instr(core.regs.pc);
+    turned
+}
+
+/// Any other instruction `at` pc, in the order of the definition: it is done and tested, and its guards are set; then its gate.
+#[inline(always)]
+fn rest<B: Bus, I: Source, O: Sink>(
+    a: &Accepted,
+    at: Fetched,
+    core: &mut Core,
+    shared: &mut Shared<B>,
+    events: &mut Events,
+    input: &mut I,
+    out: &mut O,
+) -> Turned
+    requires reached { ((program_of a.now).look core.old.regs.pc).is_instr ≡ true }
+    requires found { IsFound core.old (B.memory shared.old.bus) at }
+    ensures told { IfSome (I.left input.old) (λ bytes.
+        let old : State = state_of core.old (B.memory shared.old.bus) events.old in
+        let new : State = state_of core.new (B.memory shared.new.bus) events.new in
+        TurnedOnce (program_of a.now) old bytes result new (I.left input.new) (O.written out.old) (O.written out.new)) }
+    ensures given { OnGiven (λ bytes left.
+        let old : State = state_of core.old (B.memory shared.old.bus) events.old in
+        let new : State = state_of core.new (B.memory shared.new.bus) events.new in
+        TurnedOnce (program_of a.now) old bytes result new left (O.written out.old) (O.written out.new)) }
+    ensures faults { CountsFaults (λ end. result ≡ Turned.Ended end) (I.faults input.old) (I.faults input.new) (O.faults out.old) (O.faults out.new) }
+{
+    let pc = core.regs.pc;
+    let what = match pass(a, at, core, &mut shared.bus) {
         Ok(what) => what,
-        Err(end) => {
-            *known = a.is_instr(core.regs.pc);
-            return Turned::Ended(end);
-        }
+        Err(end) => return Turned::Ended(end),
     };
     let Stepped::Gate(number) = what else {
-        *known = a.is_instr(core.regs.pc);
         return Turned::Went;
     };
     if number > INPUT_GATE {
         let next = core.regs.pc;
         core.regs.pc = pc;
-        let turned = gate(&tables(a), number, next, core, &mut shared.bus, events);
-        *known = a.is_instr(core.regs.pc);
-        return turned;
+        return gate(&tables(a), number, next, core, &mut shared.bus, events);
     }
     match given_input::gate(number, pc, &mut core.regs, input, out) {
-        None => {
-            *known = a.is_instr(core.regs.pc);
-            Turned::Went
-        }
-        Some(end) => {
-            *known = a.is_instr(core.regs.pc);
-            Turned::Ended(end)
-        }
+        None => Turned::Went,
+        Some(end) => Turned::Ended(end),
     }
 }

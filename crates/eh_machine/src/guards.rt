@@ -3,7 +3,7 @@ ghost use Rattle.std.specs.Prelude.{◌≡◌, ◌+◌, ◌*◌, ◌%◌, ◌<�
 ghost use Rattle.eh_bus.specs.Memory.{guard_all};
 ghost use Rattle.eh_bus.specs.declared.map.TheConstants.{STACK_START, STACK_END};
 ghost use Rattle.two_machines.specs.Checked.{program_of};
-ghost use Rattle.two_machines.specs.Machine.{saved_words, settled};
+ghost use Rattle.two_machines.specs.Machine.{saved_words, reguarded};
 
 use eh_bus::bus::Bus;
 use frame_check::Accepted;
@@ -42,12 +42,12 @@ pub(crate) fn guard_pushed<B: Bus>(a: &Accepted, pc: u32, count: u32, sp: u32, b
 
 /// Guards the saves among the words that were pushed, and where sp rose releases what is guarded below it.
 #[inline(always)]
-pub(crate) fn settle<B: Bus>(saves: u16, count: u32, old: u32, sp: u32, bus: &mut B)
+pub(crate) fn reguard<B: Bus>(saves: u16, count: u32, old: u32, sp: u32, bus: &mut B)
     requires few { count ≤ 16 }
     requires aligned { 0 < count → sp % 4 ≡ 0 }
     requires low { 0 < count → STACK_START ≤ sp }
     requires high { 0 < count → sp + 4 * count ≤ STACK_END }
-    ensures { B.memory bus.new ≡ settled saves count old sp (B.memory bus.old) }
+    ensures { B.memory bus.new ≡ reguarded saves count old sp (B.memory bus.old) }
 {
     guard_saves(saves, count, sp, bus);
     if old < sp {

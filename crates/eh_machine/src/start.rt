@@ -6,7 +6,7 @@ ghost use Rattle.eh_gates.specs.State.{state_of};
 ghost use Rattle.eh_gates.specs.Throwing.{throw_to};
 ghost use Rattle.eh_trace.specs.Trace.{no_events};
 ghost use Rattle.two_machines.specs.Checked.{program_of};
-ghost use Rattle.two_machines.specs.Program.{guide};
+ghost use Rattle.two_machines.specs.Program.{program_tables};
 ghost use Rattle.two_machines.specs.Start.{start_of};
 ghost use Rattle.eh_machine.specs.Follows.{StartsAlike, FollowsFlight};
 
@@ -99,7 +99,7 @@ pub fn throw_to<B: Bus>(
     b: &Barrier,
 ) -> Turned
     requires { IsSome (block_slot ucb) }
-    ensures told { (result, state_of core.new (B.memory shared.new.bus) events.new) ≡ throw_to (guide (program_of a.now)) (state_of core.old (B.memory shared.old.bus) events.old) site ucb b.now }
+    ensures told { (result, state_of core.new (B.memory shared.new.bus) events.new) ≡ throw_to (program_tables (program_of a.now)) (state_of core.old (B.memory shared.old.bus) events.old) site ucb b.now }
     ensures recorded { FollowsFlight a.now (state_of core.old (B.memory shared.old.bus) events.old) site ucb b.now result (state_of core.new (B.memory shared.new.bus) events.new) }
 {
     holds(a);

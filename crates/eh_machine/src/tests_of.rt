@@ -1,10 +1,10 @@
 //! The tests between an instruction and what it goes on to (docs/machine.md, "An event").
 ghost use Rattle.std.specs.Prelude.{◌≡◌, ◌≤◌, ◌+◌, ◌*◌, ◌%◌, ◌^◌, true, false, IfSome};
 ghost use Rattle.guest_gates.specs.Ends.{is_fault};
-ghost use Rattle.step_ahead.specs.Kept.{lowest};
+ghost use Rattle.step_ahead.specs.UndoRecord.{lowest};
 ghost use Rattle.thumb_core.specs.Registers.{even, reg};
 ghost use Rattle.two_machines.specs.Checked.{program_of};
-ghost use Rattle.two_machines.specs.Machine.{leaves_cleanup, sp_end, fell_off, goes_behind, way_end, refusal};
+ghost use Rattle.two_machines.specs.Machine.{leaves_cleanup, sp_end, fell_off, goes_after, control_flow_trap, refusal};
 
 use eh_gates::gates::{ALLOCATE_GATE, BEGIN_CATCH_GATE, END_CATCH_GATE, FREE_GATE, UNCAUGHT_GATE};
 use frame_check::Accepted;
@@ -49,9 +49,9 @@ fn fell_off(a: &Accepted, pc: u32, to: u32) -> Option<End>
     }
 }
 
-/// Whether a run goes on behind a gate.
-fn goes_behind(number: u8) -> bool
-    ensures { result ≡ goes_behind number }
+/// Whether a run goes on after a gate.
+fn goes_after(number: u8) -> bool
+    ensures { result ≡ goes_after number }
 {
     number == OUTPUT_GATE
         || number == INPUT_GATE
@@ -62,10 +62,16 @@ fn goes_behind(number: u8) -> bool
         || number == UNCAUGHT_GATE
 }
 
-/// The end by where the run would go on. The registers are those behind the instruction; `branches` says whether it took a branch.
+/// The end by where the run would go on. The registers are those after the instruction; `branches` says whether it took a branch.
 #[inline(always)]
-fn way_end(a: &Accepted, branches: bool, pc: u32, what: Stepped, regs: &Regs) -> Option<End>
-    ensures { result ≡ way_end (program_of a.now) branches pc what regs.now }
+fn control_flow_trap(
+    a: &Accepted,
+    branches: bool,
+    pc: u32,
+    what: Stepped,
+    regs: &Regs,
+) -> Option<End>
+    ensures { result ≡ control_flow_trap (program_of a.now) branches pc what regs.now }
 {
     match what {
         Stepped::Done => {
@@ -90,7 +96,7 @@ fn way_end(a: &Accepted, branches: bool, pc: u32, what: Stepped, regs: &Regs) ->
             }
         }
         Stepped::Gate(number) => {
-            if goes_behind(number) {
+            if goes_after(number) {
                 fell_off(a, pc, regs.pc)
             } else {
                 None
@@ -120,7 +126,7 @@ pub(crate) fn refusal(
     if end.is_some() {
         return end;
     }
-    way_end(a, branches, pc, what, regs)
+    control_flow_trap(a, branches, pc, what, regs)
 }
 
 /// Whether sp stays at or above the start of the running stack where so many words are pushed.
@@ -131,29 +137,29 @@ fn has_room(sp: u32, pushes: u32, low: u32) -> bool
     ensures low { result ≡ true → low ≤ lowest sp pushes }
 {
     match sp.checked_sub(4 * pushes) {
-        Some(behind) => low <= behind - behind % 4,
+        Some(after) => low <= after - after % 4,
         None => false,
     }
 }
 
-/// What stands behind an instruction.
+/// What stands after an instruction.
 #[derive(Clone, Copy)]
-pub(crate) struct Behind {
+pub(crate) struct NextPlace {
     /// Whether a function begins there.
     pub(crate) is_function: bool,
     /// Whether the checker reached an instruction there.
     pub(crate) is_instr: bool,
 }
 
-/// Looks behind an instruction of `size` bytes.
+/// Looks after an instruction of `size` bytes.
 #[inline(always)]
-pub(crate) fn look_behind(a: &Accepted, size: u32, regs: &Regs) -> Behind
+pub(crate) fn look_past(a: &Accepted, size: u32, regs: &Regs) -> NextPlace
     ensures function { result.is_function ≡ ((program_of a.now).look (even ((regs.now.pc + size) % 2 ^ 32))).is_function }
     ensures instr { result.is_instr ≡ ((program_of a.now).look (even ((regs.now.pc + size) % 2 ^ 32))).is_instr }
 {
     let next = regs.pc.wrapping_add(size);
     let next = next - next % 2;
-    Behind {
+    NextPlace {
         is_function: a.is_function(next),
         is_instr: a.is_instr(next),
     }
@@ -161,11 +167,11 @@ pub(crate) fn look_behind(a: &Accepted, size: u32, regs: &Regs) -> Behind
 
 /// Whether the tests let an instruction pass that pushes so many words and goes on to the next one, told before it is done.
 #[inline(always)]
-pub(crate) fn passes_tests(low: u32, pushes: u32, behind: Behind, regs: &Regs) -> bool
+pub(crate) fn passes_tests(low: u32, pushes: u32, after: NextPlace, regs: &Regs) -> bool
     requires { pushes ≤ 16 }
     ensures room { result ≡ true → 4 * pushes ≤ reg regs.now SP }
     ensures low { result ≡ true → low ≤ lowest (reg regs.now SP) pushes }
-    ensures next { result ≡ true → behind.is_function ≡ false }
+    ensures next { result ≡ true → after.is_function ≡ false }
 {
-    !behind.is_function && has_room(regs.r[SP as usize], pushes, low)
+    !after.is_function && has_room(regs.r[SP as usize], pushes, low)
 }

@@ -11,7 +11,7 @@ use Rattle.eh_match.specs.Paths.{paths, end_of, is_public, root_of, offset_of}
 use Rattle.eh_match.specs.Address.{address}
 use Rattle.eh_match.specs.Subobjects.{same_subobject, same_root, sole, chosen}
 use Rattle.eh_match.specs.Rules.{is_class_type, object_at, base_at, pointer_match, pointer_of, match_of}
-use Rattle.eh_match.specs.Laws.{LeadsTo, AreClasses, NoPublicWayFails, PartedBasesFail, OneBaseIsCaught, OneWayIsCaught, OnePlainWayIsCaught, TwoPlainBasesFail, PlainAndVirtualBaseFail, VirtualBaseIsOne, EndsVirtual}
+use Rattle.eh_match.specs.Laws.{LeadsTo, AreClasses, NoPublicPathFails, PartedBasesFail, OneBaseIsCaught, OnePathIsCaught, OnePlainPathIsCaught, TwoPlainBasesFail, PlainAndVirtualBaseFail, VirtualBaseIsOne, EndsVirtual}
 use Rattle.eh_match.proofs.Members.{Among, among_filter, among_filter_from, found, among_found, find-filter}
 use Rattle.eh_match.proofs.Chains.{among_chain, chains_among}
 use Rattle.eh_match.proofs.Equal.{same_type-sym, same_type-trans, same-refl, same_from, apart_offsets, apart_roots}
@@ -66,32 +66,32 @@ chosen-none g ty wanted e = e
 fails : (g : List Row) (segments : List Segment) (thrown object wanted : ℕ) → AreClasses g thrown wanted → sole g (leading g thrown wanted) ≡ None → match_of g segments thrown object wanted ≡ Failed
 fails g segments thrown object wanted c e = match_of-classes g segments thrown object wanted c ∙ ap (λ o. object_at (option_map (address segments (Ok object)) o)) (chosen-none g thrown wanted e)
 
-pub no_public_way_fails : NoPublicWayFails
-no_public_way_fails g count segments thrown object wanted counted c none =
+pub no_public_path_fails : NoPublicPathFails
+no_public_path_fails g count segments thrown object wanted counted c none =
     fails g segments thrown object wanted c (sole-not_public g (leading g thrown wanted) (λ p a. none p (leading_leads g thrown wanted p a)))
 
 pub parted_bases_fail : PartedBasesFail
 parted_bases_fail g count segments thrown object wanted one other counted c l k apart =
     fails g segments thrown object wanted c (sole-parted g (leading g thrown wanted) one other (among_leading g count counted thrown wanted one l) (among_leading g count counted thrown wanted other k) apart)
 
-abbrev is_public_way : List Row → ℕ → ℕ → List Base → Bool
-is_public_way g thrown wanted p = is_public p && same_type g (end_of thrown p) wanted
+abbrev is_public_path : List Row → ℕ → ℕ → List Base → Bool
+is_public_path g thrown wanted p = is_public p && same_type g (end_of thrown p) wanted
 
 chosen-alike : (g : List Row) (thrown wanted : ℕ) (steps : List Base) → ((q : List Base) → LeadsTo g thrown wanted q → same_subobject g steps q ≡ true)
-    → chosen g thrown wanted ≡ find (is_public_way g thrown wanted) (paths g MOST_PATHS thrown)
+    → chosen g thrown wanted ≡ find (is_public_path g thrown wanted) (paths g MOST_PATHS thrown)
 unfolding chosen
 chosen-alike g thrown wanted steps alike =
     sole-alike g (leading g thrown wanted) steps (λ q a. alike q (leading_leads g thrown wanted q a)) ∙ find-filter is_public (ends g thrown wanted) (paths g MOST_PATHS thrown)
 
 pub one_base_is_caught : OneBaseIsCaught
 one_base_is_caught g count segments thrown object wanted steps counted c l public alike =
-    let way = found (is_public_way g thrown wanted) (paths g MOST_PATHS thrown) steps (chains_among g count counted thrown steps l.chain) (both (is_public steps) (ends g thrown wanted steps) public l.ends) in
-    (way.0, way.1, match_of-classes g segments thrown object wanted c ∙ ap (λ o. object_at (option_map (address segments (Ok object)) o)) (chosen-alike g thrown wanted steps alike ∙ way.1))
+    let path = found (is_public_path g thrown wanted) (paths g MOST_PATHS thrown) steps (chains_among g count counted thrown steps l.chain) (both (is_public steps) (ends g thrown wanted steps) public l.ends) in
+    (path.0, path.1, match_of-classes g segments thrown object wanted c ∙ ap (λ o. object_at (option_map (address segments (Ok object)) o)) (chosen-alike g thrown wanted steps alike ∙ path.1))
 
-pub one_way_is_caught : OneWayIsCaught
-one_way_is_caught g count segments thrown object wanted steps counted c l public only =
+pub one_path_is_caught : OnePathIsCaught
+one_path_is_caught g count segments thrown object wanted steps counted c l public only =
     let caught = one_base_is_caught g count segments thrown object wanted steps counted c l public (λ q k. ap (same_subobject g steps) (only q k) ∙ same-refl g steps) in
-    let first = among_found (is_public_way g thrown wanted) (paths g MOST_PATHS thrown) caught.0 caught.1 in
+    let first = among_found (is_public_path g thrown wanted) (paths g MOST_PATHS thrown) caught.0 caught.1 in
     let same = only caught.0 (leads g thrown wanted caught.0 first.0 (second (is_public caught.0) (ends g thrown wanted caught.0) first.1)) in
     caught.2 ∙ ap (λ p. object_at (Some (address segments (Ok object) p))) same
   where
@@ -99,9 +99,9 @@ one_way_is_caught g count segments thrown object wanted steps counted c l public
     second true b e = e
     second false b e = absurd (cc e)
 
-pub one_plain_way_is_caught : OnePlainWayIsCaught
-one_plain_way_is_caught g count segments thrown object wanted steps counted c l public only fits plain =
-    one_way_is_caught g count segments thrown object wanted steps counted c l public only ∙ ap (λ a. object_at (Some a)) (plain_steps_add segments object steps fits plain)
+pub one_plain_path_is_caught : OnePlainPathIsCaught
+one_plain_path_is_caught g count segments thrown object wanted steps counted c l public only fits plain =
+    one_path_is_caught g count segments thrown object wanted steps counted c l public only ∙ ap (λ a. object_at (Some a)) (plain_steps_add segments object steps fits plain)
 
 -- ---- the diamond
 

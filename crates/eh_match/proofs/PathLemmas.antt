@@ -5,7 +5,7 @@ use Rattle.std.specs.List.{fold, list_all}
 use Rattle.eh_bus.specs.Segment.{Segment}
 use Rattle.eh_types.specs.declared.kind.Base.{Base}
 use Rattle.eh_match.specs.declared.path.Path.{Path}
-use Rattle.eh_match.specs.Paths.{end_of, is_public, root_of, offset_of, behind}
+use Rattle.eh_match.specs.Paths.{end_of, is_public, root_of, offset_of, at_offset}
 use Rattle.eh_match.specs.Address.{address}
 use Rattle.eh_match.specs.Walk.{whole, along, path_of}
 
@@ -17,13 +17,13 @@ and_assoc false b c = refl
 abbrev pub summary : List Segment → ℕ → Result ℕ ℕ → List Base → Path
 summary segments ty at steps = record { ty = end_of ty steps; is_public = is_public steps; root = root_of steps; offset = offset_of steps; at = address segments at steps }
 
--- the same behind a path
+-- the same after a path
 abbrev further : List Segment → Path → List Base → Path
 further segments p steps = record {
   ty = fold (λ reached (b : Base). b.ty) p.ty steps;
   is_public = p.is_public && list_all (λ (b : Base). b.is_public) steps;
   root = fold (λ root (b : Base). if b.is_virtual then Some b.ty else root) p.root steps;
-  offset = fold (λ offset (b : Base). if b.is_virtual then 0 else behind offset b.offset) p.offset steps;
+  offset = fold (λ offset (b : Base). if b.is_virtual then 0 else at_offset offset b.offset) p.offset steps;
   at = address segments p.at steps;
 }
 

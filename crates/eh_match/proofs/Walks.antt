@@ -1,6 +1,7 @@
 -- The paths of a type by one step.
-use Rattle.std.proofs.Common.{◌≡◌, ℕ, ◌-◌, ◌<◌, ◌≤◌, zero, suc, List, [], ◌∷◌, ◌++◌, length, take, take_all, refl, arith, ◌∙◌, ap, sym, map}
+use Rattle.std.proofs.Common.{◌≡◌, ℕ, ◌-◌, ◌<◌, zero, suc, List, [], ◌∷◌, ◌++◌, refl, arith, ◌∙◌, ap, sym, map}
 use Rattle.std.specs.List.{flat_map, fold}
+use Rattle.std.proofs.lemmas.List.Sums.{fold-append}
 use Rattle.eh_bus.specs.Segment.{Segment}
 use Rattle.eh_types.specs.declared.kind.Base.{Base}
 use Rattle.eh_types.specs.Graph.{Row, bases_of}
@@ -39,9 +40,19 @@ unfolding paths
 paths_some g segments zero p h = grind arith
 paths_some g segments (suc n) p h = rw (let e : suc n - 1 ≡ n = omega arith in e) (ap (λ rest. p ∷ rest) (by_bases g segments n p (bases_of g p.ty)))
 
--- a walk over the bases that has come to their end
-pub walk_end : (g : List Row) (segments : List Segment) (w n : ℕ) (p : Path) (s noted_s : Seen) (items : List Base) (i : ℕ) (seen : Seen) → 0 < n → noted_s ≡ noted g w s p → items ≡ bases_of g p.ty → length items ≤ i
-    → seen ≡ fold (noted g w) noted_s (flat_map (λ b. walked g segments (n - 1) (along segments p b)) (take i items)) → seen ≡ fold (noted g w) s (walked g segments n p)
-walk_end g segments w n p s noted_s items i seen h k e l f =
+-- where a walk over the bases begins, and a base further on
+pub walk_begun : (g : List Row) (segments : List Segment) (w n : ℕ) (p : Path) (s noted_s : Seen) (bases : List Base) → 0 < n → noted_s ≡ noted g w s p → bases ≡ bases_of g p.ty
+    → fold (noted g w) noted_s (flat_map (λ b. walked g segments (n - 1) (along segments p b)) bases) ≡ fold (noted g w) s (walked g segments n p)
+walk_begun g segments w n p s noted_s bases h k e =
     let all : List Base → List Path = flat_map (λ b. walked g segments (n - 1) (along segments p b)) in
-    f ∙ ap (λ bs. fold (noted g w) noted_s (all bs)) (take_all i items l) ∙ ap (λ t. fold (noted g w) t (all items)) k ∙ ap (λ bs. fold (noted g w) (noted g w s p) (all bs)) e ∙ sym (ap (fold (noted g w) s) (paths_some g segments n p h))
+    ap (λ t. fold (noted g w) t (all bases)) k ∙ ap (λ bs. fold (noted g w) (noted g w s p) (all bs)) e ∙ sym (ap (fold (noted g w) s) (paths_some g segments n p h))
+
+pub walk_on : (g : List Row) (segments : List Segment) (w n : ℕ) (p : Path) (seen next : Seen) (left : List Base) (b : Base) (more : List Base) (end : Seen) → left ≡ b ∷ more
+    → next ≡ fold (noted g w) seen (walked g segments (n - 1) (along segments p b)) → fold (noted g w) seen (flat_map (λ b. walked g segments (n - 1) (along segments p b)) left) ≡ end
+    → fold (noted g w) next (flat_map (λ b. walked g segments (n - 1) (along segments p b)) more) ≡ end
+walk_on g segments w n p seen next left b more end e k h =
+    let all : List Base → List Path = flat_map (λ b. walked g segments (n - 1) (along segments p b)) in
+    ap (λ t. fold (noted g w) t (all more)) k
+    ∙ sym (fold-append (noted g w) seen (walked g segments (n - 1) (along segments p b)) (all more))
+    ∙ sym (ap (λ bs. fold (noted g w) seen (all bs)) e)
+    ∙ h

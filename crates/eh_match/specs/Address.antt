@@ -5,7 +5,7 @@ use Rattle.eh_bus.specs.Segment.{Segment}
 use Rattle.eh_bus.specs.Memory.{loads}
 use Rattle.eh_bus.specs.declared.fault.BusFault.{BusFault}
 use Rattle.eh_types.specs.declared.kind.Base.{Base}
-use Rattle.eh_match.specs.Paths.{behind}
+use Rattle.eh_match.specs.Paths.{at_offset}
 
 abbrev pub or_address : ℕ → Result ℕ BusFault → Result ℕ ℕ
 or_address a (Ok word) = Ok word
@@ -19,16 +19,16 @@ abbrev pub shifted : ℕ → Result ℕ ℕ → Result ℕ ℕ
 shifted a (Ok distance) = Ok ((a + distance) % 2 ^ 32)
 shifted a (Err refused) = Err refused
 
--- the word of a vtable at an offset is how far the virtual base stands behind the address
+-- the word of a vtable at an offset is how far the virtual base stands after the address
 abbrev pub by_vtable : List Segment → ℕ → ℤ → Result ℕ ℕ → Result ℕ ℕ
-by_vtable segments a offset (Ok vtable) = shifted a (read segments (behind vtable offset))
+by_vtable segments a offset (Ok vtable) = shifted a (read segments (at_offset vtable offset))
 by_vtable segments a offset (Err refused) = Err refused
 
 -- a step adds its offset; a virtual one goes by the vtable whose word stands at the address so far
-abbrev pub moved : List Segment → Result ℕ ℕ → Base → Result ℕ ℕ
-moved segments (Ok a) b = if b.is_virtual then by_vtable segments a b.offset (read segments a) else Ok (behind a b.offset)
-moved segments (Err refused) b = Err refused
+abbrev pub stepped_to : List Segment → Result ℕ ℕ → Base → Result ℕ ℕ
+stepped_to segments (Ok a) b = if b.is_virtual then by_vtable segments a b.offset (read segments a) else Ok (at_offset a b.offset)
+stepped_to segments (Err refused) b = Err refused
 
--- the address that a path leads to, or the first address on its way whose word can't be loaded
+-- the address that a path leads to, or the first address along it whose word can't be loaded
 abbrev pub address : List Segment → Result ℕ ℕ → List Base → Result ℕ ℕ
-address segments at steps = fold (moved segments) at steps
+address segments at steps = fold (stepped_to segments) at steps

@@ -11,7 +11,7 @@ use Rattle.eh_types.specs.declared.graph.TheConstants.{MOST_PATHS}
 use Rattle.eh_types.specs.Graph.{Row, row_of, kind_of, bases_of, same_type, IsCounted}
 use Rattle.eh_match.specs.declared.rules.Match.{Match}
 use Rattle.eh_match.specs.declared.rules.Match.TheVariants.{Failed, Object, PointerToBase, Unreadable}
-use Rattle.eh_match.specs.Paths.{paths, end_of, is_public, root_of, offset_of, behind}
+use Rattle.eh_match.specs.Paths.{paths, end_of, is_public, root_of, offset_of, at_offset}
 use Rattle.eh_match.specs.Address.{address}
 use Rattle.eh_match.specs.Subobjects.{same_subobject}
 use Rattle.eh_match.specs.Rules.{is_class_type, object_at, match_of}
@@ -100,16 +100,16 @@ PlainStepsAdd =
 
 -- offsets are signed
 abbrev pub OffsetsAreSigned : Type 0
-OffsetsAreSigned = (a k : ℕ) → a < 2 ^ 32 → (a + k < 2 ^ 32 → behind a (pos k) ≡ a + k) × (k < a → behind a (negsuc k) ≡ a - (k + 1))
+OffsetsAreSigned = (a k : ℕ) → a < 2 ^ 32 → (a + k < 2 ^ 32 → at_offset a (pos k) ≡ a + k) × (k < a → at_offset a (negsuc k) ≡ a - (k + 1))
 
 -- a virtual step adds the word that stands in the vtable at its offset; the vtable's address is the first word of the object so far.
 -- Where one of the two words can't be loaded its address is the answer
 pub record IsByTheVtable (segments : List Segment) (a : ℕ) (step : Base) (more : List Base) : Type 0 where
-  pub added : (vtable distance : ℕ) → loads 4 segments a ≡ Ok vtable → loads 4 segments (behind vtable step.offset) ≡ Ok distance
+  pub added : (vtable distance : ℕ) → loads 4 segments a ≡ Ok vtable → loads 4 segments (at_offset vtable step.offset) ≡ Ok distance
       → address segments (Ok a) (step ∷ more) ≡ address segments (Ok ((a + distance) % 2 ^ 32)) more
   pub no_vtable : (fault : BusFault) → loads 4 segments a ≡ Err fault → address segments (Ok a) (step ∷ more) ≡ Err a
-  pub no_distance : (vtable : ℕ) (fault : BusFault) → loads 4 segments a ≡ Ok vtable → loads 4 segments (behind vtable step.offset) ≡ Err fault
-      → address segments (Ok a) (step ∷ more) ≡ Err (behind vtable step.offset)
+  pub no_distance : (vtable : ℕ) (fault : BusFault) → loads 4 segments a ≡ Ok vtable → loads 4 segments (at_offset vtable step.offset) ≡ Err fault
+      → address segments (Ok a) (step ∷ more) ≡ Err (at_offset vtable step.offset)
 
 abbrev pub VirtualStepsGoByTheVtable : Type 0
 VirtualStepsGoByTheVtable = (segments : List Segment) (a : ℕ) (step : Base) (more : List Base) → step.is_virtual ≡ true → IsByTheVtable segments a step more
@@ -134,19 +134,19 @@ pub record LeadsTo (g : List Row) (ty wanted : ℕ) (steps : List Base) : Type 0
   pub chain : IsChain g ty steps
   pub ends : same_type g (end_of ty steps) wanted ≡ true
 
--- where no way to the wanted class is public the class isn't caught: so with a private or protected base alone, and with no way at all
-abbrev pub NoPublicWayFails : Type 0
-NoPublicWayFails =
+-- where no path to the wanted class is public the class isn't caught: so with a private or protected base alone, and with no path at all
+abbrev pub NoPublicPathFails : Type 0
+NoPublicPathFails =
     (g : List Row) (count : ℕ → ℕ) (segments : List Segment) (thrown object wanted : ℕ) → IsCounted g count → AreClasses g thrown wanted
     → ((steps : List Base) → LeadsTo g thrown wanted steps → is_public steps ≡ false) → match_of g segments thrown object wanted ≡ Failed
 
--- where two ways lead to different subobjects the class isn't caught, public or not
+-- where two paths lead to different subobjects the class isn't caught, public or not
 abbrev pub PartedBasesFail : Type 0
 PartedBasesFail =
     (g : List Row) (count : ℕ → ℕ) (segments : List Segment) (thrown object wanted : ℕ) (one other : List Base) → IsCounted g count → AreClasses g thrown wanted
     → LeadsTo g thrown wanted one → LeadsTo g thrown wanted other → same_subobject g one other ≡ false → match_of g segments thrown object wanted ≡ Failed
 
--- where all ways lead to one subobject and one of them is public, the class is caught at the address that the first public one gives
+-- where all paths lead to one subobject and one of them is public, the class is caught at the address that the first public one gives
 abbrev pub OneBaseIsCaught : Type 0
 OneBaseIsCaught =
     (g : List Row) (count : ℕ → ℕ) (segments : List Segment) (thrown object wanted : ℕ) (steps : List Base) → IsCounted g count → AreClasses g thrown wanted
@@ -154,16 +154,16 @@ OneBaseIsCaught =
     → (first : List Base) × (find (λ p. is_public p && same_type g (end_of thrown p) wanted) (paths g MOST_PATHS thrown) ≡ Some first)
     × (match_of g segments thrown object wanted ≡ object_at (Some (address segments (Ok object) first)))
 
--- one way alone, public: its address is the answer
-abbrev pub OneWayIsCaught : Type 0
-OneWayIsCaught =
+-- one path alone, public: its address is the answer
+abbrev pub OnePathIsCaught : Type 0
+OnePathIsCaught =
     (g : List Row) (count : ℕ → ℕ) (segments : List Segment) (thrown object wanted : ℕ) (steps : List Base) → IsCounted g count → AreClasses g thrown wanted
     → LeadsTo g thrown wanted steps → is_public steps ≡ true → ((other : List Base) → LeadsTo g thrown wanted other → other ≡ steps)
     → match_of g segments thrown object wanted ≡ object_at (Some (address segments (Ok object) steps))
 
 -- without a virtual step it is the object's address and the sum of the offsets
-abbrev pub OnePlainWayIsCaught : Type 0
-OnePlainWayIsCaught =
+abbrev pub OnePlainPathIsCaught : Type 0
+OnePlainPathIsCaught =
     (g : List Row) (count : ℕ → ℕ) (segments : List Segment) (thrown object wanted : ℕ) (steps : List Base) → IsCounted g count → AreClasses g thrown wanted
     → LeadsTo g thrown wanted steps → is_public steps ≡ true → ((other : List Base) → LeadsTo g thrown wanted other → other ≡ steps)
     → object < 2 ^ 32 → are_plain steps ≡ true → match_of g segments thrown object wanted ≡ Object ((object + sum_by (λ b. cast_unsigned w32 b.offset) steps) % 2 ^ 32)
@@ -191,7 +191,7 @@ pub record EndsVirtual (steps : List Base) : Type 0 where
   pub is_virtual : step.is_virtual ≡ true
   pub parts : steps ≡ before ++ step ∷ []
 
--- where every way ends in a virtual step to it, the wanted class is one subobject: it is caught if one way is public
+-- where every path ends in a virtual step to it, the wanted class is one subobject: it is caught if one path is public
 abbrev pub VirtualBaseIsOne : Type 0
 VirtualBaseIsOne =
     (g : List Row) (count : ℕ → ℕ) (segments : List Segment) (thrown object wanted : ℕ) (steps : List Base) → IsCounted g count → AreClasses g thrown wanted

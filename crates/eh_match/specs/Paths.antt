@@ -19,8 +19,8 @@ abbrev pub is_public : List Base → Bool
 is_public steps = list_all (λ b. b.is_public) steps
 
 -- the sum of an address and an offset, as a word
-abbrev pub behind : ℕ → ℤ → ℕ
-behind a offset = (a + cast_unsigned w32 offset) % 2 ^ 32
+abbrev pub at_offset : ℕ → ℤ → ℕ
+at_offset a offset = (a + cast_unsigned w32 offset) % 2 ^ 32
 
 -- a path's subobject is named by the type that its last virtual step reaches, none for the whole object ..
 abbrev pub root_of : List Base → Option ℕ
@@ -28,4 +28,4 @@ root_of steps = fold (λ root b. if b.is_virtual then Some b.ty else root) None 
 
 -- .. and by the sum of the offsets after that step
 abbrev pub offset_of : List Base → ℕ
-offset_of steps = fold (λ offset b. if b.is_virtual then 0 else behind offset b.offset) 0 steps
+offset_of steps = fold (λ offset b. if b.is_virtual then 0 else at_offset offset b.offset) 0 steps

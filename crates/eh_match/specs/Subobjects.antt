@@ -1,4 +1,4 @@
--- The condition on the paths: one subobject of a wanted type, and a public way to it (docs/matching.md).
+-- The condition on the paths: one subobject of a wanted type, and a public path to it (docs/matching.md).
 use Rattle.std.specs.Prelude.{ℕ, Bool, false, ◌==◌, ◌&&◌, List, [], ◌∷◌, Option, Some, None, filter, find, if◌then◌else◌}
 use Rattle.std.specs.List.{list_all}
 use Rattle.std.specs.Option.{is_none}

@@ -7,8 +7,8 @@ use Rattle.eh_types.specs.Graph.{Row, same_type}
 use Rattle.eh_match.specs.declared.path.Path.{Path}
 use Rattle.eh_match.specs.declared.seen.Seen.{Seen}
 use Rattle.eh_match.specs.declared.seen.Seen.TheVariants.{Nothing, One, Parted}
-use Rattle.eh_match.specs.Paths.{behind}
-use Rattle.eh_match.specs.Address.{moved}
+use Rattle.eh_match.specs.Paths.{at_offset}
+use Rattle.eh_match.specs.Address.{stepped_to}
 use Rattle.eh_match.specs.Subobjects.{same_root}
 
 -- no step
@@ -21,8 +21,8 @@ along segments p b = record {
   ty = b.ty;
   is_public = p.is_public && b.is_public;
   root = if b.is_virtual then Some b.ty else p.root;
-  offset = if b.is_virtual then 0 else behind p.offset b.offset;
-  at = moved segments p.at b;
+  offset = if b.is_virtual then 0 else at_offset p.offset b.offset;
+  at = stepped_to segments p.at b;
 }
 
 abbrev pub path_of : List Segment → Path → List Base → Path

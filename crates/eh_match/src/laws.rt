@@ -1,5 +1,5 @@
 //! What the rules come to, in the words of the standard: laws above the list of paths. docs/matching.md states them.
-ghost use Rattle.eh_match.specs.Laws.{TypesMatchThemselves, ZeroMatchesNothing, UnheldTypesStandAlone, PathsAreAllChains, PathsGoDepthFirst, PlainPathsAreNamed, VirtualPathsAreNamed, SubobjectsAreTold, PathsArePublicByStep, PlainStepsAdd, OffsetsAreSigned, VirtualStepsGoByTheVtable, AddressesFollow, NoPublicWayFails, PartedBasesFail, OneBaseIsCaught, OneWayIsCaught, OnePlainWayIsCaught, TwoPlainBasesFail, PlainAndVirtualBaseFail, VirtualBaseIsOne, QualifiersAreKept, PointersFollowTheirPointees, UnreadPointersAreNamed};
+ghost use Rattle.eh_match.specs.Laws.{TypesMatchThemselves, ZeroMatchesNothing, UnheldTypesStandAlone, PathsAreAllChains, PathsGoDepthFirst, PlainPathsAreNamed, VirtualPathsAreNamed, SubobjectsAreTold, PathsArePublicByStep, PlainStepsAdd, OffsetsAreSigned, VirtualStepsGoByTheVtable, AddressesFollow, NoPublicPathFails, PartedBasesFail, OneBaseIsCaught, OnePathIsCaught, OnePlainPathIsCaught, TwoPlainBasesFail, PlainAndVirtualBaseFail, VirtualBaseIsOne, QualifiersAreKept, PointersFollowTheirPointees, UnreadPointersAreNamed};
 
 /// A type is caught as itself; type 0 matches nothing; a type that the graph doesn't hold matches no other.
 pub fn equal_types_match()
@@ -31,21 +31,21 @@ pub fn addresses_follow_the_steps()
     ensures parts { AddressesFollow }
 {}
 
-/// A class is caught as a base of it exactly where all ways to that base lead to one subobject and one of them is public; and at the
+/// A class is caught as a base of it exactly where all paths to that base lead to one subobject and one of them is public; and at the
 /// address that the first public one gives.
 pub fn a_class_is_caught_as_its_one_public_base()
-    ensures not_public { NoPublicWayFails }
+    ensures not_public { NoPublicPathFails }
     ensures parted { PartedBasesFail }
     ensures caught { OneBaseIsCaught }
 {}
 
-/// Where one way alone leads to a base, and it is public, the base's address is the answer.
-pub fn a_base_with_one_way_is_caught_at_its_address()
-    ensures way { OneWayIsCaught }
-    ensures plain { OnePlainWayIsCaught }
+/// Where one path alone leads to a base, and it is public, the base's address is the answer.
+pub fn a_base_with_one_path_is_caught_at_its_address()
+    ensures path { OnePathIsCaught }
+    ensures plain { OnePlainPathIsCaught }
 {}
 
-/// A base that stands twice in a class isn't caught; a base that is virtual on each way stands once.
+/// A base that stands twice in a class isn't caught; a base that is virtual on each path stands once.
 pub fn diamonds_are_told_apart()
     ensures two { TwoPlainBasesFail }
     ensures mixed { PlainAndVirtualBaseFail }

@@ -1,6 +1,6 @@
 //! A path of base steps, by what is asked of it. docs/matching.md says how a subobject is named.
 ghost use Rattle.std.specs.Prelude.{◌≡◌, Result};
-ghost use Rattle.eh_match.specs.Address.{read, moved};
+ghost use Rattle.eh_match.specs.Address.{read, stepped_to};
 ghost use Rattle.eh_match.specs.Walk.{along, whole};
 
 use eh_bus::bus::Bus;
@@ -17,7 +17,7 @@ pub struct Path {
     pub root: Option<u32>,
     /// The sum of the offsets after that step, modulo 2^32.
     pub offset: u32,
-    /// The address of its subobject, or the first address on its way that can't be loaded.
+    /// The address of its subobject, or the first address along it that can't be loaded.
     pub at: Result<u32, u32>,
 }
 
@@ -31,9 +31,9 @@ pub fn read<B: Bus>(bus: &B, a: u32) -> Result<u32, u32>
     }
 }
 
-/// The address behind a step from an address.
-fn moved<B: Bus>(bus: &B, at: Result<u32, u32>, base: &Base) -> Result<u32, u32>
-    ensures { result ≡ moved (B.memory bus.now).segments at base.now }
+/// The address after a step from an address.
+fn stepped_to<B: Bus>(bus: &B, at: Result<u32, u32>, base: &Base) -> Result<u32, u32>
+    ensures { result ≡ stepped_to (B.memory bus.now).segments at base.now }
 {
     match at {
         Err(refused) => Err(refused),
@@ -84,7 +84,7 @@ impl Path {
             } else {
                 self.offset.wrapping_add_signed(base.offset)
             },
-            at: moved(bus, self.at, base),
+            at: stepped_to(bus, self.at, base),
         }
     }
 }

@@ -21,7 +21,7 @@ fn walk<B: Bus>(graph: &TypeGraph, bus: &B, wanted: u32, left: u32, path: &Path,
     }
     let mut seen = seen.note(graph, wanted, path);
     for base in graph.bases(path.ty) {
-        seen = walk(graph, bus, wanted, left - 1, &path.along(base, bus), seen);
+        seen = walk(graph, bus, wanted, left - 1, &path.along(&base, bus), seen);
     }
     seen
 }

@@ -1,7 +1,7 @@
 pub mod First
 pub mod Outer
 pub mod Steps
-pub mod Behind
+pub mod After
 pub mod Hits
 pub mod Unwound
 pub mod Due

@@ -59,10 +59,10 @@ Begin sp (f ∷ more) = f.sp ≡ sp
 abbrev Rising : Stack → Option ℕ → Bool → ℕ → Frames → Type 0
 Rising stack limit innermost sp fs = Begin sp fs.frames × RiseOutwards stack.end limit innermost fs.frames
 
-behind : (stack : Stack) (limit : Option ℕ) (innermost : Bool) (sp next : ℕ) (l : List Frame) → Stands stack.end limit innermost sp next → Begin next l → RiseOutwards stack.end limit false l
+after : (stack : Stack) (limit : Option ℕ) (innermost : Bool) (sp next : ℕ) (l : List Frame) → Stands stack.end limit innermost sp next → Begin next l → RiseOutwards stack.end limit false l
     → RiseFrom stack.end limit innermost sp l
-behind stack limit innermost sp next [] s b h = tt
-behind stack limit innermost sp next (f ∷ more) s b h =
+after stack limit innermost sp next [] s b h = tt
+after stack limit innermost sp next (f ∷ more) s b h =
     let P : ℕ → Type 0 = λ x. Stands stack.end limit innermost sp x in
     let at = subst P (sym b) s in
     (at.0, at.1, at.2, h)
@@ -76,7 +76,7 @@ rising_by stack limit innermost site r further each (Some c) = (refl, go (outer 
     go (Err cause) e = tt
     go (Ok next) e =
         let h = each next.r in
-        behind stack limit innermost (slice_index r 13) (slice_index next.r 13) (further next.r).frames (outer_stands stack limit innermost c.codes r next e) h.0 h.1
+        after stack limit innermost (slice_index r 13) (slice_index next.r 13) (further next.r).frames (outer_stands stack limit innermost c.codes r next e) h.0 h.1
 
 rising : (n : ℕ) (image : Image) (stack : Stack) (limit : Option ℕ) (innermost : Bool) (site : ℕ) (r : List ℕ) → Rising stack limit innermost (slice_index r 13) (frames_in n image stack limit innermost site r)
 unfolding frames_in

@@ -24,7 +24,7 @@ use Rattle.eh_phase.proofs.Reached.{heads, reached_append, up_to_barrier, unlimi
 use Rattle.eh_phase.proofs.Goes.{places-from, cleanups_go_on}
 use Rattle.eh_phase.proofs.Whole.{enough, all_in_order}
 
--- ---- what stands behind a barrier plays no part
+-- ---- what stands after a barrier plays no part
 
 due_append : (g : Goal) (ps qs : List Place) → is_reached_in g ps ≡ true → due_in g (ps ++ qs) ≡ due_in g ps
 due_append g [] qs e = absurd (let h = reached_none g in cc)

@@ -8,7 +8,7 @@ use Rattle.eh_bytecode.specs.declared.frame.Vrs.{Vrs}
 use Rattle.eh_bytecode.specs.declared.frame.Unwinding.{Unwinding}
 use Rattle.eh_bytecode.specs.declared.frame.UnwindEnd.{UnwindEnd}
 use Rattle.eh_bytecode.specs.declared.frame.UnwindEnd.TheVariants.{Finished, Refused, BadCode, Unreadable}
-use Rattle.eh_bytecode.specs.Meaning.{Step, Goes, Ends, begins, pops, after, goes_on, runs, unwound, answer}
+use Rattle.eh_bytecode.specs.Meaning.{Step, Goes, Ends, begins, pops, after, continued, runs, unwound, answer}
 use Rattle.eh_phase.specs.Frames.{caller_of}
 
 abbrev IsEnd : Result (List ℕ) UnwindEnd → Type 0
@@ -34,7 +34,7 @@ after_end segments s (Takes register) = tt
 after_end segments s Refuses = tt
 after_end segments s Finishes = tt
 
-on_end : (further : Unwinding → Result (List ℕ) UnwindEnd) (step : Step) → IsStep step → ((s : Unwinding) → IsEnd (further s)) → IsEnd (goes_on further step)
+on_end : (further : Unwinding → Result (List ℕ) UnwindEnd) (step : Step) → IsStep step → ((s : Unwinding) → IsEnd (further s)) → IsEnd (continued further step)
 on_end further (Goes s) h each = each s
 on_end further (Ends end) h each = h
 

@@ -31,7 +31,7 @@ FramesAreWhole =
     → frames_in MOST_FRAMES image stack limit innermost site r
     ≡ walked (λ new. frames_in MOST_FRAMES image stack limit false (site_of new) new) stack limit innermost site r (covered_at image site)
 
--- a frame that has called stands in the call, a halfword or two long: the return address is that of the instruction behind it, with
+-- a frame that has called stands in the call, a halfword or two long: the return address is that of the instruction after it, with
 -- bit 0 set
 abbrev pub SitesStandInCalls : Type 0
 SitesStandInCalls =
@@ -174,13 +174,13 @@ BarriersStandOutside =
 
 -- ---- after a cleanup
 
--- a frame's descriptors stand one behind the other, at rising addresses
+-- a frame's descriptors stand one after the other, at rising addresses
 pub record IsInOrder (f : Frame) : Type 0 where
   pub address : ℕ
   pub follow : Follow address f.items
   pub rise : Rise f.items
 
--- where a cleanup was entered, what is due goes on at its frame, from the descriptor behind the cleanup's own
+-- where a cleanup was entered, what is due goes on at its frame, from the descriptor after the cleanup's own
 pub record GoesOn (g : Goal) (from : ℕ) (fs : List Frame) (vrs : Vrs) (pad next site : ℕ) : Type 0 where
   pub inner : List Frame
   pub frame : Frame

@@ -62,13 +62,13 @@ abbrev pub stands_at : ℕ → Result Desc DescFault → Bool
 stands_at at (Ok d) = d.at == at
 stands_at at (Err fault) = true
 
-unfoldable pub behind : ℕ → List (Result Desc DescFault) → List (Result Desc DescFault)
-behind at [] = []
-behind at (i ∷ more) = if stands_at at i then i ∷ more else behind at more
+unfoldable pub from_descriptor : ℕ → List (Result Desc DescFault) → List (Result Desc DescFault)
+from_descriptor at [] = []
+from_descriptor at (i ∷ more) = if stands_at at i then i ∷ more else from_descriptor at more
 
 -- the items from the one at an address on, and all of them for 0
 abbrev pub from_address : ℕ → List (Result Desc DescFault) → List (Result Desc DescFault)
-from_address at items = if at == 0 then items else behind at items
+from_address at items = if at == 0 then items else from_descriptor at items
 
 -- the places of all frames, in order; of the first frame those from an address on
 unfoldable pub places : ℕ → List Frame → List Place

@@ -6,7 +6,7 @@ pub fn frames_are_whole()
     ensures { FramesAreWhole }
 {}
 
-/// A frame that has called stands in its call, and not behind it.
+/// A frame that has called stands in its call, and not after it.
 pub fn sites_stand_in_calls()
     ensures { SitesStandInCalls }
 {}
@@ -47,7 +47,7 @@ pub fn barriers_stand_outside()
     ensures { BarriersStandOutside }
 {}
 
-/// Where phase 2 enters a cleanup, what is still to be entered goes on at its frame from the descriptor behind its own; a barrier
+/// Where phase 2 enters a cleanup, what is still to be entered goes on at its frame from the descriptor after its own; a barrier
 /// within reach before is so from there.
 pub fn cleanups_go_on()
     ensures { CleanupsGoOn }

@@ -24,7 +24,7 @@ pub struct Goal {
 /// What a phase 2 enters. Registers are those of the frame that is entered; a pad's bit 0 is clear.
 #[derive(Clone, Copy, PartialEq, Eq, Debug)]
 pub enum Entered {
-    /// A cleanup, with the address of the descriptor behind its own, where phase 2 goes on at its frame's site.
+    /// A cleanup, with the address of the descriptor after its own, where phase 2 goes on at its frame's site.
     Cleanup {
         vrs: Vrs,
         pad: u32,
@@ -124,7 +124,7 @@ fn stands_at(item: &Result<Desc, DescFault>, at: u32) -> bool
     }
 }
 
-/// Whether the items that are looked at begin behind an item, where they haven't begun in front of it.
+/// Whether the items that are looked at begin after an item, where they haven't begun in front of it.
 fn is_before(before: bool, item: &Result<Desc, DescFault>, at: u32) -> bool
     ensures { result ≡ (before && not (stands_at at item.now)) }
 {
@@ -132,7 +132,7 @@ fn is_before(before: bool, item: &Result<Desc, DescFault>, at: u32) -> bool
 }
 
 /// What the descriptors of a frame enter, from the one at an address on; all of them for 0.
-#[tactic(auto, using(crate::proofs::Behind::left_past, crate::proofs::Behind::left_here, crate::proofs::Behind::left_none))]
+#[tactic(auto, using(crate::proofs::After::left_past, crate::proofs::After::left_here, crate::proofs::After::left_none))]
 fn entered_in(goal: &Goal, from: u32, cursor: &Cursor, descs: Descs) -> Option<Entered>
     ensures { result ≡ first_some (entered_item goal.now (frame_at cursor.now)) (from_address from descs.entry) }
 {

@@ -14,11 +14,11 @@ use eh_types::TypeGraph;
 use guest_gates::NO_CALLER;
 use thumb_core::ends::Cause;
 
-/// What the phases read of an image: its index with the descriptors behind it, and its graph of types.
+/// What the phases read of an image: its index with the descriptors after it, and its graph of types.
 #[derive(Drop)]
 pub struct Tables<'i, 'a> {
     pub index: Index<'i, 'a>,
-    pub types: &'i TypeGraph,
+    pub types: &'i TypeGraph<'a>,
 }
 
 /// The codes and the descriptors of the entry that covers a site.

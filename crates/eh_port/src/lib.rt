@@ -1,15 +1,14 @@
-//! The outside of the program: files, a source of bytes and a sink of bytes, each with a count of its faults.
+//! The outside of the program: a source of bytes and a sink of bytes, each with a count of its faults.
 //!
 //! A call answers `Failed` only where the count of its object rose in that call, so that whoever is told of a failure can
-//! look for its cause. A count that stands at the greatest `u64` stays there and counts as risen. A call that succeeds or
-//! finds no memory leaves the count as it was. The rules are those of docs/outside.md.
+//! look for its cause. A count that stands at the greatest `u64` stays there and counts as risen. A call that succeeds
+//! leaves the count as it was. The rules are those of docs/outside.md.
 #![tactic(auto)]
 
-ghost use Rattle.std.specs.Prelude.{◌≡◌, ℕ, ◌<◌, ◌≤◌, List, length, IfOk, IfSome, OnOk, OnErr, Option};
+ghost use Rattle.std.specs.Prelude.{ℕ, ◌<◌, List, length, IfOk, OnOk, OnErr, Option};
 ghost use Rattle.std.specs.Io.{ReadsAtMost, WritesAtMost};
 ghost use Rattle.std.specs.Io.KnownBytes.{ReadConsumes, WriteAppends, Appends};
 ghost use Rattle.eh_port.specs.Causes.{HasCause};
-ghost use Rattle.eh_port.specs.FileList.{answer_of, FileCause};
 ghost use Rattle.eh_port.specs.Writing.{AppendsFewer};
 
 mod host;
@@ -17,50 +16,14 @@ mod lists;
 mod memory;
 mod sure;
 
-pub use host::{HostFiles, HostSink, HostSource};
-pub use lists::{Bytes, CallNumbers, FileList, MemFile};
-pub use memory::{MemFiles, MemSink, MemSource};
-use std::alloc::Global;
-pub use sure::{SureFiles, SureSink, SureSource};
+pub use host::{HostSink, HostSource};
+pub use lists::{Bytes, CallNumbers};
+pub use memory::{MemSink, MemSource, call_fails};
+pub use sure::{SureSink, SureSource};
 
 /// A read or a write failed. The object's count of faults has risen.
 #[derive(Clone, Copy, Debug, PartialEq, Eq)]
 pub struct Failed;
-
-/// What a file of a name is found to be.
-#[derive(Drop)]
-pub enum FileAnswer {
-    /// Its bytes, which are at most as many as were asked for.
-    Found(Bytes),
-    /// There is no file of that name.
-    Missing,
-    /// The file has more bytes than were asked for.
-    TooLong,
-}
-
-/// Why a file gave no answer.
-#[derive(Clone, Copy, Debug, PartialEq, Eq)]
-pub enum FileFault {
-    /// A read failed. The count of faults has risen.
-    Failed,
-    /// There was no memory for the bytes.
-    OutOfMemory,
-}
-
-/// Files, each found by its name.
-pub trait Files {
-    /// The files, as pairs of a name and its bytes, where the object tells them. Reading changes none.
-    ghost held: { Self → Option (List (List ℕ × List ℕ)) };
-
-    /// How often a read has failed.
-    ghost faults: { Self → ℕ };
-
-    /// The bytes of the first file of that name, where they are at most `most`.
-    fn read(&mut self, alloc: Global, name: &str, most: usize) -> Result<FileAnswer, FileFault>
-        ensures same { held self.new ≡ held self.old }
-        ensures answer { IfOk result (λ answer. IfSome (held self.old) (λ files. answer ≡ answer_of files name.now most)) }
-        ensures cause { FileCause (faults self.old) (faults self.new) result };
-}
 
 /// Bytes that are taken from their front.
 pub trait Source {

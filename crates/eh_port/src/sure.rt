@@ -1,21 +1,11 @@
-//! Files, a source and a sink that never fail. docs/outside.md has the rules.
-ghost use Rattle.std.specs.Prelude.{◌≡◌, ◌≤◌, ◌<◌, ◌+◌, ◌-◌, ◌^◌, min, Ok, Some, None, IfOk, IfSome, IsOk, IsErrOf, length};
+//! A source and a sink that never fail. docs/outside.md has the rules.
+ghost use Rattle.std.specs.Prelude.{◌≡◌, ◌<◌, ◌+◌, ◌-◌, ◌^◌, min, Ok, Some, None, IfOk, IsOk, length};
 ghost use Rattle.std.specs.Io.{ReadsAtMost, WritesAtMost};
 ghost use Rattle.std.specs.Io.KnownBytes.{ReadConsumes, WriteAppends};
 ghost use Rattle.eh_port.specs.Causes.{HasCause};
-ghost use Rattle.eh_port.specs.FileList.{answer_of, FileCause};
-ghost use Rattle.eh_port.specs.Memory.{pairs};
 
-use crate::lists::{Bytes, FileList};
-use crate::memory::answer_from;
-use crate::{Failed, FileAnswer, FileFault, Files, Sink, Source};
-use std::alloc::Global;
-
-/// Files in memory, of which no read fails.
-#[derive(Drop)]
-pub struct SureFiles {
-    pub files: FileList,
-}
+use crate::lists::Bytes;
+use crate::{Failed, Sink, Source};
 
 /// A source in memory, of which no call fails.
 #[derive(Drop)]
@@ -27,21 +17,6 @@ pub struct SureSource {
 #[derive(Drop)]
 pub struct SureSink {
     pub taken: u64,
-}
-
-impl Files for SureFiles {
-    ghost held = { λ f. Some (pairs f.files) };
-
-    ghost faults = { λ _. 0 };
-
-    fn read(&mut self, alloc: Global, name: &str, most: usize) -> Result<FileAnswer, FileFault>
-        ensures same { Some (pairs self.new.files) ≡ Some (pairs self.old.files) }
-        ensures answer { IfOk result (λ answer. IfSome (Some (pairs self.old.files)) (λ files. answer ≡ answer_of files name.now most)) }
-        ensures cause { FileCause 0 0 result }
-        ensures sure { IsErrOf result FileFault.Failed → ⊥ }
-    {
-        answer_from(alloc, self.files.as_slice(), name, most).map_err(|_| FileFault::OutOfMemory)
-    }
 }
 
 impl Source for SureSource {

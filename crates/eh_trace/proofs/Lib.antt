@@ -1,3 +1,3 @@
 pub mod Places
 pub mod Pushed
-pub mod Behind
+pub mod After

@@ -46,7 +46,7 @@ named_place name offset = map printed name ++ codes "+" ++ offset_text offset
 abbrev pub holder : Image → ℕ → Option Function
 holder image a = find (is_inside a) image.functions
 
--- an address in no function stands behind a question mark
+-- an address in no function stands after a question mark
 abbrev pub place_in : Option Function → ℕ → List ℕ
 place_in None a = named_place (codes "?") a
 place_in (Some f) a = named_place f.name (a - f.start)
@@ -78,12 +78,12 @@ event_line image names e = line_of e.kind image names e
 abbrev pub all_of : Trace → ℕ
 all_of t = t.throws + t.rethrows + t.cleanups + t.catches + t.unexpected
 
-abbrev pub behind_line : ℕ → List ℕ
-behind_line count = codes "and " ++ decimal count ++ codes " more events\n"
+abbrev pub after_line : ℕ → List ℕ
+after_line count = codes "and " ++ decimal count ++ codes " more events\n"
 
--- those that came behind the last that is kept
+-- those that came after the last that is kept
 unfoldable pub more_line : ℕ → List ℕ
-more_line all = if nat_lt MAX_KEPT all then behind_line (all - MAX_KEPT) else []
+more_line all = if nat_lt MAX_KEPT all then after_line (all - MAX_KEPT) else []
 
 abbrev pub trace_text : Image → (ℕ → List ℕ) → Trace → List ℕ
 trace_text image names t = flat_map (event_line image names) t.kept ++ more_line (all_of t)

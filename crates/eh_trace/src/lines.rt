@@ -1,6 +1,6 @@
 //! The lines of a trace: docs/exceptions.md.
 ghost use Rattle.std.specs.Prelude.{◌≡◌, ◌++◌, OnOk, IfOk, decimal};
-ghost use Rattle.eh_trace.specs.Text.{thrown_text, entered_text, event_line, behind_line, more_line, all_of, trace_text};
+ghost use Rattle.eh_trace.specs.Text.{thrown_text, entered_text, event_line, after_line, more_line, all_of, trace_text};
 
 use crate::event::{Event, EventKind, MAX_BYTES, TraceMemory};
 use crate::events::{Events, MAX_KEPT};
@@ -94,29 +94,29 @@ fn push_number(out: &mut Vec<u8>, n: u128) -> Result<(), AllocError>
     out.extend_from_slice(Buffer::new().format(n).as_bytes())
 }
 
-/// Adds the line for so many events behind the last that is kept.
-fn push_behind(out: &mut Vec<u8>, count: u128) -> Result<(), AllocError>
-    ensures { OnOk result (out.new.items ≡ out.old.items ++ behind_line count) }
+/// Adds the line for so many events after the last that is kept.
+fn push_after(out: &mut Vec<u8>, count: u128) -> Result<(), AllocError>
+    ensures { OnOk result (out.new.items ≡ out.old.items ++ after_line count) }
 {
     out.extend_from_slice(b"and ")?;
     push_number(out, count)?;
     out.extend_from_slice(b" more events\n")
 }
 
-/// Adds the line for the events behind the last that is kept, if there are any.
+/// Adds the line for the events after the last that is kept, if there are any.
 #[tactic(auto, unfolding(crate::specs::Text::more_line))]
 fn push_more(out: &mut Vec<u8>, all: u128) -> Result<(), AllocError>
     ensures { OnOk result (out.new.items ≡ out.old.items ++ more_line all) }
 {
     let kept = MAX_KEPT as u128;
     if all > kept {
-        push_behind(out, all - kept)
+        push_after(out, all - kept)
     } else {
         Ok(())
     }
 }
 
-/// The text of a trace: a line for each event that is kept, and one for those behind them. Functions are named by the image,
+/// The text of a trace: a line for each event that is kept, and one for those after them. Functions are named by the image,
 /// types by `types`.
 pub fn trace_lines<T: TypeNames>(
     alloc: Global,

@@ -12,7 +12,7 @@ pub trait TypeNames {
         ensures { result.now ≡ name_of self.now ty };
 }
 
-impl TypeNames for TypeGraph {
+impl<'a> TypeNames for TypeGraph<'a> {
     ghost use Rattle.eh_types.specs.Graph.{name_of as graph_name};
 
     ghost name_of = { graph_name };

@@ -1,5 +1,6 @@
 pub mod Lookups
 pub mod Reading
+pub mod BaseLists
 pub mod Paths
 pub mod Meaning
 pub mod Steps

@@ -1,12 +1,14 @@
 -- What halving finds among rows in rising order.
-use Rattle.std.proofs.Common.{◌≡◌, ℕ, zero, suc, ◌+◌, ◌<◌, ◌≤◌, Bool, true, false, nat_eq, nat_lt, List, [], ◌∷◌, length, get_or, Some, None, refl, sym, ◌∙◌, inl, inr, arith}
+use Rattle.std.proofs.Common.{◌≡◌, ℕ, zero, suc, ◌+◌, ◌<◌, ◌≤◌, Bool, true, false, nat_eq, nat_lt, List, [], ◌∷◌, length, get_or, Some, None, option_map, refl, sym, ◌∙◌, inl, inr, arith}
 use Rattle.std.proofs.lemmas.Bool.Decides.{nat_tests}
-use Rattle.std.proofs.lemmas.Bool.{cases_lt, false≢true}
+use Rattle.std.proofs.lemmas.Bool.{cases_eq, cases_lt, false≢true}
 use Rattle.std.specs.List.{prefix_len}
 use Rattle.std.specs.List.Sorted.{IsPartitionPoint, IsNonDecreasingBy}
 use Rattle.std.proofs.lemmas.List.Sums.{prefix_len_passes, prefix_len_stops, prefix_len-le-length}
+use Rattle.elf_image.specs.Segments.{Segment}
 use Rattle.eh_types.specs.declared.kind.TypeKind.TheVariants.{Other}
 use Rattle.eh_types.specs.Graph.{Row, Rise, row_of}
+use Rattle.eh_types.specs.Types.{row_in, rows_in}
 
 -- the place where a test begins to fail is the length of the front that passes
 pub partition_is : {X : Type 0} (p : X → Bool) (xs : List X) (i : ℕ) (d : X) → i ≤ length xs → IsPartitionPoint (λ y. p y ≡ true) (λ y. p y ≡ false) xs i → i ≡ prefix_len p xs
@@ -121,3 +123,18 @@ pub found_past : (g : List Row) (ty k : ℕ) → Rise 0 g → k ≡ prefix_len (
 found_past g ty k h e end = row_past 0 ty g h (sym e ∙ end)
 
 pub ruleset row_lookups = (found_there, found_other, found_past)
+
+-- ---- rows that are kept without their bases stand where those with them do
+
+pub kept_rise : (segments : List Segment) (low : ℕ) (rows : List Row) → Rise low (rows_in segments rows) → Rise low rows
+kept_rise segments low [] h = tt
+kept_rise segments low (r ∷ rows) h = (h.0, kept_rise segments (r.at + 1) rows h.1)
+
+pub row_kept : (segments : List Segment) (rows : List Row) (ty : ℕ) → row_of (rows_in segments rows) ty ≡ option_map (row_in segments) (row_of rows ty)
+unfolding row_of
+row_kept segments [] ty = refl
+row_kept segments (r ∷ rows) ty =
+    elim (cases_eq r.at ty) [
+      | inl here ↦ rw (test_eq r.at ty here) refl
+      | inr other ↦ rw (test_not r.at ty other) (row_kept segments rows ty)
+    ]

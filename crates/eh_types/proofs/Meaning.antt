@@ -13,7 +13,7 @@ use Rattle.eh_types.specs.Graph.{Row, Rise, row_of, bases_of, paths_within, path
 use Rattle.eh_types.specs.Types.{type_at}
 use Rattle.eh_types.specs.Meant.{Among, types_of, pointees, Reached, root, step, IsGraph, bases_by, IsBaseOf, one, more, Shows}
 use Rattle.eh_types.proofs.Lookups.{none_below}
-use Rattle.eh_types.proofs.Paths.{sum_same, term_below, paths_more, paths_settle, paths_same}
+use Rattle.eh_types.proofs.Paths.{sum_same, term_below, paths_more, paths_converge, paths_same}
 
 pub among_left : (xs ys : List ℕ) (a : ℕ) → Among xs a → Among (xs ++ ys) a
 among_left [] ys a h = absurd h
@@ -172,7 +172,7 @@ unfolding path_count
 counted g few = record {
   counts = λ a.
       paths_more (bases_of g) 255 a
-      ∙ ap (λ n. 1 + n) (sum_same (paths_within (bases_of g) 255) (paths_within (bases_of g) 256) (bases_of g a) (λ b among. paths_settle (bases_of g) 255 b (few b)));
+      ∙ ap (λ n. 1 + n) (sum_same (paths_within (bases_of g) 255) (paths_within (bases_of g) 256) (bases_of g a) (λ b among. paths_converge (bases_of g) 255 b (few b)));
   few = few;
 }
 

@@ -33,13 +33,13 @@ paths_some bases zero a = omega (arith, paths_none bases a)
 paths_some bases (suc steps) a = omega (arith, paths_more bases steps a)
 
 -- where there are at most as many paths as steps, none has that many steps
-pub paths_settle : (bases : ℕ → List Base) (steps a : ℕ) → paths_within bases (suc steps) a ≤ suc steps → paths_within bases steps a ≡ paths_within bases (suc steps) a
-paths_settle bases zero a few =
+pub paths_converge : (bases : ℕ → List Base) (steps a : ℕ) → paths_within bases (suc steps) a ≤ suc steps → paths_within bases steps a ≡ paths_within bases (suc steps) a
+paths_converge bases zero a few =
     paths_none bases a ∙ (let some = paths_some bases 1 a in omega (arith, few, some))
-paths_settle bases (suc steps) a few =
+paths_converge bases (suc steps) a few =
     paths_more bases steps a
     ∙ ap (λ n. 1 + n) (sum_same (paths_within bases steps) (paths_within bases (suc steps)) (bases a)
-    (λ b in_bases. paths_settle bases steps b (omega (arith, few, paths_more bases (suc steps) a, term_below (paths_within bases (suc steps)) (bases a) b in_bases))))
+    (λ b in_bases. paths_converge bases steps b (omega (arith, few, paths_more bases (suc steps) a, term_below (paths_within bases (suc steps)) (bases a) b in_bases))))
     ∙ sym (paths_more bases (suc steps) a)
 
 -- types whose bases are the same, and whose bases are such types too, have the same paths

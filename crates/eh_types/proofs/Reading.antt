@@ -1,13 +1,13 @@
 -- Words and names in the segment that holds their address.
-use Rattle.std.proofs.Common.{◌≡◌, ℕ, zero, suc, ◌+◌, ◌-◌, ◌*◌, ◌<◌, ◌≤◌, min, Bool, true, false, ◌&&◌, ◌||◌, cond, nat_le, nat_lt, List, [], ◌∷◌, length, drop, Option, Some, None, is_some, refl, sym, ◌∙◌, ap, inl, inr, lit<, lit≤, arith}
+use Rattle.std.proofs.Common.{◌≡◌, ℕ, zero, suc, ◌+◌, ◌-◌, ◌*◌, ◌<◌, ◌≤◌, min, Bool, true, false, ◌&&◌, ◌||◌, cond, nat_le, nat_lt, List, [], ◌∷◌, length, drop, get_or, Option, Some, None, is_some, refl, sym, ◌∙◌, ap, inl, inr, lit<, lit≤, arith}
 use Rattle.std.proofs.lemmas.Bool.Decides.{nat_tests}
 use Rattle.std.proofs.lemmas.Bool.{cases_lt}
-use Rattle.std.specs.List.{find, list_any}
+use Rattle.std.specs.List.{find, list_any, prefix_len}
 use Rattle.byteorder.specs.Endian.{little_number}
 use Rattle.elf_image.specs.Segments.{Segment, holds, segment_end, RiseFrom}
 use Rattle.elf_image.specs.Functions.{segment_at}
 use Rattle.elf_image.specs.Image.{Image, IsSound}
-use Rattle.elf_image.proofs.Lookups.{any_is_some, find_holder, filtered, both_true, Narrows}
+use Rattle.elf_image.proofs.Lookups.{any_is_some, find_holder, filtered, both_true, Narrows, segment_none, segment_some, segment_past, segment_nowhere, segment_there}
 use Rattle.eh_types.specs.Words.{has, room, number_in, word, is_word, is_written, joined, words_from, name_in, named, name_at}
 
 le_from : (x y : ℕ) → nat_le x y ≡ true → x ≤ y
@@ -40,14 +40,29 @@ above_all a low (s ∷ xs) h above =
     let top = below_top (s.start + s.size) xs h.3 in
     rw (not_held a s (omega arith)) (above_all a (s.start + s.size) xs h.3 above)
 
-pub capped : (image : Image) (a : ℕ) → IsSound image → segment_at image.segments (min a 4294967295) ≡ segment_at image.segments a
-capped image a h =
+pub capped : (xs : List Segment) (a : ℕ) → RiseFrom 0 xs → segment_at xs (min a 4294967295) ≡ segment_at xs a
+capped xs a h =
     elim (cases_lt a 4294967295) [
       | inl below ↦ let e : min a 4294967295 ≡ a = omega arith in rw e refl
       | inr at ↦
           let e : min a 4294967295 ≡ 4294967295 = omega arith in
-          rw e (above_all 4294967295 0 image.segments h.rise (lit≤ tt) ∙ sym (above_all a 0 image.segments h.rise (omega arith)))
+          rw e (above_all 4294967295 0 xs h (lit≤ tt) ∙ sym (above_all a 0 xs h (omega arith)))
     ]
+
+-- ---- the segment that holds an address, by how many begin at it or below it
+
+pub holder_none : (xs : List Segment) (a k : ℕ) → RiseFrom 0 xs → k ≡ prefix_len (λ s. nat_le s.start a) xs → k ≡ 0 → segment_at xs a ≡ None
+holder_none xs a k h e z = segment_nowhere xs a None (sym (segment_none xs a k h e z)) refl
+
+pub holder_some : (xs : List Segment) (a k : ℕ) (d : Segment) → RiseFrom 0 xs → k ≡ prefix_len (λ s. nat_le s.start a) xs → (k ≡ 0 → ⊥) → a < segment_end (get_or xs (k - 1) d)
+    → segment_at xs a ≡ Some (get_or xs (k - 1) d)
+holder_some xs a k d h e some inside = segment_there xs a (k - 1) d (sym (segment_some xs a k d h e some inside))
+
+pub holder_past : (xs : List Segment) (a k : ℕ) (d : Segment) → RiseFrom 0 xs → k ≡ prefix_len (λ s. nat_le s.start a) xs → (k ≡ 0 → ⊥) → segment_end (get_or xs (k - 1) d) ≤ a
+    → segment_at xs a ≡ None
+holder_past xs a k d h e some past = segment_nowhere xs a None (sym (segment_past xs a k d h e some past)) refl
+
+pub ruleset holders = (holder_none, holder_some, holder_past)
 
 -- ---- room
 
@@ -92,15 +107,13 @@ unfolding name_in
 named_step a s true e = refl
 named_step a s false e = rw e refl
 
-pub word_there : (image : Image) (a : ℕ) (s : Segment) → IsSound image → segment_at image.segments a ≡ Some s
-    → word image.segments a ≡ cond (has 4 a s) (little_number 4 (drop (a - s.start) s.bytes)) 0
+pub word_there : (xs : List Segment) (a : ℕ) (s : Segment) → RiseFrom 0 xs → segment_at xs a ≡ Some s → word xs a ≡ cond (has 4 a s) (little_number 4 (drop (a - s.start) s.bytes)) 0
 unfolding word
-word_there image a s h e =
-    ap (number_in a) (find_holder (has 4 a) a image.segments (has_narrows 4 a (lit< tt)) h.rise ∙ ap (filtered (has 4 a)) e) ∙ number_step a s (has 4 a s)
+word_there xs a s h e = ap (number_in a) (find_holder (has 4 a) a xs (has_narrows 4 a (lit< tt)) h ∙ ap (filtered (has 4 a)) e) ∙ number_step a s (has 4 a s)
 
-pub word_nowhere : (image : Image) (a : ℕ) → IsSound image → segment_at image.segments a ≡ None → word image.segments a ≡ 0
+pub word_nowhere : (xs : List Segment) (a : ℕ) → RiseFrom 0 xs → segment_at xs a ≡ None → word xs a ≡ 0
 unfolding word
-word_nowhere image a h e = ap (number_in a) (find_holder (has 4 a) a image.segments (has_narrows 4 a (lit< tt)) h.rise ∙ ap (filtered (has 4 a)) e)
+word_nowhere xs a h e = ap (number_in a) (find_holder (has 4 a) a xs (has_narrows 4 a (lit< tt)) h ∙ ap (filtered (has 4 a)) e)
 
 pub ruleset word_lookups = (word_there, word_nowhere)
 

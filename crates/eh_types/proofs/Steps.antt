@@ -1,5 +1,5 @@
 -- What a step of reading keeps.
-use Rattle.std.proofs.Common.{◌≡◌, ℕ, zero, suc, ◌+◌, ◌^◌, ◌<◌, ◌≤◌, Bool, true, false, cond, not, ◌&&◌, ◌||◌, nat_eq, nat_lt, List, [], ◌∷◌, ◌++◌, length, take, get_or, Option, Some, None, IsSome, is_some, option_map, reverse, Result, Ok, Err, IfOk, refl, sym, ◌∙◌, ap, inl, inr, arith, take_all, append-nil}
+use Rattle.std.proofs.Common.{◌≡◌, ℕ, zero, suc, ◌+◌, ◌^◌, ◌<◌, ◌≤◌, Bool, true, false, cond, not, ◌&&◌, ◌||◌, nat_eq, nat_lt, List, [], ◌∷◌, ◌++◌, length, take, get_or, Option, Some, None, IsSome, is_some, option_map, reverse, Result, Ok, Err, IfOk, refl, sym, ◌∙◌, ap, subst, inl, inr, arith, take_all, append-nil}
 use Rattle.std.specs.Prelude.{◌⊎◌, option_to_list}
 use Rattle.std.specs.List.{sum_by, range_with_len}
 use Rattle.std.proofs.lemmas.Bool.Decides.{nat_tests}
@@ -19,10 +19,11 @@ use Rattle.eh_types.specs.declared.state.Done.{Done}
 use Rattle.eh_types.specs.declared.state.Frame.{Frame}
 use Rattle.eh_types.specs.Graph.{Row, paths_within}
 use Rattle.eh_types.specs.Words.{word, words_from, name_at}
-use Rattle.eh_types.specs.Types.{kind_at, base_in, base_by, bases_at, base_type, base_count, row_named, judged, word_count, type_at}
+use Rattle.eh_types.specs.Types.{kind_at, base_in, base_by, bases_at, base_type, base_count, row_named, row_in, judged, word_count, type_at}
 use Rattle.eh_types.specs.Meant.{Among, types_of, pointees, bases_by, Reached, root, step, IsBaseOf, one, more, Shows}
 use Rattle.eh_types.specs.Reading.{paths_of, IsDone, IsFrame, Leads, is_on, Stacked, Reading}
-use Rattle.eh_types.proofs.Paths.{sum_same, paths_more, paths_settle}
+use Rattle.eh_types.proofs.BaseLists.{base_counts}
+use Rattle.eh_types.proofs.Paths.{sum_same, paths_more, paths_converge}
 use Rattle.eh_types.proofs.Meaning.{among_left, among_right, among_either, is_there, there_is}
 use Rattle.eh_types.specs.declared.types.TheConstants.{NAME_LIMIT}
 
@@ -97,14 +98,6 @@ base_types segments a Vmi k h =
     let inside : k < word segments (a + 12) = omega (arith, h, length-map-range_with_len (base_in segments a) 0 (word segments (a + 12))) in
     ap (λ (xs : List ℕ). get_or xs k 0) (map-map (λ (b : Base). b.ty) (base_in segments a) (range_with_len 0 (word segments (a + 12))))
     ∙ get_or-map-range_with_len (λ i. (base_in segments a i).ty) 0 (word segments (a + 12)) k k 0 inside (omega arith)
-
-pub base_counts : (segments : List Segment) (a : ℕ) (kind : TypeKind) → base_count segments a kind ≡ length (bases_at segments a kind)
-base_counts segments a Other = refl
-base_counts segments a Fundamental = refl
-base_counts segments a Class = refl
-base_counts segments a (Pointer flags pointee) = refl
-base_counts segments a (Si base) = refl
-base_counts segments a Vmi = sym (length-map-range_with_len (base_in segments a) 0 (word segments (a + 12)))
 
 among_at : (xs : List ℕ) (i : ℕ) → i < length xs → Among xs (get_or xs i 0)
 among_at [] i h = absurd (omega arith)
@@ -267,13 +260,13 @@ frame_paths : (image : Image) (roots : List ℕ) (done : ℕ → Option Done) (p
     → ((a : ℕ) (d : Done) → done a ≡ Some d → IsDone image roots done pending a d) → f.count ≤ f.next → f.paths ≡ paths_of image f.at
 frame_paths image roots done pending f h each all =
     let whole : take f.next (types_of h.row.bases) ≡ types_of h.row.bases = take_all f.next (types_of h.row.bases) (omega (arith, types_count image roots done f h, all)) in
-    let settle : (b : ℕ) → Among (types_of h.row.bases) b → paths_within (bases_by image) 255 b ≡ paths_within (bases_by image) 256 b = λ b among.
+    let converge : (b : ℕ) → Among (types_of h.row.bases) b → paths_within (bases_by image) 255 b ≡ paths_within (bases_by image) 256 b = λ b among.
     (let is = there_is (done b) (h.passed b (rw whole among)) in
     let d = each b is.0 is.1 in
-    paths_settle (bases_by image) 255 b (omega (arith, d.paths, d.few))) in
+    paths_converge (bases_by image) 255 b (omega (arith, d.paths, d.few))) in
     h.paths
     ∙ ap (λ (xs : List ℕ). 1 + sum_by (paths_of image) xs) whole
-    ∙ ap (λ n. 1 + n) (sum_types (paths_of image) h.row.bases ∙ sym (sum_same (paths_within (bases_by image) 255) (paths_within (bases_by image) 256) h.row.bases settle))
+    ∙ ap (λ n. 1 + n) (sum_types (paths_of image) h.row.bases ∙ sym (sum_same (paths_within (bases_by image) 255) (paths_within (bases_by image) 256) h.row.bases converge))
     ∙ ap (λ (bs : List Base). 1 + sum_by (λ (b : Base). paths_within (bases_by image) 255 b.ty) bs) (sym (read_bases image roots done f h))
     ∙ sym (paths_more (bases_by image) 255 f.at)
   where
@@ -310,16 +303,19 @@ each_done image roots done done' pending pending' f d keeps waits each here a x 
 each_done image roots done done' pending pending' f d keeps waits each here a x false e h =
     done_more image roots done done' keeps pending pending' waits a x (each a x h)
 
+one_row : (o : Result Row TypeFault) (r s : Row) → o ≡ Ok r → o ≡ Ok s → r ≡ s
+one_row o r s e f = cc
+
 pub finished : (image : Image) (roots : List ℕ) (done done' : ℕ → Option Done) (open_now open_next : ℕ → Bool) (f : Frame) (frames : List Frame) (pending after : List ℕ) (info : Row) → after ≡ pending ++ pointees f.kind
-    → Reading image roots done open_now (f ∷ frames) pending → f.count ≤ f.next → f.paths ≤ 256 → type_at image f.at ≡ Ok info
+    → Reading image roots done open_now (f ∷ frames) pending → f.count ≤ f.next → f.paths ≤ 256 → type_at image f.at ≡ Ok (row_in image.segments info)
     → ((q : ℕ) → done' q ≡ cond (nat_eq q f.at) (Some (record { info = info; paths = f.paths })) (done q)) → ((q : ℕ) → open_next q ≡ (not (nat_eq f.at q) && open_now q))
     → Reading image roots done' open_next frames after
 finished image roots done done' open_now open_next f frames pending after info last r all few e now opens = rw last (
     let d : Done = record { info = info; paths = f.paths } in
     let keeps = now_keeps image roots done done' f frames d now in
     let frame = r.stacked.0 in
-    let row : info ≡ frame.row = let x = frame.read in cc in
-    let kind : info.kind ≡ f.kind = (row_is image f.at info e).1 ∙ sym frame.kind in
+    let row : row_in image.segments info ≡ frame.row = one_row (type_at image f.at) (row_in image.segments info) frame.row e frame.read in
+    let kind : info.kind ≡ f.kind = (row_is image f.at (row_in image.segments info) e).1 ∙ sym frame.kind in
     let waits : (q : ℕ) → Among pending q → IsSome (done' q) ⊎ Among (pending ++ pointees f.kind) q = λ q h. inr (among_left pending (pointees f.kind) q h) in
     let whole : take f.next (types_of frame.row.bases) ≡ types_of frame.row.bases = take_all f.next (types_of frame.row.bases) (omega (arith, types_count image roots done f frame, all)) in
     let here : IsDone image roots done' (pending ++ pointees f.kind) f.at d = record {
@@ -327,7 +323,7 @@ finished image roots done done' open_now open_next f frames pending after info l
       reached = frame.reached;
       paths = frame_paths image roots done pending f frame r.each all;
       few = few;
-      bases = λ b among. keeps b (frame.passed b (rw whole (rw row at among)));
+      bases = λ b among. keeps b (frame.passed b (rw whole (subst (λ (r : Row). Among (types_of r.bases) b) row among)));
       points = λ b among. inr (among_right pending (pointees f.kind) b (rw kind at among));
     } in
     record {
@@ -337,7 +333,7 @@ finished image roots done done' open_now open_next f frames pending after info l
       begins = λ b among. elim (r.begins b among) [ inl h ↦ inl (keeps b h) | inr h ↦ waits b h ];
       waiting = λ b among. elim (among_either pending (pointees f.kind) b among) [
         | inl before ↦ r.waiting b before
-        | inr last ↦ step f.at b info frame.reached e (among_right (types_of info.bases) (pointees info.kind) b (rw kind last))
+        | inr last ↦ step f.at b (row_in image.segments info) frame.reached e (among_right (types_of (row_in image.segments info).bases) (pointees info.kind) b (rw kind last))
       ];
     })
 
@@ -432,6 +428,10 @@ none_done image roots pending done open_now frames empty same none shut = record
 pub less_before : (r : Result Bool TypeFault) (x y z : ℕ) → y ≡ z → IfOk r (λ more. more ≡ true → x < y) → IfOk r (λ more. more ≡ true → x < z)
 less_before (Ok left) x y z e h = λ t. omega (arith, h t, e)
 less_before (Err fault) x y z e h = tt
+
+pub none_popped : (xs ys : List ℕ) (o : Option ℕ) → xs ≡ ys ++ option_to_list o → o ≡ None → xs ≡ ys
+none_popped xs ys None e n = e ∙ append-nil ys
+none_popped xs ys (Some a) e n = absurd cc
 
 pub popped_none : (xs ys : List Frame) (o : Option Frame) → xs ≡ ys ++ option_to_list o → o ≡ None → reverse ys ≡ reverse xs
 popped_none xs ys None e n = ap reverse (sym (e ∙ append-nil ys))

@@ -63,7 +63,7 @@ WordsAreFixed =
     (image : Image) (a k : ℕ) (r : Row) → type_at image a ≡ Ok r → k < word_count image.segments a r.kind
     → (is_word image.segments (a + WORD_SIZE * k) ≡ true) × (is_written image.segments (a + WORD_SIZE * k) ≡ false)
 
--- the name stands in a read-only segment's bytes, with a zero byte behind it and none in it, and is not too long
+-- the name stands in a read-only segment's bytes, with a zero byte after it and none in it, and is not too long
 pub record IsNamed (segments : List Segment) (a : ℕ) (name : List ℕ) : Type 0 where
   pub segment : Segment
   pub found : find (has 1 a) segments ≡ Some segment

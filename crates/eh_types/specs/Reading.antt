@@ -11,7 +11,7 @@ use Rattle.eh_types.specs.declared.state.Done.{Done}
 use Rattle.eh_types.specs.declared.state.Frame.{Frame}
 use Rattle.eh_types.specs.declared.state.State.{State}
 use Rattle.eh_types.specs.Graph.{Row, paths_within}
-use Rattle.eh_types.specs.Types.{kind_at, bases_at, type_at}
+use Rattle.eh_types.specs.Types.{kind_at, bases_at, row_in, type_at}
 use Rattle.eh_types.specs.Meant.{Among, types_of, pointees, bases_by, Reached}
 
 -- the type at an address, if its bases have all been read
@@ -32,11 +32,11 @@ paths_of image a = paths_within (bases_by image) MOST_PATHS a
 
 -- a type that is done: its bases are, and what it points to is or waits
 pub record IsDone (image : Image) (roots : List ℕ) (done : ℕ → Option Done) (pending : List ℕ) (a : ℕ) (d : Done) : Type 0 where
-  pub row : type_at image a ≡ Ok d.info
+  pub row : type_at image a ≡ Ok (row_in image.segments d.info)
   pub reached : Reached image roots a
   pub paths : d.paths ≡ paths_of image a
   pub few : d.paths ≤ MOST_PATHS
-  pub bases : (b : ℕ) → Among (types_of d.info.bases) b → IsSome (done b)
+  pub bases : (b : ℕ) → Among (types_of (row_in image.segments d.info).bases) b → IsSome (done b)
   pub points : (b : ℕ) → Among (pointees d.info.kind) b → IsSome (done b) ⊎ Among pending b
 
 -- a type whose first bases are done, and their paths counted

@@ -49,6 +49,15 @@ bases_at segments a (Si base) = single_base base ∷ []
 bases_at segments a Vmi = map (base_in segments a) (range_with_len 0 (word segments (a + SECOND)))
 bases_at segments a (Pointer flags pointee) = []
 
+-- base k of a type that has so many: but for the kind with a single one, those that have any have a list
+abbrev pub nth_base : List Segment → ℕ → TypeKind → ℕ → Base
+nth_base segments a Other k = base_in segments a k
+nth_base segments a Fundamental k = base_in segments a k
+nth_base segments a Class k = base_in segments a k
+nth_base segments a (Si base) k = single_base base
+nth_base segments a Vmi k = base_in segments a k
+nth_base segments a (Pointer flags pointee) k = base_in segments a k
+
 -- the type of base k
 abbrev pub base_type : List Segment → ℕ → TypeKind → ℕ → ℕ
 base_type segments a Other k = 0
@@ -76,6 +85,13 @@ kind_at image a = kind_by (vtables_of image) image.segments a
 -- the type at an address, by its name
 unfoldable pub row_named : Image → ℕ → List ℕ → Row
 row_named image a text = record { at = a; kind = kind_at image a; name = text; bases = bases_at image.segments a (kind_at image a) }
+
+-- a row that is kept without its bases, with them
+abbrev pub row_in : List Segment → Row → Row
+row_in segments r = record { at = r.at; kind = r.kind; name = r.name; bases = bases_at segments r.at r.kind }
+
+abbrev pub rows_in : List Segment → List Row → List Row
+rows_in segments rows = map (row_in segments) rows
 
 -- by what is found of its words, whether one of them may be written, and of its name, whether it may be: the first fault that holds
 abbrev pub judged : Image → ℕ → Option Bool → Option (List ℕ × Bool) → Result Row TypeFault

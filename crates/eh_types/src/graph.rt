@@ -1,5 +1,5 @@
 //! Types by their addresses (docs/types.md).
-ghost use Rattle.std.specs.Prelude.{◌≡◌, ◌≢◌, ◌<◌, ◌≤◌, is_some, option_copied, length, map, nat_lt, IfOk, IfErr};
+ghost use Rattle.std.specs.Prelude.{◌≡◌, ◌≢◌, ◌<◌, ◌≤◌, is_some, option_copied, option_map, length, map, nat_lt, IfOk, IfErr};
 ghost use Rattle.std.specs.List.{prefix_len};
 ghost use Rattle.std.specs.Map.{values_of, keys_of};
 ghost use Rattle.std.specs.List.Sorted.{IsStrictlySortedBy};
@@ -8,14 +8,17 @@ ghost use Rattle.eh_types.specs.declared.fault.TypeFault.TheVariants.{OutOfMemor
 ghost use Rattle.eh_types.specs.Vtables.{vtables_of};
 ghost use Rattle.eh_types.specs.Meant.{IsGraph, Shows, NoGraph};
 ghost use Rattle.eh_types.specs.Graph.{Rise, row_of, kind_of, bases_of, name_of, same_type, same_name, IsSound};
+ghost use Rattle.eh_types.specs.Types.{row_in, rows_in};
 
+use crate::bases::Bases;
 use crate::fault::TypeFault;
 use crate::info::TypeInfo;
-use crate::kind::{Base, TypeKind};
+use crate::kind::TypeKind;
 use crate::reader::{Source, read_all};
 use crate::state::{Done, State};
 use crate::vtables::vtables_of;
 use elf_image::image::Image;
+use elf_image::segment::Segment;
 use std::alloc::{AllocError, Global};
 use std::collections::BTreeMap;
 use std::marker::Model;
@@ -26,21 +29,25 @@ pub const MOST_PATHS: u32 = 256;
 /// The first byte of a name that is told by its address alone.
 pub const LOCAL_MARK: u8 = b'*';
 
-/// Types by their addresses. Contracts see them as rows in rising order of their addresses.
+/// Types by their addresses, with the image's segments, whose bytes lend their names and their bases. Contracts see rows in rising
+/// order of their addresses.
 #[derive(Drop)]
-pub struct TypeGraph {
-    types: Vec<TypeInfo>,
+pub struct TypeGraph<'a> {
+    segments: Vec<Segment<'a>>,
+    types: Vec<TypeInfo<'a>>,
 }
 
-impl Model for TypeGraph {
+impl<'a> Model for TypeGraph<'a> {
     ghost use Rattle.std.specs.Prelude.{List};
+    ghost use Rattle.elf_image.specs.Segments.{RiseFrom};
     ghost use Rattle.eh_types.specs.Graph.{Row, IsSound};
+    ghost use Rattle.eh_types.specs.Types.{rows_in};
 
     ghost Value = { List Row };
 
-    ghost view = { λ g. g.types.items };
+    ghost view = { λ g. rows_in g.segments.items g.types.items };
 
-    ghost invariant = { λ g. IsSound g.types.items };
+    ghost invariant = { λ g. IsSound (rows_in g.segments.items g.types.items) × RiseFrom 0 g.segments.items };
 }
 
 /// How many of the types stand below an address, by halving.
@@ -52,9 +59,9 @@ fn types_below(types: &[TypeInfo], ty: u32) -> usize
     types.partition_point(|t| t.at < ty)
 }
 
-/// The type at an address.
+/// What is kept of the type at an address.
 #[tactic(auto, using(crate::proofs::Lookups::row_lookups))]
-fn row(types: &[TypeInfo], ty: u32) -> Option<&TypeInfo>
+fn row<'g, 'a>(types: &'g [TypeInfo<'a>], ty: u32) -> Option<&'g TypeInfo<'a>>
     requires { Rise 0 types.now }
     ensures { option_copied result ≡ row_of types.now ty }
 {
@@ -66,6 +73,19 @@ fn row(types: &[TypeInfo], ty: u32) -> Option<&TypeInfo>
     if info.at() == ty { Some(info) } else { None }
 }
 
+/// The same, where contracts see its bases in these segments too.
+fn found<'g, 'a>(
+    segments: &[Segment],
+    types: &'g [TypeInfo<'a>],
+    ty: u32,
+) -> Option<&'g TypeInfo<'a>>
+    requires { Rise 0 (rows_in segments.now types.now) }
+    ensures { option_map (row_in segments.now) (option_copied result) ≡ row_of (rows_in segments.now types.now) ty }
+{
+    let _count = segments.len();
+    row(types, ty)
+}
+
 /// One name, neither empty nor told by its address alone.
 fn is_same_name(a: &[u8], b: &[u8]) -> bool
     ensures { result ≡ same_name a.now b.now }
@@ -74,17 +94,52 @@ fn is_same_name(a: &[u8], b: &[u8]) -> bool
 }
 
 /// The types that are done, in rising order of their addresses.
-fn collected(alloc: Global, done: BTreeMap<u32, Done>) -> Result<Vec<TypeInfo>, AllocError>
-    ensures items { IfOk result (λ v. v.items ≡ map (λ d. d.info) (values_of done.entries)) }
-    ensures ordered { IsStrictlySortedBy nat_cmp (keys_of done.entries) }
+fn collected<'a>(
+    alloc: Global,
+    done: BTreeMap<u32, Done<'a>>,
+) -> Result<Vec<TypeInfo<'a>>, AllocError>
+    ensures items { IfOk result (λ v. v.items ≡ map (λ d. d.info) (values_of done.entry.entries)) }
+    ensures ordered { IsStrictlySortedBy nat_cmp (keys_of done.entry.entries) }
 {
-    done.into_values().map(|d| d.info).collect(alloc)
+    let mut types = Vec::with_capacity(alloc, done.len())?;
+    for d in done.into_values() {
+        let Done { info, paths: _ } = d;
+        types.push(info)?;
+    }
+    Ok(types)
+}
+
+/// The same segment, which lends the same bytes.
+fn same_segment<'a>(segment: &Segment<'a>) -> Segment<'a>
+    ensures { result ≡ segment.now }
+{
+    Segment {
+        start: segment.start(),
+        bytes: segment.bytes(),
+        size: segment.size(),
+        write: segment.may_write(),
+        exec: segment.may_execute(),
+    }
+}
+
+/// The same segments: at most 1,024, by the limit of docs/elf.md.
+fn same_segments<'a>(
+    alloc: Global,
+    segments: &[Segment<'a>],
+) -> Result<Vec<Segment<'a>>, AllocError>
+    ensures { IfOk result (λ v. v.items ≡ segments.now) }
+{
+    let mut same = Vec::with_capacity(alloc, segments.len())?;
+    for segment in segments {
+        same.push(same_segment(segment))?;
+    }
+    Ok(same)
 }
 
 /// The types that the roots reach.
-fn types_of(alloc: Global, source: &Source) -> Result<Vec<TypeInfo>, TypeFault>
+fn types_of<'a>(alloc: Global, source: &Source<'_, 'a>) -> Result<Vec<TypeInfo<'a>>, TypeFault>
     requires told { source.now.vtables ≡ vtables_of source.now.image.now }
-    ensures meant { IfOk result (λ types. IsGraph source.now.image.now source.now.roots.now types.items) }
+    ensures meant { IfOk result (λ types. IsGraph source.now.image.now source.now.roots.now (rows_in source.now.image.now.segments types.items)) }
     ensures shown { IfErr result (λ fault. fault ≢ OutOfMemory → Shows source.now.image.now source.now.roots.now fault) }
 {
     match read_all(alloc, source) {
@@ -100,11 +155,12 @@ fn types_of(alloc: Global, source: &Source) -> Result<Vec<TypeInfo>, TypeFault>
     }
 }
 
-impl TypeGraph {
+impl<'a> TypeGraph<'a> {
     /// The graph of the types at these addresses and of all that they reach: a class its bases, a pointer its pointee. Refused
     /// with a type that is reached and shows the fault, exactly where they mean no graph; which of several such types is named
-    /// is left open. Takes time linear in the types and their bases but for look-ups, which halve.
-    pub fn read(alloc: Global, image: &Image, roots: &[u32]) -> Result<TypeGraph, TypeFault>
+    /// is left open. Takes time linear in the types and their bases but for look-ups, which halve. Lends names and bases from the
+    /// image's bytes, and copies neither.
+    pub fn read(alloc: Global, image: &Image<'a>, roots: &[u32]) -> Result<TypeGraph<'a>, TypeFault>
         ensures meant { IfOk result (λ graph. IsGraph image.now roots.now graph) }
         ensures shown { IfErr result (λ fault. fault ≢ OutOfMemory → Shows image.now roots.now fault) }
         ensures none { IfErr result (λ fault. fault ≢ OutOfMemory → NoGraph image.now roots.now) }
@@ -115,7 +171,10 @@ impl TypeGraph {
             roots,
         };
         match types_of(alloc, &source) {
-            Ok(types) => Ok(TypeGraph { types }),
+            Ok(types) => {
+                let segments = same_segments(alloc, image.segments())?;
+                Ok(TypeGraph { segments, types })
+            }
             Err(fault) => Err(fault),
         }
     }
@@ -125,7 +184,10 @@ impl TypeGraph {
         ensures holds { result ≡ is_some (row_of self.now ty) }
         ensures sound { IsSound self.now }
     {
-        row(&self.types, ty).is_some()
+        match found(&self.segments, &self.types, ty) {
+            Some(_) => true,
+            None => false,
+        }
     }
 
     /// What the type at the address is; None exactly where there is none.
@@ -133,29 +195,31 @@ impl TypeGraph {
         ensures kind { result ≡ kind_of self.now ty }
         ensures sound { IsSound self.now }
     {
-        match row(&self.types, ty) {
+        match found(&self.segments, &self.types, ty) {
             Some(info) => Some(info.kind()),
             None => None,
         }
     }
 
-    /// The bases of the type at the address, in their order; none where there is no type.
-    pub fn bases(&self, ty: u32) -> &[Base]
-        ensures bases { result.now ≡ bases_of self.now ty }
+    /// The bases of the type at the address, in their order; none where there is no type. One look-up, then one for each word of a
+    /// base that is given.
+    pub fn bases(&self, ty: u32) -> Bases<'_, 'a>
+        ensures bases { result ≡ bases_of self.now ty }
         ensures sound { IsSound self.now }
     {
-        match row(&self.types, ty) {
-            Some(info) => info.bases(),
-            None => &[],
+        let segments = &self.segments[..];
+        match found(segments, &self.types, ty) {
+            Some(info) => Bases::of(segments, info.at(), info.kind()),
+            None => Bases::of(segments, 0, TypeKind::Other),
         }
     }
 
-    /// The name of the type at the address, without the zero byte behind it; empty where there is no type.
+    /// The name of the type at the address, without the zero byte after it; empty where there is no type.
     pub fn name(&self, ty: u32) -> &[u8]
         ensures name { result.now ≡ name_of self.now ty }
         ensures sound { IsSound self.now }
     {
-        match row(&self.types, ty) {
+        match found(&self.segments, &self.types, ty) {
             Some(info) => info.name(),
             None => &[],
         }

@@ -36,7 +36,7 @@ pub fn words_are_fixed()
     ensures { WordsAreFixed }
 {}
 
-/// Its name stands in read-only bytes, with a zero byte behind it and none in it.
+/// Its name stands in read-only bytes, with a zero byte after it and none in it.
 pub fn names_are_ended()
     ensures { NamesAreEnded }
 {}

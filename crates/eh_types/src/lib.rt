@@ -2,6 +2,7 @@
 //! from an image, and looked up by address. docs/types.md states the rules.
 #![tactic(auto)]
 
+pub mod bases;
 pub mod fault;
 pub mod graph;
 pub mod info;
@@ -13,6 +14,7 @@ mod types;
 mod vtables;
 mod words;
 
+pub use bases::Bases;
 pub use fault::TypeFault;
 pub use graph::TypeGraph;
 pub use kind::{Base, TypeKind};

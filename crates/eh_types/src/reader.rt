@@ -55,8 +55,8 @@ fn wait(pending: &mut Vec<u32>, kind: TypeKind) -> Result<(), AllocError>
 }
 
 #[tactic(auto, using(elf_image::proofs::Entries::lookup_insert))]
-fn keep(done: &mut BTreeMap<u32, Done>, at: u32, d: Done) -> Result<(), AllocError>
-    ensures { IfOk result (λ _. (q : ℕ) → lookup (is_at (nat_cmp q)) done.new.entries ≡ (if q == at then Some d else lookup (is_at (nat_cmp q)) done.old.entries)) }
+fn keep<'a>(done: &mut BTreeMap<u32, Done<'a>>, at: u32, d: Done<'a>) -> Result<(), AllocError>
+    ensures { IfOk result (λ _. (q : ℕ) → lookup (is_at (nat_cmp q)) done.new.entries ≡ (if q == at then Some d.entry else lookup (is_at (nat_cmp q)) done.old.entries)) }
 {
     done.insert(at, d)?;
     Ok(())
@@ -123,7 +123,7 @@ fn take_base(source: &Source, state: &mut State, frame: Frame) -> Result<(), Typ
 }
 
 /// Ends the type that was on top, whose bases are all done.
-fn finish(alloc: Global, source: &Source, state: &mut State, frame: Frame) -> Result<(), TypeFault>
+fn finish<'a>(source: &Source<'_, 'a>, state: &mut State<'a>, frame: Frame) -> Result<(), TypeFault>
     requires told { source.now.vtables ≡ vtables_of source.now.image.now }
     requires reading { IsReadingWith source.now.image.now source.now.roots.now state.old (frame ∷ tops state.old) }
     requires all { frame.count ≤ frame.next }
@@ -134,7 +134,7 @@ fn finish(alloc: Global, source: &Source, state: &mut State, frame: Frame) -> Re
     if frame.paths > u64::from(MOST_PATHS) {
         return Err(TypeFault::TooManyPaths(frame.at));
     }
-    let info = info(alloc, source.image, &source.vtables, frame.at)?;
+    let info = info(source.image, &source.vtables, frame.at)?;
     let done = Done {
         info,
         paths: frame.paths as u32,
@@ -167,7 +167,7 @@ fn take_waiting(source: &Source, state: &mut State) -> Result<bool, TypeFault>
 }
 
 /// Does one step. Whether there was anything left to do.
-fn step(alloc: Global, source: &Source, state: &mut State) -> Result<bool, TypeFault>
+fn step<'a>(source: &Source<'_, 'a>, state: &mut State<'a>) -> Result<bool, TypeFault>
     requires told { source.now.vtables ≡ vtables_of source.now.image.now }
     requires reading { IsReading source.now.image.now source.now.roots.now state.old }
     ensures reading { IfOk result (λ _. IsReading source.now.image.now source.now.roots.now state.new) }
@@ -181,13 +181,13 @@ fn step(alloc: Global, source: &Source, state: &mut State) -> Result<bool, TypeF
     if frame.next < frame.count {
         take_base(source, state, frame)?;
     } else {
-        finish(alloc, source, state, frame)?;
+        finish(source, state, frame)?;
     }
     Ok(true)
 }
 
 /// Nothing is done, and the roots wait.
-fn start(alloc: Global, source: &Source) -> Result<State, AllocError>
+fn start<'a>(alloc: Global, source: &Source<'_, 'a>) -> Result<State<'a>, AllocError>
     ensures { IfOk result (λ state. IsReading source.now.image.now source.now.roots.now state) }
 {
     let pending = Vec::from_slice(alloc, source.roots)?;
@@ -200,7 +200,7 @@ fn start(alloc: Global, source: &Source) -> Result<State, AllocError>
 }
 
 /// Reads all that the roots reach.
-pub(crate) fn read_all(alloc: Global, source: &Source) -> Result<State, TypeFault>
+pub(crate) fn read_all<'a>(alloc: Global, source: &Source<'_, 'a>) -> Result<State<'a>, TypeFault>
     requires told { source.now.vtables ≡ vtables_of source.now.image.now }
     ensures reading { IfOk result (λ state. IsReading source.now.image.now source.now.roots.now state) }
     ensures ended { IfOk result (λ state. (state.stack.items ≡ []) × (state.pending.items ≡ [])) }
@@ -208,7 +208,7 @@ pub(crate) fn read_all(alloc: Global, source: &Source) -> Result<State, TypeFaul
 {
     let mut state = start(alloc, source)?;
     loop {
-        if !step(alloc, source, &mut state)? {
+        if !step(source, &mut state)? {
             return Ok(state);
         }
     }

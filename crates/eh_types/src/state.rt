@@ -11,8 +11,8 @@ use std::collections::{BTreeMap, BTreeSet};
 
 /// A type whose bases have all been read, with the number of its paths.
 #[derive(Drop)]
-pub(crate) struct Done {
-    pub info: TypeInfo,
+pub(crate) struct Done<'a> {
+    pub info: TypeInfo<'a>,
     pub paths: u32,
 }
 
@@ -29,14 +29,14 @@ pub(crate) struct Frame {
 /// The types that are done, those whose bases are being read (as a set, and as a stack in which each is a base of the one
 /// below it), and those that wait.
 #[derive(Drop)]
-pub(crate) struct State {
-    pub done: BTreeMap<u32, Done>,
+pub(crate) struct State<'a> {
+    pub done: BTreeMap<u32, Done<'a>>,
     pub open: BTreeSet<u32>,
     pub stack: Vec<Frame>,
     pub pending: Vec<u32>,
 }
 
-impl State {
+impl<'a> State<'a> {
     /// How many paths a type that is done has.
     pub(crate) fn paths(&self, a: u32) -> Option<u32>
         ensures { result ≡ option_map (λ d. d.paths) (done_at self.now a) }

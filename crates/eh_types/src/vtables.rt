@@ -21,7 +21,7 @@ pub const POINTER: &[u8] = b"_ZTVN10__cxxabiv119__pointer_type_infoE";
 
 /// How far above the start of a vtable the words of its types point, in bytes.
 pub const VTABLE_POINT: u32 = 8;
-/// Where the first word behind a type's name stands, in bytes from the type: a base, or flags.
+/// Where the first word after a type's name stands, in bytes from the type: a base, or flags.
 pub const FIRST: u64 = 8;
 /// Where the second one stands: a number of bases, or a pointee.
 pub const SECOND: u64 = 12;

@@ -1,7 +1,9 @@
 //! The words and names at addresses, read in the file's bytes of an image's segments (docs/types.md).
-ghost use Rattle.std.specs.Prelude.{◌≡◌, ◌+◌, ◌-◌, ◌*◌, ◌<◌, ◌≤◌, length, drop, if◌then◌else◌, ◌^◌, Some, None, IfSome, position, ◌==◌, MatchOption, option_copied, min};
+ghost use Rattle.std.specs.Prelude.{◌≡◌, ◌+◌, ◌-◌, ◌*◌, ◌<◌, ◌≤◌, length, drop, if◌then◌else◌, ◌^◌, Some, None, IfSome, position, ◌==◌, MatchOption, option_copied, min, nat_le};
+ghost use Rattle.std.specs.List.{prefix_len};
 ghost use Rattle.byteorder.specs.Endian.{little_number};
 ghost use Rattle.elf_image.specs.Image.{IsSound};
+ghost use Rattle.elf_image.specs.Segments.{RiseFrom};
 ghost use Rattle.elf_image.specs.Functions.{segment_at};
 ghost use Rattle.eh_types.specs.Words.{has, room, word, words_from, name_at, name_in, text_of};
 
@@ -12,13 +14,48 @@ use elf_image::segment::Segment;
 /// The bytes of a word.
 pub const WORD_SIZE: u64 = 4;
 
+/// How many segments begin at an address or below it.
+fn segments_up_to(segments: &[Segment], a: u32) -> usize
+    requires { RiseFrom 0 segments.now }
+    ensures count { result ≡ prefix_len (λ s. nat_le s.start a) segments.now }
+    ensures within { result ≤ length segments.now }
+{
+    segments.partition_point(|s| s.start() <= a)
+}
+
+/// The segment whose memory holds an address, by halving.
+#[tactic(auto, using(crate::proofs::Reading::holders))]
+fn holder<'s, 'a>(segments: &'s [Segment<'a>], a: u32) -> Option<&'s Segment<'a>>
+    requires { RiseFrom 0 segments.now }
+    ensures { option_copied result ≡ segment_at segments.now a }
+{
+    let count = segments_up_to(segments, a);
+    if count == 0 {
+        return None;
+    }
+    let segment = &segments[count - 1];
+    if u64::from(a) < u64::from(segment.start()) + u64::from(segment.size()) {
+        Some(segment)
+    } else {
+        None
+    }
+}
+
 /// The segment whose memory holds an address; from 2^32 on there is none.
 #[tactic(auto, using(crate::proofs::Reading::capped))]
+fn segment_in<'s, 'a>(segments: &'s [Segment<'a>], a: u64) -> Option<&'s Segment<'a>>
+    requires { RiseFrom 0 segments.now }
+    ensures { option_copied result ≡ segment_at segments.now a }
+{
+    holder(segments, a.min(u64::from(u32::MAX)) as u32)
+}
+
+/// The segment of an image whose memory holds an address.
 fn segment_at<'i, 'a>(image: &'i Image<'a>, a: u64) -> Option<&'i Segment<'a>>
     ensures found { option_copied result ≡ segment_at image.now.segments a }
     ensures sound { IsSound image.now }
 {
-    image.segment_at(a.min(u64::from(u32::MAX)) as u32)
+    segment_in(image.segments(), a)
 }
 
 /// How many bytes of the file a segment has from an address on.
@@ -46,13 +83,21 @@ fn word_in(segment: &Segment, a: u64) -> u32
 
 /// The word at an address; 0 where there is none.
 #[tactic(auto, using(crate::proofs::Reading::word_lookups))]
-pub(crate) fn word(image: &Image, a: u64) -> u32
-    ensures { result ≡ word image.now.segments a }
+pub(crate) fn word_of(segments: &[Segment], a: u64) -> u32
+    requires { RiseFrom 0 segments.now }
+    ensures { result ≡ word segments.now a }
 {
-    match segment_at(image, a) {
+    match segment_in(segments, a) {
         Some(segment) => word_in(segment, a),
         None => 0,
     }
+}
+
+/// The word at an address of an image.
+pub(crate) fn word(image: &Image, a: u64) -> u32
+    ensures { result ≡ word image.now.segments a }
+{
+    word_of(image.segments(), a)
 }
 
 /// How many words the bytes of a segment have from an address on, of so many that are asked for.

@@ -1,5 +1,5 @@
 -- How far a walk has come, and what it gives where it ends.
-use Rattle.std.proofs.Common.{◌≡◌, ℕ, ◌+◌, ◌<◌, ◌≤◌, Bool, true, false, cond, List, [], ◌∷◌, ◌++◌, length, map, take, refl, sym, ap, subst, ◌∙◌, Option, Some, None, Result, Ok, Err, arith, length-append, append_assoc}
+use Rattle.std.proofs.Common.{◌≡◌, ℕ, ◌+◌, ◌<◌, ◌≤◌, Bool, true, false, cond, List, [], ◌∷◌, ◌++◌, length, take, refl, sym, ap, subst, ◌∙◌, Some, None, Result, Ok, Err, arith, length-append, append_assoc}
 use Rattle.std.specs.Prelude.{is_some, IfOk}
 use Rattle.std.proofs.lemmas.Bool.{lt-ltb, le-ltb}
 use Rattle.std.proofs.lemmas.List.{take_all, take-append-le, length-map, append-nil}
@@ -9,15 +9,14 @@ use Rattle.thumb_core.specs.declared.ends.Cause.TheVariants.{CannotUnwind}
 use Rattle.eh_bytecode.specs.declared.frame.Vrs.{Vrs}
 use Rattle.eh_phase.specs.declared.walk.Cursor.{Cursor}
 use Rattle.eh_phase.specs.Phases.{Frames}
-use Rattle.thumb_core.specs.Registers.{all_of}
 use Rattle.eh_phase.specs.Frames.{Stack, covered_at, ended, frames_of}
 use Rattle.eh_walk.specs.declared.walk.Backtrace.{Backtrace}
 use Rattle.eh_walk.specs.declared.walk.WalkEnd.{WalkEnd}
 use Rattle.eh_walk.specs.declared.walk.WalkEnd.TheVariants.{NoUnwind, Most}
 use Rattle.eh_walk.specs.declared.walk.WalkFrame.{WalkFrame}
 use Rattle.eh_walk.specs.declared.walk.WalkMemory.{WalkMemory}
-use Rattle.eh_walk.specs.declared.stands.Stands.TheVariants.{Nothing, Last, Inside}
-use Rattle.eh_walk.specs.Walks.{shown, end_by, frame_shown, frames_given, end_given, IsWalk, stands_at}
+use Rattle.eh_walk.specs.declared.stands.WalkPlace.TheVariants.{Nothing, Last, Inside}
+use Rattle.eh_walk.specs.Walks.{shown, end_by, frame_shown, IsWalk, stands_at}
 use Rattle.eh_walk.proofs.Places.{frames_from, all_shown, nothing_stands, last_stands, inside_stands, more_stands, none_stands}
 
 -- ---- what is given
@@ -96,7 +95,7 @@ module _ (image : Image) (stack : Stack) (low : stack.end ≤ STACK_END) (most :
         let n = more_stands image stack at low e in
         given_most most whole t (frame_shown at) n.0 (w.frames ∙ ap (λ fs. items ++ fs) n.1 ∙ ap (λ fs. fs ++ (frame_shown at ∷ n.0)) (sym same)) (ap length same ∙ full) ends
 
-  -- the same of a call that puts it behind the others
+  -- the same of a call that puts it after the others
   pub last_given : (r : Result Backtrace WalkMemory) (end : WalkEnd) → length items < most → stands_at image stack at ≡ Last end
       → IfOk r (λ w. w.frames.items ≡ items ++ (frame_shown at ∷ [])) → IfOk r (λ w. w.end ≡ end) → IfOk r (λ w. IsWalk most (Some whole) w)
   last_given (Ok t) end room e same ends = last_ends t end room e same ends

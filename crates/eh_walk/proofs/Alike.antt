@@ -1,7 +1,6 @@
 -- A run to a site is the same over bytes and with recorded activations.
-use Rattle.std.proofs.Common.{◌≡◌, ℕ, ◌+◌, ◌-◌, ◌==◌, ◌&&◌, Bool, true, false, cond, List, refl, ap, subst, ◌∙◌}
+use Rattle.std.proofs.Common.{◌≡◌, ℕ, ◌-◌, Bool, true, false, cond, List, refl, ap, ◌∙◌}
 use Rattle.event_runs.specs.Runs.{Event, Goes, Ends}
-use Rattle.event_runs.specs.Laws.{SameRan}
 use Rattle.thumb_core.specs.declared.ends.End.{End}
 use Rattle.thumb_core.specs.declared.ends.End.TheVariants.{Budget}
 use Rattle.eh_gates.specs.State.{State}

@@ -6,3 +6,7 @@ pub mod Activations
 pub mod Backtraces
 pub mod Reaching
 pub mod Alike
+pub mod Passing
+pub mod StopFound
+pub mod Flown
+pub mod ForcedActs

@@ -1,5 +1,5 @@
--- What stands at a place of a walk is the first of the frames from there, and behind it come those from the next place.
-use Rattle.std.proofs.Common.{◌≡◌, ℕ, ◌≤◌, Bool, true, false, List, [], ◌∷◌, map, slice_index, refl, sym, ap, subst, ◌∙◌, Option, Some, None, Result, Ok, Err}
+-- What stands at a place of a walk is the first of the frames from there, and after it come those from the next place.
+use Rattle.std.proofs.Common.{◌≡◌, ℕ, ◌≤◌, true, false, List, [], ◌∷◌, map, refl, sym, ap, subst, ◌∙◌, Option, Some, None, Result, Ok, Err}
 use Rattle.std.specs.Prelude.{is_some}
 use Rattle.eh_bus.specs.declared.map.TheConstants.{STACK_END}
 use Rattle.elf_image.specs.Image.{Image}
@@ -14,8 +14,8 @@ use Rattle.eh_phase.proofs.Whole.{frames_are_whole}
 use Rattle.eh_walk.specs.declared.walk.WalkEnd.{WalkEnd}
 use Rattle.eh_walk.specs.declared.walk.WalkEnd.TheVariants.{NoUnwind}
 use Rattle.eh_walk.specs.declared.walk.WalkFrame.{WalkFrame}
-use Rattle.eh_walk.specs.declared.stands.Stands.{Stands}
-use Rattle.eh_walk.specs.declared.stands.Stands.TheVariants.{Nothing, Last, Inside}
+use Rattle.eh_walk.specs.declared.stands.WalkPlace.{WalkPlace}
+use Rattle.eh_walk.specs.declared.stands.WalkPlace.TheVariants.{Nothing, Last, Inside}
 use Rattle.eh_walk.specs.Walks.{shown, end_by, frame_shown, outside_of, stands_by, stands_at}
 
 -- the frames from a place on
@@ -46,7 +46,7 @@ module _ (image : Image) (stack : Stack) where
 
     -- ---- the last one
 
-    end_in : Stands → WalkEnd
+    end_in : WalkPlace → WalkEnd
     end_in Nothing = NoUnwind
     end_in (Last end) = end
     end_in (Inside next) = NoUnwind
@@ -65,7 +65,7 @@ module _ (image : Image) (stack : Stack) where
 
     -- ---- one inside another
 
-    next_in : Cursor → Stands → Cursor
+    next_in : Cursor → WalkPlace → Cursor
     next_in other Nothing = other
     next_in other (Last end) = other
     next_in other (Inside next) = next

@@ -1,5 +1,5 @@
 -- A state at a site, of an accepted image, stands at a gate or a call that the checker reached.
-use Rattle.std.proofs.Common.{◌≡◌, ℕ, zero, suc, ◌+◌, ◌-◌, ◌/◌, ◌%◌, ◌^◌, ◌<◌, ◌&&◌, nat_le, Bool, true, false, cond, List, [], refl, sym, ap, subst, ◌∙◌, Option, Some, None, Ok, inl, inr, arith}
+use Rattle.std.proofs.Common.{◌≡◌, ℕ, zero, suc, ◌+◌, ◌-◌, ◌/◌, ◌%◌, ◌^◌, ◌<◌, ◌&&◌, nat_le, Bool, true, false, cond, [], refl, sym, ap, subst, Option, Some, None, Ok, inl, inr, arith}
 use Rattle.std.specs.Prelude.{Contains}
 use Rattle.std.proofs.lemmas.Bool.{and_parts, cases_eq, eqb-true, lt-leb}
 use Rattle.std.proofs.lemmas.List.Elements.{Contains-append_left}
@@ -12,16 +12,16 @@ use Rattle.stands_for.specs.thumb_isa.declared.instr.Decoded.TheVariants.{Is, Un
 use Rattle.stands_for.specs.thumb_isa.Rows.{decoded_of}
 use Rattle.stands_for.specs.thumb_core.Step.{instr_at, instr_of}
 use Rattle.stands_for.specs.frame_facts.declared.cause.FrameCause.TheVariants.{Undecodable}
-use Rattle.stands_for.specs.frame_scene.declared.places.Standing.{Standing}
-use Rattle.stands_for.specs.frame_scene.declared.places.Standing.TheVariants.{Instruction, Udf, Nothing}
-use Rattle.stands_for.specs.frame_scene.Places.{is_udf, standing_at, standing_by, halfword_of, of_decoded, wide_of, address_of}
-use Rattle.stands_for.specs.frame_scene.Scene.{Scene}
-use Rattle.stands_for.specs.frame_scene.Ways.{is_undecodable, is_nothing}
+use Rattle.stands_for.specs.frame_graph.declared.places.Standing.{Standing}
+use Rattle.stands_for.specs.frame_graph.declared.places.Standing.TheVariants.{Instruction, Udf, Nothing}
+use Rattle.stands_for.specs.frame_graph.Places.{is_udf, standing_at, standing_by, halfword_of, of_decoded, wide_of}
+use Rattle.stands_for.specs.frame_graph.FlowGraph.{FlowGraph}
+use Rattle.stands_for.specs.frame_graph.Edges.{is_undecodable, is_nothing}
 use Rattle.stands_for.specs.frame_flow.Causes.{shown, found}
 use Rattle.stands_for.specs.frame_check.Accepts.{Accepted}
 use Rattle.stands_for.specs.frame_check.Judged.{IsPlaced}
-use Rattle.stands_for.specs.frame_check.Roots.{scene_of}
-use Rattle.stands_for.specs.frame_check.Spots.{look}
+use Rattle.stands_for.specs.frame_check.Roots.{flow_graph_of}
+use Rattle.stands_for.specs.frame_check.Roles.{look}
 use Rattle.stands_for.proofs.frame_check.Wells.{placed_at}
 use Rattle.stands_for.proofs.frame_reach.Stands.{stands_inside, stands_size}
 use Rattle.stands_for.specs.two_machines.Activations.{Recorded, memory_of}
@@ -31,7 +31,7 @@ use Rattle.stands_for.proofs.accepted_code.Fetch.{code_fetch}
 use Rattle.stands_for.specs.Chain.{code, StandsAt}
 use Rattle.stands_for.specs.Stands.{Keeps, IsProgram, DoesAt}
 use Rattle.stands_for.proofs.Flows.{none_stands}
-use Rattle.stands_for.proofs.Level as level
+use Rattle.stands_for.proofs.SimpleTurns as simple
 use Rattle.steps_keep.proofs.Jumps.{not_found}
 use Rattle.frames_same.specs.Frames.{ThrowsAt}
 use Rattle.eh_walk.specs.Sites.{site_by, site_at, site_state}
@@ -91,36 +91,36 @@ wide_not first (Some second) e = not_udf (decoded_of first second) e
 -- ---- what stands at pc
 
 module _ (x : Accepted) (is : IsProgram x) (s : Recorded) (k : Keeps x s) (at : StandsAt x s.first s.segments s.regs s.regs.pc) where
-  abbrev scene : Scene
-  scene = scene_of x.image at.function
+  abbrev flow_graph : FlowGraph
+  flow_graph = flow_graph_of x.image at.function
 
-  not_nothing : standing_at scene at.place ≡ Nothing → ⊥
+  not_nothing : standing_at flow_graph at.place ≡ Nothing → ⊥
   unfolding found
   not_nothing e =
       let c = code x at.function at.marks in
-      let yes : is_undecodable c.scene at.place ≡ true = ap is_nothing e in
-      let first : Contains (shown (is_undecodable c.scene at.place) Undecodable) Undecodable = rw yes (contains_head Undecodable []) in
+      let yes : is_undecodable c.flow_graph at.place ≡ true = ap is_nothing e in
+      let first : Contains (shown (is_undecodable c.flow_graph at.place) Undecodable) Undecodable = rw yes (contains_head Undecodable []) in
       not_found c at.place at.fact (none_stands x at.function at.marks is.sound at.of.among at.of.are) at.state Undecodable
-      (Contains-append_left (shown (is_undecodable c.scene at.place) Undecodable) _ Undecodable first)
+      (Contains-append_left (shown (is_undecodable c.flow_graph at.place) Undecodable) _ Undecodable first)
 
-  none_at : standing_at scene at.place ≡ Udf → instr_at (memory_of s) s.regs.pc ≡ None
+  none_at : standing_at flow_graph at.place ≡ Udf → instr_at (memory_of s) s.regs.pc ≡ None
   unfolding standing_at
-  none_at e = by_halves (halfword_of scene at.place) (halfword_of scene (at.place + 1)) refl e
+  none_at e = by_halves (halfword_of flow_graph at.place) (halfword_of flow_graph (at.place + 1)) refl e
     where
-      none_by : (first : ℕ) → halfword_of scene at.place ≡ Some first → is_udf first ≡ true → instr_at (memory_of s) s.regs.pc ≡ None
+      none_by : (first : ℕ) → halfword_of flow_graph at.place ≡ Some first → is_udf first ≡ true → instr_at (memory_of s) s.regs.pc ≡ None
       none_by first h udf =
           let top : first / 256 ≡ 0xde = eqb-true (first / 256) 0xde udf in
           let fetches : fetch (memory_of s) s.regs.pc ≡ Ok first = rw at.address (code_fetch x.image at.function s.segments is.image at.of.among k.image at.place first h) in
           let narrow : nat_le 0xe800 first ≡ false = lt-leb 0xe800 first (omega (arith, top)) in
           rw (fetches, narrow) (udf_none first udf)
 
-      by_udf : (u b : Bool) (first : ℕ) (w : Option ℕ) → halfword_of scene at.place ≡ Some first → is_udf first ≡ u
+      by_udf : (u b : Bool) (first : ℕ) (w : Option ℕ) → halfword_of flow_graph at.place ≡ Some first → is_udf first ≡ u
           → cond u Udf (cond b (of_decoded (decoded_of first 0)) (wide_of first w)) ≡ Udf → instr_at (memory_of s) s.regs.pc ≡ None
       by_udf true b first w h u g = none_by first h u
       by_udf false true first w h u g = absurd (not_udf (decoded_of first 0) g)
       by_udf false false first w h u g = absurd (wide_not first w g)
 
-      by_halves : (o w : Option ℕ) → halfword_of scene at.place ≡ o → standing_by o w ≡ Udf → instr_at (memory_of s) s.regs.pc ≡ None
+      by_halves : (o w : Option ℕ) → halfword_of flow_graph at.place ≡ o → standing_by o w ≡ Udf → instr_at (memory_of s) s.regs.pc ≡ None
       by_halves None w h g = absurd cc
       by_halves (Some first) w h g = by_udf (is_udf first) _ first w h refl g
 
@@ -128,20 +128,20 @@ module _ (x : Accepted) (is : IsProgram x) (s : Recorded) (k : Keeps x s) (at : 
   placed = subst IsPlaced at.of.among.2 (placed_at x.image at.of.among.0 at.function is.image at.of.among.1)
 
   -- the instruction lies below the end of all addresses
-  below : (i : Instr) (size : ℕ) → standing_at scene at.place ≡ Instruction i size → s.regs.pc + 2 < 2 ^ 32
+  below : (i : Instr) (size : ℕ) → standing_at flow_graph at.place ≡ Instruction i size → s.regs.pc + 2 < 2 ^ 32
   below i size e =
-      let inside = stands_inside scene at.place i size e in
+      let inside = stands_inside flow_graph at.place i size e in
       let here = at.address in
-      elim (stands_size scene at.place i size e) [
+      elim (stands_size flow_graph at.place i size e) [
         | inl two ↦ omega (arith, inside, two, placed.low, here)
         | inr four ↦ omega (arith, inside, four, placed.low, here)
       ]
 
-  module _ (reached : (look x.spots s.regs.pc).is_instr ≡ true) (site : ℕ) where
-    does : (i : Instr) (size : ℕ) → standing_at scene at.place ≡ Instruction i size → DoesAt x s i
+  module _ (reached : (look x.roles s.regs.pc).is_instr ≡ true) (site : ℕ) where
+    does : (i : Instr) (size : ℕ) → standing_at flow_graph at.place ≡ Instruction i size → DoesAt x s i
     does i size e = record { reached = reached; at = at; size = size; stands = e }
 
-    at_instr : (i : Instr) (size : ℕ) → standing_at scene at.place ≡ Instruction i size → site_by s.regs.pc i ≡ Some site → ThrowsAt x s site
+    at_instr : (i : Instr) (size : ℕ) → standing_at flow_graph at.place ≡ Instruction i size → site_by s.regs.pc i ≡ Some site → ThrowsAt x s site
     at_instr (Svc imm) size e h = inl (imm, does (Svc imm) size e, sym (same_Some s.regs.pc site h))
     at_instr (Blx m) size e h = inr (inl (m, does (Blx m) size e, sym (same_Some s.regs.pc site h)))
     at_instr (Bl off) size e h =
@@ -150,18 +150,18 @@ module _ (x : Accepted) (is : IsProgram x) (s : Recorded) (k : Keeps x s) (at : 
         inr (inr (off, does (Bl off) size e, omega (arith, same, low)))
     at_instr i size e h = absurd (none-some site h)
 
-    by_standing : (t : Standing) → standing_at scene at.place ≡ t → site_at s.regs.pc (instr_at (memory_of s) s.regs.pc) ≡ Some site → ThrowsAt x s site
-    by_standing (Instruction i size) e h = at_instr i size e (subst (λ (o : Option (Instr × ℕ)). site_at s.regs.pc o ≡ Some site) (level.fetch x is s k at i size e).stands h)
+    by_standing : (t : Standing) → standing_at flow_graph at.place ≡ t → site_at s.regs.pc (instr_at (memory_of s) s.regs.pc) ≡ Some site → ThrowsAt x s site
+    by_standing (Instruction i size) e h = at_instr i size e (subst (λ (o : Option (Instr × ℕ)). site_at s.regs.pc o ≡ Some site) (simple.fetch x is s k at i size e).stands h)
     by_standing Udf e h = absurd (none-some site (subst (λ (o : Option (Instr × ℕ)). site_at s.regs.pc o ≡ Some site) (none_at e) h))
     by_standing Nothing e h = absurd (not_nothing e)
 
 -- A state that is kept and stands at a site stands at a checked gate or call, from where a throw may begin.
 pub throws_there : (x : Accepted) (s : Recorded) (site : ℕ) → IsProgram x → Keeps x s → site_state (program_of x) s.regs (memory_of s) ≡ Some site → ThrowsAt x s site
 unfolding site_state
-throws_there x s site is k e = go (look x.spots s.regs.pc).is_instr refl e
+throws_there x s site is k e = go (look x.roles s.regs.pc).is_instr refl e
   where
-    go : (b : Bool) → (look x.spots s.regs.pc).is_instr ≡ b → cond b (site_at s.regs.pc (instr_at (memory_of s) s.regs.pc)) None ≡ Some site → ThrowsAt x s site
+    go : (b : Bool) → (look x.roles s.regs.pc).is_instr ≡ b → cond b (site_at s.regs.pc (instr_at (memory_of s) s.regs.pc)) None ≡ Some site → ThrowsAt x s site
     go true reached h =
         let at = k.first reached in
-        by_standing x is s k at reached site (standing_at (scene_of x.image at.function) at.place) refl h
+        by_standing x is s k at reached site (standing_at (flow_graph_of x.image at.function) at.place) refl h
     go false reached h = absurd (none-some site h)

@@ -1,15 +1,13 @@
 -- What stands at a place, from what the codes of its site give.
-use Rattle.std.proofs.Common.{◌≡◌, ℕ, Bool, true, false, List, refl, sym, ap, subst, ◌∙◌, Option, Some, None}
+use Rattle.std.proofs.Common.{◌≡◌, true, false, refl, ap, Option, Some, None}
 use Rattle.std.specs.Prelude.{is_some, slice_index}
 use Rattle.elf_image.specs.Image.{Image}
-use Rattle.unwind_codes.specs.Cut.{cut}
-use Rattle.eh_bytecode.specs.Meaning.{unwound}
 use Rattle.eh_bytecode.specs.declared.frame.Vrs.{Vrs}
 use Rattle.eh_phase.specs.declared.walk.Covered.{Covered}
 use Rattle.eh_phase.specs.declared.walk.Cursor.{Cursor}
-use Rattle.eh_phase.specs.Frames.{Stack, covered_at, caller_of, caller_by, caller_at, checked, outer}
+use Rattle.eh_phase.specs.Frames.{Stack, covered_at, caller_by, caller_at, checked, outer}
 use Rattle.eh_walk.specs.declared.walk.WalkEnd.TheVariants.{NoUnwind}
-use Rattle.eh_walk.specs.declared.stands.Stands.TheVariants.{Nothing, Last}
+use Rattle.eh_walk.specs.declared.stands.WalkPlace.TheVariants.{Nothing, Last}
 use Rattle.eh_walk.specs.Walks.{outside_of, stands_by, stands_at}
 
 module _ (image : Image) (stack : Stack) (at : Cursor) where

@@ -1,5 +1,5 @@
 -- What walks promise of an accepted image, in recorded activations (docs/walks.md, "Laws").
-use Rattle.std.specs.Prelude.{ℕ, ◌≡◌, List, Option}
+use Rattle.std.specs.Prelude.{ℕ, ◌≡◌, ◌<◌, ◌^◌, List, Option, Result}
 use Rattle.eh_bus.specs.Memory.{Memory}
 use Rattle.eh_trace.specs.Trace.{Trace}
 use Rattle.event_runs.specs.Laws.{SameRan}
@@ -14,6 +14,8 @@ use Rattle.stands_for.specs.Stands.{IsProgram, StandsFor}
 use Rattle.machines_agree.specs.Turned.{AreBytes}
 use Rattle.eh_machine.specs.Follows.{Follows}
 use Rattle.eh_walk.specs.declared.walk.Backtrace.{Backtrace}
+use Rattle.eh_walk.specs.declared.stopping.ForceFault.{ForceFault}
+use Rattle.eh_walk.specs.Forced.{forced, recorded_forced}
 use Rattle.eh_walk.specs.Reaching.{Onward, run_to_site, recorded_run_to_site}
 use Rattle.eh_walk.specs.Walks.{IsWalk, frames_given, end_given, walk_of, recorded_walk}
 
@@ -32,6 +34,22 @@ pub record SameWalks (one two : Option Frames) : Type 0 where
 -- states that stand for each other have the same walks
 abbrev pub WalksSame : Type 0
 WalksSame = (x : Accepted) (b : State) (s : Recorded) → IsProgram x → StandsFor x b s → SameWalks (walk_of (program_of x) b.regs b.memory) (recorded_walk (program_of x) s)
+
+-- ---- forced unwinding
+
+-- with recorded activations it was refused or done alike, and what is left stands for what that leaves
+pub record ForcedAlike (x : Accepted) (number type : ℕ) (s : Recorded) (result : Result (Unit {0}) ForceFault) (new : State) : Type 0 where
+  pub answer : result ≡ (recorded_forced (program_of x) number type s).0
+  pub stands : StandsFor x new (recorded_forced (program_of x) number type s).1
+
+-- from each state with recorded activations that this one stands for
+abbrev pub ForcesActivations : Accepted → ℕ → ℕ → State → Result (Unit {0}) ForceFault → State → Type 0
+ForcesActivations x number type old result new = Follows x old (λ s. ForcedAlike x number type s result new)
+
+-- states that stand for each other are unwound alike, to the frame of any number and with any word as the type
+abbrev pub ForcingsSame : Type 0
+ForcingsSame = (x : Accepted) (b : State) (s : Recorded) (number type : ℕ) → IsProgram x → StandsFor x b s → type < 2 ^ 32
+    → ForcedAlike x number type s (forced (program_of x) number type b).0 (forced (program_of x) number type b).1
 
 -- ---- a run to a site
 

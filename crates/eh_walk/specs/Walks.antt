@@ -1,5 +1,5 @@
 -- What a walk gives of a state (docs/walks.md).
-use Rattle.std.specs.Prelude.{ℕ, ◌≡◌, nat_lt, Bool, true, false, List, [], ◌∷◌, length, map, take, slice_index, if◌then◌else◌, Option, Some, None, option_map, Result, Ok, Err}
+use Rattle.std.specs.Prelude.{ℕ, ◌≡◌, nat_lt, false, List, [], ◌∷◌, length, map, take, slice_index, if◌then◌else◌, Option, Some, None, option_map, Result, Ok, Err}
 use Rattle.elf_image.specs.Image.{Image}
 use Rattle.eh_bus.specs.Memory.{Memory}
 use Rattle.thumb_core.specs.Registers.{all_of}
@@ -19,8 +19,8 @@ use Rattle.eh_walk.specs.declared.walk.Backtrace.{Backtrace}
 use Rattle.eh_walk.specs.declared.walk.WalkEnd.{WalkEnd}
 use Rattle.eh_walk.specs.declared.walk.WalkEnd.TheVariants.{Root, NoUnwind, Most, NotSite}
 use Rattle.eh_walk.specs.declared.walk.WalkFrame.{WalkFrame}
-use Rattle.eh_walk.specs.declared.stands.Stands.{Stands}
-use Rattle.eh_walk.specs.declared.stands.Stands.TheVariants.{Nothing, Last, Inside}
+use Rattle.eh_walk.specs.declared.stands.WalkPlace.{WalkPlace}
+use Rattle.eh_walk.specs.declared.stands.WalkPlace.TheVariants.{Nothing, Last, Inside}
 
 -- ---- what is shown
 
@@ -78,14 +78,14 @@ recorded_walk p s = option_map (λ site. frames_at p.image None site (all_of s.r
 abbrev pub frame_shown : Cursor → WalkFrame
 frame_shown at = shown_of at.site (slice_index at.vrs.r 13) at.vrs.r
 
-abbrev pub outside_of : Result Vrs Cause → Stands
+abbrev pub outside_of : Result Vrs Cause → WalkPlace
 outside_of (Ok next) = Inside (record { vrs = next; site = site_of next.r; innermost = false })
 outside_of (Err cause) = Last (end_by cause)
 
-abbrev pub stands_by : Stack → Cursor → Option Covered → Stands
+abbrev pub stands_by : Stack → Cursor → Option Covered → WalkPlace
 stands_by stack at None = Nothing
 stands_by stack at (Some c) = outside_of (outer stack None at.innermost c.codes at.vrs.r)
 
 -- no frame, the last one, or one that has another outside it
-unfoldable pub stands_at : Image → Stack → Cursor → Stands
+unfoldable pub stands_at : Image → Stack → Cursor → WalkPlace
 stands_at image stack at = stands_by stack at (covered_at image at.site)

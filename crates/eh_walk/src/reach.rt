@@ -23,8 +23,8 @@ fn most_events(budget: u64) -> u128
     u128::from(budget) + u128::from(MOST_FURTHER)
 }
 
-/// What is left of a budget behind an event.
-fn left_behind(left: u64) -> u64
+/// What is left of a budget after an event.
+fn left_after(left: u64) -> u64
     ensures { result ≡ left - 1 }
 {
     left.saturating_sub(1)
@@ -66,7 +66,7 @@ pub fn run_to_site<B: Bus, I: Source, O: Sink>(
             out,
         ) {
             Turned::Went => {
-                machine.left = left_behind(machine.left);
+                machine.left = left_after(machine.left);
                 events -= 1;
             }
             Turned::Ended(end) => return end,

@@ -17,7 +17,7 @@ use thumb_core::regs::Regs;
 
 /// What stands at a place of a walk.
 #[derive(Clone, Copy)]
-pub(crate) enum Stands {
+pub(crate) enum WalkPlace {
     /// No frame: no entry covers the site, or it can't be unwound, or its codes can't be read.
     Nothing,
     /// A frame, and why none stands outside it.
@@ -79,15 +79,15 @@ fn site_of(vrs: &Vrs) -> u32
 }
 
 /// What the registers that the codes of a frame gave are: those of the frame outside it, or none.
-fn outside(end: u32, at: &Cursor, next: Vrs) -> Stands
+fn outside(end: u32, at: &Cursor, next: Vrs) -> WalkPlace
     ensures { result ≡ outside_of (checked end None at.now.innermost (slice_index at.now.vrs.r 13) (Some next)) }
 {
     if is_no_frame(end, at.innermost, at.vrs.r[13], next.r[13]) {
-        Stands::Last(WalkEnd::NoUnwind)
+        WalkPlace::Last(WalkEnd::NoUnwind)
     } else if next.r[15] == NO_CALLER {
-        Stands::Last(WalkEnd::Root)
+        WalkPlace::Last(WalkEnd::Root)
     } else {
-        Stands::Inside(Cursor {
+        WalkPlace::Inside(Cursor {
             site: site_of(&next),
             vrs: next,
             innermost: false,
@@ -97,15 +97,15 @@ fn outside(end: u32, at: &Cursor, next: Vrs) -> Stands
 
 /// What stands at a place of a walk.
 #[tactic(auto, unfolding(eh_phase::specs::Frames::outer))]
-pub(crate) fn stands_at<B: Bus>(t: &Tables, bus: &B, at: &Cursor) -> Stands
+pub(crate) fn stands_at<B: Bus>(t: &Tables, bus: &B, at: &Cursor) -> WalkPlace
     ensures { result ≡ stands_at t.now.index (stack_of (B.memory bus.now)) at.now }
 {
     match caller_at(t, bus, &at.vrs, at.site) {
         None => {
             if is_covered(&t.index, at.site) {
-                Stands::Last(WalkEnd::NoUnwind)
+                WalkPlace::Last(WalkEnd::NoUnwind)
             } else {
-                Stands::Nothing
+                WalkPlace::Nothing
             }
         }
         Some(next) => {

@@ -5,7 +5,7 @@ ghost use Rattle.eh_phase.specs.Frames.{frames_of};
 ghost use Rattle.thumb_core.specs.Registers.{all_of};
 ghost use Rattle.eh_walk.specs.Walks.{IsWalk, frame_shown};
 
-use crate::stands::{Stands, is_covered, registers, stands_at};
+use crate::stands::{WalkPlace, is_covered, registers, stands_at};
 use eh_bus::bus::Bus;
 use eh_phase::Tables;
 use eh_phase::walk::Cursor;
@@ -95,14 +95,14 @@ pub(crate) fn walk_from<B: Bus>(
     };
     while frames.len() < most {
         match stands_at(t, bus, &at) {
-            Stands::Nothing => {
+            WalkPlace::Nothing => {
                 return Ok(Backtrace {
                     frames,
                     end: WalkEnd::NoUnwind,
                 });
             }
-            Stands::Last(end) => return ended_by(frames, &at, end),
-            Stands::Inside(next) => {
+            WalkPlace::Last(end) => return ended_by(frames, &at, end),
+            WalkPlace::Inside(next) => {
                 frames.push(frame_shown(&at))?;
                 at = next;
             }

@@ -24,8 +24,8 @@ unfoldable pub number_at : ℕ → List ℕ → ℕ → Option ℕ
 number_at n bytes at = if nat_le (at + n) (length bytes) then Some (little_number n (drop at bytes)) else None
 
 -- a byte with bit 7 set is followed by another one of the same number
-abbrev pub goes_on : ℕ → Bool
-goes_on b = nat_le ULEB128_MORE b
+abbrev pub has_more : ℕ → Bool
+has_more b = nat_le ULEB128_MORE b
 
 -- the number whose digits in base 128 are the low seven bits of these bytes, the lowest first
 abbrev pub base_128 : List ℕ → ℕ
@@ -35,7 +35,7 @@ base_128 (b ∷ more) = b % 128 + 128 * base_128 more
 -- the ULEB128 number at the front, of at most five bytes and below 2 ^ 32, and how many bytes it takes
 abbrev pub uleb128_front : List ℕ → Result (ℕ × ℕ) WordFault
 uleb128_front bytes =
-    let last = prefix_len goes_on (take (ULEB128_BYTES - 1) bytes) in
+    let last = prefix_len has_more (take (ULEB128_BYTES - 1) bytes) in
     if nat_le (length bytes) last then Err Ends
     else (if last == ULEB128_BYTES - 1 && nat_lt ULEB128_LAST (slice_index bytes (ULEB128_BYTES - 1)) then Err TooWide else Ok (base_128 (take (last + 1) bytes), last + 1))
 

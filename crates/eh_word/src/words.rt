@@ -1,7 +1,7 @@
 //! Words of two and four bytes, relative addresses (IHI 0044, R_ARM_PREL31) and ULEB128 numbers (DWARF).
 ghost use Rattle.std.specs.Prelude.{◌≡◌, ◌+◌, ◌-◌, ◌*◌, ◌^◌, ◌<◌, ◌≤◌, length, take};
 ghost use Rattle.std.specs.List.{prefix_len};
-ghost use Rattle.eh_word.specs.Words.{signed, prel31_of, number_at, goes_on, base_128, uleb128_of};
+ghost use Rattle.eh_word.specs.Words.{signed, prel31_of, number_at, has_more, base_128, uleb128_of};
 
 use crate::fault::WordFault;
 use byteorder::{ByteOrder, LittleEndian};
@@ -62,7 +62,7 @@ pub const ULEB128_MORE: u8 = 0x80;
 
 /// How many of the first four bytes have bit 7 set, up to the first that hasn't.
 fn continued(bytes: &[u8]) -> usize
-    ensures count { result ≡ prefix_len goes_on (take (ULEB128_BYTES - 1) bytes.now) }
+    ensures count { result ≡ prefix_len has_more (take (ULEB128_BYTES - 1) bytes.now) }
     ensures within { result ≤ ULEB128_BYTES - 1 }
 {
     let front = &bytes[..bytes.len().min(ULEB128_BYTES - 1)];

@@ -2,16 +2,14 @@
 use crate::listing::{entry, segments};
 use crate::outcome::{Outcome, push_status, told};
 use crate::texts::Texts;
-use eh_port::{
-    Bytes, CallNumbers, FileList, HostSink, HostSource, MemFiles, MemSink, MemSource, SureFiles,
-    SureSink, SureSource,
-};
+use eh_files::{FileList, MemFiles, SureFiles};
+use eh_port::{Bytes, CallNumbers, HostSink, HostSource, MemSink, MemSource, SureSink, SureSource};
 use ehabi_top::ehabi_main;
 use std::alloc::{AllocError, Global};
 use std::io::Cursor;
 use std::mem;
 
-/// A call as it is written: `COMMAND`, behind ` < ` its input, and behind ` ! ` what fails.
+/// A call as it is written: `COMMAND`, after ` < ` its input, and after ` ! ` what fails.
 #[derive(Clone, Copy)]
 pub struct Call<'a> {
     pub command: &'a str,

@@ -194,7 +194,7 @@ fn take_line(host: &HostRuntime, cases: &mut Cases, line: &str) -> Result<(), Er
 }
 
 /// Adds a line to those before it. One that begins with a blank goes on with the line before: `;` stands between them, but for
-/// behind `=` and `:`.
+/// after `=` and `:`.
 fn push_joined(joined: &mut String, line: &str) -> Result<(), AllocError> {
     let between = if !line.starts_with(' ') {
         "\n"

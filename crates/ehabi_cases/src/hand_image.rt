@@ -54,8 +54,8 @@ impl HandImage {
         Ok(())
     }
 
-    /// The way from the next place to an address, in 31 bits.
-    fn way(&self, address: u32) -> u32 {
+    /// The displacement from the next place to an address, in 31 bits.
+    fn displacement(&self, address: u32) -> u32 {
         let place = START.wrapping_add((self.next % 0x1_0000) as u32);
         address.wrapping_sub(place) & 0x7FFF_FFFF
     }
@@ -75,9 +75,9 @@ impl HandImage {
         Ok(())
     }
 
-    fn put_way(&mut self, word: &str) -> Result<(), AllocError> {
-        let way = self.way(number(word));
-        self.put(&way.to_le_bytes())
+    fn put_displacement(&mut self, word: &str) -> Result<(), AllocError> {
+        let displacement = self.displacement(number(word));
+        self.put(&displacement.to_le_bytes())
     }
 
     fn put_symbol(
@@ -110,12 +110,12 @@ impl HandImage {
         self.put_symbol(Vec::new(alloc), number(word), 0, kind)
     }
 
-    /// A row of the index: the way to its start, and its word or the way to its table.
+    /// A row of the index: the displacement to its start, and its word or the displacement to its table.
     fn put_row(&mut self, words: &str) -> Result<(), AllocError> {
         let (start, second) = words.split_once(' ').unwrap_or((words, ""));
-        self.put_way(start)?;
+        self.put_displacement(start)?;
         match second.strip_prefix("at ") {
-            Some(table) => self.put_way(table),
+            Some(table) => self.put_displacement(table),
             None => self.put_words(second),
         }
     }
@@ -126,7 +126,7 @@ impl HandImage {
         match what {
             "half" => self.put_halves(words),
             "word" => self.put_words(words),
-            "way" => self.put_way(words),
+            "way" => self.put_displacement(words),
             "row" => self.put_row(words),
             "at" => self.go_to(number(words)),
             "function" => self.put_function(alloc, words),

@@ -18,7 +18,7 @@ pub fn push_line(text: &mut Vec<u8>, line: &[u8]) -> Result<(), AllocError> {
     text.extend_from_slice(b"\n")
 }
 
-/// Adds what was written, with `\c` and an end behind a last line without one.
+/// Adds what was written, with `\c` and an end after a last line without one.
 fn push_written(text: &mut Vec<u8>, written: &[u8]) -> Result<(), AllocError> {
     text.extend_from_slice(written)?;
     if written.is_empty() || written.ends_with(b"\n") {

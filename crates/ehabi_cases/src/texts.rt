@@ -1,5 +1,6 @@
 //! Texts under names: the files that commands find, and the parts that other texts are made of.
-use eh_port::{Bytes, MemFile};
+use eh_files::MemFile;
+use eh_port::Bytes;
 use std::alloc::{AllocError, Global};
 
 /// Texts, each under a name.
@@ -99,7 +100,7 @@ fn push_item(
     }
 }
 
-/// Behind the last line of a text: it has no end.
+/// After the last line of a text: it has no end.
 const NO_END: &[u8] = b"\\c\n";
 
 /// A text by its items, with `;` between them.

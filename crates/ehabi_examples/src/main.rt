@@ -5,7 +5,8 @@
 
 mod image;
 
-use eh_port::{Bytes, CallNumbers, HostFiles, MemSink, SureSource};
+use eh_files::HostFiles;
+use eh_port::{Bytes, CallNumbers, MemSink, SureSource};
 use ehabi_top::ehabi_main;
 use image::{is_image_of, parts_of};
 use std::alloc::{AllocError, Global};
@@ -52,7 +53,7 @@ const THROWS: [&str; 12] = [
     "walk.s",
 ];
 
-/// What the head comment of an example says: the words of its command behind the program's name, its input, what it
+/// What the head comment of an example says: the words of its command after the program's name, its input, what it
 /// writes, and its status.
 #[derive(Drop)]
 struct Head<'a> {
@@ -118,7 +119,11 @@ fn sink(alloc: Global) -> MemSink {
 
 /// What the program writes for some words and an input, and its status.
 fn run(host: &HostRuntime, words: &[&str], input: Vec<u8>) -> (MemSink, u8) {
-    let mut files = HostFiles { host, faults: 0 };
+    let mut files = HostFiles {
+        host,
+        faults: 0,
+        asked: 0,
+    };
     let mut input = SureSource {
         left: Bytes::of_vec(input),
     };
@@ -144,7 +149,7 @@ fn is_built(host: &HostRuntime, sources: &[&str]) -> Result<bool, Error> {
     })
 }
 
-/// The sources of a command: what stands behind its first word, and for all but `check` in front of its last one.
+/// The sources of a command: what stands after its first word, and for all but `check` in front of its last one.
 fn sources_of<'a, 'w>(words: &'w [&'a str]) -> Option<&'w [&'a str]> {
     let (command, rest) = words.split_first()?;
     if *command == "check" {

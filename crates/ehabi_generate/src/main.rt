@@ -12,7 +12,7 @@ const USAGE: u8 = 2;
 /// The status where there is no memory or the text was not written.
 const FAILED: u8 = 1;
 
-/// The number and how many functions, of the two words behind the program's name.
+/// The number and how many functions, of the two words after the program's name.
 fn asked_for(host: &HostRuntime) -> Option<(u32, u32)> {
     let mut args = env::args(host).ok()?;
     let _name = args.next()?;

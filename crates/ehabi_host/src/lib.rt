@@ -7,9 +7,10 @@ ghost use Rattle.std.specs.Process.{exit_status};
 ghost use Rattle.std.specs.Vec.Iter.{into_iter_items};
 ghost use Rattle.ehabi_top.specs.Answered.{IsAnswer};
 ghost use Rattle.ehabi_top.specs.Words.{texts};
-ghost use Rattle.ehabi_top.specs.Yields.{shelf, streams};
+ghost use Rattle.ehabi_top.specs.Yields.{file_state, streams};
 
-use eh_port::{Files, HostFiles, HostSink, HostSource, Sink, Source};
+use eh_files::{Files, HostFiles};
+use eh_port::{HostSink, HostSource, Sink, Source};
 use ehabi_top::ehabi_main;
 use ehabi_top::status::NO_MEMORY;
 use std::alloc::{AllocError, Global};
@@ -28,13 +29,13 @@ pub fn all_of(alloc: Global, mut args: env::Args) -> Result<Vec<String>, AllocEr
     Ok(words)
 }
 
-/// The words behind the program's name, in their order. An empty word is a word.
-pub fn behind_name(words: &[String]) -> &[String]
+/// The words after the program's name, in their order. An empty word is a word.
+pub fn after_name(words: &[String]) -> &[String]
     ensures { result.now ≡ drop 1 words.now }
 {
     match words {
         [] => &[],
-        [_name, behind @ ..] => behind,
+        [_name, after @ ..] => after,
     }
 }
 
@@ -59,7 +60,7 @@ pub fn run_words<F: Files, I: Source, O: Sink>(
 ) -> Result<u8, AllocError>
     // Where there is memory for the words, all that is promised of `ehabi_main` holds of them.
     ensures answer { IfOk result (IsAnswer (map string_bytes words.now)
-        (shelf (F.held files.old) (F.faults files.old)) (shelf (F.held files.new) (F.faults files.new))
+        (file_state (F.held files.old) (F.faults files.old) (F.asked files.old) F.with_name) (file_state (F.held files.new) (F.faults files.new) (F.asked files.new) F.with_name)
         (streams (I.left input.old) (I.faults input.old) (O.written out.old) (O.faults out.old))
         (streams (I.left input.new) (I.faults input.new) (O.written out.new) (O.faults out.new))) }
     ensures nothing { OnErr result ((I.left input.new ≡ I.left input.old) × (O.written out.new ≡ O.written out.old)) }
@@ -84,7 +85,11 @@ pub fn run<R: rt::Env + rt::Files + Input + Print + AllocGlobal>(
     host: &R,
 ) -> Result<u8, AllocError> {
     let words = words_of(host)?;
-    let mut files = HostFiles { host, faults: 0 };
+    let mut files = HostFiles {
+        host,
+        faults: 0,
+        asked: 0,
+    };
     let mut input = HostSource {
         reader: host.reader(),
         faults: 0,
@@ -95,7 +100,7 @@ pub fn run<R: rt::Env + rt::Files + Input + Print + AllocGlobal>(
     };
     run_words(
         host.alloc(),
-        behind_name(&words),
+        after_name(&words),
         &mut files,
         &mut input,
         &mut out,

@@ -5,7 +5,8 @@
 mod image;
 mod texts;
 
-use eh_port::{Bytes, CallNumbers, MemFile, MemSink, SureFiles, SureSource};
+use eh_files::{MemFile, SureFiles};
+use eh_port::{Bytes, CallNumbers, MemSink, SureSource};
 use ehabi_top::ehabi_main;
 use image::{functions_of, memory_of, symbols_of};
 use std::alloc::{AllocError, Global};
@@ -22,7 +23,7 @@ const FUNCTIONS: usize = 4_096;
 const LINES: usize = 200_000;
 
 /// movs r0, #7; svc #0.
-const EXITS: [u8; 4] = [0x07, 0x20, 0x00, 0xdf];
+const EXIT_WITH_7: [u8; 4] = [0x07, 0x20, 0x00, 0xdf];
 
 /// What a call of the program wrote and answered.
 #[derive(Drop)]
@@ -41,7 +42,7 @@ fn file(alloc: Global, name: &str, content: &[u8]) -> Result<MemFile, AllocError
 /// Calls the program over files in memory, with no input.
 fn call(alloc: Global, words: &[&str], files: Vec<MemFile>) -> Result<Outcome, AllocError> {
     let mut files = SureFiles {
-        files: eh_port::FileList::of_vec(files),
+        files: eh_files::FileList::of_vec(files),
     };
     let mut input = SureSource {
         left: Bytes::of_vec(Vec::new(alloc)),
@@ -97,7 +98,7 @@ fn of_sources(alloc: Global, number: usize) -> Result<Outcome, AllocError> {
 
 /// Runs raw code of that many bytes.
 fn of_code(alloc: Global, size: usize) -> Result<Outcome, AllocError> {
-    let mut code = EXITS.to_vec(alloc)?;
+    let mut code = EXIT_WITH_7.to_vec(alloc)?;
     code.resize(size, 0)?;
     let files = vec![in alloc; file(alloc, "code", code.as_slice())?]?;
     call(alloc, &["flat", "code", "9"], files)

@@ -59,7 +59,7 @@ pub(crate) fn with_functions(alloc: Global, number: usize) -> Result<String, All
     Ok(text)
 }
 
-/// A program of that many lines, each of which is a statement: most stand behind main, where nothing comes to.
+/// A program of that many lines, each of which is a statement: most stand after main, where nothing comes to.
 pub(crate) fn with_lines(alloc: Global, number: usize) -> Result<String, AllocError> {
     let mut text = plain_main(alloc)?;
     text.push_str(

@@ -1,73 +1,48 @@
 -- What a call for a command has done, from its parts. The commands that run bytes differ in where these come from alone.
-use Rattle.std.proofs.Common.{◌≡◌, ℕ, List, Option, Some, None, IfSome, Result, Ok, Err, refl, inl, inr, arith}
-use Rattle.std.specs.Prelude.{IfOk, IfErr, false, ◌↔◌}
-use Rattle.ehabi_top.specs.Building.{wants_memory}
-use Rattle.std.proofs.KnownBytes.{Keeps-refl}
+use Rattle.std.proofs.Common.{◌≡◌, ◌∙◌, ℕ, List, Option, Some, None, IfSome, Result, Ok, Err, refl, inr, arith}
+use Rattle.std.specs.Prelude.{IfOk, IfErr, IsOk, MatchResult, false, ◌↔◌}
+use Rattle.std.proofs.lemmas.Bool.{false≢true}
+use Rattle.ehabi_top.specs.Building.{refusal_of, wants_memory}
 use Rattle.ehabi_top.specs.declared.refusal.FilesFault.{FilesFault}
-use Rattle.ehabi_top.specs.declared.status.TheConstants.{USAGE}
+use Rattle.ehabi_top.specs.declared.status.TheConstants.{USAGE, FILE_UNAVAILABLE}
 use Rattle.ehabi_top.specs.declared.stop.Stop.{Stop}
 use Rattle.ehabi_top.specs.declared.stop.Stop.TheVariants.{Read, Write, Memory}
-use Rattle.ehabi_top.specs.Finding.{Finds, FoundReports, StandsFor}
+use Rattle.ehabi_top.specs.AsksFor.{AsksFor, CallLacks, files_named}
+use Rattle.ehabi_top.specs.Finding.{Finds, FoundReports}
 use Rattle.ehabi_top.specs.GenerateReport.{GenerateReports, IsUnfitProgram}
 use Rattle.ehabi_top.specs.Loading.{Report, SaysWhy, IsReported, IsOfCommand}
-use Rattle.ehabi_top.specs.Report.{Reports, IfTold, Performs, Why, Does}
+use Rattle.ehabi_top.specs.Report.{Reports, IfTold, Why, Does}
 use Rattle.ehabi_top.specs.Sources.{Refusal}
 use Rattle.ehabi_top.specs.Text.{usage}
 use Rattle.ehabi_top.specs.Words.{Command, GenerateProgram}
-use Rattle.ehabi_top.specs.Writes.{Answers, AnswersOrLacks}
-use Rattle.ehabi_top.specs.Yields.{Shelf, Streams, streams, Gives, Gave, given, nothing, Yields}
+use Rattle.ehabi_top.specs.Writes.{Answers}
+use Rattle.ehabi_top.specs.Yields.{FileState, Streams, streams, DoesWhole, DoesPart, Yields}
+use Rattle.ehabi_top.proofs.FilesAsked.{asks_more, asks_none}
 use Rattle.ehabi_top.proofs.Statuses.{usage_reported}
-use Rattle.ehabi_top.proofs.Yielding.{gives_answer, of_status, only_write}
+use Rattle.ehabi_top.proofs.Yielding.{whole_answer, part_answer, whole_as, part_as, of_status, only_write}
 
 -- the files of a call
 abbrev pub Held : Type 0
 Held = List (List ℕ × List ℕ)
 
--- a report that was given, of a command
-performs : (command : Option Command) (files : Held) (input : List ℕ) (r : Report) (result : Result ℕ Stop) (left before now : Option (List ℕ))
-    → Reports command files input r → Gives r result left before now → Performs command files input result left before now
-performs command files input r (Ok status) left before now is g = record {
-  whole = record { report = r; is = is; status_is = g.status; leaves = g.leaves; wrote = g.wrote };
-  part = inr (record { report = r; is = is; part = g.part });
-}
-performs command files input r (Err stop) left before now is g = record {
-  whole = tt;
-  part = inr (record { report = r; is = is; part = g.part });
-}
-
--- nothing was done
-performs_none : (command : Option Command) (files : Held) (input : List ℕ) (stop : Stop) (left before : Option (List ℕ)) → Performs command files input (Err stop) left before before
-performs_none command files input stop left before = record { whole = tt; part = inl (Keeps-refl before) }
-
--- one of the reports was given, or nothing was done
-gave : (command : Option Command) (files : Held) (input : List ℕ) (Says : Report → Type 0) (result : Result ℕ Stop) (left before now : Option (List ℕ))
-    → ((r : Report) → Says r → Reports command files input r) → Gave Says result left before now → Performs command files input result left before now
-gave command files input Says result left before now says (given r is g) = performs command files input r result left before now (says r is) g
-gave command files input Says result left before now says (nothing stop e same) = rw (e, same) (performs_none command files input stop left before)
-
 -- ---- the bytes that a command asks the files for
 
--- What its status says of these: `unfit` are bytes that it refuses.
-pub record Asks (command : Option Command) (ask : Held → Result (List ℕ) Refusal) (unfit : List ℕ → Type 0) : Type 0 where
+-- What it reports of these, and what its status says of them: `unfit` are bytes that it refuses.
+pub record Asks (command : Option Command) (ask : Held → Result (List ℕ) Refusal) (Says : List ℕ → List ℕ → Report → Type 0) (unfit : List ℕ → Type 0) : Type 0 where
+  pub reports : (held : Held) (input : List ℕ) (r : Report) → FoundReports Says (ask held) input r → Reports command held input r
   pub fits : (held : Held) (input : Option (List ℕ)) (bytes : List ℕ) (status : ℕ) → ask held ≡ Ok bytes → SaysWhy status ⊥ (unfit bytes) → Why command held input status
   pub lacks : (held : Held) (input : Option (List ℕ)) (refusal : Refusal) → ask held ≡ Err refusal → Why command held input refusal.status
   pub some : command ≡ None → ⊥
 
--- A command that runs bytes: the reports that it may make of them and of the input.
-pub record IsRunner (command : Option Command) (ask : Held → Result (List ℕ) Refusal) (Says : List ℕ → List ℕ → Report → Type 0) (unfit : List ℕ → Type 0) : Type 0 where
-  pub reports : (held : Held) (input : List ℕ) (r : Report) → FoundReports Says (ask held) input r → Reports command held input r
-  pub asks : Asks command ask unfit
-  pub tells : (files : Option Held) (input left before now : Option (List ℕ)) (result : Result ℕ Stop)
-      → IfSome files (λ held. IfSome input (λ bytes. Performs command held bytes result left before now))
-      → IfTold command files input left (λ held bytes left. Performs command held bytes result left before now)
+-- a command that runs bytes: what holds where files and input are told
+abbrev pub Reads : Option Command → Type 1
+Reads command = (P : Held → List ℕ → Option (List ℕ) → Type 0) (files : Option Held) (input left : Option (List ℕ))
+    → IfSome files (λ held. IfSome input (λ bytes. P held bytes left)) → IfTold command files input left P
 
--- A command that runs nothing, and leaves the input: the reports that it may make of bytes.
-pub record IsKeeper (command : Option Command) (ask : Held → Result (List ℕ) Refusal) (Says : List ℕ → List ℕ → Report → Type 0) (unfit : List ℕ → Type 0) : Type 0 where
-  pub reports : (held : Held) (input : List ℕ) (r : Report) → FoundReports Says (ask held) input r → Reports command held input r
-  pub asks : Asks command ask unfit
-  pub tells : (files : Option Held) (input before now : Option (List ℕ)) (result : Result ℕ Stop)
-      → IfSome files (λ held. (bytes : List ℕ) → Performs command held bytes result (Some bytes) before now)
-      → IfTold command files input input (λ held bytes left. Performs command held bytes result left before now)
+-- a command that runs nothing, and leaves the input, whatever it is
+abbrev pub LeavesInput : Option Command → Type 1
+LeavesInput command = (P : Held → List ℕ → Option (List ℕ) → Type 0) (files : Option Held) (input : Option (List ℕ))
+    → IfSome files (λ held. (bytes : List ℕ) → P held bytes (Some bytes)) → IfTold command files input input P
 
 -- the status is of a command, and there is one
 used : (command : Option Command) (result : Result ℕ Stop) → (command ≡ None → ⊥) → IfOk result IsOfCommand → IfOk result (λ status. (status ≡ USAGE) ↔ (command ≡ None))
@@ -84,186 +59,187 @@ why_all : (command : Option Command) (held : Option Held) (input : Option (List 
 why_all command held input lacks unfit (Ok s) f w = f s w
 why_all command held input lacks unfit (Err stop) f w = tt
 
--- ---- commands that run bytes
+-- what was asked of the files stays so, whatever the call does next
+asked_bytes : (command : Option Command) (ended : Type 0) (files files' : FileState) (result : Result ℕ Stop) → ended
+    → AsksFor (files_named command) ended ⊥ files files' → AsksFor (files_named command) (IsOk result) (CallLacks result) files files'
+asked_bytes command ended files files' result did a = asks_more (files_named command) ended ⊥ (IsOk result) (CallLacks result) files files' (λ _. did) (λ _ l. absurd l) a
+
+lacks_call : (text : List ℕ) (status : ℕ) (result : Result ℕ Stop) (before now : Option (List ℕ)) (f g : ℕ)
+    → Answers text status result before now f g → IsOk result → status ≡ FILE_UNAVAILABLE → CallLacks result
+lacks_call text status (Ok s) before now f g a h l = a.status_is ∙ l
+lacks_call text status (Err stop) before now f g a h l = absurd (false≢true h)
+
+asked_fault : (command : Option Command) (ended : Type 0) (files files' : FileState) (text : List ℕ) (status : ℕ) (result : Result ℕ Stop) (before now : Option (List ℕ)) (f g : ℕ)
+    → ended → AsksFor (files_named command) ended (status ≡ FILE_UNAVAILABLE) files files' → Answers text status result before now f g
+    → AsksFor (files_named command) (IsOk result) (CallLacks result) files files'
+asked_fault command ended files files' text status result before now f g did asked a =
+    asks_more (files_named command) ended (status ≡ FILE_UNAVAILABLE) (IsOk result) (CallLacks result) files files' (λ _. did) (lacks_call text status result before now f g a) asked
 
 module _ (command : Option Command) (ask : Held → Result (List ℕ) Refusal) (Says : List ℕ → List ℕ → Report → Type 0) (unfit : List ℕ → Type 0)
-    (runner : IsRunner command ask Says unfit) where
-  -- the bytes are there
-  pub does_bytes : (files files' : Shelf) (old new : Streams) (result : Result ℕ Stop) (bytes : List ℕ)
-      → IfSome files.held (λ held. ask held ≡ Ok bytes) → files'.faults ≡ files.faults → Yields (Says bytes) (unfit bytes) old new result
-      → Does command files files' old new result
-  does_bytes files files' old new result bytes found same y = record {
-    told = runner.tells files.held old.input new.input old.output new.output result (told files.held old.input found y.told);
-    why = why_all command files.held old.input ⊥ (unfit bytes) result (λ s w. why files.held found s w) y.why;
+    (asks : Asks command ask Says unfit) where
+  why_found : (held : Option Held) (input : Option (List ℕ)) (bytes : List ℕ) → IfSome held (λ h. ask h ≡ Ok bytes) → (s : ℕ) → SaysWhy s ⊥ (unfit bytes)
+      → IfSome held (λ h. Why command h input s)
+  why_found None input bytes e s w = tt
+  why_found (Some h) input bytes e s w = asks.fits h input bytes s e w
+
+  why_unavailable : (held : Option Held) (input : Option (List ℕ)) (refusal : Refusal) → IfSome held (λ h. ask h ≡ Err refusal) → IfSome held (λ h. Why command h input refusal.status)
+  why_unavailable None input refusal e = tt
+  why_unavailable (Some h) input refusal e = asks.lacks h input refusal e
+
+  unavailable_says : (h : Held) (b : List ℕ) (refusal : Refusal) → ask h ≡ Err refusal → Reports command h b (record { text = refusal.line; status = refusal.status; left = b })
+  unavailable_says h b refusal e = asks.reports h b (record { text = refusal.line; status = refusal.status; left = b }) (rw e refl)
+
+  -- ---- commands that run bytes: the bytes are there
+  pub does_bytes : (reads : Reads command) (files files' : FileState) (old new : Streams) (result : Result ℕ Stop) (bytes : List ℕ)
+      → IfSome files.held (λ held. ask held ≡ Ok bytes) → files'.faults ≡ files.faults → (ended : Type 0) → ended → AsksFor (files_named command) ended ⊥ files files'
+      → Yields (Says bytes) (unfit bytes) old new result → Does command files files' old new result
+  does_bytes reads files files' old new result bytes found same ended did asked y = record {
+    whole = reads (λ held b left. IfOk result (λ s. DoesWhole (Reports command held b) s left old.output new.output)) files.held old.input new.input (whole files.held found);
+    part = reads (λ held b left. DoesPart (Reports command held b) old.output new.output) files.held old.input new.input (part files.held found);
+    why = why_all command files.held old.input ⊥ (unfit bytes) result (λ s w. why_found files.held old.input bytes found s w) y.why;
     read = λ e. inr (y.read e);
     write = y.write;
     memory = λ e. (same, y.memory e);
     status = reported result y.status;
-    usage = used command result runner.asks.some y.status;
+    usage = used command result asks.some y.status;
+    asked = asked_bytes command ended files files' result did asked;
   }
     where
-      told : (held : Option Held) (input : Option (List ℕ)) → IfSome held (λ h. ask h ≡ Ok bytes)
-          → IfSome input (λ b. Gave (Says bytes b) result new.input old.output new.output)
-          → IfSome held (λ h. IfSome input (λ b. Performs command h b result new.input old.output new.output))
-      told None input e g = tt
-      told (Some h) None e g = tt
-      told (Some h) (Some b) e g = gave command h b (Says bytes b) result new.input old.output new.output (λ r s. runner.reports h b r (rw e s)) g
+      whole : (held : Option Held) → IfSome held (λ h. ask h ≡ Ok bytes)
+          → IfSome held (λ h. IfSome old.input (λ b. IfOk result (λ s. DoesWhole (Reports command h b) s new.input old.output new.output)))
+      whole None e = tt
+      whole (Some h) e = whole_as (Says bytes) (Reports command h) old.input result new.input old.output new.output (λ b r s. asks.reports h b r (rw e s)) y.whole
 
-      why : (held : Option Held) → IfSome held (λ h. ask h ≡ Ok bytes) → (s : ℕ) → SaysWhy s ⊥ (unfit bytes) → IfSome held (λ h. Why command h old.input s)
-      why None e s w = tt
-      why (Some h) e s w = runner.asks.fits h old.input bytes s e w
+      part : (held : Option Held) → IfSome held (λ h. ask h ≡ Ok bytes) → IfSome held (λ h. IfSome old.input (λ b. DoesPart (Reports command h b) old.output new.output))
+      part None e = tt
+      part (Some h) e = part_as (Says bytes) (Reports command h) old.input old.output new.output (λ b r s. asks.reports h b r (rw e s)) y.part
 
-  -- there are none, and the line says why
-  pub does_fault : (files files' : Shelf) (input before now : Option (List ℕ)) (i f g : ℕ) (result : Result ℕ Stop) (refusal : Refusal)
+  -- .. there are none, and the line says why
+  pub does_fault : (reads : Reads command) (files files' : FileState) (input before now : Option (List ℕ)) (i f g : ℕ) (result : Result ℕ Stop) (refusal : Refusal)
       → IfSome files.held (λ held. ask held ≡ Err refusal) → IsOfCommand refusal.status
+      → (ended : Type 0) → ended → AsksFor (files_named command) ended (refusal.status ≡ FILE_UNAVAILABLE) files files'
       → Answers refusal.line refusal.status result before now f g
       → Does command files files' (streams input i before f) (streams input i now g) result
-  does_fault files files' input before now i f g result refusal found of a =
+  does_fault reads files files' input before now i f g result refusal found of ended did asked a =
       let ofs = of_status IsOfCommand refusal.line refusal.status result before now f g of a in
       record {
-        told = runner.tells files.held input input before now result (told files.held input found);
-        why = of_status (λ s. IfSome files.held (λ held. Why command held input s)) refusal.line refusal.status result before now f g (why files.held found) a;
+        whole = reads (λ held b left. IfOk result (λ s. DoesWhole (Reports command held b) s left before now)) files.held input input (whole files.held input found);
+        part = reads (λ held b left. DoesPart (Reports command held b) before now) files.held input input (part files.held input found);
+        why = of_status (λ s. IfSome files.held (λ held. Why command held input s)) refusal.line refusal.status result before now f g (why_unavailable files.held input refusal found) a;
         read = λ e. absurd (let w = (only_write refusal.line refusal.status result Read before now f g a e).0 in cc);
         write = λ e. (only_write refusal.line refusal.status result Write before now f g a e).1;
         memory = λ e. absurd (let w = (only_write refusal.line refusal.status result Memory before now f g a e).0 in cc);
         status = reported result ofs;
-        usage = used command result runner.asks.some ofs;
+        usage = used command result asks.some ofs;
+        asked = asked_fault command ended files files' refusal.line refusal.status result before now f g did asked a;
       }
     where
-      told : (held : Option Held) (input : Option (List ℕ)) → IfSome held (λ h. ask h ≡ Err refusal)
-          → IfSome held (λ h. IfSome input (λ b. Performs command h b result input before now))
-      told None input e = tt
-      told (Some h) None e = tt
-      told (Some h) (Some b) e =
-          performs command h b _ result (Some b) before now (runner.reports h b (record { text = refusal.line; status = refusal.status; left = b }) (rw e refl)) (gives_answer refusal.line refusal.status b result before now f g a)
+      whole : (held : Option Held) (input : Option (List ℕ)) → IfSome held (λ h. ask h ≡ Err refusal)
+          → IfSome held (λ h. IfSome input (λ b. IfOk result (λ s. DoesWhole (Reports command h b) s input before now)))
+      whole None input e = tt
+      whole (Some h) None e = tt
+      whole (Some h) (Some b) e = whole_answer (Reports command h b) refusal.line refusal.status b result before now f g (unavailable_says h b refusal e) a
 
-      why : (held : Option Held) → IfSome held (λ h. ask h ≡ Err refusal) → IfSome held (λ h. Why command h input refusal.status)
-      why None e = tt
-      why (Some h) e = runner.asks.lacks h input refusal e
+      part : (held : Option Held) (input : Option (List ℕ)) → IfSome held (λ h. ask h ≡ Err refusal) → IfSome held (λ h. IfSome input (λ b. DoesPart (Reports command h b) before now))
+      part None input e = tt
+      part (Some h) None e = tt
+      part (Some h) (Some b) e = part_answer (Reports command h b) refusal.line refusal.status b result before now f g (unavailable_says h b refusal e) a
 
--- ---- commands that leave the input
-
-module _ (command : Option Command) (ask : Held → Result (List ℕ) Refusal) (Says : List ℕ → List ℕ → Report → Type 0) (unfit : List ℕ → Type 0)
-    (keeper : IsKeeper command ask Says unfit) where
-  -- a report that may be made
-  keeps_answer : (files files' : Shelf) (input before now : Option (List ℕ)) (i f g : ℕ) (result : Result ℕ Stop) (text : List ℕ) (status : ℕ)
-      → IfSome files.held (λ held. (b : List ℕ) → Reports command held b (record { text = text; status = status; left = b }))
-      → IfSome files.held (λ held. Why command held input status) → IsOfCommand status
-      → Answers text status result before now f g
+  -- ---- commands that leave the input: the bytes are there
+  pub keeps_bytes : (leaves : LeavesInput command) (files files' : FileState) (input before now : Option (List ℕ)) (i f g : ℕ) (result : Result ℕ Stop) (bytes : List ℕ)
+      → IfSome files.held (λ held. ask held ≡ Ok bytes) → files'.faults ≡ files.faults
+      → (ended : Type 0) → ended → AsksFor (files_named command) ended ⊥ files files'
+      → ((input : Option (List ℕ)) (i : ℕ) → Yields (Says bytes) (unfit bytes) (streams input i before f) (streams input i now g) result)
       → Does command files files' (streams input i before f) (streams input i now g) result
-  keeps_answer files files' input before now i f g result text status is why of a =
-      let ofs = of_status IsOfCommand text status result before now f g of a in
+  keeps_bytes leaves files files' input before now i f g result bytes found same ended did asked y =
+      let one = y input i in
       record {
-        told = keeper.tells files.held input before now result (told files.held is);
-        why = of_status (λ s. IfSome files.held (λ held. Why command held input s)) text status result before now f g why a;
-        read = λ e. absurd (let w = (only_write text status result Read before now f g a e).0 in cc);
-        write = λ e. (only_write text status result Write before now f g a e).1;
-        memory = λ e. absurd (let w = (only_write text status result Memory before now f g a e).0 in cc);
-        status = reported result ofs;
-        usage = used command result keeper.asks.some ofs;
+        whole = leaves (λ held b left. IfOk result (λ s. DoesWhole (Reports command held b) s left before now)) files.held input (whole files.held found);
+        part = leaves (λ held b left. DoesPart (Reports command held b) before now) files.held input (part files.held found);
+        why = why_all command files.held input ⊥ (unfit bytes) result (λ s w. why_found files.held input bytes found s w) one.why;
+        read = λ e. inr (one.read e);
+        write = one.write;
+        memory = λ e. (same, one.memory e);
+        status = reported result one.status;
+        usage = used command result asks.some one.status;
+        asked = asked_bytes command ended files files' result did asked;
       }
     where
-      told : (held : Option Held) → IfSome held (λ h. (b : List ℕ) → Reports command h b (record { text = text; status = status; left = b }))
-          → IfSome held (λ h. (b : List ℕ) → Performs command h b result (Some b) before now)
-      told None is = tt
-      told (Some h) is = λ b. performs command h b _ result (Some b) before now (is b) (gives_answer text status b result before now f g a)
+      whole : (held : Option Held) → IfSome held (λ h. ask h ≡ Ok bytes)
+          → IfSome held (λ h. (b : List ℕ) → IfOk result (λ s. DoesWhole (Reports command h b) s (Some b) before now))
+      whole None e = tt
+      whole (Some h) e = λ b. whole_as (Says bytes) (Reports command h) (Some b) result (Some b) before now (λ c r s. asks.reports h c r (rw e s)) (y (Some b) i).whole
 
-  -- nothing was done, for want of memory
-  keeps_none : (files files' : Shelf) (input before : Option (List ℕ)) (i f : ℕ) → files'.faults ≡ files.faults
-      → Does command files files' (streams input i before f) (streams input i before f) (Err Memory)
-  keeps_none files files' input before i f same = record {
-    told = keeper.tells files.held input before before (Err Memory) (told files.held);
-    why = tt;
-    read = λ e. absurd (let no : Memory ≡ Read = cc in cc);
-    write = λ e. absurd (let no : Memory ≡ Write = cc in cc);
-    memory = λ _. (same, record { input = refl; output = refl });
-    status = tt;
-    usage = tt;
-  }
-    where
-      told : (held : Option Held) → IfSome held (λ h. (b : List ℕ) → Performs command h b (Err Memory) (Some b) before before)
-      told None = tt
-      told (Some h) = λ b. performs_none command h b Memory (Some b) before
+      part : (held : Option Held) → IfSome held (λ h. ask h ≡ Ok bytes) → IfSome held (λ h. (b : List ℕ) → DoesPart (Reports command h b) before now)
+      part None e = tt
+      part (Some h) e = λ b. part_as (Says bytes) (Reports command h) (Some b) before now (λ c r s. asks.reports h c r (rw e s)) (y (Some b) i).part
 
-  -- the bytes are there
-  pub keeps_bytes : (files files' : Shelf) (input before now : Option (List ℕ)) (i f g : ℕ) (result : Result ℕ Stop) (bytes : List ℕ)
-      → IfSome files.held (λ held. ask held ≡ Ok bytes) → files'.faults ≡ files.faults → AnswersOrLacks (Says bytes) (unfit bytes) result before now f g
-      → Does command files files' (streams input i before f) (streams input i now g) result
-  keeps_bytes files files' input before now i f g result bytes found same (inr stopped) =
-      rw (stopped.is, stopped.same, stopped.calm) (keeps_none files files' input before i f same)
-  keeps_bytes files files' input before now i f g result bytes found same (inl one) =
-      keeps_answer files files' input before now i f g result one.text one.status (is files.held found) (why files.held found) one.of one.answers
-    where
-      is : (held : Option Held) → IfSome held (λ h. ask h ≡ Ok bytes)
-          → IfSome held (λ h. (b : List ℕ) → Reports command h b (record { text = one.text; status = one.status; left = b }))
-      is None e = tt
-      is (Some h) e = λ b. keeper.reports h b (record { text = one.text; status = one.status; left = b }) (rw e (one.says b))
-
-      why : (held : Option Held) → IfSome held (λ h. ask h ≡ Ok bytes) → IfSome held (λ h. Why command h input one.status)
-      why None e = tt
-      why (Some h) e = keeper.asks.fits h input bytes one.status e one.why
-
-  -- there are none, and the line says why
-  pub keeps_fault : (files files' : Shelf) (input before now : Option (List ℕ)) (i f g : ℕ) (result : Result ℕ Stop) (refusal : Refusal)
+  -- .. there are none, and the line says why
+  pub keeps_fault : (leaves : LeavesInput command) (files files' : FileState) (input before now : Option (List ℕ)) (i f g : ℕ) (result : Result ℕ Stop) (refusal : Refusal)
       → IfSome files.held (λ held. ask held ≡ Err refusal) → IsOfCommand refusal.status
+      → (ended : Type 0) → ended → AsksFor (files_named command) ended (refusal.status ≡ FILE_UNAVAILABLE) files files'
       → Answers refusal.line refusal.status result before now f g
       → Does command files files' (streams input i before f) (streams input i now g) result
-  keeps_fault files files' input before now i f g result refusal found of a =
-      keeps_answer files files' input before now i f g result refusal.line refusal.status (is files.held found) (why files.held found) of a
+  keeps_fault leaves files files' input before now i f g result refusal found of ended did asked a =
+      let ofs = of_status IsOfCommand refusal.line refusal.status result before now f g of a in
+      record {
+        whole = leaves (λ held b left. IfOk result (λ s. DoesWhole (Reports command held b) s left before now)) files.held input (whole files.held found);
+        part = leaves (λ held b left. DoesPart (Reports command held b) before now) files.held input (part files.held found);
+        why = of_status (λ s. IfSome files.held (λ held. Why command held input s)) refusal.line refusal.status result before now f g (why_unavailable files.held input refusal found) a;
+        read = λ e. absurd (let w = (only_write refusal.line refusal.status result Read before now f g a e).0 in cc);
+        write = λ e. (only_write refusal.line refusal.status result Write before now f g a e).1;
+        memory = λ e. absurd (let w = (only_write refusal.line refusal.status result Memory before now f g a e).0 in cc);
+        status = reported result ofs;
+        usage = used command result asks.some ofs;
+        asked = asked_fault command ended files files' refusal.line refusal.status result before now f g did asked a;
+      }
     where
-      is : (held : Option Held) → IfSome held (λ h. ask h ≡ Err refusal)
-          → IfSome held (λ h. (b : List ℕ) → Reports command h b (record { text = refusal.line; status = refusal.status; left = b }))
-      is None e = tt
-      is (Some h) e = λ b. keeper.reports h b (record { text = refusal.line; status = refusal.status; left = b }) (rw e refl)
+      whole : (held : Option Held) → IfSome held (λ h. ask h ≡ Err refusal)
+          → IfSome held (λ h. (b : List ℕ) → IfOk result (λ s. DoesWhole (Reports command h b) s (Some b) before now))
+      whole None e = tt
+      whole (Some h) e = λ b. whole_answer (Reports command h b) refusal.line refusal.status b result before now f g (unavailable_says h b refusal e) a
 
-      why : (held : Option Held) → IfSome held (λ h. ask h ≡ Err refusal) → IfSome held (λ h. Why command h input refusal.status)
-      why None e = tt
-      why (Some h) e = keeper.asks.lacks h input refusal e
+      part : (held : Option Held) → IfSome held (λ h. ask h ≡ Err refusal) → IfSome held (λ h. (b : List ℕ) → DoesPart (Reports command h b) before now)
+      part None e = tt
+      part (Some h) e = λ b. part_answer (Reports command h b) refusal.line refusal.status b result before now f g (unavailable_says h b refusal e) a
 
 -- ---- a generated program, which reads nothing
 
-pub program_does : (number functions : ℕ) (files : Shelf) (input before now : Option (List ℕ)) (i f g : ℕ) (result : Result ℕ Stop)
-    → AnswersOrLacks (GenerateReports number functions) (IsUnfitProgram number functions) result before now f g
+pub program_does : (number functions : ℕ) (files : FileState) (input before now : Option (List ℕ)) (i f g : ℕ) (result : Result ℕ Stop)
+    → ((input : Option (List ℕ)) (i : ℕ) → Yields (GenerateReports number functions) (IsUnfitProgram number functions) (streams input i before f) (streams input i now g) result)
     → Does (Some (GenerateProgram number functions)) files files (streams input i before f) (streams input i now g) result
-program_does number functions files input before now i f g result (inr stopped) =
-    rw (stopped.is, stopped.same, stopped.calm) (record {
-      told = (refl, λ held b. performs_none (Some (GenerateProgram number functions)) held b Memory (Some b) before);
-      why = tt;
-      read = λ e. absurd (let no : Memory ≡ Read = cc in cc);
-      write = λ e. absurd (let no : Memory ≡ Write = cc in cc);
-      memory = λ _. (refl, record { input = refl; output = refl });
-      status = tt;
-      usage = tt;
-    })
-program_does number functions files input before now i f g result (inl one) =
-    let command = Some (GenerateProgram number functions) in
-    let ofs = of_status IsOfCommand one.text one.status result before now f g one.of one.answers in
+program_does number functions files input before now i f g result y =
+    let one = y input i in
     record {
-      told = (refl, λ held b. performs command held b _ result (Some b) before now (one.says b) (gives_answer one.text one.status b result before now f g one.answers));
-      why = of_status (λ s. IfSome files.held (λ held. Why command held input s)) one.text one.status result before now f g (why files.held) one.answers;
-      read = λ e. absurd (let w = (only_write one.text one.status result Read before now f g one.answers e).0 in cc);
-      write = λ e. (only_write one.text one.status result Write before now f g one.answers e).1;
-      memory = λ e. absurd (let w = (only_write one.text one.status result Memory before now f g one.answers e).0 in cc);
-      status = reported result ofs;
-      usage = used command result (λ e. cc) ofs;
+      whole = (refl, λ held b. (y (Some b) i).whole);
+      part = (refl, λ held b. (y (Some b) i).part);
+      why = why_all (Some (GenerateProgram number functions)) files.held input ⊥ (IsUnfitProgram number functions) result (λ s w. why files.held s w) one.why;
+      read = λ e. inr (one.read e);
+      write = one.write;
+      memory = λ e. (refl, one.memory e);
+      status = reported result one.status;
+      usage = used (Some (GenerateProgram number functions)) result (λ e. cc) one.status;
+      asked = asks_none (IsOk result) (CallLacks result) files files refl;
     }
   where
-    why : (held : Option Held) → IfSome held (λ h. Why (Some (GenerateProgram number functions)) h input one.status)
-    why None = tt
-    why (Some h) = record { missing = one.why.missing; refused = one.why.refused }
+    why : (held : Option Held) (s : ℕ) → SaysWhy s ⊥ (IsUnfitProgram number functions) → IfSome held (λ h. Why (Some (GenerateProgram number functions)) h input s)
+    why None s w = tt
+    why (Some h) s w = record { missing = w.missing; refused = w.refused }
 
 -- ---- words that are no command
 
-pub usage_does : (files : Shelf) (input before now : Option (List ℕ)) (i f g : ℕ) (result : Result ℕ Stop)
+pub usage_does : (files : FileState) (input before now : Option (List ℕ)) (i f g : ℕ) (result : Result ℕ Stop)
     → Answers usage USAGE result before now f g → Does None files files (streams input i before f) (streams input i now g) result
 usage_does files input before now i f g result a = record {
-  told = (refl, λ held b. performs None held b _ result (Some b) before now refl (gives_answer usage USAGE b result before now f g a));
+  whole = (refl, λ held b. whole_answer (Reports None held b) usage USAGE b result before now f g refl a);
+  part = (refl, λ held b. part_answer (Reports None held b) usage USAGE b result before now f g refl a);
   why = of_status (λ s. IfSome files.held (λ held. Why None held input s)) usage USAGE result before now f g (why files.held) a;
   read = λ e. absurd (let w = (only_write usage USAGE result Read before now f g a e).0 in cc);
   write = λ e. (only_write usage USAGE result Write before now f g a e).1;
   memory = λ e. absurd (let w = (only_write usage USAGE result Memory before now f g a e).0 in cc);
   status = of_status (λ s. IsReported s) usage USAGE result before now f g usage_reported a;
   usage = of_status (λ status. (status ≡ USAGE) ↔ (None ≡ None)) usage USAGE result before now f g ((λ _. refl), (λ _. refl)) a;
+  asked = asks_none (IsOk result) (CallLacks result) files files refl;
 }
   where
     why : (held : Option Held) → IfSome held (λ h. Why None h input USAGE)
@@ -272,8 +248,8 @@ usage_does files input before now i f g result a = record {
 
 -- ---- what the files are found to hold
 
-pub finds_ok : {T : Type 0} (bytes_of : T → List ℕ) (ask : Held → Result (List ℕ) Refusal) (files files' : Shelf) (answer : Result T FilesFault)
-    → IfSome files.held (λ held. StandsFor bytes_of answer (ask held)) → IfErr answer (λ fault. wants_memory fault ≡ false) → files'.faults ≡ files.faults
+pub finds_ok : {T : Type 0} (bytes_of : T → List ℕ) (ask : Held → Result (List ℕ) Refusal) (files files' : FileState) (answer : Result T FilesFault)
+    → IfSome files.held (λ held. MatchResult answer (λ found. ask held ≡ Ok (bytes_of found)) (λ fault. ask held ≡ Err (refusal_of fault))) → IfErr answer (λ fault. wants_memory fault ≡ false) → files'.faults ≡ files.faults
     → Finds bytes_of ask files files' (Ok answer)
 finds_ok bytes_of ask files files' answer told fit kept = record {
   told = told;

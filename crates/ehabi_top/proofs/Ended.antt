@@ -4,49 +4,43 @@ use Rattle.std.proofs.lemmas.Bool.{false≢true}
 use Rattle.ehabi_top.specs.declared.stop.Stop.{Stop}
 use Rattle.ehabi_top.specs.declared.stop.Stop.TheVariants.{Read, Write, Memory}
 use Rattle.ehabi_top.specs.Answered.{IsAnswer}
-use Rattle.ehabi_top.specs.Loading.{is_settled, IsReported}
-use Rattle.ehabi_top.specs.Report.{DoesWhole, DoesPart, Performs, Does, Why}
+use Rattle.ehabi_top.specs.Loading.{is_conclusive, IsReported}
+use Rattle.ehabi_top.specs.Report.{Does, Why}
 use Rattle.ehabi_top.specs.Words.{command_of}
 use Rattle.ehabi_top.specs.Writes.{stop_status}
-use Rattle.ehabi_top.specs.Yields.{Shelf, Streams}
-use Rattle.ehabi_top.proofs.Telling.{told_more}
+use Rattle.ehabi_top.specs.Yields.{FileState, Streams}
+use Rattle.ehabi_top.proofs.FilesAsked.{asks_more, asks_never}
 
 some_more : {X : Type 0} (o : Option X) (P Q : X → Type 0) → ((x : X) → P x → Q x) → IfSome o P → IfSome o Q
 some_more None P Q f h = tt
 some_more (Some x) P Q f h = f x h
 
--- a status that is settled is none of 7, 8 and 9
-none_of : (status other : ℕ) → is_settled status ≡ true → status ≡ other → is_settled other ≡ true
-none_of status other h e = subst (λ (s : ℕ). is_settled s ≡ true) e h
+-- a status that is conclusive is none of 7, 8 and 9
+none_of : (status other : ℕ) → is_conclusive status ≡ true → status ≡ other → is_conclusive other ≡ true
+none_of status other h e = subst (λ (s : ℕ). is_conclusive s ≡ true) e h
 
-pub ended_well : (words : List (List ℕ)) (files files' : Shelf) (old new : Streams) (status : ℕ) → Does (command_of words) files files' old new (Ok status) → IsAnswer words files files' old new status
+pub ended_well : (words : List (List ℕ)) (files files' : FileState) (old new : Streams) (status : ℕ) → Does (command_of words) files files' old new (Ok status) → IsAnswer words files files' old new status
 ended_well words files files' old new status d =
     let s : IsReported status = d.status in
-    let whole = told_more files.held old.input new.input
-    (λ held bytes left. Performs (command_of words) held bytes (Ok status) left old.output new.output)
-    (λ held bytes left. DoesWhole (command_of words) held bytes status left old.output new.output)
-    (λ held bytes left p. p.whole) (command_of words) d.told in
     record {
-      report = λ h. whole;
-      part = told_more files.held old.input new.input
-          (λ held bytes left. Performs (command_of words) held bytes (Ok status) left old.output new.output)
-          (λ held bytes left. DoesPart (command_of words) held bytes old.output new.output)
-          (λ held bytes left p. p.part) (command_of words) d.told;
-      read = λ e. absurd (false≢true (none_of status 7 s.settled e));
-      write = λ e. absurd (false≢true (none_of status 8 s.settled e));
-      memory = λ e. absurd (false≢true (none_of status 9 s.settled e));
+      report = λ h. d.whole;
+      part = d.part;
+      read = λ e. absurd (false≢true (none_of status 7 s.conclusive e));
+      write = λ e. absurd (false≢true (none_of status 8 s.conclusive e));
+      memory = λ e. absurd (false≢true (none_of status 9 s.conclusive e));
       usage = λ h. d.usage;
       missing = λ h. some_more files.held _ _ (λ held (w : Why (command_of words) held old.input status). w.missing) d.why;
       refused = λ h. some_more files.held _ _ (λ held (w : Why (command_of words) held old.input status). w.refused) d.why;
-      complete = λ f i o. inr whole;
+      asked = asks_more _ _ _ _ _ files files' (λ h. refl) (λ h l. l) d.asked;
+      complete = λ f i o. inr d.whole;
       bounded = s.bounded;
     }
 
--- 7, 8 and 9 are no settled statuses
-unsettled : (stop : Stop) → is_settled (stop_status stop) ≡ true → ⊥
-unsettled Read h = false≢true h
-unsettled Write h = false≢true h
-unsettled Memory h = false≢true h
+-- 7, 8 and 9 are no conclusive statuses
+inconclusive : (stop : Stop) → is_conclusive (stop_status stop) ≡ true → ⊥
+inconclusive Read h = false≢true h
+inconclusive Write h = false≢true h
+inconclusive Memory h = false≢true h
 
 bounded : (stop : Stop) → stop_status stop ≤ 10
 bounded Read = omega arith
@@ -78,19 +72,17 @@ either_not : {A B : Type 0} → (A → ⊥) → (B → ⊥) → A ⊎ B → ⊥
 either_not f g (inl a) = f a
 either_not f g (inr b) = g b
 
-pub ended_early : (words : List (List ℕ)) (files files' : Shelf) (old new : Streams) (stop : Stop) → Does (command_of words) files files' old new (Err stop) → IsAnswer words files files' old new (stop_status stop)
+pub ended_early : (words : List (List ℕ)) (files files' : FileState) (old new : Streams) (stop : Stop) → Does (command_of words) files files' old new (Err stop) → IsAnswer words files files' old new (stop_status stop)
 ended_early words files files' old new stop d = record {
-  report = λ h. absurd (unsettled stop h);
-  part = told_more files.held old.input new.input
-      (λ held bytes left. Performs (command_of words) held bytes (Err stop) left old.output new.output)
-      (λ held bytes left. DoesPart (command_of words) held bytes old.output new.output)
-      (λ held bytes left p. p.part) (command_of words) d.told;
+  report = λ h. absurd (inconclusive stop h);
+  part = d.part;
   read = λ e. d.read (ap Err (read_is stop e));
   write = λ e. d.write (ap Err (write_is stop e));
   memory = λ e. d.memory (ap Err (memory_is stop e));
-  usage = λ h. absurd (unsettled stop h);
-  missing = λ h. absurd (unsettled stop h);
-  refused = λ h. absurd (unsettled stop h);
+  usage = λ h. absurd (inconclusive stop h);
+  missing = λ h. absurd (inconclusive stop h);
+  refused = λ h. absurd (inconclusive stop h);
+  asked = asks_never _ _ _ _ _ files files' (inconclusive stop) d.asked;
   complete = λ f i o. inl (want stop (λ e. either_not f i (d.read (ap Err e))) (λ e. o (d.write (ap Err e))));
   bounded = bounded stop;
 }

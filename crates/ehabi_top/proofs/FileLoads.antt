@@ -1,10 +1,10 @@
 -- Files that are read one after the other.
 use Rattle.std.proofs.Common.{◌≡◌, ℕ, List, [], ◌∷◌, ◌++◌, Option, Some, None, IfSome, Result, Ok, Err, Bor, refl, sym, ap, ◌∙◌}
-use Rattle.eh_port.specs.FileList.{answer_of}
-use Rattle.eh_port.specs.declared.FileAnswer.{FileAnswer}
-use Rattle.eh_port.specs.declared.FileAnswer.TheVariants.{Found}
-use Rattle.eh_port.specs.declared.FileFault.{FileFault}
-use Rattle.eh_port.specs.declared.FileFault.TheVariants.{Failed, OutOfMemory}
+use Rattle.eh_files.specs.FileList.{answer_of}
+use Rattle.eh_files.specs.declared.FileAnswer.{FileAnswer}
+use Rattle.eh_files.specs.declared.FileAnswer.TheVariants.{Found}
+use Rattle.eh_files.specs.declared.FileFault.{FileFault}
+use Rattle.eh_files.specs.declared.FileFault.TheVariants.{Failed, OutOfMemory}
 use Rattle.ehabi_top.specs.declared.stop.Stop.{Stop}
 use Rattle.ehabi_top.specs.declared.stop.Stop.TheVariants.{Read, Memory}
 use Rattle.ehabi_top.specs.Writes.{stop_of}
@@ -12,7 +12,7 @@ use Rattle.ehabi_top.specs.Building.{file_of, files_of, found_text}
 use Rattle.ehabi_top.specs.declared.sources.TheConstants.{FILE_LIMIT}
 use Rattle.ehabi_top.specs.Sources.{NamedText}
 use Rattle.ehabi_top.specs.Words.{texts}
-use Rattle.ehabi_top.proofs.AllAnswers.{behind, joined, refused_at, ended}
+use Rattle.ehabi_top.proofs.AllAnswers.{after, joined, refused_at, ended}
 
 same_err : {T : Type 0} (a b : Stop) → ◌≡◌ {A = Result T Stop} (Err a) (Err b) → a ≡ b
 same_err a b e = cc
@@ -21,10 +21,10 @@ module _ (names rest more : List (Bor (List ℕ))) (n : Bor (List ℕ)) (sofar :
   -- the next file is there
   pub next_found : (all : List NamedText) (bytes : List ℕ) (told now : Option (List (List ℕ × List ℕ)))
       → rest ≡ n ∷ more → now ≡ told
-      → IfSome told (λ held. files_of held (texts names) ≡ behind sofar (files_of held (texts rest)))
+      → IfSome told (λ held. files_of held (texts names) ≡ after sofar (files_of held (texts rest)))
       → IfSome now (λ held. Found bytes ≡ answer_of held n.now FILE_LIMIT)
       → all ≡ sofar ++ record { name = n.now; text = bytes } ∷ []
-      → IfSome told (λ held. files_of held (texts names) ≡ behind all (files_of held (texts more)))
+      → IfSome told (λ held. files_of held (texts names) ≡ after all (files_of held (texts more)))
   next_found all bytes None now e s inv found a = tt
   next_found all bytes (Some held) now e s inv found a =
       let f : Found bytes ≡ answer_of held n.now FILE_LIMIT = rw s at found in
@@ -35,7 +35,7 @@ module _ (names rest more : List (Bor (List ℕ))) (n : Bor (List ℕ)) (sofar :
   -- the next file is missing or too long
   pub next_lacks : (answer : FileAnswer) (line : List ℕ) (told now : Option (List (List ℕ × List ℕ)))
       → rest ≡ n ∷ more → now ≡ told → found_text n.now answer ≡ Err line
-      → IfSome told (λ held. files_of held (texts names) ≡ behind sofar (files_of held (texts rest)))
+      → IfSome told (λ held. files_of held (texts names) ≡ after sofar (files_of held (texts rest)))
       → IfSome now (λ held. answer ≡ answer_of held n.now FILE_LIMIT)
       → IfSome told (λ held. Err line ≡ files_of held (texts names))
   next_lacks answer line None now e s l inv found = tt
@@ -46,7 +46,7 @@ module _ (names rest more : List (Bor (List ℕ))) (n : Bor (List ℕ)) (sofar :
 
 -- all files are there
 pub all_found : (names rest : List (Bor (List ℕ))) (sofar : List NamedText) (told : Option (List (List ℕ × List ℕ)))
-    → rest ≡ [] → IfSome told (λ held. files_of held (texts names) ≡ behind sofar (files_of held (texts rest)))
+    → rest ≡ [] → IfSome told (λ held. files_of held (texts names) ≡ after sofar (files_of held (texts rest)))
     → IfSome told (λ held. Ok sofar ≡ files_of held (texts names))
 all_found names rest sofar None e inv = tt
 all_found names rest sofar (Some held) e inv = sym (inv ∙ ended (file_of held) sofar (texts rest) (ap texts e))

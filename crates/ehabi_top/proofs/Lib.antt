@@ -3,6 +3,7 @@ mod Lines
 mod Registers
 mod AllAnswers
 mod FileLoads
+mod FilesAsked
 mod Buildings
 mod Statuses
 mod Yielding
@@ -10,10 +11,9 @@ mod FlatReports
 mod SameRuns
 mod RunReports
 mod WalkReports
-mod Checking
+mod Judging
 mod Doing
 mod Runners
 mod Programs
 mod Asking
-mod Telling
 mod Ended

@@ -1,7 +1,6 @@
 -- The reports of a generated program, from what the parts of a call have done.
 use Rattle.std.proofs.Common.{◌≡◌, ◌⊎◌, ℕ, ◌<◌, List, [], ◌∷◌, ◌++◌, length, Option, Result, Ok, Err, false, refl, inl, inr, arith}
 use Rattle.std.proofs.lemmas.List.Elements.{All-nil}
-use Rattle.elf_image.specs.Image.{Image}
 use Rattle.eh_gates.specs.State.{State}
 use Rattle.two_machines.specs.Activations.{Recorded}
 use Rattle.two_machines.specs.Checked.{program_of}
@@ -10,23 +9,24 @@ use Rattle.two_machines.specs.Start.{start_of}
 use Rattle.eh_port.specs.Causes.{Rose}
 use Rattle.event_runs.specs.Laws.{SameRan}
 use Rattle.event_runs.specs.Runs.{Ran, Runs, ran_of}
-use Rattle.frame_check.specs.Accepts.{Accepted, IsSound, IsAccepted}
+use Rattle.frame_check.specs.Accepts.{Accepted}
 use Rattle.guest_gates.specs.Ends.{is_fault}
 use Rattle.thumb_core.specs.declared.ends.End.{End}
 use Rattle.thumb_core.specs.declared.ends.End.TheVariants.{Exit, Terminate, Trap, Budget, ReadFault, WriteFault}
+use Rattle.ehabi_top.specs.Accepting.{BytesReportsBy, IsUnaccepted}
 use Rattle.ehabi_top.specs.BothRuns.{bytes_run, recorded_run, bytes_events, recorded_events, HaveSameEvents, RunSame}
 use Rattle.ehabi_top.specs.Building.{built}
-use Rattle.ehabi_top.specs.CheckReport.{ImageReportsBy, BytesReportsBy, IsUnaccepted}
-use Rattle.ehabi_top.specs.GenerateReport.{CountsAccepted, CountsImage, GenerateReports, IsUnfitProgram, counted_report, generated, summary_report, recorded_summary}
+use Rattle.ehabi_top.specs.GenerateReport.{CountsAccepted, GenerateReports, IsUnfitProgram, counted_report, generated, summary_report, recorded_summary}
 use Rattle.ehabi_top.specs.Loading.{closing_of, status_of}
 use Rattle.ehabi_top.specs.Text.{end_line, summary}
-use Rattle.ehabi_top.specs.Writes.{Answers, AnswersOrLacks, AnswersRun, Stopped}
+use Rattle.ehabi_top.specs.Writes.{Answers, AnswersRun, Stopped}
+use Rattle.ehabi_top.specs.Yields.{Streams, streams, Yields}
 use Rattle.ehabi_top.specs.declared.status.TheConstants.{REFUSED}
 use Rattle.ehabi_top.specs.declared.stop.Stop.{Stop}
 use Rattle.ehabi_top.specs.declared.stop.Stop.TheVariants.{Memory}
 use Rattle.ehabi_top.specs.declared.words.TheConstants.{MOST_INSTRUCTIONS}
 use Rattle.ehabi_top.proofs.Statuses.{says_unfit, says_end, end_of_run, refused_reported, IsOfRun}
-use Rattle.ehabi_top.proofs.Yielding.{at_false}
+use Rattle.ehabi_top.proofs.Yielding.{at_false, yields_answer, yields_stopped, yields_as}
 
 -- neither source nor sink failed
 no_fault : (end : End) → (end ≡ ReadFault → Rose 0 0) → (end ≡ WriteFault → Rose 0 0) → is_fault end ≡ false
@@ -51,67 +51,37 @@ summary_is : (a : Accepted) (end : End) (new : State) (input : List ℕ)
 unfolding summary_report
 summary_is a end new input e s = rw (e, s) refl
 
-module _ (result : Result ℕ Stop) (before now : Option (List ℕ)) (f g : ℕ) where
-  -- a run of an accepted image that neither its source nor its sink stops
-  pub accepted_counted : (a : Accepted) → RunSame a → (end : End) (new : State) (unspent : ℕ) (left dropped dropped' : Option (List ℕ))
-      → Runs (machine_of (program_of a)) MOST_INSTRUCTIONS (start_of (program_of a)) [] end new unspent left dropped dropped'
-      → (end ≡ ReadFault → Rose 0 0) → (end ≡ WriteFault → Rose 0 0)
-      → AnswersRun (closing_of (summary (length a.image.functions) new.events) end) end result before now f g
-      → AnswersOrLacks (CountsAccepted a) ⊥ result before now f g
-  accepted_counted a same end new unspent left dropped dropped' r read write answers = go (at_false (is_fault end) _ fine answers.fine)
-    where
-      fine : is_fault end ≡ false
-      fine = no_fault end read write
+-- a run of an accepted image that neither its source nor its sink stops
+pub accepted_counted : (a : Accepted) → RunSame a → (end : End) (new : State) (unspent : ℕ) (left dropped dropped' : Option (List ℕ))
+    → Runs (machine_of (program_of a)) MOST_INSTRUCTIONS (start_of (program_of a)) [] end new unspent left dropped dropped'
+    → (end ≡ ReadFault → Rose 0 0) → (end ≡ WriteFault → Rose 0 0)
+    → (result : Result ℕ Stop) (before now : Option (List ℕ)) (f g : ℕ) → AnswersRun (closing_of (summary (length a.image.functions) new.events) end) end result before now f g
+    → (input : Option (List ℕ)) (i : ℕ) → Yields (CountsAccepted a) ⊥ (streams input i before f) (streams input i now g) result
+accepted_counted a same end new unspent left dropped dropped' r read write result before now f g answers input i = go (at_false (is_fault end) _ fine answers.fine)
+  where
+    fine : is_fault end ≡ false
+    fine = no_fault end read write
 
-      go : Answers (summary (length a.image.functions) new.events ++ end_line end) (status_of end) result before now f g ⊎ Stopped Memory result before now f g
-          → AnswersOrLacks (CountsAccepted a) ⊥ result before now f g
-      go (inr stopped) = inr stopped
-      go (inl w) = inl (record {
-        text = summary (length a.image.functions) new.events ++ end_line end;
-        status = status_of end;
-        says = λ input. rw (summary_is a end new input (at_false (is_fault end) _ fine r.ends) (at_false (is_fault end) _ fine r.state_is)) (counts_same a input same);
-        why = says_end end ⊥ fine (λ l. l);
-        of = IsOfRun.reported (end_of_run end fine);
-        answers = w;
-      })
+    go : Answers (summary (length a.image.functions) new.events ++ end_line end) (status_of end) result before now f g ⊎ Stopped Memory result before now f g
+        → Yields (CountsAccepted a) ⊥ (streams input i before f) (streams input i now g) result
+    go (inr s) = yields_stopped (CountsAccepted a) ⊥ result input before now i f g s
+    go (inl w) =
+        yields_answer (CountsAccepted a) ⊥ (summary (length a.image.functions) new.events ++ end_line end) (status_of end) result input before now i f g
+        (λ b. rw (summary_is a end new b (at_false (is_fault end) _ fine r.ends) (at_false (is_fault end) _ fine r.state_is)) (counts_same a b same))
+        (says_end end ⊥ fine (λ l. l)) (IsOfRun.reported (end_of_run end fine)) w
 
-  -- the image was accepted before
-  pub image_counted : (image : Image) (a : Accepted) → IsSound a → a.image ≡ image → IsAccepted image
-      → AnswersOrLacks (CountsAccepted a) ⊥ result before now f g
-      → AnswersOrLacks (ImageReportsBy CountsImage (Ok image)) (¬ (IsAccepted image)) result before now f g
-  image_counted image a sound same accepted (inr stopped) = inr stopped
-  image_counted image a sound same accepted (inl one) = inl (record {
-    text = one.text;
-    status = one.status;
-    says = λ input. let says = one.says input in inl (record { accepted = a; sound = sound; same = same; is = says.is; recorded = says.recorded });
-    why = record { missing = one.why.missing; refused = ((λ e. absurd (one.why.refused.0 e)), (λ n. absurd (n accepted))) };
-    of = one.of;
-    answers = one.answers;
-  })
+-- the bytes of the program's image
+pub program_built : (number functions : ℕ) (bytes : List ℕ) (old new : Streams) (result : Result ℕ Stop) → built (generated number functions ∷ []) ≡ Ok bytes
+    → Yields (BytesReportsBy CountsAccepted bytes) (IsUnaccepted bytes) old new result
+    → Yields (GenerateReports number functions) (IsUnfitProgram number functions) old new result
+program_built number functions bytes old new result e y =
+    yields_as (BytesReportsBy CountsAccepted bytes) (GenerateReports number functions) (IsUnaccepted bytes) (IsUnfitProgram number functions) old new result
+    (λ b r is. rw e is) (λ w. rw e w) y
 
-  -- the bytes of the program's image
-  pub program_built : (number functions : ℕ) (bytes : List ℕ) → built (generated number functions ∷ []) ≡ Ok bytes
-      → AnswersOrLacks (BytesReportsBy CountsImage bytes) (IsUnaccepted bytes) result before now f g
-      → AnswersOrLacks (GenerateReports number functions) (IsUnfitProgram number functions) result before now f g
-  program_built number functions bytes e (inr stopped) = inr stopped
-  program_built number functions bytes e (inl one) = inl (record {
-    text = one.text;
-    status = one.status;
-    says = λ input. rw e (one.says input);
-    why = rw e one.why;
-    of = one.of;
-    answers = one.answers;
-  })
-
-  -- there are none, and the line says why
-  pub program_refused : (number functions : ℕ) (line : List ℕ) → built (generated number functions ∷ []) ≡ Err line
-      → Answers line REFUSED result before now f g
-      → AnswersOrLacks (GenerateReports number functions) (IsUnfitProgram number functions) result before now f g
-  program_refused number functions line e a = inl (record {
-    text = line;
-    status = REFUSED;
-    says = λ input. rw e refl;
-    why = rw e (says_unfit ⊥ (Unit {0}) (λ l. l) tt);
-    of = refused_reported;
-    answers = a;
-  })
+-- there are none, and the line says why
+pub program_refused : (number functions : ℕ) (line : List ℕ) (result : Result ℕ Stop) (input before now : Option (List ℕ)) (i f g : ℕ) → built (generated number functions ∷ []) ≡ Err line
+    → Answers line REFUSED result before now f g
+    → Yields (GenerateReports number functions) (IsUnfitProgram number functions) (streams input i before f) (streams input i now g) result
+program_refused number functions line result input before now i f g e a =
+    yields_answer (GenerateReports number functions) (IsUnfitProgram number functions) line REFUSED result input before now i f g
+    (λ b. rw e refl) (rw e (says_unfit ⊥ (Unit {0}) (λ l. l) tt)) refused_reported a

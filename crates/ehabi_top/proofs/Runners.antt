@@ -1,24 +1,25 @@
 -- The commands: what each asks the files for, and what it makes of the bytes.
 use Rattle.std.proofs.Common.{◌≡◌, ℕ, List, Option, Some, None, IfSome, Result, Ok, Err, refl, sym, ap, ◌∙◌}
-use Rattle.eh_port.specs.FileList.{answer_of}
-use Rattle.eh_port.specs.declared.FileAnswer.{FileAnswer}
-use Rattle.eh_port.specs.declared.FileAnswer.TheVariants.{Found, Missing, TooLong}
+use Rattle.eh_files.specs.FileList.{answer_of}
+use Rattle.eh_files.specs.declared.FileAnswer.{FileAnswer}
+use Rattle.eh_files.specs.declared.FileAnswer.TheVariants.{Found, Missing, TooLong}
 use Rattle.ehabi_top.specs.declared.sources.TheConstants.{FILE_LIMIT}
-use Rattle.ehabi_top.specs.declared.status.TheConstants.{LACKING}
+use Rattle.ehabi_top.specs.declared.status.TheConstants.{FILE_UNAVAILABLE}
 use Rattle.ehabi_top.specs.declared.words.Request.{Request}
+use Rattle.ehabi_top.specs.Accepting.{BytesReportsBy, IsUnaccepted}
 use Rattle.ehabi_top.specs.BuildReport.{IsUnwritten, build_report, plain_report}
 use Rattle.ehabi_top.specs.Building.{built, files_of, image_bytes, bytes_of_built, bytes_of_found}
-use Rattle.ehabi_top.specs.CheckReport.{BytesReports, IsUnaccepted}
+use Rattle.ehabi_top.specs.CheckReport.{ChecksAccepted}
 use Rattle.ehabi_top.specs.Finding.{FoundReports, bytes_of_answer, file_bytes, found_report}
 use Rattle.ehabi_top.specs.FlatReport.{IsTooLarge, code_report, flat_report}
-use Rattle.ehabi_top.specs.Loading.{Report, SaysWhy, IsLacking}
+use Rattle.ehabi_top.specs.Loading.{Report, SaysWhy, IsUnavailable}
 use Rattle.ehabi_top.specs.TaskReport.{RunBytesReports}
 use Rattle.ehabi_top.specs.Yields.{Only}
 use Rattle.ehabi_top.specs.Sources.{NamedText, Refusal}
 use Rattle.ehabi_top.specs.Unfit.{HoldsUnfit}
 use Rattle.ehabi_top.specs.Words.{FlatFile, BuildSources, CheckFile, CheckSources, RunFile, RunSources}
-use Rattle.ehabi_top.proofs.Doing.{Held, Asks, IsRunner, IsKeeper}
-use Rattle.ehabi_top.proofs.Statuses.{says_lacking, built_fits, built_refused}
+use Rattle.ehabi_top.proofs.Doing.{Held, Asks, Reads, LeavesInput}
+use Rattle.ehabi_top.proofs.Statuses.{says_unavailable, built_fits, built_refused}
 
 -- ---- one file
 
@@ -36,28 +37,28 @@ file_told name answer None e = tt
 file_told name answer (Some h) e = file_is name h ∙ ap (bytes_of_answer name) (sym e)
 
 module _ (unfit : List ℕ → Type 0) (name : List ℕ) where
-  answer_fits : (answer : FileAnswer) (bytes : List ℕ) (s : ℕ) → bytes_of_answer name answer ≡ Ok bytes → SaysWhy s ⊥ (unfit bytes) → SaysWhy s (IsLacking answer) (HoldsUnfit unfit answer)
+  answer_fits : (answer : FileAnswer) (bytes : List ℕ) (s : ℕ) → bytes_of_answer name answer ≡ Ok bytes → SaysWhy s ⊥ (unfit bytes) → SaysWhy s (IsUnavailable answer) (HoldsUnfit unfit answer)
   answer_fits (Found found) bytes s e w =
       let is : found ≡ bytes = cc in
       rw is (record { missing = w.missing; refused = w.refused })
   answer_fits Missing bytes s e w = absurd (cc)
   answer_fits TooLong bytes s e w = absurd (cc)
 
-  answer_lacks : (answer : FileAnswer) (refusal : Refusal) → bytes_of_answer name answer ≡ Err refusal → SaysWhy refusal.status (IsLacking answer) (HoldsUnfit unfit answer)
+  answer_lacks : (answer : FileAnswer) (refusal : Refusal) → bytes_of_answer name answer ≡ Err refusal → SaysWhy refusal.status (IsUnavailable answer) (HoldsUnfit unfit answer)
   answer_lacks (Found found) refusal e = absurd (cc)
   answer_lacks Missing refusal e =
-      let is : LACKING ≡ refusal.status = ap (λ (r : Result (List ℕ) Refusal). status_in r) e in
-      rw (← is) (says_lacking (Unit {0}) ⊥ tt (λ u. u))
+      let is : FILE_UNAVAILABLE ≡ refusal.status = ap (λ (r : Result (List ℕ) Refusal). status_in r) e in
+      rw (← is) (says_unavailable (Unit {0}) ⊥ tt (λ u. u))
   answer_lacks TooLong refusal e =
-      let is : LACKING ≡ refusal.status = ap (λ (r : Result (List ℕ) Refusal). status_in r) e in
-      rw (← is) (says_lacking (Unit {0}) ⊥ tt (λ u. u))
+      let is : FILE_UNAVAILABLE ≡ refusal.status = ap (λ (r : Result (List ℕ) Refusal). status_in r) e in
+      rw (← is) (says_unavailable (Unit {0}) ⊥ tt (λ u. u))
 
   file_fits : (held : Held) (bytes : List ℕ) (s : ℕ) → file_bytes name held ≡ Ok bytes → SaysWhy s ⊥ (unfit bytes)
-      → SaysWhy s (IsLacking (answer_of held name FILE_LIMIT)) (HoldsUnfit unfit (answer_of held name FILE_LIMIT))
+      → SaysWhy s (IsUnavailable (answer_of held name FILE_LIMIT)) (HoldsUnfit unfit (answer_of held name FILE_LIMIT))
   file_fits held bytes s e w = answer_fits (answer_of held name FILE_LIMIT) bytes s (sym (file_is name held) ∙ e) w
 
   file_lacks : (held : Held) (refusal : Refusal) → file_bytes name held ≡ Err refusal
-      → SaysWhy refusal.status (IsLacking (answer_of held name FILE_LIMIT)) (HoldsUnfit unfit (answer_of held name FILE_LIMIT))
+      → SaysWhy refusal.status (IsUnavailable (answer_of held name FILE_LIMIT)) (HoldsUnfit unfit (answer_of held name FILE_LIMIT))
   file_lacks held refusal e = answer_lacks (answer_of held name FILE_LIMIT) refusal (sym (file_is name held) ∙ e)
 
 -- what is made of bytes is a report by itself
@@ -69,47 +70,38 @@ flat_at : (name : List ℕ) (budget : ℕ) (held : Held) (input : List ℕ) → 
 unfolding flat_report
 flat_at name budget held input = refl
 
-flat_asks : (name : List ℕ) (budget : ℕ) → Asks (Some (FlatFile name budget)) (file_bytes name) IsTooLarge
+pub flat_asks : (name : List ℕ) (budget : ℕ) → Asks (Some (FlatFile name budget)) (file_bytes name) (λ code. Only (code_report budget code)) IsTooLarge
 flat_asks name budget = record {
+  reports = λ held input r h. only_found (code_report budget) (file_bytes name held) input r h ∙ sym (flat_at name budget held input);
   fits = λ held input bytes s e w. let v = file_fits IsTooLarge name held bytes s e w in record { missing = v.missing; refused = v.refused };
   lacks = λ held input refusal e. let v = file_lacks IsTooLarge name held refusal e in record { missing = v.missing; refused = v.refused };
   some = λ e. cc;
 }
 
-pub flat_runner : (name : List ℕ) (budget : ℕ) → IsRunner (Some (FlatFile name budget)) (file_bytes name) (λ code. Only (code_report budget code)) IsTooLarge
-flat_runner name budget = record {
-  reports = λ held input r h. only_found (code_report budget) (file_bytes name held) input r h ∙ sym (flat_at name budget held input);
-  asks = flat_asks name budget;
-  tells = λ files input left before now result h. h;
-}
+pub flat_reads : (name : List ℕ) (budget : ℕ) → Reads (Some (FlatFile name budget))
+flat_reads name budget P files input left h = h
 
-run_asks : (name : List ℕ) (request : Request) → Asks (Some (RunFile name request)) (file_bytes name) IsUnaccepted
+pub run_asks : (name : List ℕ) (request : Request) → Asks (Some (RunFile name request)) (file_bytes name) (RunBytesReports request) IsUnaccepted
 run_asks name request = record {
+  reports = λ held input r h. h;
   fits = λ held input bytes s e w. let v = file_fits IsUnaccepted name held bytes s e w in record { missing = v.missing; refused = v.refused };
   lacks = λ held input refusal e. let v = file_lacks IsUnaccepted name held refusal e in record { missing = v.missing; refused = v.refused };
   some = λ e. cc;
 }
 
-pub run_runner : (name : List ℕ) (request : Request) → IsRunner (Some (RunFile name request)) (file_bytes name) (RunBytesReports request) IsUnaccepted
-run_runner name request = record {
-  reports = λ held input r h. h;
-  asks = run_asks name request;
-  tells = λ files input left before now result h. h;
-}
+pub run_reads : (name : List ℕ) (request : Request) → Reads (Some (RunFile name request))
+run_reads name request P files input left h = h
 
-check_asks : (name : List ℕ) → Asks (Some (CheckFile name)) (file_bytes name) IsUnaccepted
+pub check_asks : (name : List ℕ) → Asks (Some (CheckFile name)) (file_bytes name) (BytesReportsBy ChecksAccepted) IsUnaccepted
 check_asks name = record {
+  reports = λ held input r h. h;
   fits = λ held input bytes s e w. let v = file_fits IsUnaccepted name held bytes s e w in record { missing = v.missing; refused = v.refused };
   lacks = λ held input refusal e. let v = file_lacks IsUnaccepted name held refusal e in record { missing = v.missing; refused = v.refused };
   some = λ e. cc;
 }
 
-pub check_keeper : (name : List ℕ) → IsKeeper (Some (CheckFile name)) (file_bytes name) BytesReports IsUnaccepted
-check_keeper name = record {
-  reports = λ held input r h. h;
-  asks = check_asks name;
-  tells = λ files input before now result h. (refl, h);
-}
+pub check_leaves : (name : List ℕ) → LeavesInput (Some (CheckFile name))
+check_leaves name P files input h = (refl, h)
 
 -- ---- sources
 
@@ -118,10 +110,10 @@ unfolding image_bytes
 bytes_is names held = refl
 
 -- a file that is missing or too long
-pub bytes_lacking : (names : List (List ℕ)) (line : List ℕ) (held : Option Held)
-    → IfSome held (λ h. Err line ≡ files_of h names) → IfSome held (λ h. image_bytes names h ≡ Err (record { status = LACKING; line = line }))
-bytes_lacking names line None e = tt
-bytes_lacking names line (Some h) e = bytes_is names h ∙ ap bytes_of_found (sym e)
+pub bytes_unavailable : (names : List (List ℕ)) (line : List ℕ) (held : Option Held)
+    → IfSome held (λ h. Err line ≡ files_of h names) → IfSome held (λ h. image_bytes names h ≡ Err (record { status = FILE_UNAVAILABLE; line = line }))
+bytes_unavailable names line None e = tt
+bytes_unavailable names line (Some h) e = bytes_is names h ∙ ap bytes_of_found (sym e)
 
 pub bytes_built : (names : List (List ℕ)) (sources : List NamedText) (answer : Result (List ℕ) (List ℕ)) (held : Option Held)
     → IfSome held (λ h. Ok sources ≡ files_of h names) → built sources ≡ answer → IfSome held (λ h. image_bytes names h ≡ bytes_of_built answer)
@@ -132,44 +124,35 @@ build_at : (names : List (List ℕ)) (held : Held) (input : List ℕ) → build_
 unfolding build_report
 build_at names held input = refl
 
-build_asks : (names : List (List ℕ)) → Asks (Some (BuildSources names)) (image_bytes names) IsUnwritten
+pub build_asks : (names : List (List ℕ)) → Asks (Some (BuildSources names)) (image_bytes names) (λ bytes. Only (plain_report bytes)) IsUnwritten
 build_asks names = record {
+  reports = λ held input r h. only_found plain_report (image_bytes names held) input r h ∙ sym (build_at names held input);
   fits = λ held input bytes s e w. let v = built_fits IsUnwritten (files_of held names) bytes s (sym (bytes_is names held) ∙ e) w in record { missing = v.missing; refused = v.refused };
   lacks = λ held input refusal e. let v = built_refused IsUnwritten (files_of held names) refusal (sym (bytes_is names held) ∙ e) in record { missing = v.missing; refused = v.refused };
   some = λ e. cc;
 }
 
-pub build_keeper : (names : List (List ℕ)) → IsKeeper (Some (BuildSources names)) (image_bytes names) (λ bytes. Only (plain_report bytes)) IsUnwritten
-build_keeper names = record {
-  reports = λ held input r h. only_found plain_report (image_bytes names held) input r h ∙ sym (build_at names held input);
-  asks = build_asks names;
-  tells = λ files input before now result h. (refl, h);
-}
+pub build_leaves : (names : List (List ℕ)) → LeavesInput (Some (BuildSources names))
+build_leaves names P files input h = (refl, h)
 
-sources_asks : (names : List (List ℕ)) (request : Request) → Asks (Some (RunSources names request)) (image_bytes names) IsUnaccepted
+pub sources_asks : (names : List (List ℕ)) (request : Request) → Asks (Some (RunSources names request)) (image_bytes names) (RunBytesReports request) IsUnaccepted
 sources_asks names request = record {
+  reports = λ held input r h. h;
   fits = λ held input bytes s e w. let v = built_fits IsUnaccepted (files_of held names) bytes s (sym (bytes_is names held) ∙ e) w in record { missing = v.missing; refused = v.refused };
   lacks = λ held input refusal e. let v = built_refused IsUnaccepted (files_of held names) refusal (sym (bytes_is names held) ∙ e) in record { missing = v.missing; refused = v.refused };
   some = λ e. cc;
 }
 
-pub sources_runner : (names : List (List ℕ)) (request : Request) → IsRunner (Some (RunSources names request)) (image_bytes names) (RunBytesReports request) IsUnaccepted
-sources_runner names request = record {
-  reports = λ held input r h. h;
-  asks = sources_asks names request;
-  tells = λ files input left before now result h. h;
-}
+pub sources_reads : (names : List (List ℕ)) (request : Request) → Reads (Some (RunSources names request))
+sources_reads names request P files input left h = h
 
-check_sources_asks : (names : List (List ℕ)) → Asks (Some (CheckSources names)) (image_bytes names) IsUnaccepted
+pub check_sources_asks : (names : List (List ℕ)) → Asks (Some (CheckSources names)) (image_bytes names) (BytesReportsBy ChecksAccepted) IsUnaccepted
 check_sources_asks names = record {
+  reports = λ held input r h. h;
   fits = λ held input bytes s e w. let v = built_fits IsUnaccepted (files_of held names) bytes s (sym (bytes_is names held) ∙ e) w in record { missing = v.missing; refused = v.refused };
   lacks = λ held input refusal e. let v = built_refused IsUnaccepted (files_of held names) refusal (sym (bytes_is names held) ∙ e) in record { missing = v.missing; refused = v.refused };
   some = λ e. cc;
 }
 
-pub check_sources_keeper : (names : List (List ℕ)) → IsKeeper (Some (CheckSources names)) (image_bytes names) BytesReports IsUnaccepted
-check_sources_keeper names = record {
-  reports = λ held input r h. h;
-  asks = check_sources_asks names;
-  tells = λ files input before now result h. (refl, h);
-}
+pub check_sources_leaves : (names : List (List ℕ)) → LeavesInput (Some (CheckSources names))
+check_sources_leaves names P files input h = (refl, h)

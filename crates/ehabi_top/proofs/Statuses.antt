@@ -4,19 +4,19 @@ use Rattle.std.proofs.Common.{◌≡◌, ℕ, ◌<◌, List, Result, Ok, Err, Bo
 use Rattle.guest_gates.specs.Ends.{is_fault}
 use Rattle.thumb_core.specs.declared.ends.End.{End}
 use Rattle.thumb_core.specs.declared.ends.End.TheVariants.{Exit, Terminate, Trap, Budget, ReadFault, WriteFault}
-use Rattle.ehabi_top.specs.declared.status.TheConstants.{DONE, EXITS, USAGE, REFUSED, LACKING}
+use Rattle.ehabi_top.specs.declared.status.TheConstants.{DONE, EXIT_NONZERO, USAGE, REFUSED, FILE_UNAVAILABLE}
 use Rattle.ehabi_top.specs.Building.{built, bytes_of_built, bytes_of_found}
-use Rattle.ehabi_top.specs.Loading.{SaysWhy, IsReported, IsOfCommand, is_settled, status_of}
+use Rattle.ehabi_top.specs.Loading.{SaysWhy, IsReported, IsOfCommand, is_conclusive, status_of}
 use Rattle.ehabi_top.specs.Sources.{NamedText, Refusal}
 use Rattle.ehabi_top.specs.Unfit.{IsUnfitImage, BuildsUnfit}
 
-pub says_lacking : (lacks unfit : Type 0) → lacks → (unfit → ⊥) → SaysWhy LACKING lacks unfit
-says_lacking lacks unfit l n = record { missing = ((λ _. l), (λ _. refl)); refused = ((λ h. absurd (omega arith)), (λ u. absurd (n u))) }
+pub says_unavailable : (lacks unfit : Type 0) → lacks → (unfit → ⊥) → SaysWhy FILE_UNAVAILABLE lacks unfit
+says_unavailable lacks unfit l n = record { missing = ((λ _. l), (λ _. refl)); refused = ((λ h. absurd (omega arith)), (λ u. absurd (n u))) }
 
 pub says_unfit : (lacks unfit : Type 0) → (lacks → ⊥) → unfit → SaysWhy REFUSED lacks unfit
 says_unfit lacks unfit n u = record { missing = ((λ h. absurd (omega arith)), (λ l. absurd (n l))); refused = ((λ _. u), (λ _. refl)) }
 
-pub says_fine : (status : ℕ) (lacks unfit : Type 0) → (status ≡ LACKING → ⊥) → (status ≡ REFUSED → ⊥) → (lacks → ⊥) → (unfit → ⊥) → SaysWhy status lacks unfit
+pub says_fine : (status : ℕ) (lacks unfit : Type 0) → (status ≡ FILE_UNAVAILABLE → ⊥) → (status ≡ REFUSED → ⊥) → (lacks → ⊥) → (unfit → ⊥) → SaysWhy status lacks unfit
 says_fine status lacks unfit ten three n m = record { missing = ((λ h. absurd (ten h)), (λ l. absurd (n l))); refused = ((λ h. absurd (three h)), (λ u. absurd (m u))) }
 
 -- nothing is refused
@@ -26,41 +26,41 @@ done_says unfit n = says_fine DONE ⊥ unfit (λ h. omega arith) (λ h. omega ar
 -- ---- statuses of reports
 
 pub done_reported : IsOfCommand DONE
-done_reported = record { reported = record { settled = refl; bounded = omega arith }; other = λ e. omega arith }
+done_reported = record { reported = record { conclusive = refl; bounded = omega arith }; other = λ e. omega arith }
 
 pub refused_reported : IsOfCommand REFUSED
-refused_reported = record { reported = record { settled = refl; bounded = omega arith }; other = λ e. omega arith }
+refused_reported = record { reported = record { conclusive = refl; bounded = omega arith }; other = λ e. omega arith }
 
-pub lacking_reported : IsOfCommand LACKING
-lacking_reported = record { reported = record { settled = refl; bounded = omega arith }; other = λ e. omega arith }
+pub unavailable_reported : IsOfCommand FILE_UNAVAILABLE
+unavailable_reported = record { reported = record { conclusive = refl; bounded = omega arith }; other = λ e. omega arith }
 
 pub usage_reported : IsReported USAGE
-usage_reported = record { settled = refl; bounded = omega arith }
+usage_reported = record { conclusive = refl; bounded = omega arith }
 
 -- ---- the end of a run
 
 -- what a status is that is said of no file
 pub record IsOfRun (status : ℕ) : Type 0 where
-  pub not_lacking : status ≡ LACKING → ⊥
+  pub not_unavailable : status ≡ FILE_UNAVAILABLE → ⊥
   pub not_refused : status ≡ REFUSED → ⊥
   pub reported : IsOfCommand status
 
-exit_of_run : (b : Bool) → IsOfRun (if b then DONE else EXITS)
-exit_of_run true = record { not_lacking = λ e. omega arith; not_refused = λ e. omega arith; reported = done_reported }
+exit_of_run : (b : Bool) → IsOfRun (if b then DONE else EXIT_NONZERO)
+exit_of_run true = record { not_unavailable = λ e. omega arith; not_refused = λ e. omega arith; reported = done_reported }
 exit_of_run false = record {
-  not_lacking = λ e. omega arith;
+  not_unavailable = λ e. omega arith;
   not_refused = λ e. omega arith;
-  reported = record { reported = record { settled = refl; bounded = omega arith }; other = λ e. omega arith };
+  reported = record { reported = record { conclusive = refl; bounded = omega arith }; other = λ e. omega arith };
 }
 
 pub done_of_run : IsOfRun DONE
 done_of_run = exit_of_run true
 
-small_of_run : (status : ℕ) → is_settled status ≡ true → 3 < status → status < 10 → IsOfRun status
-small_of_run status settled low high = record {
-  not_lacking = λ e. omega arith;
+small_of_run : (status : ℕ) → is_conclusive status ≡ true → 3 < status → status < 10 → IsOfRun status
+small_of_run status conclusive low high = record {
+  not_unavailable = λ e. omega arith;
   not_refused = λ e. omega arith;
-  reported = record { reported = record { settled = settled; bounded = omega arith }; other = λ e. omega arith };
+  reported = record { reported = record { conclusive = conclusive; bounded = omega arith }; other = λ e. omega arith };
 }
 
 pub end_of_run : (end : End) → is_fault end ≡ false → IsOfRun (status_of end)
@@ -72,7 +72,7 @@ end_of_run ReadFault fine = absurd (cc)
 end_of_run WriteFault fine = absurd (cc)
 
 pub says_end : (end : End) (unfit : Type 0) → is_fault end ≡ false → (unfit → ⊥) → SaysWhy (status_of end) ⊥ unfit
-says_end end unfit fine n = let s = end_of_run end fine in says_fine (status_of end) ⊥ unfit s.not_lacking s.not_refused (λ l. l) n
+says_end end unfit fine n = let s = end_of_run end fine in says_fine (status_of end) ⊥ unfit s.not_unavailable s.not_refused (λ l. l) n
 
 -- ---- what the bytes of an image say of the files
 
@@ -96,8 +96,8 @@ module _ (unfit : List ℕ → Type 0) where
   pub built_refused : (found : Result (List NamedText) (List ℕ)) (refusal : Refusal) → bytes_of_found found ≡ Err refusal → SaysWhy refusal.status (IsErr found) (BuildsUnfit unfit found)
   built_refused (Ok sources) refusal e = all_there _ refusal.status _ (λ l. cc) (line_refused (built sources) refusal e)
   built_refused (Err line) refusal e =
-      let is : refusal ≡ record { status = LACKING; line = line } = cc in
-      rw is (says_lacking _ ⊥ refl (λ u. u))
+      let is : refusal ≡ record { status = FILE_UNAVAILABLE; line = line } = cc in
+      rw is (says_unavailable _ ⊥ refl (λ u. u))
 
   pub built_fits : (found : Result (List NamedText) (List ℕ)) (bytes : List ℕ) (s : ℕ) → bytes_of_found found ≡ Ok bytes → SaysWhy s ⊥ (unfit bytes) → SaysWhy s (IsErr found) (BuildsUnfit unfit found)
   built_fits (Ok sources) bytes s e w = all_there _ s _ (λ l. cc) (bytes_fit (built sources) bytes s e w)

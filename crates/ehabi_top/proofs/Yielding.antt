@@ -1,8 +1,8 @@
 -- Reports of an input, from what the parts of a call have done. Nothing here knows a command.
-use Rattle.std.proofs.Common.{◌≡◌, ◌⊎◌, inl, inr, ℕ, ◌≤◌, List, ◌++◌, Option, Some, None, IfSome, Result, Ok, Err, Bool, true, false, refl, sym, ◌∙◌, arith}
+use Rattle.std.proofs.Common.{◌≡◌, ◌⊎◌, inl, inr, ℕ, ◌≤◌, List, Option, Some, None, IfSome, Result, Ok, Err, Bool, true, false, refl, sym, ◌∙◌, arith}
 use Rattle.std.specs.Bool.{OnFalse, OnTrue}
 use Rattle.std.specs.Prelude.{IfOk}
-use Rattle.std.proofs.KnownBytes.{Appends-trans}
+use Rattle.std.proofs.KnownBytes.{Appends-trans, Keeps-refl}
 use Rattle.std.specs.Io.KnownBytes.{Appends}
 use Rattle.eh_port.specs.Causes.{Rose}
 use Rattle.eh_port.proofs.Parts.{part_first, part_then}
@@ -10,32 +10,40 @@ use Rattle.event_runs.specs.Runs.{Machine, Ran, Runs, ran_of}
 use Rattle.guest_gates.specs.Ends.{is_fault}
 use Rattle.thumb_core.specs.declared.ends.End.{End}
 use Rattle.thumb_core.specs.declared.ends.End.TheVariants.{Exit, Terminate, Trap, Budget, ReadFault, WriteFault}
-use Rattle.image_memory.specs.Start.{State}
-use Rattle.eh_gates.specs.State.{State as MachineState}
+use Rattle.eh_gates.specs.State.{State}
 use Rattle.eh_walk.specs.Reaching.{RunsToSite, at_left, most_events, site_machine}
 use Rattle.two_machines.specs.Machine.{machine_of}
 use Rattle.two_machines.specs.Program.{Program}
-use Rattle.plain_run.specs.Machine.{FlatRuns, flat_machine}
 use Rattle.ehabi_top.specs.declared.stop.Stop.{Stop}
 use Rattle.ehabi_top.specs.declared.stop.Stop.TheVariants.{Read, Write, Memory}
-use Rattle.ehabi_top.specs.Loading.{Report, Closing, SaysWhy, IsOfCommand, closing_of, closed_report, status_of, stop_of_fault}
-use Rattle.ehabi_top.specs.Text.{end_line}
-use Rattle.ehabi_top.specs.Writes.{Answers, AnswersEnd, AnswersRun, Stopped}
-use Rattle.ehabi_top.specs.Yields.{streams, Gives, Gave, given, nothing, Yields}
-use Rattle.ehabi_top.proofs.Statuses.{end_of_run, says_end, says_fine, IsOfRun}
+use Rattle.ehabi_top.specs.Loading.{Report, Closing, SaysWhy, IsOfCommand, closed_report, stop_of_fault}
+use Rattle.ehabi_top.specs.Writes.{Answers, AnswersRun, Stopped}
+use Rattle.ehabi_top.specs.Yields.{Streams, streams, DoesWhole, DoesPart, Yields}
+use Rattle.ehabi_top.proofs.Statuses.{says_fine, IsOfRun}
 
 -- ---- a call that ended with a text
 
-pub gives_answer : (text : List ℕ) (status : ℕ) (input : List ℕ) (result : Result ℕ Stop) (before now : Option (List ℕ)) (f g : ℕ) → Answers text status result before now f g
-    → Gives (record { text = text; status = status; left = input }) result (Some input) before now
-gives_answer text status input (Ok s) before now f g a = record { part = a.part; status = a.status_is; leaves = refl; wrote = a.ok }
-gives_answer text status input (Err stop) before now f g a = record { part = a.part; status = tt; leaves = tt; wrote = tt }
+-- .. is all of a report, or a part of it
+pub whole_answer : (Says : Report → Type 0) (text : List ℕ) (status : ℕ) (input : List ℕ) (result : Result ℕ Stop) (before now : Option (List ℕ)) (f g : ℕ)
+    → Says (record { text = text; status = status; left = input }) → Answers text status result before now f g → IfOk result (λ s. DoesWhole Says s (Some input) before now)
+whole_answer Says text status input (Ok s) before now f g is a = record { report = record { text = text; status = status; left = input }; is = is; status_is = a.status_is; leaves = refl; wrote = a.ok }
+whole_answer Says text status input (Err stop) before now f g is a = tt
 
-told_answer : (Says : List ℕ → Report → Type 0) (text : List ℕ) (status : ℕ) (result : Result ℕ Stop) (input before now : Option (List ℕ)) (f g : ℕ)
+pub part_answer : (Says : Report → Type 0) (text : List ℕ) (status : ℕ) (input : List ℕ) (result : Result ℕ Stop) (before now : Option (List ℕ)) (f g : ℕ)
+    → Says (record { text = text; status = status; left = input }) → Answers text status result before now f g → DoesPart Says before now
+part_answer Says text status input result before now f g is a = inr (record { text = text; status = status; left = input }, is, a.part)
+
+told_whole : (Says : List ℕ → Report → Type 0) (text : List ℕ) (status : ℕ) (result : Result ℕ Stop) (input before now : Option (List ℕ)) (f g : ℕ)
     → ((b : List ℕ) → Says b (record { text = text; status = status; left = b })) → Answers text status result before now f g
-    → IfSome input (λ b. Gave (Says b) result input before now)
-told_answer Says text status result None before now f g is a = tt
-told_answer Says text status result (Some b) before now f g is a = given (record { text = text; status = status; left = b }) (is b) (gives_answer text status b result before now f g a)
+    → IfSome input (λ b. IfOk result (λ s. DoesWhole (Says b) s input before now))
+told_whole Says text status result None before now f g is a = tt
+told_whole Says text status result (Some b) before now f g is a = whole_answer (Says b) text status b result before now f g (is b) a
+
+told_part : (Says : List ℕ → Report → Type 0) (text : List ℕ) (status : ℕ) (result : Result ℕ Stop) (input before now : Option (List ℕ)) (f g : ℕ)
+    → ((b : List ℕ) → Says b (record { text = text; status = status; left = b })) → Answers text status result before now f g
+    → IfSome input (λ b. DoesPart (Says b) before now)
+told_part Says text status result None before now f g is a = tt
+told_part Says text status result (Some b) before now f g is a = part_answer (Says b) text status b result before now f g (is b) a
 
 -- the answer's status is the only one
 pub of_status : (P : ℕ → Type 0) (text : List ℕ) (status : ℕ) (result : Result ℕ Stop) (before now : Option (List ℕ)) (f g : ℕ)
@@ -62,7 +70,8 @@ pub yields_answer : (Says : List ℕ → Report → Type 0) (unfit : Type 0) (te
     → Answers text status result before now f g
     → Yields Says unfit (streams input i before f) (streams input i now g) result
 yields_answer Says unfit text status result input before now i f g is why of a = record {
-  told = told_answer Says text status result input before now f g is a;
+  whole = told_whole Says text status result input before now f g is a;
+  part = told_part Says text status result input before now f g is a;
   why = of_status (λ s. SaysWhy s ⊥ unfit) text status result before now f g why a;
   read = λ e. absurd (not_read Read refl (only_write text status result Read before now f g a e).0);
   write = λ e. (only_write text status result Write before now f g a e).1;
@@ -72,19 +81,63 @@ yields_answer Says unfit text status result input before now i f g is why of a =
 
 -- ---- a call that found no memory, and did nothing
 
-told_nothing : (Says : List ℕ → Report → Type 0) (stop : Stop) (input left before : Option (List ℕ)) → IfSome input (λ b. Gave (Says b) (Err stop) left before before)
-told_nothing Says stop None left before = tt
-told_nothing Says stop (Some b) left before = nothing stop refl refl
+none_whole : (Says : List ℕ → Report → Type 0) (stop : Stop) (input left before now : Option (List ℕ)) → IfSome input (λ b. IfOk (Err stop) (λ s. DoesWhole (Says b) s left before now))
+none_whole Says stop None left before now = tt
+none_whole Says stop (Some b) left before now = tt
+
+none_part : (Says : List ℕ → Report → Type 0) (input before : Option (List ℕ)) → IfSome input (λ b. DoesPart (Says b) before before)
+none_part Says None before = tt
+none_part Says (Some b) before = inl (Keeps-refl before)
 
 pub yields_memory : (Says : List ℕ → Report → Type 0) (unfit : Type 0) (input before : Option (List ℕ)) (i f : ℕ)
     → Yields Says unfit (streams input i before f) (streams input i before f) (Err Memory)
 yields_memory Says unfit input before i f = record {
-  told = told_nothing Says Memory input input before;
+  whole = none_whole Says Memory input input before before;
+  part = none_part Says input before;
   why = tt;
   read = λ e. absurd (let no : Memory ≡ Read = cc in cc);
   write = λ e. absurd (let no : Memory ≡ Write = cc in cc);
   memory = λ _. record { input = refl; output = refl };
   status = tt;
+}
+
+pub yields_stopped : (Says : List ℕ → Report → Type 0) (unfit : Type 0) (result : Result ℕ Stop) (input before now : Option (List ℕ)) (i f g : ℕ) → Stopped Memory result before now f g
+    → Yields Says unfit (streams input i before f) (streams input i now g) result
+yields_stopped Says unfit result input before now i f g s = rw (s.is, s.same, s.faultless) (yields_memory Says unfit input before i f)
+
+-- ---- reports that may be made of one thing may be made of another
+
+more_whole : (Says Other : Report → Type 0) (result : Result ℕ Stop) (left before now : Option (List ℕ)) → ((r : Report) → Says r → Other r)
+    → IfOk result (λ s. DoesWhole Says s left before now) → IfOk result (λ s. DoesWhole Other s left before now)
+more_whole Says Other (Ok s) left before now says w = record { report = w.report; is = says w.report w.is; status_is = w.status_is; leaves = w.leaves; wrote = w.wrote }
+more_whole Says Other (Err stop) left before now says w = tt
+
+more_part : (Says Other : Report → Type 0) (before now : Option (List ℕ)) → ((r : Report) → Says r → Other r) → DoesPart Says before now → DoesPart Other before now
+more_part Says Other before now says (inl kept) = inl kept
+more_part Says Other before now says (inr w) = inr (w.0, says w.0 w.1, w.2)
+
+pub whole_as : (Says Other : List ℕ → Report → Type 0) (input : Option (List ℕ)) (result : Result ℕ Stop) (left before now : Option (List ℕ)) → ((b : List ℕ) (r : Report) → Says b r → Other b r)
+    → IfSome input (λ b. IfOk result (λ s. DoesWhole (Says b) s left before now)) → IfSome input (λ b. IfOk result (λ s. DoesWhole (Other b) s left before now))
+whole_as Says Other None result left before now says w = tt
+whole_as Says Other (Some b) result left before now says w = more_whole (Says b) (Other b) result left before now (says b) w
+
+pub part_as : (Says Other : List ℕ → Report → Type 0) (input before now : Option (List ℕ)) → ((b : List ℕ) (r : Report) → Says b r → Other b r)
+    → IfSome input (λ b. DoesPart (Says b) before now) → IfSome input (λ b. DoesPart (Other b) before now)
+part_as Says Other None before now says w = tt
+part_as Says Other (Some b) before now says w = more_part (Says b) (Other b) before now (says b) w
+
+-- and a status says why of the one as of the other
+pub yields_as : (Says Other : List ℕ → Report → Type 0) (unfit other : Type 0) (old new : Streams) (result : Result ℕ Stop) → ((b : List ℕ) (r : Report) → Says b r → Other b r)
+    → (IfOk result (λ s. SaysWhy s ⊥ unfit) → IfOk result (λ s. SaysWhy s ⊥ other))
+    → Yields Says unfit old new result → Yields Other other old new result
+yields_as Says Other unfit other old new result says why y = record {
+  whole = whole_as Says Other old.input result new.input old.output new.output says y.whole;
+  part = part_as Says Other old.input old.output new.output says y.part;
+  why = why y.why;
+  read = y.read;
+  write = y.write;
+  memory = y.memory;
+  status = y.status;
 }
 
 -- ---- a run
@@ -133,14 +186,14 @@ same_stop result a b e f = let g : ◌≡◌ {A = Result ℕ Stop} (Err a) (Err 
 module _ (S : Type 0) (machine : Machine S End) (fault : (end : End) → machine.is_fault end ≡ is_fault end) (says : S → End → Closing) (n : ℕ) (state : S)
     (of : (s : S) (end : End) → is_fault end ≡ false → IsOfRun (says s end).status) where
   says_run : (s : S) (end : End) (unfit : Type 0) → is_fault end ≡ false → (unfit → ⊥) → SaysWhy (says s end).status ⊥ unfit
-  says_run s end unfit fine fit = let w = of s end fine in says_fine (says s end).status ⊥ unfit w.not_lacking w.not_refused (λ l. l) fit
+  says_run s end unfit fine fit = let w = of s end fine in says_fine (says s end).status ⊥ unfit w.not_unavailable w.not_refused (λ l. l) fit
 
   -- a run, and the text of its end
-  gives_run : (input : List ℕ) (new : S) (unspent : ℕ) (end : End) (result : Result ℕ Stop) (left before mid now : Option (List ℕ)) (f g : ℕ)
-      → is_fault end ≡ false
+  done_run : (Says : Report → Type 0) (input : List ℕ) (new : S) (unspent : ℕ) (end : End) (result : Result ℕ Stop) (left before mid now : Option (List ℕ)) (f g : ℕ)
+      → is_fault end ≡ false → Says (closed_report says (ran_of machine n state input))
       → Runs machine n state input end new unspent left before mid → Answers (says new end).text (says new end).status result mid now f g
-      → Gives (closed_report says (ran_of machine n state input)) result left before now
-  gives_run input new unspent end result left before mid now f g fine r a =
+      → IfOk result (λ s. DoesWhole Says s left before now) × DoesPart Says before now
+  done_run Says input new unspent end result left before mid now f g fine is r a =
       let ran : Ran S End = ran_of machine n state input in
       let ok = fault end ∙ fine in
       let e : end ≡ ran.end = at_false _ _ ok r.ends in
@@ -150,89 +203,54 @@ module _ (S : Type 0) (machine : Machine S End) (fault : (end : End) → machine
     where
       go : (result : Result ℕ Stop) → Answers (says (ran_of machine n state input).state (ran_of machine n state input).end).text (says (ran_of machine n state input).state (ran_of machine n state input).end).status result mid now f g
           → left ≡ Some (ran_of machine n state input).left → Appends before mid (ran_of machine n state input).text
-          → Gives (closed_report says (ran_of machine n state input)) result left before now
-      go (Ok s) a leaves wrote = record {
-        part = part_then before mid now (ran_of machine n state input).text _ wrote a.part;
-        status = a.status_is;
-        leaves = leaves;
-        wrote = Appends-trans before mid now (ran_of machine n state input).text _ wrote a.ok;
-      }
-      go (Err stop) a leaves wrote = record { part = part_then before mid now (ran_of machine n state input).text _ wrote a.part; status = tt; leaves = tt; wrote = tt }
+          → IfOk result (λ s. DoesWhole Says s left before now) × DoesPart Says before now
+      go (Ok s) a leaves wrote = (
+        record {
+          report = closed_report says (ran_of machine n state input);
+          is = is;
+          status_is = a.status_is;
+          leaves = leaves;
+          wrote = Appends-trans before mid now (ran_of machine n state input).text _ wrote a.ok;
+        },
+        inr (closed_report says (ran_of machine n state input), is, part_then before mid now (ran_of machine n state input).text _ wrote a.part),
+      )
+      go (Err stop) a leaves wrote = (tt, inr (closed_report says (ran_of machine n state input), is, part_then before mid now (ran_of machine n state input).text _ wrote a.part))
 
-  -- a run that a fault stopped
-  gives_fault : (stop : Stop) (input : List ℕ) (new : S) (unspent : ℕ) (end : End) (left before now : Option (List ℕ))
-      → Runs machine n state input end new unspent left before now
-      → Gives (closed_report says (ran_of machine n state input)) (Err stop) left before now
-  gives_fault stop input new unspent end left before now r =
-      record { part = part_first before now (ran_of machine n state input).text _ r.part; status = tt; leaves = tt; wrote = tt }
+  -- a run that was stopped
+  part_run : (Says : Report → Type 0) (input : List ℕ) (new : S) (unspent : ℕ) (end : End) (left before now : Option (List ℕ))
+      → Says (closed_report says (ran_of machine n state input)) → Runs machine n state input end new unspent left before now → DoesPart Says before now
+  part_run Says input new unspent end left before now is r = inr (closed_report says (ran_of machine n state input), is, part_first before now (ran_of machine n state input).text _ r.part)
 
-  -- the whole call: a run from where nothing was done, and the text of its end
-  pub yields_run : (Says : List ℕ → Report → Type 0) (unfit : Type 0) (head : List ℕ) (end : End) (result : Result ℕ Stop) (input left before mid now : Option (List ℕ)) (i j f g h : ℕ)
-      → ((b : List ℕ) → Says b (closed_report says (ran_of machine n state b)))
-      → ((s : S) (end : End) → says s end ≡ closing_of head end) → (unfit → ⊥)
-      → IfSome input (λ b. (new : S) × ((unspent : ℕ) × Runs machine n state b end new unspent left before mid))
-      → (end ≡ ReadFault → Rose i j) → (end ≡ WriteFault → Rose f g) → f ≤ g
-      → AnswersEnd head end result mid now g h
-      → Yields Says unfit (streams input i before f) (streams left j now h) result
-  yields_run Says unfit head end result input left before mid now i j f g h is says_head fit runs read write later answers = go (is_fault end) refl
-    where
-      told_fine : (input : Option (List ℕ)) → is_fault end ≡ false → Answers (head ++ end_line end) (status_of end) result mid now g h
-          → IfSome input (λ b. (new : S) × ((unspent : ℕ) × Runs machine n state b end new unspent left before mid))
-          → IfSome input (λ b. Gave (Says b) result left before now)
-      told_fine None fine a r = tt
-      told_fine (Some b) fine a r = given _ (is b) (gives_run b r.0 r.1.0 end result left before mid now g h fine r.1.1 (rw (says_head r.0 end) a))
-
-      told_stopped : (input : Option (List ℕ)) (stop : Stop) → result ≡ Err stop → now ≡ mid
-          → IfSome input (λ b. (new : S) × ((unspent : ℕ) × Runs machine n state b end new unspent left before mid))
-          → IfSome input (λ b. Gave (Says b) result left before now)
-      told_stopped None stop e same r = tt
-      told_stopped (Some b) stop e same r = rw (e, same) (given _ (is b) (gives_fault stop b r.0 r.1.0 end left before mid r.1.1))
-
-      go : (b : Bool) → is_fault end ≡ b → Yields Says unfit (streams input i before f) (streams left j now h) result
-      go false fine =
-          let a = at_false (is_fault end) _ fine answers.fine in
-          let text = head ++ end_line end in
-          let status = status_of end in
-          record {
-            told = told_fine input fine a runs;
-            why = of_status (λ s. SaysWhy s ⊥ unfit) text status result mid now g h (says_end end unfit fine fit) a;
-            read = λ e. absurd (not_read Read refl (only_write text status result Read mid now g h a e).0);
-            write = λ e. let rose = (only_write text status result Write mid now g h a e).1 in omega arith;
-            memory = λ e. absurd (not_memory Memory refl (only_write text status result Memory mid now g h a e).0);
-            status = of_status IsOfCommand text status result mid now g h (IsOfRun.reported (end_of_run end fine)) a;
-          }
-      go true fault =
-          let s = at_true (is_fault end) _ fault answers.fault in
-          record {
-            told = told_stopped input (stop_of_fault end) s.is s.same runs;
-            why = rw s.is tt;
-            read = λ e. read (fault_read end fault (same_stop result (stop_of_fault end) Read s.is e));
-            write = λ e. rw s.calm (write (fault_write end fault (same_stop result (stop_of_fault end) Write s.is e)));
-            memory = λ e. absurd (fault_memory end (same_stop result (stop_of_fault end) Memory s.is e));
-            status = rw s.is tt;
-          }
-
-  -- .. where what is said of the last state takes memory, which may be wanting behind a run that no fault stopped
-  pub yields_said : (Says : List ℕ → Report → Type 0) (unfit : Type 0) (new : S) (end : End) (result : Result ℕ Stop) (input left before mid now : Option (List ℕ)) (i j f g h : ℕ)
+  -- the whole call: a run from where nothing was done, and what is said of its last state, for which there may be no memory
+  pub yields_run : (Says : List ℕ → Report → Type 0) (unfit : Type 0) (new : S) (end : End) (result : Result ℕ Stop) (input left before mid now : Option (List ℕ)) (i j f g h : ℕ)
       → ((b : List ℕ) → Says b (closed_report says (ran_of machine n state b))) → (unfit → ⊥)
       → IfSome input (λ b. (unspent : ℕ) × Runs machine n state b end new unspent left before mid)
       → (end ≡ ReadFault → Rose i j) → (end ≡ WriteFault → Rose f g) → f ≤ g
-      → ((end ≡ ReadFault → ⊥) → j ≡ i) → ((end ≡ WriteFault → ⊥) → g ≡ f)
+      → (is_fault end ≡ false → result ≡ Err Memory → (j ≡ i) × (g ≡ f))
       → AnswersRun (says new end) end result mid now g h
       → Yields Says unfit (streams input i before f) (streams left j now h) result
-  yields_said Says unfit new end result input left before mid now i j f g h is fit runs read write later read_kept write_kept answers = go (is_fault end) refl
+  yields_run Says unfit new end result input left before mid now i j f g h is fit runs read write later still answers = go (is_fault end) refl
     where
-      told_fine : (input : Option (List ℕ)) → is_fault end ≡ false → Answers (says new end).text (says new end).status result mid now g h
+      fine_whole : (input : Option (List ℕ)) → is_fault end ≡ false → Answers (says new end).text (says new end).status result mid now g h
           → IfSome input (λ b. (unspent : ℕ) × Runs machine n state b end new unspent left before mid)
-          → IfSome input (λ b. Gave (Says b) result left before now)
-      told_fine None fine a r = tt
-      told_fine (Some b) fine a r = given _ (is b) (gives_run b new r.0 end result left before mid now g h fine r.1 a)
+          → IfSome input (λ b. IfOk result (λ s. DoesWhole (Says b) s left before now))
+      fine_whole None fine a r = tt
+      fine_whole (Some b) fine a r = (done_run (Says b) b new r.0 end result left before mid now g h fine (is b) r.1 a).0
 
-      told_stopped : (input : Option (List ℕ)) (stop : Stop) → result ≡ Err stop → now ≡ mid
+      fine_part : (input : Option (List ℕ)) → is_fault end ≡ false → Answers (says new end).text (says new end).status result mid now g h
           → IfSome input (λ b. (unspent : ℕ) × Runs machine n state b end new unspent left before mid)
-          → IfSome input (λ b. Gave (Says b) result left before now)
-      told_stopped None stop e same r = tt
-      told_stopped (Some b) stop e same r = rw (e, same) (given _ (is b) (gives_fault stop b new r.0 end left before mid r.1))
+          → IfSome input (λ b. DoesPart (Says b) before now)
+      fine_part None fine a r = tt
+      fine_part (Some b) fine a r = (done_run (Says b) b new r.0 end result left before mid now g h fine (is b) r.1 a).1
+
+      stopped_whole : (input : Option (List ℕ)) (stop : Stop) → result ≡ Err stop → IfSome input (λ b. IfOk result (λ s. DoesWhole (Says b) s left before now))
+      stopped_whole input stop e = rw e (none_whole Says stop input left before now)
+
+      stopped_part : (input : Option (List ℕ)) → now ≡ mid
+          → IfSome input (λ b. (unspent : ℕ) × Runs machine n state b end new unspent left before mid)
+          → IfSome input (λ b. DoesPart (Says b) before now)
+      stopped_part None same r = tt
+      stopped_part (Some b) same r = rw same (part_run (Says b) b new r.0 end left before mid (is b) r.1)
 
       fine_of : is_fault end ≡ false → Answers (says new end).text (says new end).status result mid now g h ⊎ Stopped Memory result mid now g h
           → Yields Says unfit (streams input i before f) (streams left j now h) result
@@ -240,7 +258,8 @@ module _ (S : Type 0) (machine : Machine S End) (fault : (end : End) → machine
           let text = (says new end).text in
           let status = (says new end).status in
           record {
-            told = told_fine input fine a runs;
+            whole = fine_whole input fine a runs;
+            part = fine_part input fine a runs;
             why = of_status (λ s. SaysWhy s ⊥ unfit) text status result mid now g h (says_run new end unfit fine fit) a;
             read = λ e. absurd (not_read Read refl (only_write text status result Read mid now g h a e).0);
             write = λ e. let rose = (only_write text status result Write mid now g h a e).1 in omega arith;
@@ -248,11 +267,12 @@ module _ (S : Type 0) (machine : Machine S End) (fault : (end : End) → machine
             status = of_status IsOfCommand text status result mid now g h (IsOfRun.reported (of new end fine)) a;
           }
       fine_of fine (inr s) = record {
-        told = told_stopped input Memory s.is s.same runs;
+        whole = stopped_whole input Memory s.is;
+        part = stopped_part input s.same runs;
         why = rw s.is tt;
         read = λ e. absurd (let w = same_stop result Memory Read s.is e in cc);
         write = λ e. absurd (let w = same_stop result Memory Write s.is e in cc);
-        memory = λ _. record { input = read_kept (not_fault_read end fine); output = s.calm ∙ write_kept (not_fault_write end fine) };
+        memory = λ e. let kept = still fine e in record { input = kept.0; output = s.faultless ∙ kept.1 };
         status = rw s.is tt;
       }
 
@@ -261,30 +281,29 @@ module _ (S : Type 0) (machine : Machine S End) (fault : (end : End) → machine
       go true fault =
           let s = at_true (is_fault end) _ fault answers.fault in
           record {
-            told = told_stopped input (stop_of_fault end) s.is s.same runs;
+            whole = stopped_whole input (stop_of_fault end) s.is;
+            part = stopped_part input s.same runs;
             why = rw s.is tt;
             read = λ e. read (fault_read end fault (same_stop result (stop_of_fault end) Read s.is e));
-            write = λ e. rw s.calm (write (fault_write end fault (same_stop result (stop_of_fault end) Write s.is e)));
+            write = λ e. rw s.faultless (write (fault_write end fault (same_stop result (stop_of_fault end) Write s.is e)));
             memory = λ e. absurd (fault_memory end (same_stop result (stop_of_fault end) Memory s.is e));
             status = rw s.is tt;
           }
 
+-- where no fault ended a run, no count has changed
+pub both_kept : (end : End) (i j f g : ℕ) → ((end ≡ ReadFault → ⊥) → j ≡ i) → ((end ≡ WriteFault → ⊥) → g ≡ f) → is_fault end ≡ false → (j ≡ i) × (g ≡ f)
+both_kept end i j f g read write fine = (read (not_fault_read end fine), write (not_fault_write end fine))
+
 -- ---- runs, whatever they had to spare
 
-pub run_some : (p : Program) (budget : ℕ) (old : MachineState) (end : End) (new : MachineState) (unspent : ℕ) (told left before now : Option (List ℕ))
+pub run_some : (p : Program) (budget : ℕ) (old : State) (end : End) (new : State) (unspent : ℕ) (told left before now : Option (List ℕ))
     → IfSome told (λ b. Runs (machine_of p) budget old b end new unspent left before now)
     → IfSome told (λ b. (spare : ℕ) × Runs (machine_of p) budget old b end new spare left before now)
 run_some p budget old end new unspent None left before now r = tt
 run_some p budget old end new unspent (Some b) left before now r = (unspent, r)
 
-pub site_some : (p : Program) (budget : ℕ) (old : MachineState) (end : End) (unspent : ℕ) (new : MachineState) (told left before now : Option (List ℕ))
+pub site_some : (p : Program) (budget : ℕ) (old : State) (end : End) (unspent : ℕ) (new : State) (told left before now : Option (List ℕ))
     → IfSome told (λ b. RunsToSite p budget old b end unspent new left before now)
     → IfSome told (λ b. (spare : ℕ) × Runs (site_machine p) (most_events budget) (at_left budget old) b end (at_left unspent new) spare left before now)
 site_some p budget old end unspent new None left before now r = tt
 site_some p budget old end unspent new (Some b) left before now r = (r.spare, r.runs)
-
-pub flat_some : (budget : ℕ) (old : State) (end : End) (new : State) (told left before now : Option (List ℕ))
-    → IfSome told (λ b. FlatRuns budget old b end new left before now)
-    → IfSome told (λ b. (new : State) × ((unspent : ℕ) × Runs flat_machine budget old b end new unspent left before now))
-flat_some budget old end new None left before now r = tt
-flat_some budget old end new (Some b) left before now r = (new, r)

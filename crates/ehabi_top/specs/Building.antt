@@ -17,9 +17,9 @@ use Rattle.elf_image.specs.declared.fault.ImageFault.{ImageFault}
 use Rattle.elf_image.specs.declared.fault.ImageFault.TheVariants as image
 use Rattle.elf_write.specs.Layout.{written_of}
 use Rattle.elf_write.specs.declared.parts.ImageParts.{ImageParts}
-use Rattle.eh_port.specs.FileList.{answer_of}
-use Rattle.eh_port.specs.declared.FileAnswer.{FileAnswer}
-use Rattle.eh_port.specs.declared.FileAnswer.TheVariants.{Found, Missing, TooLong}
+use Rattle.eh_files.specs.FileList.{answer_of}
+use Rattle.eh_files.specs.declared.FileAnswer.{FileAnswer}
+use Rattle.eh_files.specs.declared.FileAnswer.TheVariants.{Found, Missing, TooLong}
 use Rattle.ehabi_top.specs.RefusalText.{source_line, asm_line, link_line}
 use Rattle.ehabi_top.specs.Sources.{NamedText, NamedStmts, Refusal, and_then, all_answers}
 use Rattle.ehabi_top.specs.Text.{missing_line, too_long_line, image_fault_line}
@@ -28,7 +28,7 @@ use Rattle.ehabi_top.specs.declared.refusal.BuildFault.TheVariants.{InSource, In
 use Rattle.ehabi_top.specs.declared.refusal.FilesFault.{FilesFault}
 use Rattle.ehabi_top.specs.declared.refusal.FilesFault.TheVariants as files
 use Rattle.ehabi_top.specs.declared.sources.TheConstants.{FILE_LIMIT}
-use Rattle.ehabi_top.specs.declared.status.TheConstants.{REFUSED, LACKING}
+use Rattle.ehabi_top.specs.declared.status.TheConstants.{REFUSED, FILE_UNAVAILABLE}
 use Rattle.ehabi_top.specs.declared.sources.Loaded.{Loaded}
 use Rattle.ehabi_top.specs.declared.sources.Loaded.TheVariants.{All, Lacks, Exceeds}
 
@@ -88,7 +88,7 @@ bytes_of_built (Err line) = Err (record { status = REFUSED; line = line })
 
 abbrev pub bytes_of_found : Result (List NamedText) (List ℕ) → Result (List ℕ) Refusal
 bytes_of_found (Ok sources) = bytes_of_built (built sources)
-bytes_of_found (Err line) = Err (record { status = LACKING; line = line })
+bytes_of_found (Err line) = Err (record { status = FILE_UNAVAILABLE; line = line })
 
 -- the bytes of the image that the sources of these names are built to, or why there are none: a file that is missing or too
 -- long, or what is refused of the sources
@@ -136,6 +136,6 @@ wants_memory (files.TooLong name) = false
 wants_memory (files.Sources fault) = is_memory fault
 
 abbrev pub refusal_of : FilesFault → Refusal
-refusal_of (files.Missing name) = record { status = LACKING; line = missing_line name.now }
-refusal_of (files.TooLong name) = record { status = LACKING; line = too_long_line name.now }
+refusal_of (files.Missing name) = record { status = FILE_UNAVAILABLE; line = missing_line name.now }
+refusal_of (files.TooLong name) = record { status = FILE_UNAVAILABLE; line = too_long_line name.now }
 refusal_of (files.Sources fault) = record { status = REFUSED; line = fault_line fault }

@@ -11,7 +11,7 @@ use Rattle.eh_types.specs.declared.fault.TypeFault.TheVariants.{Unreadable, Writ
 use Rattle.frame_facts.specs.CauseNames.{cause_name}
 use Rattle.frame_facts.specs.declared.cause.FrameCause.{FrameCause}
 use Rattle.frame_facts.specs.declared.cause.FrameCause.TheVariants.{CallState, FramePointerLost}
-use Rattle.ehabi_top.specs.Text.{refusal_line, behind_blank}
+use Rattle.ehabi_top.specs.Text.{refusal_line, after_blank}
 
 abbrev pub accepted_line : ℕ → List ℕ
 accepted_line count = codes "accepted " ++ decimal count ++ codes " functions\n"
@@ -21,8 +21,8 @@ accepted_line count = codes "accepted " ++ decimal count ++ codes " functions\n"
 -- the row, where one is at fault
 abbrev pub index_said : IndexFault → List ℕ
 index_said Length = []
-index_said (OutsideImage row) = behind_blank (decimal row)
-index_said (Unsorted row) = behind_blank (decimal row)
+index_said (OutsideImage row) = after_blank (decimal row)
+index_said (Unsorted row) = after_blank (decimal row)
 
 abbrev pub index_line : IndexFault → List ℕ
 index_line fault = refusal_line (codes "index") (index_name fault) (index_said fault)
@@ -36,8 +36,8 @@ register_name number =
 
 -- the register, of a cause that stands at one
 abbrev pub cause_said : FrameCause → List ℕ
-cause_said (CallState reg) = behind_blank (register_name reg)
-cause_said (FramePointerLost reg) = behind_blank (register_name reg)
+cause_said (CallState reg) = after_blank (register_name reg)
+cause_said (FramePointerLost reg) = after_blank (register_name reg)
 cause_said cause = []
 
 -- by the function's name and an offset in it
@@ -48,11 +48,11 @@ cause_line name offset cause = refusal_line (named_place name offset) (cause_nam
 
 -- the type
 abbrev pub type_said : TypeFault → List ℕ
-type_said (Unreadable type) = behind_blank (address_text type)
-type_said (Writable type) = behind_blank (address_text type)
-type_said (NameTooLong type) = behind_blank (address_text type)
-type_said (Cyclic type) = behind_blank (address_text type)
-type_said (TooManyPaths type) = behind_blank (address_text type)
+type_said (Unreadable type) = after_blank (address_text type)
+type_said (Writable type) = after_blank (address_text type)
+type_said (NameTooLong type) = after_blank (address_text type)
+type_said (Cyclic type) = after_blank (address_text type)
+type_said (TooManyPaths type) = after_blank (address_text type)
 type_said OutOfMemory = []
 
 abbrev pub type_line : TypeFault → List ℕ

@@ -1,24 +1,24 @@
 -- The bytes that a command works on: of one file, or built of several, or why there are none.
-use Rattle.std.specs.Prelude.{ℕ, ◌≡◌, false, List, Result, Ok, Err, IfOk, IfErr, IfSome, OnOk, IsErrOf}
+use Rattle.std.specs.Prelude.{ℕ, ◌≡◌, false, List, Result, Ok, Err, IfOk, IfErr, IfSome, OnOk, IsErrOf, MatchResult}
 use Rattle.eh_port.specs.Causes.{Rose}
-use Rattle.eh_port.specs.FileList.{answer_of}
-use Rattle.eh_port.specs.declared.FileAnswer.{FileAnswer}
-use Rattle.eh_port.specs.declared.FileAnswer.TheVariants.{Found, Missing, TooLong}
+use Rattle.eh_files.specs.FileList.{answer_of}
+use Rattle.eh_files.specs.declared.FileAnswer.{FileAnswer}
+use Rattle.eh_files.specs.declared.FileAnswer.TheVariants.{Found, Missing, TooLong}
 use Rattle.ehabi_top.specs.Building.{refusal_of, wants_memory}
 use Rattle.ehabi_top.specs.Loading.{Report}
 use Rattle.ehabi_top.specs.Sources.{Refusal}
 use Rattle.ehabi_top.specs.Text.{missing_line, too_long_line}
-use Rattle.ehabi_top.specs.Yields.{Shelf}
+use Rattle.ehabi_top.specs.Yields.{FileState}
 use Rattle.ehabi_top.specs.declared.refusal.FilesFault.{FilesFault}
 use Rattle.ehabi_top.specs.declared.sources.TheConstants.{FILE_LIMIT}
-use Rattle.ehabi_top.specs.declared.status.TheConstants.{LACKING}
+use Rattle.ehabi_top.specs.declared.status.TheConstants.{FILE_UNAVAILABLE}
 use Rattle.ehabi_top.specs.declared.stop.Stop.{Stop}
 use Rattle.ehabi_top.specs.declared.stop.Stop.TheVariants.{Read, Write, Memory}
 
 abbrev pub bytes_of_answer : List ℕ → FileAnswer → Result (List ℕ) Refusal
 bytes_of_answer name (Found bytes) = Ok bytes
-bytes_of_answer name Missing = Err (record { status = LACKING; line = missing_line name })
-bytes_of_answer name TooLong = Err (record { status = LACKING; line = too_long_line name })
+bytes_of_answer name Missing = Err (record { status = FILE_UNAVAILABLE; line = missing_line name })
+bytes_of_answer name TooLong = Err (record { status = FILE_UNAVAILABLE; line = too_long_line name })
 
 -- the bytes of the file of a name, or the line of one that is missing or too long
 unfoldable pub file_bytes : List ℕ → List (List ℕ × List ℕ) → Result (List ℕ) Refusal
@@ -34,14 +34,9 @@ abbrev pub FoundReports : (List ℕ → List ℕ → Report → Type 0) → Resu
 FoundReports Says (Ok bytes) input r = Says bytes input r
 FoundReports Says (Err refusal) input r = r ≡ record { text = refusal.line; status = refusal.status; left = input }
 
--- the answer is those bytes, or a fault that stands for that refusal
-abbrev pub StandsFor : {T : Type 0} → (T → List ℕ) → Result T FilesFault → Result (List ℕ) Refusal → Type 0
-StandsFor bytes_of (Ok found) asked = asked ≡ Ok (bytes_of found)
-StandsFor bytes_of (Err fault) asked = asked ≡ Err (refusal_of fault)
-
--- A call that asks the files for bytes. A stop is a failed read, or want of memory where none has failed.
-pub record Finds {T : Type 0} (bytes_of : T → List ℕ) (ask : List (List ℕ × List ℕ) → Result (List ℕ) Refusal) (files files' : Shelf) (result : Result (Result T FilesFault) Stop) : Type 0 where
-  pub told : IfOk result (λ answer. IfSome files.held (λ held. StandsFor bytes_of answer (ask held)))
+-- A call that asks the files for bytes: it answers those, or a fault that stands for the refusal. A stop is a failed read, or want of memory where none has failed.
+pub record Finds {T : Type 0} (bytes_of : T → List ℕ) (ask : List (List ℕ × List ℕ) → Result (List ℕ) Refusal) (files files' : FileState) (result : Result (Result T FilesFault) Stop) : Type 0 where
+  pub told : IfOk result (λ answer. IfSome files.held (λ held. MatchResult answer (λ found. ask held ≡ Ok (bytes_of found)) (λ fault. ask held ≡ Err (refusal_of fault))))
   pub fit : IfOk result (λ answer. IfErr answer (λ fault. wants_memory fault ≡ false))
   pub read : IsErrOf result Read → Rose files.faults files'.faults
   pub write : IsErrOf result Write → ⊥

@@ -9,7 +9,7 @@ use Rattle.ehabi_top.specs.Loading.{Report, ran_report}
 use Rattle.ehabi_top.specs.Text.{image_fault_line}
 use Rattle.ehabi_top.specs.declared.status.TheConstants.{REFUSED}
 
--- behind the guest's bytes stands a line feed, whatever the last state
+-- after the guest's bytes stands a line feed, whatever the last state
 abbrev pub line_feed : State → List ℕ
 line_feed state = codes "\n"
 

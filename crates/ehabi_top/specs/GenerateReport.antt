@@ -1,15 +1,14 @@
 -- The report of `gen K M`: the program of a number is built, checked, and run with nothing to read. What it writes is dropped, and its
 -- events are counted. The input is left.
 use Rattle.std.specs.Prelude.{ℕ, ◌≡◌, ◌++◌, List, [], ◌∷◌, length, codes, Result}
-use Rattle.elf_image.specs.Image.{Image}
 use Rattle.event_runs.specs.Runs.{Ran}
 use Rattle.eh_kit.specs.ProgramText.{generated_text}
 use Rattle.eh_trace.specs.Trace.{Trace}
-use Rattle.frame_check.specs.Accepts.{Accepted, IsSound}
+use Rattle.frame_check.specs.Accepts.{Accepted}
 use Rattle.thumb_core.specs.declared.ends.End.{End}
+use Rattle.ehabi_top.specs.Accepting.{BytesReportsBy, IsUnaccepted}
 use Rattle.ehabi_top.specs.BothRuns.{bytes_run, recorded_run, bytes_events, recorded_events}
 use Rattle.ehabi_top.specs.Building.{built, bytes_of_built}
-use Rattle.ehabi_top.specs.CheckReport.{BytesReportsBy, IsUnaccepted}
 use Rattle.ehabi_top.specs.Finding.{FoundReports}
 use Rattle.ehabi_top.specs.Loading.{Report, status_of}
 use Rattle.ehabi_top.specs.Sources.{NamedText, Refusal}
@@ -46,17 +45,9 @@ pub record CountsAccepted (a : Accepted) (input : List ℕ) (r : Report) : Type 
   pub is : r ≡ summary_report a input
   pub recorded : r ≡ recorded_summary a input
 
--- the image is accepted, and r is the report of its run, of either machine
-pub record CountsImage (image : Image) (input : List ℕ) (r : Report) : Type 0 where
-  pub accepted : Accepted
-  pub sound : IsSound accepted
-  pub same : accepted.image ≡ image
-  pub is : r ≡ summary_report accepted input
-  pub recorded : r ≡ recorded_summary accepted input
-
 -- .. or what `check` would say of the image
 abbrev pub GenerateReports : ℕ → ℕ → List ℕ → Report → Type 0
-GenerateReports number functions input r = FoundReports (BytesReportsBy CountsImage) (generated_bytes number functions) input r
+GenerateReports number functions input r = FoundReports (BytesReportsBy CountsAccepted) (generated_bytes number functions) input r
 
 -- ---- what is refused
 

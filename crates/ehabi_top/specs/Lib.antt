@@ -12,9 +12,11 @@ pub mod Sources
 pub mod TaskReport
 pub mod RefusalText
 pub mod Building
+pub mod AsksFor
 pub mod Finding
 pub mod BuildReport
 pub mod CheckText
+pub mod Accepting
 pub mod CheckReport
 pub mod Laws
 pub mod Unfit

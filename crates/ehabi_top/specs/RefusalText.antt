@@ -8,11 +8,11 @@ use Rattle.eh_link.specs.FaultNames.{fault_name as link_name}
 use Rattle.eh_link.specs.declared.fault.LinkFault.{LinkFault}
 use Rattle.eh_link.specs.declared.fault.LinkFault.TheVariants as link
 use Rattle.eh_word.specs.Address.{address_text}
-use Rattle.ehabi_top.specs.Text.{refusal_line, behind_blank}
+use Rattle.ehabi_top.specs.Text.{refusal_line, after_blank}
 
 -- ---- a text that is no source
 
--- behind the file's name: line, column and what
+-- after the file's name: line, column and what
 abbrev pub source_place : SourceFault → List ℕ
 source_place fault = codes ":" ++ decimal fault.line ++ codes ":" ++ decimal fault.column ++ codes ": " ++ what_name fault.what ++ codes "\n"
 
@@ -21,7 +21,7 @@ source_line name fault = name ++ source_place fault
 
 -- ---- statements that have no object
 
--- behind the file's name: line and what
+-- after the file's name: line and what
 abbrev pub asm_place : AsmFault → List ℕ
 asm_place fault = codes ":" ++ decimal fault.line ++ codes ": " ++ asm_name fault.what ++ codes "\n"
 
@@ -32,11 +32,11 @@ asm_line name fault = name ++ asm_place fault
 
 -- the name that is meant twice or not at all; the place of a relocation
 abbrev pub link_said : LinkFault → List ℕ
-link_said (link.Duplicate name) = behind_blank name
-link_said (link.Undefined name) = behind_blank name
+link_said (link.Duplicate name) = after_blank name
+link_said (link.Undefined name) = after_blank name
 link_said link.NoEntry = []
 link_said link.TooLarge = []
-link_said (link.RelocationRange place) = behind_blank (address_text place)
+link_said (link.RelocationRange place) = after_blank (address_text place)
 link_said link.OutOfMemory = []
 
 abbrev pub link_line : LinkFault → List ℕ

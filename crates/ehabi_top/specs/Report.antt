@@ -1,26 +1,26 @@
 -- What the program writes, answers and leaves of the input, by its words, its files and its input (docs/command-line.md).
 --
 -- A command joins by a case of each definition of the first part; nothing below them changes.
-use Rattle.std.specs.Prelude.{ℕ, ◌≡◌, ◌⊎◌, ◌↔◌, List, Option, Some, None, IfOk, IfSome, IsErr, IsErrOf, Result}
-use Rattle.std.specs.Io.KnownBytes.{Appends, Keeps}
+use Rattle.std.specs.Prelude.{ℕ, ◌≡◌, ◌⊎◌, ◌↔◌, List, Option, Some, None, IfOk, IfSome, IsOk, IsErr, IsErrOf, Result}
 use Rattle.eh_port.specs.Causes.{Rose}
-use Rattle.eh_port.specs.FileList.{answer_of}
-use Rattle.eh_port.specs.Writing.{AppendsPart}
+use Rattle.eh_files.specs.FileList.{answer_of}
 use Rattle.ehabi_top.specs.declared.sources.TheConstants.{FILE_LIMIT}
-use Rattle.ehabi_top.specs.declared.status.TheConstants.{USAGE, REFUSED, LACKING}
+use Rattle.ehabi_top.specs.declared.status.TheConstants.{USAGE, REFUSED, FILE_UNAVAILABLE}
 use Rattle.ehabi_top.specs.declared.stop.Stop.{Stop}
 use Rattle.ehabi_top.specs.declared.stop.Stop.TheVariants.{Read, Write, Memory}
-use Rattle.ehabi_top.specs.Loading.{Report, IsLacking, IsReported}
+use Rattle.ehabi_top.specs.AsksFor.{AsksFor, CallLacks, files_named}
+use Rattle.ehabi_top.specs.Loading.{Report, IsUnavailable, IsReported}
+use Rattle.ehabi_top.specs.Accepting.{IsUnaccepted}
 use Rattle.ehabi_top.specs.BuildReport.{build_report, IsUnwritten}
 use Rattle.ehabi_top.specs.Building.{files_of}
-use Rattle.ehabi_top.specs.CheckReport.{CheckReports, CheckSourcesReports, IsUnaccepted}
+use Rattle.ehabi_top.specs.CheckReport.{CheckReports, CheckSourcesReports}
 use Rattle.ehabi_top.specs.FlatReport.{flat_report, IsTooLarge}
 use Rattle.ehabi_top.specs.GenerateReport.{GenerateReports, IsUnfitProgram}
 use Rattle.ehabi_top.specs.TaskReport.{RunReports, RunSourcesReports}
 use Rattle.ehabi_top.specs.Text.{usage}
 use Rattle.ehabi_top.specs.Unfit.{HoldsUnfit, BuildsUnfit}
 use Rattle.ehabi_top.specs.Words.{Command, FlatFile, BuildSources, CheckFile, CheckSources, RunFile, RunSources, GenerateProgram}
-use Rattle.ehabi_top.specs.Yields.{Shelf, Streams, AreCalm}
+use Rattle.ehabi_top.specs.Yields.{FileState, Streams, NoFault, DoesWhole, DoesPart}
 
 -- ---- by command
 
@@ -38,11 +38,11 @@ Reports (Some (GenerateProgram number functions)) files input r = GenerateReport
 -- a file that the command names is missing or too long
 abbrev pub LacksFile : Option Command → List (List ℕ × List ℕ) → Type 0
 LacksFile None files = ⊥
-LacksFile (Some (FlatFile name budget)) files = IsLacking (answer_of files name FILE_LIMIT)
+LacksFile (Some (FlatFile name budget)) files = IsUnavailable (answer_of files name FILE_LIMIT)
 LacksFile (Some (BuildSources names)) files = IsErr (files_of files names)
-LacksFile (Some (CheckFile name)) files = IsLacking (answer_of files name FILE_LIMIT)
+LacksFile (Some (CheckFile name)) files = IsUnavailable (answer_of files name FILE_LIMIT)
 LacksFile (Some (CheckSources names)) files = IsErr (files_of files names)
-LacksFile (Some (RunFile name request)) files = IsLacking (answer_of files name FILE_LIMIT)
+LacksFile (Some (RunFile name request)) files = IsUnavailable (answer_of files name FILE_LIMIT)
 LacksFile (Some (RunSources names request)) files = IsErr (files_of files names)
 LacksFile (Some (GenerateProgram number functions)) files = ⊥
 
@@ -71,42 +71,21 @@ IfTold (Some (RunFile name request)) files input left P = IfSome files (λ held.
 IfTold (Some (RunSources names request)) files input left P = IfSome files (λ held. IfSome input (λ bytes. P held bytes left))
 IfTold (Some (GenerateProgram number functions)) files input left P = (left ≡ input) × ((held : List (List ℕ × List ℕ)) (bytes : List ℕ) → P held bytes (Some bytes))
 
--- ---- what a call does of a report
-
--- all of a report was written, its status answered, and its input left
-pub record DoesWhole (command : Option Command) (files : List (List ℕ × List ℕ)) (input : List ℕ) (status : ℕ) (left before now : Option (List ℕ)) : Type 0 where
-  pub report : Report
-  pub is : Reports command files input report
-  pub status_is : status ≡ report.status
-  pub leaves : left ≡ Some report.left
-  pub wrote : Appends before now report.text
-
--- a part of a report was written
-pub record WritesPart (command : Option Command) (files : List (List ℕ × List ℕ)) (input : List ℕ) (before now : Option (List ℕ)) : Type 0 where
-  pub report : Report
-  pub is : Reports command files input report
-  pub part : AppendsPart before now report.text
-
--- nothing was written, or a part of a report
-abbrev pub DoesPart : Option Command → List (List ℕ × List ℕ) → List ℕ → Option (List ℕ) → Option (List ℕ) → Type 0
-DoesPart command files input before now = Keeps before now ⊎ WritesPart command files input before now
-
--- what a call for the command does
-pub record Performs (command : Option Command) (files : List (List ℕ × List ℕ)) (input : List ℕ) (result : Result ℕ Stop) (left before now : Option (List ℕ)) : Type 0 where
-  pub whole : IfOk result (λ status. DoesWhole command files input status left before now)
-  pub part : DoesPart command files input before now
+-- ---- what a call does for a command
 
 -- what the status of a command says of its files
 pub record Why (command : Option Command) (files : List (List ℕ × List ℕ)) (input : Option (List ℕ)) (status : ℕ) : Type 0 where
-  pub missing : (status ≡ LACKING) ↔ LacksFile command files
+  pub missing : (status ≡ FILE_UNAVAILABLE) ↔ LacksFile command files
   pub refused : Refuses command files input status
 
--- A call for a command, over files and streams as they were and as they are.
-pub record Does (command : Option Command) (files files' : Shelf) (old new : Streams) (result : Result ℕ Stop) : Type 0 where
-  pub told : IfTold command files.held old.input new.input (λ held bytes left. Performs command held bytes result left old.output new.output)
+-- A call for a command, over files and streams as they were and as they are: at `Ok` it did all of a report, and in any case a part of one.
+pub record Does (command : Option Command) (files files' : FileState) (old new : Streams) (result : Result ℕ Stop) : Type 0 where
+  pub whole : IfTold command files.held old.input new.input (λ held bytes left. IfOk result (λ status. DoesWhole (Reports command held bytes) status left old.output new.output))
+  pub part : IfTold command files.held old.input new.input (λ held bytes _. DoesPart (Reports command held bytes) old.output new.output)
   pub why : IfOk result (λ status. IfSome files.held (λ held. Why command held old.input status))
   pub read : IsErrOf result Read → Rose files.faults files'.faults ⊎ Rose old.input_faults new.input_faults
   pub write : IsErrOf result Write → Rose old.output_faults new.output_faults
-  pub memory : IsErrOf result Memory → (files'.faults ≡ files.faults) × AreCalm old new
+  pub memory : IsErrOf result Memory → (files'.faults ≡ files.faults) × NoFault old new
   pub status : IfOk result IsReported
   pub usage : IfOk result (λ status. (status ≡ USAGE) ↔ (command ≡ None))
+  pub asked : AsksFor (files_named command) (IsOk result) (CallLacks result) files files'

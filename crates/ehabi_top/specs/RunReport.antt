@@ -11,7 +11,7 @@ use Rattle.ehabi_top.specs.BothRuns.{bytes_run, recorded_run, bytes_events, reco
 use Rattle.ehabi_top.specs.Loading.{Report, ran_report}
 use Rattle.ehabi_top.specs.Text.{trace_head}
 
--- what stands behind the guest's bytes: the trace of these events
+-- what stands after the guest's bytes: the trace of these events
 abbrev pub trace : Accepted → Trace → List ℕ
 trace a events = trace_head ++ trace_text a.image (name_of a.types) events
 

@@ -1,10 +1,8 @@
 -- The reports of `run` and of `walk`, of one image and of sources: what is accepted runs, and the task says what for.
-use Rattle.std.specs.Prelude.{ℕ, ◌≡◌, List, Result}
-use Rattle.elf_image.specs.Image.{Image}
-use Rattle.elf_image.specs.declared.fault.ImageFault.{ImageFault}
-use Rattle.frame_check.specs.Accepts.{Accepted, IsSound}
+use Rattle.std.specs.Prelude.{ℕ, List}
+use Rattle.frame_check.specs.Accepts.{Accepted}
+use Rattle.ehabi_top.specs.Accepting.{BytesReportsBy}
 use Rattle.ehabi_top.specs.Building.{image_bytes}
-use Rattle.ehabi_top.specs.CheckReport.{ImageReportsBy, BytesReportsBy}
 use Rattle.ehabi_top.specs.Finding.{file_bytes, FoundReports}
 use Rattle.ehabi_top.specs.Loading.{Report}
 use Rattle.ehabi_top.specs.RunReport.{RunsAccepted}
@@ -21,20 +19,9 @@ TaskReports Walk = WalksAccepted
 abbrev pub DoesTask : Request → Accepted → List ℕ → Report → Type 0
 DoesTask request = TaskReports request.task request.budget
 
--- the image is accepted, and r is the report of its run
-pub record RunsImage (request : Request) (image : Image) (input : List ℕ) (r : Report) : Type 0 where
-  pub accepted : Accepted
-  pub sound : IsSound accepted
-  pub same : accepted.image ≡ image
-  pub does : DoesTask request accepted input r
-
--- of an image that isn't accepted the report is that of its check
-abbrev pub RunReportsOf : Request → Result Image ImageFault → List ℕ → Report → Type 0
-RunReportsOf request = ImageReportsBy (RunsImage request)
-
 -- of bytes
 abbrev pub RunBytesReports : Request → List ℕ → List ℕ → Report → Type 0
-RunBytesReports request = BytesReportsBy (RunsImage request)
+RunBytesReports request = BytesReportsBy (DoesTask request)
 
 -- of the image in a file
 abbrev pub RunReports : List ℕ → Request → List (List ℕ × List ℕ) → List ℕ → Report → Type 0

@@ -36,12 +36,12 @@ too_long_line name = name ++ codes ": too long\n"
 abbrev pub refusal_line : List ℕ → List ℕ → List ℕ → List ℕ
 refusal_line place what said = place ++ codes ": " ++ what ++ said ++ codes "\n"
 
-abbrev pub behind_blank : List ℕ → List ℕ
-behind_blank text = codes " " ++ text
+abbrev pub after_blank : List ℕ → List ℕ
+after_blank text = codes " " ++ text
 
 -- of a file that is too short: how many bytes it would need
 abbrev pub image_said : ImageFault → List ℕ
-image_said (Truncated need) = behind_blank (decimal need)
+image_said (Truncated need) = after_blank (decimal need)
 image_said fault = []
 
 -- why a file is no image

@@ -1,7 +1,7 @@
 -- What is refused of what the files of a command hold: a command says which bytes are unfit for it.
 use Rattle.std.specs.Prelude.{ℕ, List, Result, Ok, Err}
-use Rattle.eh_port.specs.declared.FileAnswer.{FileAnswer}
-use Rattle.eh_port.specs.declared.FileAnswer.TheVariants.{Found, Missing, TooLong}
+use Rattle.eh_files.specs.declared.FileAnswer.{FileAnswer}
+use Rattle.eh_files.specs.declared.FileAnswer.TheVariants.{Found, Missing, TooLong}
 use Rattle.ehabi_top.specs.Building.{built}
 use Rattle.ehabi_top.specs.Sources.{NamedText}
 

@@ -1,4 +1,4 @@
--- The report of `walk` of an image that is accepted (docs/walks.md): its run goes on to a site, and behind its trace stand the frames from
+-- The report of `walk` of an image that is accepted (docs/walks.md): its run goes on to a site, and after its trace stand the frames from
 -- there.
 use Rattle.std.specs.Prelude.{ℕ, ◌≡◌, ◌++◌, List, Option}
 use Rattle.eh_bus.specs.Segment.{AreBytes}
@@ -26,7 +26,7 @@ use Rattle.ehabi_top.specs.RunReport.{trace}
 use Rattle.ehabi_top.specs.declared.status.TheConstants.{DONE}
 use Rattle.ehabi_top.specs.declared.walk.TheConstants.{MOST_FRAMES}
 
--- ---- what stands behind the guest's bytes, and the status
+-- ---- what stands after the guest's bytes, and the status
 
 -- of a walk with these frames: the trace, and a line for each of them
 abbrev pub walked : Accepted → Trace → List WalkFrame → Closing

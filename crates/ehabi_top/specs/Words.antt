@@ -60,7 +60,7 @@ if_between low high (Some n) = if nat_le low n && nat_le n high then Some n else
 unfoldable pub budget_of : List ℕ → Option ℕ
 budget_of bs = if_between 1 MOST_INSTRUCTIONS (number_of MOST_DIGITS bs)
 
--- the words behind `flat`: a name that is not empty, and a budget
+-- the words after `flat`: a name that is not empty, and a budget
 unfoldable pub flat_command : List (List ℕ) → Option Command
 flat_command [] = None
 flat_command (name ∷ []) = None
@@ -75,7 +75,7 @@ is_source name = ends_with nat_eq name (codes ".s")
 unfoldable pub are_sources : List (List ℕ) → Bool
 are_sources names = nat_le 1 (length names) && nat_le (length names) MOST_SOURCES && list_all is_source names
 
--- the words behind `build`: names of sources
+-- the words after `build`: names of sources
 unfoldable pub build_command : List (List ℕ) → Option Command
 build_command names = if are_sources names then Some (BuildSources names) else None
 
@@ -85,7 +85,7 @@ image_name [] = None
 image_name (name ∷ []) = if nat_le 1 (length name) then Some name else None
 image_name (name ∷ more ∷ names) = None
 
--- the words behind `check`: names of sources, or the name of an image
+-- the words after `check`: names of sources, or the name of an image
 unfoldable pub check_command : List (List ℕ) → Option Command
 check_command names = if are_sources names then Some (CheckSources names) else option_map CheckFile (image_name names)
 
@@ -97,7 +97,7 @@ abbrev pub with_budget : Task → List (List ℕ) → Option ℕ → Option Comm
 with_budget t names None = None
 with_budget t names (Some budget) = files_command names (record { task = t; budget = budget })
 
--- the words behind `run` and `walk`: names, and a budget as the last word
+-- the words after `run` and `walk`: names, and a budget as the last word
 unfoldable pub run_command : Task → List (List ℕ) → Option Command
 run_command t words =
     if nat_le 1 (length words) then with_budget t (take (length words - 1) words) (budget_of (slice_index_or words (length words - 1) [])) else None
@@ -114,7 +114,7 @@ abbrev pub program_of : Option ℕ → Option ℕ → Option Command
 program_of None functions = None
 program_of (Some number) functions = option_map (GenerateProgram number) functions
 
--- the words behind `gen`: the number of a program, and how many functions it is asked for
+-- the words after `gen`: the number of a program, and how many functions it is asked for
 unfoldable pub gen_command : List (List ℕ) → Option Command
 gen_command [] = None
 gen_command (number ∷ []) = None

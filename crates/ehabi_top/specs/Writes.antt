@@ -1,13 +1,12 @@
 -- What a call that writes has done, and why the program stops early.
-use Rattle.std.specs.Prelude.{ℕ, ◌≡◌, ◌≤◌, ◌⊎◌, ◌++◌, List, Option, OnOk, IfErr, IfOk, Result, Err}
+use Rattle.std.specs.Prelude.{ℕ, ◌≡◌, ◌≤◌, ◌⊎◌, List, Option, OnOk, IfErr, IfOk, Result, Err}
 use Rattle.std.specs.Bool.{OnFalse, OnTrue}
 use Rattle.std.specs.Io.KnownBytes.{Appends}
 use Rattle.eh_port.specs.Causes.{Rose}
 use Rattle.eh_port.specs.Writing.{AppendsPart}
-use Rattle.eh_port.specs.declared.FileFault.{FileFault}
-use Rattle.eh_port.specs.declared.FileFault.TheVariants.{Failed, OutOfMemory}
-use Rattle.ehabi_top.specs.Loading.{Report, Closing, SaysWhy, IsOfCommand, status_of, stop_of_fault}
-use Rattle.ehabi_top.specs.Text.{end_line}
+use Rattle.eh_files.specs.declared.FileFault.{FileFault}
+use Rattle.eh_files.specs.declared.FileFault.TheVariants.{Failed, OutOfMemory}
+use Rattle.ehabi_top.specs.Loading.{Closing, stop_of_fault}
 use Rattle.ehabi_top.specs.declared.status.TheConstants.{READ_FAILED, WRITE_FAILED, NO_MEMORY}
 use Rattle.ehabi_top.specs.declared.stop.Stop.{Stop}
 use Rattle.ehabi_top.specs.declared.stop.Stop.TheVariants.{Read, Write, Memory}
@@ -35,28 +34,9 @@ pub record Answers (text : List ℕ) (status : ℕ) (result : Result ℕ Stop) (
 pub record Stopped (stop : Stop) (result : Result ℕ Stop) (before now : Option (List ℕ)) (faults_before faults_now : ℕ) : Type 0 where
   pub is : result ≡ Err stop
   pub same : now ≡ before
-  pub calm : faults_now ≡ faults_before
+  pub faultless : faults_now ≡ faults_before
 
--- a call that ends a run: with what stands behind the guest's bytes and the line of the end; at a fault it writes nothing
-pub record AnswersEnd (head : List ℕ) (end : End) (result : Result ℕ Stop) (before now : Option (List ℕ)) (faults_before faults_now : ℕ) : Type 0 where
-  pub fine : OnFalse (is_fault end) (Answers (head ++ end_line end) (status_of end) result before now faults_before faults_now)
-  pub fault : OnTrue (is_fault end) (Stopped (stop_of_fault end) result before now faults_before faults_now)
-
--- a call that ends a run with what stands behind the guest's bytes, or found no memory for it; at a fault it writes nothing
+-- a call that ends a run with what stands after the guest's bytes, or found no memory for it; at a fault it writes nothing
 pub record AnswersRun (closing : Closing) (end : End) (result : Result ℕ Stop) (before now : Option (List ℕ)) (faults_before faults_now : ℕ) : Type 0 where
   pub fine : OnFalse (is_fault end) (Answers closing.text closing.status result before now faults_before faults_now ⊎ Stopped Memory result before now faults_before faults_now)
   pub fault : OnTrue (is_fault end) (Stopped (stop_of_fault end) result before now faults_before faults_now)
-
--- a call that ends with a report that may be made, whatever the input, which it leaves whole
-pub record AnswersOne (Says : List ℕ → Report → Type 0) (unfit : Type 0) (result : Result ℕ Stop) (before now : Option (List ℕ)) (faults_before faults_now : ℕ) : Type 0 where
-  pub text : List ℕ
-  pub status : ℕ
-  pub says : (input : List ℕ) → Says input (record { text = text; status = status; left = input })
-  pub why : SaysWhy status ⊥ unfit
-  pub of : IsOfCommand status
-  pub answers : Answers text status result before now faults_before faults_now
-
--- .. or it found no memory, and did nothing
-abbrev pub AnswersOrLacks : (List ℕ → Report → Type 0) → Type 0 → Result ℕ Stop → Option (List ℕ) → Option (List ℕ) → ℕ → ℕ → Type 0
-AnswersOrLacks Says unfit result before now faults_before faults_now =
-    AnswersOne Says unfit result before now faults_before faults_now ⊎ Stopped Memory result before now faults_before faults_now

@@ -1,14 +1,15 @@
 //! What the program says last.
-ghost use Rattle.std.specs.Prelude.{◌≡◌, ◌≢◌, ◌++◌, IfOk, IfErr, Ok, Err, true, false};
+ghost use Rattle.std.specs.Prelude.{◌≡◌, ◌≢◌, ◌++◌, IfOk, IfErr, IsErrOf, Ok, Err, true, false};
 ghost use Rattle.ehabi_top.specs.Loading.{closing_of, status_of, stop_of_fault};
-ghost use Rattle.ehabi_top.specs.Writes.{Answers, AnswersEnd, AnswersRun};
+ghost use Rattle.ehabi_top.specs.Writes.{Answers, AnswersRun};
 ghost use Rattle.ehabi_top.specs.Text.{missing_line, too_long_line, summary};
 ghost use Rattle.ehabi_top.specs.RunReport.{trace};
-ghost use Rattle.ehabi_top.specs.declared.status.TheConstants.{LACKING};
+ghost use Rattle.ehabi_top.specs.declared.status.TheConstants.{FILE_UNAVAILABLE};
+ghost use Rattle.ehabi_top.specs.declared.stop.Stop.TheVariants.{Memory};
 ghost use Rattle.guest_gates.specs.Ends.{is_fault};
 
 use crate::line::end_line;
-use crate::status::{DONE, EXITS, LACKING, SPENT, TERMINATED, TRAPPED};
+use crate::status::{BUDGET_SPENT, DONE, EXIT_NONZERO, FILE_UNAVAILABLE, TERMINATED, TRAPPED};
 use crate::stop::Stop;
 use crate::summary::summary_lines;
 use eh_port::{Sink, put_all};
@@ -60,16 +61,16 @@ pub(crate) fn answer_three<O: Sink>(
 
 /// Ends with the line of a file that is missing.
 pub(crate) fn answer_missing<O: Sink>(out: &mut O, name: &str) -> Result<u8, Stop>
-    ensures { Answers (missing_line name.now) LACKING result (O.written out.old) (O.written out.new) (O.faults out.old) (O.faults out.new) }
+    ensures { Answers (missing_line name.now) FILE_UNAVAILABLE result (O.written out.old) (O.written out.new) (O.faults out.old) (O.faults out.new) }
 {
-    answer_both(out, name.as_bytes(), b": missing\n", LACKING)
+    answer_both(out, name.as_bytes(), b": missing\n", FILE_UNAVAILABLE)
 }
 
 /// Ends with the line of a file that is too long.
 pub(crate) fn answer_too_long<O: Sink>(out: &mut O, name: &str) -> Result<u8, Stop>
-    ensures { Answers (too_long_line name.now) LACKING result (O.written out.old) (O.written out.new) (O.faults out.old) (O.faults out.new) }
+    ensures { Answers (too_long_line name.now) FILE_UNAVAILABLE result (O.written out.old) (O.written out.new) (O.faults out.old) (O.faults out.new) }
 {
-    answer_both(out, name.as_bytes(), b": too long\n", LACKING)
+    answer_both(out, name.as_bytes(), b": too long\n", FILE_UNAVAILABLE)
 }
 
 // The status of an end, or the stop of a fault of the input or of the output.
@@ -78,18 +79,19 @@ fn status_of(end: End) -> Result<u8, Stop>
     ensures err { IfErr result (λ stop. (is_fault end ≡ true) × (stop ≡ stop_of_fault end)) }
 {
     match end {
-        End::Exit(number) => Ok(if number == 0 { DONE } else { EXITS }),
+        End::Exit(number) => Ok(if number == 0 { DONE } else { EXIT_NONZERO }),
         End::Terminate(_) => Ok(TERMINATED),
         End::Trap(_, _, _) => Ok(TRAPPED),
-        End::Budget => Ok(SPENT),
+        End::Budget => Ok(BUDGET_SPENT),
         End::ReadFault => Err(Stop::Read),
         End::WriteFault => Err(Stop::Write),
     }
 }
 
-/// Ends a run: with what stands behind the guest's bytes, and the line of its end; or with the stop of a fault.
+/// Ends a run: with what stands after the guest's bytes, and the line of its end; or with the stop of a fault. Takes no memory.
 pub(crate) fn answer_end<O: Sink>(out: &mut O, head: &[u8], end: End) -> Result<u8, Stop>
-    ensures { AnswersEnd head.now end result (O.written out.old) (O.written out.new) (O.faults out.old) (O.faults out.new) }
+    ensures does { AnswersRun (closing_of head.now end) end result (O.written out.old) (O.written out.new) (O.faults out.old) (O.faults out.new) }
+    ensures free { IsErrOf result Memory → ⊥ }
 {
     match status_of(end) {
         Ok(status) => answer_both(out, head, end_line(end).as_slice(), status),
@@ -97,7 +99,7 @@ pub(crate) fn answer_end<O: Sink>(out: &mut O, head: &[u8], end: End) -> Result<
     }
 }
 
-/// Ends a run of an accepted image: with its trace behind the guest's bytes, and the line of its end; or with the stop of a fault.
+/// Ends a run of an accepted image: with its trace after the guest's bytes, and the line of its end; or with the stop of a fault.
 pub(crate) fn answer_run<O: Sink>(
     alloc: Global,
     out: &mut O,

@@ -1,11 +1,12 @@
 //! `build FILE..`: sources to the bytes of an image.
-ghost use Rattle.std.specs.Prelude.{◌≡◌, ◌++◌, [], ◌∷◌, ℕ, List, Option, Some, Ok, Err, MatchResult, false};
+ghost use Rattle.std.specs.Prelude.{◌≡◌, ◌++◌, [], ◌∷◌, ℕ, List, Option, Some, Ok, Err, IsOk, MatchResult, false};
+ghost use Rattle.ehabi_top.specs.AsksFor.{AsksFor, FindingLacks};
 ghost use Rattle.ehabi_top.specs.Building.{statements_of, assembled, linked_parts, written_bytes, stubs, built, image_bytes, is_memory, fault_line};
 ghost use Rattle.ehabi_top.specs.Finding.{Finds};
 ghost use Rattle.ehabi_top.specs.Report.{Does};
 ghost use Rattle.ehabi_top.specs.Sources.{NamedText, all_answers};
 ghost use Rattle.ehabi_top.specs.Words.{BuildSources, texts};
-ghost use Rattle.ehabi_top.specs.Yields.{shelf, streams};
+ghost use Rattle.ehabi_top.specs.Yields.{file_state, streams};
 
 use crate::answer::answer_text;
 use crate::named::{SourceStmts, SourceText};
@@ -15,9 +16,10 @@ use crate::status::DONE;
 use crate::stop::Stop;
 use asm_object::assemble;
 use asm_read::read_source;
+use eh_files::Files;
 use eh_kit::stubs;
 use eh_link::link;
-use eh_port::{Files, Sink};
+use eh_port::Sink;
 use elf_write::{ImageParts, write_image};
 use relocatable_object::Object;
 use std::alloc::Global;
@@ -125,7 +127,8 @@ pub(crate) fn built_files<'a, F: Files>(
     names: &[&'a str],
     files: &mut F,
 ) -> Result<Result<Vec<u8>, FilesFault<'a>>, Stop>
-    ensures { Finds (λ bytes. bytes.items) (image_bytes (texts names.now)) (shelf (F.held files.old) (F.faults files.old)) (shelf (F.held files.new) (F.faults files.new)) result }
+    ensures found { Finds (λ bytes. bytes.items) (image_bytes (texts names.now)) (file_state (F.held files.old) (F.faults files.old) (F.asked files.old) F.with_name) (file_state (F.held files.new) (F.faults files.new) (F.asked files.new) F.with_name) result }
+    ensures asked { AsksFor (texts names.now) (IsOk result) (FindingLacks result) (file_state (F.held files.old) (F.faults files.old) (F.asked files.old) F.with_name) (file_state (F.held files.new) (F.faults files.new) (F.asked files.new) F.with_name) }
 {
     let sources = match load(alloc, names, files)? {
         Loaded::All(sources) => sources,
@@ -150,7 +153,7 @@ pub(crate) fn build<F: Files, O: Sink>(
     files: &mut F,
     out: &mut O,
 ) -> Result<u8, Stop>
-    ensures { (input : Option (List ℕ)) (faults : ℕ) → Does (Some (BuildSources (texts names.now))) (shelf (F.held files.old) (F.faults files.old)) (shelf (F.held files.new) (F.faults files.new))
+    ensures { (input : Option (List ℕ)) (faults : ℕ) → Does (Some (BuildSources (texts names.now))) (file_state (F.held files.old) (F.faults files.old) (F.asked files.old) F.with_name) (file_state (F.held files.new) (F.faults files.new) (F.asked files.new) F.with_name)
         (streams input faults (O.written out.old) (O.faults out.old)) (streams input faults (O.written out.new) (O.faults out.new)) result }
 {
     match built_files(alloc, names, files) {

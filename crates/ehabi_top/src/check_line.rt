@@ -1,6 +1,6 @@
 //! The lines of `check` (docs/command-line.md).
 ghost use Rattle.std.specs.Prelude.{◌≡◌, ◌-◌, ◌++◌, OnOk};
-ghost use Rattle.ehabi_top.specs.Text.{behind_blank};
+ghost use Rattle.ehabi_top.specs.Text.{after_blank};
 ghost use Rattle.ehabi_top.specs.CheckText.{accepted_line, index_line, register_name, cause_said, cause_line, type_line};
 
 use crate::line::{Line, append, refusal_line, refusal_line_with};
@@ -52,9 +52,9 @@ pub(crate) fn type_line(fault: TypeFault) -> Line
     }
 }
 
-/// Puts the name of a register behind a blank.
+/// Puts the name of a register after a blank.
 fn push_register(line: &mut Vec<u8>, number: u8) -> Result<(), AllocError>
-    ensures { OnOk result (line.new.items ≡ line.old.items ++ behind_blank (register_name number)) }
+    ensures { OnOk result (line.new.items ≡ line.old.items ++ after_blank (register_name number)) }
 {
     line.extend_from_slice(b" ")?;
     match number {
@@ -80,7 +80,7 @@ fn push_said(line: &mut Vec<u8>, cause: FrameCause) -> Result<(), AllocError>
     }
 }
 
-/// Puts the line of a function that isn't accepted behind others.
+/// Puts the line of a function that isn't accepted after others.
 pub(crate) fn push_cause(line: &mut Vec<u8>, rejected: &Rejected) -> Result<(), AllocError>
     ensures { OnOk result (line.new.items ≡ line.old.items ++ cause_line rejected.now.function (rejected.now.at - rejected.now.start) rejected.now.cause) }
 {

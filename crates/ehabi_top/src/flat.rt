@@ -3,7 +3,7 @@ ghost use Rattle.std.specs.Prelude.{Some};
 ghost use Rattle.ehabi_top.specs.FlatReport.{IsTooLarge, code_report};
 ghost use Rattle.ehabi_top.specs.Report.{Does};
 ghost use Rattle.ehabi_top.specs.Words.{FlatFile};
-ghost use Rattle.ehabi_top.specs.Yields.{Only, Yields, shelf, streams};
+ghost use Rattle.ehabi_top.specs.Yields.{Only, Yields, file_state, streams};
 
 use crate::answer::{answer_end, answer_text};
 use crate::line::image_fault_line;
@@ -12,7 +12,8 @@ use crate::sources::read_file;
 use crate::status::REFUSED;
 use crate::stop::Stop;
 use eh_bus::map::MAX_IMAGE_SIZE;
-use eh_port::{Files, Sink, Source};
+use eh_files::Files;
+use eh_port::{Sink, Source};
 use elf_image::ImageFault;
 use image_memory::{CODE_START, code_memory, start_regs};
 use plain_run::flat_run;
@@ -55,7 +56,7 @@ pub(crate) fn flat<F: Files, I: Source, O: Sink>(
     input: &mut I,
     out: &mut O,
 ) -> Result<u8, Stop>
-    ensures { Does (Some (FlatFile name.now budget)) (shelf (F.held files.old) (F.faults files.old)) (shelf (F.held files.new) (F.faults files.new))
+    ensures { Does (Some (FlatFile name.now budget)) (file_state (F.held files.old) (F.faults files.old) (F.asked files.old) F.with_name) (file_state (F.held files.new) (F.faults files.new) (F.asked files.new) F.with_name)
         (streams (I.left input.old) (I.faults input.old) (O.written out.old) (O.faults out.old))
         (streams (I.left input.new) (I.faults input.new) (O.written out.new) (O.faults out.new)) result }
 {

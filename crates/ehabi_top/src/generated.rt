@@ -1,31 +1,24 @@
 //! `gen K M`: builds, checks and runs the program of a number, and says how many events came (docs/generated-programs.md).
 ghost use Rattle.std.specs.Prelude.{◌≡◌, ◌<◌, ◌≤◌, [], ◌∷◌, ℕ, List, Option, Some, Ok, Err, MatchResult, true, false};
-ghost use Rattle.frame_check.specs.Accepts.{IsAccepted};
+ghost use Rattle.ehabi_top.specs.Accepting.{BytesReportsBy, IsUnaccepted};
 ghost use Rattle.ehabi_top.specs.Building.{built, fault_line, is_memory};
-ghost use Rattle.ehabi_top.specs.CheckReport.{ImageReportsBy, BytesReportsBy, IsUnaccepted};
-ghost use Rattle.ehabi_top.specs.GenerateReport.{CountsAccepted, CountsImage, generated};
+ghost use Rattle.ehabi_top.specs.GenerateReport.{CountsAccepted, generated};
 ghost use Rattle.ehabi_top.specs.Report.{Does};
 ghost use Rattle.ehabi_top.specs.Words.{GenerateProgram};
-ghost use Rattle.ehabi_top.specs.Writes.{AnswersOrLacks};
-ghost use Rattle.ehabi_top.specs.Yields.{Shelf, streams};
+ghost use Rattle.ehabi_top.specs.Yields.{FileState, Yields, streams};
 
-use crate::answer::{answer_summary, answer_text};
+use crate::accept::{accepted_of, answer_refused};
+use crate::answer::answer_summary;
 use crate::build::built;
-use crate::check::answer_fault;
-use crate::line::image_fault_line;
 use crate::named::SourceText;
 use crate::recorded::runs_same;
 use crate::refusal::{BuildFault, answer_build_fault, is_memory};
-use crate::status::REFUSED;
 use crate::stop::Stop;
 use crate::words::MOST_INSTRUCTIONS;
 use eh_kit::{MAX_FUNCTIONS, generate};
 use eh_machine::Machine;
 use eh_port::{Bytes, Sink, SureSink, SureSource};
-use elf_image::ImageFault;
-use elf_image::image::Image;
-use elf_image::read::read_image;
-use frame_check::{Accepted, check};
+use frame_check::Accepted;
 use std::alloc::Global;
 
 // A source with nothing to read.
@@ -39,7 +32,8 @@ fn nothing(alloc: Global) -> SureSource
 
 // Runs an accepted image with nothing to read, and counts its events.
 fn count_accepted<O: Sink>(alloc: Global, accepted: &Accepted, out: &mut O) -> Result<u8, Stop>
-    ensures { AnswersOrLacks (CountsAccepted accepted.now) ⊥ result (O.written out.old) (O.written out.new) (O.faults out.old) (O.faults out.new) }
+    ensures { (input : Option (List ℕ)) (faults : ℕ) → Yields (CountsAccepted accepted.now) ⊥
+        (streams input faults (O.written out.old) (O.faults out.old)) (streams input faults (O.written out.new) (O.faults out.new)) result }
 {
     let mut machine = match Machine::start(alloc, accepted, MOST_INSTRUCTIONS) {
         Ok(machine) => machine,
@@ -53,31 +47,15 @@ fn count_accepted<O: Sink>(alloc: Global, accepted: &Accepted, out: &mut O) -> R
     answer_summary(alloc, out, functions, machine.events(), end)
 }
 
-// Checks an image, and counts the events of its run where it is accepted.
-fn count_image<O: Sink>(alloc: Global, image: Image, out: &mut O) -> Result<u8, Stop>
-    ensures { AnswersOrLacks (ImageReportsBy CountsImage (Ok image.entry)) (¬ (IsAccepted image.entry)) result (O.written out.old) (O.written out.new) (O.faults out.old) (O.faults out.new) }
-{
-    match check(alloc, image) {
-        Ok(accepted) => {
-            accepted.holds();
-            count_accepted(alloc, &accepted, out)
-        }
-        Err(fault) => answer_fault(alloc, out, &fault),
-    }
-}
-
-// .. of the image that these bytes stand for.
+// .. of the image that these bytes stand for, where it is accepted.
 fn count_bytes<O: Sink>(alloc: Global, bytes: &[u8], out: &mut O) -> Result<u8, Stop>
-    ensures { AnswersOrLacks (BytesReportsBy CountsImage bytes.now) (IsUnaccepted bytes.now) result (O.written out.old) (O.written out.new) (O.faults out.old) (O.faults out.new) }
+    ensures { (input : Option (List ℕ)) (faults : ℕ) → Yields (BytesReportsBy CountsAccepted bytes.now) (IsUnaccepted bytes.now)
+        (streams input faults (O.written out.old) (O.faults out.old)) (streams input faults (O.written out.new) (O.faults out.new)) result }
 {
-    match read_image(alloc, bytes) {
-        Ok(image) => count_image(alloc, image, out),
-        Err(fault) => {
-            if fault == ImageFault::OutOfMemory {
-                return Err(Stop::Memory);
-            }
-            answer_text(out, image_fault_line(fault).as_slice(), REFUSED)
-        }
+    match accepted_of(alloc, bytes) {
+        Ok(Ok(accepted)) => count_accepted(alloc, &accepted, out),
+        Ok(Err(fault)) => answer_refused(alloc, out, &fault),
+        Err(stop) => Err(stop),
     }
 }
 
@@ -112,7 +90,7 @@ pub(crate) fn count_program<O: Sink>(
 ) -> Result<u8, Stop>
     requires some { 0 < functions }
     requires most { functions ≤ MAX_FUNCTIONS }
-    ensures { (files : Shelf) (input : Option (List ℕ)) (faults : ℕ) → Does (Some (GenerateProgram number functions)) files files
+    ensures { (files : FileState) (input : Option (List ℕ)) (faults : ℕ) → Does (Some (GenerateProgram number functions)) files files
         (streams input faults (O.written out.old) (O.faults out.old)) (streams input faults (O.written out.new) (O.faults out.new)) result }
 {
     match built_program(alloc, number, functions) {

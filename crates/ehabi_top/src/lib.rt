@@ -4,8 +4,9 @@
 ghost use Rattle.ehabi_top.specs.Answered.{IsAnswer};
 ghost use Rattle.ehabi_top.specs.Report.{Does};
 ghost use Rattle.ehabi_top.specs.Words.{texts, command_of};
-ghost use Rattle.ehabi_top.specs.Yields.{shelf, streams};
+ghost use Rattle.ehabi_top.specs.Yields.{file_state, streams};
 
+mod accept;
 mod answer;
 mod build;
 mod check;
@@ -28,7 +29,8 @@ mod words;
 use answer::answer_text;
 use build::build;
 use check::{check_file, check_sources};
-use eh_port::{Files, Sink, Source};
+use eh_files::Files;
+use eh_port::{Sink, Source};
 use flat::flat;
 use generated::count_program;
 pub use line::{Line, end_line};
@@ -52,7 +54,7 @@ fn perform<F: Files, I: Source, O: Sink>(
     input: &mut I,
     out: &mut O,
 ) -> Result<u8, Stop>
-    ensures { Does (command_of (texts words.now)) (shelf (F.held files.old) (F.faults files.old)) (shelf (F.held files.new) (F.faults files.new))
+    ensures { Does (command_of (texts words.now)) (file_state (F.held files.old) (F.faults files.old) (F.asked files.old) F.with_name) (file_state (F.held files.new) (F.faults files.new) (F.asked files.new) F.with_name)
         (streams (I.left input.old) (I.faults input.old) (O.written out.old) (O.faults out.old))
         (streams (I.left input.new) (I.faults input.new) (O.written out.new) (O.faults out.new)) result }
 {
@@ -78,7 +80,7 @@ fn perform<F: Files, I: Source, O: Sink>(
 ///
 /// - 0: the guest exits with 0, `build` wrote the image, `check` accepts it, or `walk` wrote the frames;
 /// - 1: the guest exits with another number;
-/// - 2: the words have no form;
+/// - 2: the words are no command;
 /// - 3: what the files hold, or a generated program, is refused, and the line says why;
 /// - 4, 5, 6: the run ends by terminate, by a trap, by the budget;
 /// - 7: a read of a file or of the input failed;
@@ -94,7 +96,7 @@ pub fn ehabi_main<F: Files, I: Source, O: Sink>(
 ) -> u8
     // What is promised stands in the fields of `IsAnswer`: that it wrote the whole report and answered its status, or a first part of it with a
     // cause, and when exactly the status is 2, 3 and 10.
-    ensures { IsAnswer (texts words.now) (shelf (F.held files.old) (F.faults files.old)) (shelf (F.held files.new) (F.faults files.new))
+    ensures { IsAnswer (texts words.now) (file_state (F.held files.old) (F.faults files.old) (F.asked files.old) F.with_name) (file_state (F.held files.new) (F.faults files.new) (F.asked files.new) F.with_name)
         (streams (I.left input.old) (I.faults input.old) (O.written out.old) (O.faults out.old))
         (streams (I.left input.new) (I.faults input.new) (O.written out.new) (O.faults out.new)) result }
 {

@@ -2,7 +2,7 @@
 ghost use Rattle.std.specs.Prelude.{◌≡◌, ◌≤◌, ◌+◌, ◌++◌, [], length};
 ghost use Rattle.arrayvec.specs.ArrayVec.{array_vec_len};
 ghost use Rattle.eh_word.specs.Address.{address_text};
-ghost use Rattle.ehabi_top.specs.Text.{end_line, refusal_line, behind_blank, image_fault_line};
+ghost use Rattle.ehabi_top.specs.Text.{end_line, refusal_line, after_blank, image_fault_line};
 
 use arrayvec::ArrayVec;
 use eh_word::address_text;
@@ -13,7 +13,7 @@ use thumb_core::ends::End;
 /// A line, with room for the longest.
 pub type Line = ArrayVec<u8, 80>;
 
-/// Puts a text behind a line that has room for it.
+/// Puts a text after a line that has room for it.
 pub(crate) fn append(line: &mut Line, text: &[u8])
     requires { array_vec_len line.old + length text.now ≤ 80 }
     ensures items { line.new.items ≡ line.old.items ++ text.now }
@@ -72,7 +72,7 @@ pub(crate) fn refusal_line_with(place: &[u8], what: &[u8], said: &[u8]) -> Line
     requires place { length place.now ≤ 8 }
     requires what { length what.now ≤ 16 }
     requires said { length said.now ≤ 40 }
-    ensures { result.items ≡ refusal_line place.now what.now (behind_blank said.now) }
+    ensures { result.items ≡ refusal_line place.now what.now (after_blank said.now) }
 {
     let mut line = Line::new();
     append(&mut line, place);

@@ -2,7 +2,7 @@
 ghost use Rattle.std.specs.Prelude.{◌≡◌, ◌≢◌, ◌≤◌, ◌++◌, length, codes, IfOk, true, false};
 ghost use Rattle.ehabi_top.specs.Building.{is_memory, is_link_memory, fault_line, wants_memory, refusal_of};
 ghost use Rattle.ehabi_top.specs.RefusalText.{source_place, asm_place, link_line};
-ghost use Rattle.ehabi_top.specs.Text.{refusal_line, behind_blank};
+ghost use Rattle.ehabi_top.specs.Text.{refusal_line, after_blank};
 ghost use Rattle.ehabi_top.specs.Loading.{IsOfCommand};
 ghost use Rattle.ehabi_top.specs.Writes.{Answers};
 
@@ -81,7 +81,7 @@ pub(crate) fn is_memory(fault: &BuildFault) -> bool
     }
 }
 
-/// What stands behind the name of a source that is refused.
+/// What stands after the name of a source that is refused.
 fn source_place(fault: SourceFault) -> Line
     ensures { result.items ≡ source_place fault }
 {
@@ -96,7 +96,7 @@ fn source_place(fault: SourceFault) -> Line
     line
 }
 
-/// What stands behind the name of a source that has no object.
+/// What stands after the name of a source that has no object.
 fn asm_place(fault: AsmFault) -> Line
     ensures { result.items ≡ asm_place fault }
 {
@@ -124,7 +124,7 @@ fn link_head(what: &[u8]) -> Line
 /// Ends with the line of a refusal of the linker that speaks of a name.
 fn answer_link_name<O: Sink>(out: &mut O, what: &[u8], name: &Name) -> Result<u8, Stop>
     requires { length what.now ≤ 16 }
-    ensures { Answers (refusal_line (codes "link") what.now (behind_blank name.now)) REFUSED result (O.written out.old) (O.written out.new) (O.faults out.old) (O.faults out.new) }
+    ensures { Answers (refusal_line (codes "link") what.now (after_blank name.now)) REFUSED result (O.written out.old) (O.written out.new) (O.faults out.old) (O.faults out.new) }
 {
     answer_three(
         out,

@@ -1,31 +1,26 @@
 //! `run FILE N`, `run FILE.. N`, and `walk` with these words: checks an image, or the one that sources are built to, and runs it where it is
 //! accepted (docs/command-line.md).
-ghost use Rattle.std.specs.Prelude.{Ok, Some};
-ghost use Rattle.frame_check.specs.Accepts.{IsAccepted};
-ghost use Rattle.ehabi_top.specs.CheckReport.{IsUnaccepted};
+ghost use Rattle.std.specs.Prelude.{Some};
+ghost use Rattle.ehabi_top.specs.Accepting.{IsUnaccepted};
 ghost use Rattle.ehabi_top.specs.Report.{Does};
 ghost use Rattle.ehabi_top.specs.RunReport.{RunsAccepted};
-ghost use Rattle.ehabi_top.specs.TaskReport.{RunReportsOf, RunBytesReports, DoesTask};
+ghost use Rattle.ehabi_top.specs.TaskReport.{RunBytesReports, DoesTask};
 ghost use Rattle.ehabi_top.specs.Words.{RunFile, RunSources, texts};
-ghost use Rattle.ehabi_top.specs.Yields.{Yields, shelf, streams};
+ghost use Rattle.ehabi_top.specs.Yields.{Yields, file_state, streams};
 
-use crate::answer::{answer_run, answer_text};
+use crate::accept::{accepted_of, answer_refused};
+use crate::answer::answer_run;
 use crate::build::built_files;
-use crate::check::answer_fault;
-use crate::line::image_fault_line;
 use crate::recorded::runs_same;
 use crate::refusal::answer_files_fault;
 use crate::sources::read_file;
-use crate::status::REFUSED;
 use crate::stop::Stop;
 use crate::walk::walk_accepted;
 use crate::words::{Request, Task};
+use eh_files::Files;
 use eh_machine::Machine;
-use eh_port::{Files, Sink, Source};
-use elf_image::ImageFault;
-use elf_image::image::Image;
-use elf_image::read::read_image;
-use frame_check::{Accepted, check};
+use eh_port::{Sink, Source};
+use frame_check::Accepted;
 use std::alloc::Global;
 
 // Runs an accepted image.
@@ -67,28 +62,7 @@ fn do_task<I: Source, O: Sink>(
     }
 }
 
-// Checks an image, and runs it where it is accepted.
-fn run_image<I: Source, O: Sink>(
-    alloc: Global,
-    image: Image,
-    request: Request,
-    input: &mut I,
-    out: &mut O,
-) -> Result<u8, Stop>
-    ensures { Yields (RunReportsOf request (Ok image.entry)) (¬ (IsAccepted image.entry))
-        (streams (I.left input.old) (I.faults input.old) (O.written out.old) (O.faults out.old))
-        (streams (I.left input.new) (I.faults input.new) (O.written out.new) (O.faults out.new)) result }
-{
-    match check(alloc, image) {
-        Ok(accepted) => {
-            accepted.holds();
-            do_task(alloc, &accepted, request, input, out)
-        }
-        Err(fault) => answer_fault(alloc, out, &fault),
-    }
-}
-
-// Runs the image that these bytes stand for.
+// Runs the image that these bytes stand for, where it is accepted.
 fn run_bytes<I: Source, O: Sink>(
     alloc: Global,
     bytes: &[u8],
@@ -100,14 +74,10 @@ fn run_bytes<I: Source, O: Sink>(
         (streams (I.left input.old) (I.faults input.old) (O.written out.old) (O.faults out.old))
         (streams (I.left input.new) (I.faults input.new) (O.written out.new) (O.faults out.new)) result }
 {
-    match read_image(alloc, bytes) {
-        Ok(image) => run_image(alloc, image, request, input, out),
-        Err(fault) => {
-            if fault == ImageFault::OutOfMemory {
-                return Err(Stop::Memory);
-            }
-            answer_text(out, image_fault_line(fault).as_slice(), REFUSED)
-        }
+    match accepted_of(alloc, bytes) {
+        Ok(Ok(accepted)) => do_task(alloc, &accepted, request, input, out),
+        Ok(Err(fault)) => answer_refused(alloc, out, &fault),
+        Err(stop) => Err(stop),
     }
 }
 
@@ -120,7 +90,7 @@ pub(crate) fn run<F: Files, I: Source, O: Sink>(
     input: &mut I,
     out: &mut O,
 ) -> Result<u8, Stop>
-    ensures { Does (Some (RunFile name.now request)) (shelf (F.held files.old) (F.faults files.old)) (shelf (F.held files.new) (F.faults files.new))
+    ensures { Does (Some (RunFile name.now request)) (file_state (F.held files.old) (F.faults files.old) (F.asked files.old) F.with_name) (file_state (F.held files.new) (F.faults files.new) (F.asked files.new) F.with_name)
         (streams (I.left input.old) (I.faults input.old) (O.written out.old) (O.faults out.old))
         (streams (I.left input.new) (I.faults input.new) (O.written out.new) (O.faults out.new)) result }
 {
@@ -140,7 +110,7 @@ pub(crate) fn run_sources<F: Files, I: Source, O: Sink>(
     input: &mut I,
     out: &mut O,
 ) -> Result<u8, Stop>
-    ensures { Does (Some (RunSources (texts names.now) request)) (shelf (F.held files.old) (F.faults files.old)) (shelf (F.held files.new) (F.faults files.new))
+    ensures { Does (Some (RunSources (texts names.now) request)) (file_state (F.held files.old) (F.faults files.old) (F.asked files.old) F.with_name) (file_state (F.held files.new) (F.faults files.new) (F.asked files.new) F.with_name)
         (streams (I.left input.old) (I.faults input.old) (O.written out.old) (O.faults out.old))
         (streams (I.left input.new) (I.faults input.new) (O.written out.new) (O.faults out.new)) result }
 {

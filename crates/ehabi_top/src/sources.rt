@@ -1,15 +1,17 @@
 //! The files of a command.
-ghost use Rattle.std.specs.Prelude.{◌≡◌, IfOk, IfSome, IsErrOf, OnOk};
+ghost use Rattle.std.specs.Prelude.{◌≡◌, ◌∷◌, [], IfOk, IfSome, IsErrOf, IsOk, OnOk};
 ghost use Rattle.eh_port.specs.Causes.{Rose};
+ghost use Rattle.ehabi_top.specs.AsksFor.{AsksFor, FindingLacks, LoadedLacks};
 ghost use Rattle.ehabi_top.specs.Building.{files_of, loaded};
 ghost use Rattle.ehabi_top.specs.Finding.{Finds, file_bytes};
 ghost use Rattle.ehabi_top.specs.Words.{texts};
-ghost use Rattle.ehabi_top.specs.Yields.{shelf};
+ghost use Rattle.ehabi_top.specs.Yields.{file_state};
 
 use crate::named::SourceText;
 use crate::refusal::FilesFault;
 use crate::stop::Stop;
-use eh_port::{Bytes, FileAnswer, Files};
+use eh_files::{FileAnswer, Files};
+use eh_port::Bytes;
 use std::alloc::Global;
 
 /// The most bytes of a file.
@@ -21,7 +23,8 @@ pub(crate) fn read_file<'a, F: Files>(
     name: &'a str,
     files: &mut F,
 ) -> Result<Result<Bytes, FilesFault<'a>>, Stop>
-    ensures { Finds (λ bytes. bytes) (file_bytes name.now) (shelf (F.held files.old) (F.faults files.old)) (shelf (F.held files.new) (F.faults files.new)) result }
+    ensures found { Finds (λ bytes. bytes) (file_bytes name.now) (file_state (F.held files.old) (F.faults files.old) (F.asked files.old) F.with_name) (file_state (F.held files.new) (F.faults files.new) (F.asked files.new) F.with_name) result }
+    ensures asked { AsksFor (name.now ∷ []) (IsOk result) (FindingLacks result) (file_state (F.held files.old) (F.faults files.old) (F.asked files.old) F.with_name) (file_state (F.held files.new) (F.faults files.new) (F.asked files.new) F.with_name) }
 {
     match files.read(alloc, name, FILE_LIMIT)? {
         FileAnswer::Found(bytes) => Ok(Ok(bytes)),
@@ -41,7 +44,7 @@ pub(crate) enum Loaded<'a> {
     Exceeds(&'a str),
 }
 
-/// Reads the files of these names, in order, up to the first that is missing or too long.
+/// Reads the files of these names, in order and each once, up to the first that is missing or too long.
 pub(crate) fn load<'a, F: Files>(
     alloc: Global,
     names: &[&'a str],
@@ -52,6 +55,8 @@ pub(crate) fn load<'a, F: Files>(
     ensures write { IsErrOf result Stop.Write → ⊥ }
     ensures memory { IsErrOf result Stop.Memory → F.faults files.new ≡ F.faults files.old }
     ensures kept { OnOk result (F.faults files.new ≡ F.faults files.old) }
+    ensures asked { AsksFor (texts names.now) (IsOk result) (LoadedLacks result)
+        (file_state (F.held files.old) (F.faults files.old) (F.asked files.old) F.with_name) (file_state (F.held files.new) (F.faults files.new) (F.asked files.new) F.with_name) }
 {
     let mut all = Vec::new(alloc);
     for name in names {

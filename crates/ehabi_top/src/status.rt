@@ -3,8 +3,8 @@
 /// The guest exits with 0, `build` wrote the image, `check` accepts it, or `walk` wrote the frames.
 pub const DONE: u8 = 0;
 /// The guest exits with another number.
-pub const EXITS: u8 = 1;
-/// The words have no form.
+pub const EXIT_NONZERO: u8 = 1;
+/// The words are no command.
 pub const USAGE: u8 = 2;
 /// What the files hold is refused, and the line says why.
 pub const REFUSED: u8 = 3;
@@ -13,7 +13,7 @@ pub const TERMINATED: u8 = 4;
 /// The run ends by a trap.
 pub const TRAPPED: u8 = 5;
 /// The run ends by the budget.
-pub const SPENT: u8 = 6;
+pub const BUDGET_SPENT: u8 = 6;
 /// A read of a file or of the input failed.
 pub const READ_FAILED: u8 = 7;
 /// A write of the output failed.
@@ -21,4 +21,4 @@ pub const WRITE_FAILED: u8 = 8;
 /// There was no memory.
 pub const NO_MEMORY: u8 = 9;
 /// A named file is missing or too long.
-pub const LACKING: u8 = 10;
+pub const FILE_UNAVAILABLE: u8 = 10;

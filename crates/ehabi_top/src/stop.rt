@@ -3,7 +3,7 @@ ghost use Rattle.std.specs.Prelude.{◌≡◌};
 ghost use Rattle.ehabi_top.specs.Writes.{stop_of, stop_status};
 
 use crate::status::{NO_MEMORY, READ_FAILED, WRITE_FAILED};
-use eh_port::FileFault;
+use eh_files::FileFault;
 use std::alloc::AllocFailed;
 
 /// Why the program stops early.

@@ -22,7 +22,7 @@ use thumb_core::ends::End;
 /// The most frames of a walk: more than the stack has words.
 pub const MOST_FRAMES: usize = 65_536;
 
-// Ends a run that came to where this walk begins: with its trace and the frames behind the guest's bytes; at no site as a run that is spent.
+// Ends a run that came to where this walk begins: with its trace and the frames after the guest's bytes; at no site as a run that is spent.
 fn answer_frames<O: Sink>(
     alloc: Global,
     out: &mut O,
@@ -51,7 +51,7 @@ fn answer_frames<O: Sink>(
     }
 }
 
-// Ends a run that went on to a site: with its trace behind the guest's bytes, and with the frames from where it stands or the line of its
+// Ends a run that went on to a site: with its trace after the guest's bytes, and with the frames from where it stands or the line of its
 // end; or with the stop of a fault.
 fn answer_walk<B: Bus, O: Sink>(
     alloc: Global,

@@ -48,7 +48,7 @@ pub record AreFunctionsOf (segments : List Segment) (symbols : List Symbol) (fun
 abbrev pub mapping_names : List (List ℕ)
 mapping_names = codes "$t" ∷ codes "$d" ∷ codes "$a" ∷ []
 
--- one of these names, or one with a dot and more behind it
+-- one of these names, or one with a dot and more after it
 abbrev pub is_mapping_name : List ℕ → Bool
 is_mapping_name name = list_any (λ m. same_bytes name m || (starts_with nat_eq name (m ++ codes ".") && nat_lt (length m + 1) (length name))) mapping_names
 

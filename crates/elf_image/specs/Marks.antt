@@ -4,7 +4,7 @@ use Rattle.std.specs.Ordering.{nat_cmp}
 use Rattle.std.specs.BTreeMap.{insert_entry}
 use Rattle.elf_image.specs.Symbols.{Symbol}
 
--- `$t`, `$d` or `$a`, alone or with a dot and at least one byte behind it
+-- `$t`, `$d` or `$a`, alone or with a dot and at least one byte after it
 abbrev pub is_mark_name : List ℕ → Bool
 is_mark_name name =
     slice_index name 0 == 36 && (slice_index name 1 == 116 || slice_index name 1 == 100 || slice_index name 1 == 97)

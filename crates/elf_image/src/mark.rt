@@ -10,7 +10,7 @@ use crate::symbol::Symbol;
 use std::alloc::{AllocError, Global};
 use std::collections::BTreeMap;
 
-/// `$t`, `$d` or `$a`, alone or with a dot and at least one byte behind it.
+/// `$t`, `$d` or `$a`, alone or with a dot and at least one byte after it.
 fn is_mark_name(name: &[u8]) -> bool
     ensures { result ≡ is_mark_name name.now }
 {

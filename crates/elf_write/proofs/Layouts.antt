@@ -5,7 +5,7 @@ use Rattle.std.specs.List.{flat_map}
 use Rattle.std.proofs.lemmas.List.{at_drop_more, length-replicate}
 use Rattle.elf_image.specs.Symbols.{Symbol}
 use Rattle.eh_list.specs.Bytes.{zeros}
-use Rattle.elf_write.specs.Layout.{load_header, segment_row, word, half, aligned, padding, closed, symbol_bytes, symbol_rows, contents, program_bytes, program_rows, place_of, segment_name, segment_names, section_bytes, section_rows}
+use Rattle.elf_write.specs.Layout.{load_header, segment_row, word, half, aligned, padding, closed, symbol_bytes, symbol_rows, contents, program_bytes, program_rows, file_place, segment_name, segment_names, section_bytes, section_rows}
 use Rattle.elf_write.specs.declared.parts.OwnSegment.{OwnSegment}
 
 -- one more name
@@ -55,10 +55,10 @@ pub names_more : (n : ℕ) (xs : List OwnSegment) (i : ℕ) (d : OwnSegment) →
 names_more n xs i d h = at_drop_more (segment_names n) xs i d h
 
 pub place_more : (a z at : ℕ) (xs : List OwnSegment) (i : ℕ) (d : OwnSegment) → i < length xs
-    → place_of a z at (drop i xs)
+    → file_place a z at (drop i xs)
     ≡ cond (nat_le (get_or xs i d).start a && nat_le (a + z) ((get_or xs i d).start + length (get_or xs i d).bytes)) (aligned at + (a - (get_or xs i d).start))
-    (place_of a z (aligned at + length (get_or xs i d).bytes) (drop (i + 1) xs))
-place_more a z at xs i d h = at_drop_more (place_of a z at) xs i d h
+    (file_place a z (aligned at + length (get_or xs i d).bytes) (drop (i + 1) xs))
+place_more a z at xs i d h = at_drop_more (file_place a z at) xs i d h
 
 pub sections_more : (n name at : ℕ) (xs : List OwnSegment) (i : ℕ) (d : OwnSegment) → i < length xs
     → section_rows n name at (drop i xs)
@@ -99,12 +99,12 @@ next_all at at' total xs i x bytes h is b a all =
     ∙ sym (contents_length at xs i x h) ∙ all)
 
 pub place_past : (k z at at' total : ℕ) (xs : List OwnSegment) (i : ℕ) (x : OwnSegment) (bytes : List ℕ) → i < length xs → x ≡ get_or xs i x → bytes ≡ x.bytes → at' ≡ aligned at
-    → (nat_le x.start k && nat_le (k + z) (x.start + length x.bytes)) ≡ false → place_of k z at (drop i xs) ≡ total
-    → place_of k z (at' + length bytes) (drop (i + 1) xs) ≡ total
+    → (nat_le x.start k && nat_le (k + z) (x.start + length x.bytes)) ≡ false → file_place k z at (drop i xs) ≡ total
+    → file_place k z (at' + length bytes) (drop (i + 1) xs) ≡ total
 place_past k z at at' total xs i x bytes h is b a past all =
     let there : (nat_le (get_or xs i x).start k && nat_le (k + z) ((get_or xs i x).start + length (get_or xs i x).bytes)) ≡ false =
     ap (λ (y : OwnSegment). nat_le y.start k && nat_le (k + z) (y.start + length y.bytes)) (sym is) ∙ past in
-    let step : place_of k z at (drop i xs) ≡ place_of k z (aligned at + length (get_or xs i x).bytes) (drop (i + 1) xs) = place_more k z at xs i x h ∙ rw there refl in
-    rw (b, a) (ap (λ (y : OwnSegment). place_of k z (aligned at + length y.bytes) (drop (i + 1) xs)) is ∙ sym step ∙ all)
+    let step : file_place k z at (drop i xs) ≡ file_place k z (aligned at + length (get_or xs i x).bytes) (drop (i + 1) xs) = place_more k z at xs i x h ∙ rw there refl in
+    rw (b, a) (ap (λ (y : OwnSegment). file_place k z (aligned at + length y.bytes) (drop (i + 1) xs)) is ∙ sym step ∙ all)
 
 pub ruleset layouts = (strings_more, rows_more, next_at, contents_more, contents_length, program_more, names_more, place_more, sections_more, append_assoc)

@@ -9,7 +9,7 @@ use Rattle.elf_write.specs.Layout.{aligned, bit, padding, contents}
 use Rattle.elf_write.specs.Parts.{own_segment, has_memory, with_segment, segments_of_parts}
 use Rattle.elf_write.specs.declared.parts.OwnSegment.{OwnSegment}
 use Rattle.elf_write.proofs.Layouts.{length_zeros}
-use Rattle.elf_write.proofs.Pieces.{behind, piece_is}
+use Rattle.elf_write.proofs.Pieces.{after, piece_is}
 use Rattle.elf_write.proofs.Programs.{header_of, headers_of}
 
 -- ---- one segment
@@ -71,8 +71,8 @@ order_back bytes rest at (s ∷ xs) es h =
     let whole : drop at bytes ≡ padding at ++ (s.bytes ++ (more ++ rest)) =
     h ∙ append_assoc (padding at ++ s.bytes) more rest ∙ append_assoc (padding at) s.bytes (more ++ rest) in
     let own : drop (aligned at) bytes ≡ s.bytes ++ (more ++ rest) =
-    behind at (aligned at) bytes (padding at) (s.bytes ++ (more ++ rest)) whole (omega (arith, length_zeros (aligned at - at))) in
-    let later : drop next bytes ≡ more ++ rest = behind (aligned at) next bytes s.bytes (more ++ rest) own refl in
+    after at (aligned at) bytes (padding at) (s.bytes ++ (more ++ rest)) whole (omega (arith, length_zeros (aligned at - at))) in
+    let later : drop next bytes ≡ more ++ rest = after (aligned at) next bytes s.bytes (more ++ rest) own refl in
     order_step bytes (not (s.size == 0)) (header_of at s) s (filter is_load (headers_of next xs)) (filter has_memory xs) es (segment_back bytes (more ++ rest) at s own) refl
     (λ fs. order_back bytes rest next xs fs later)
 

@@ -41,9 +41,9 @@ drop_more n m xs = sym (drop-drop m n xs)
 pub field_is : (n k at x : ℕ) (bytes row : List ℕ) → drop at bytes ≡ row → little_number n (drop k row) ≡ x → little_number n (drop (at + k) bytes) ≡ x
 field_is n k at x bytes row h e = rw (drop_more at k bytes, h) e
 
--- what stands behind a piece
-pub behind : (n m : ℕ) (bytes piece rest : List ℕ) → drop n bytes ≡ piece ++ rest → m ≡ n + length piece → drop m bytes ≡ rest
-behind n m bytes piece rest h e = rw (e, drop_more n (length piece) bytes, h) (drop-append_seam piece rest)
+-- what stands after a piece
+pub after : (n m : ℕ) (bytes piece rest : List ℕ) → drop n bytes ≡ piece ++ rest → m ≡ n + length piece → drop m bytes ≡ rest
+after n m bytes piece rest h e = rw (e, drop_more n (length piece) bytes, h) (drop-append_seam piece rest)
 
 -- the piece itself
 pub piece_is : (n : ℕ) (bytes piece rest : List ℕ) → drop n bytes ≡ piece ++ rest → take (length piece) (drop n bytes) ≡ piece

@@ -6,7 +6,7 @@ use Rattle.elf_image.specs.Image.{image_of}
 use Rattle.elf_image.specs.declared.fault.ImageFault.{ImageFault}
 use Rattle.elf_image.specs.declared.fault.ImageFault.TheVariants.{TooLarge}
 use Rattle.eh_list.specs.Bytes.{zeros}
-use Rattle.elf_write.specs.Layout.{word, aligned, bit, contents, program_bytes, program_rows, place_of, index_row, has_index, base_of, segment_names, last_names, section_names, symbol_rows, strings_of, table_of, Plan, file_end, plan_of, layout_of, joined, is_too_long, is_read, if_read, written_of}
+use Rattle.elf_write.specs.Layout.{word, aligned, bit, contents, program_bytes, program_rows, file_place, index_row, has_index, base_of, segment_names, last_names, section_names, symbol_rows, strings_of, table_of, Plan, file_end, plan_of, layout_of, joined, is_too_long, is_read, if_read, written_of}
 use Rattle.elf_write.specs.declared.parts.OwnSegment.{OwnSegment}
 use Rattle.elf_write.specs.declared.parts.ImageParts.{ImageParts}
 use Rattle.elf_write.proofs.Layouts.{length_zeros, length_rows}
@@ -28,7 +28,7 @@ index_step true row h = h
 index_step false row h = refl
 
 length_index : (at : ℕ) (parts : ImageParts) → length (index_row at parts) ≡ 32 * bit (has_index parts) 1
-length_index at parts = index_step (has_index parts) _ (length_program 0x70000001 (place_of parts.index.0 parts.index.1 at parts.segments) parts.index.0 parts.index.1 parts.index.1 4)
+length_index at parts = index_step (has_index parts) _ (length_program 0x70000001 (file_place parts.index.0 parts.index.1 at parts.segments) parts.index.0 parts.index.1 parts.index.1 4)
 
 pub length_programs : (at : ℕ) (parts : ImageParts) → 52 + length (program_rows at parts.segments ++ index_row at parts) ≡ base_of parts
 length_programs at parts =

@@ -11,7 +11,7 @@ use Rattle.elf_write.specs.Layout.{word, aligned, bit, contents, program_bytes, 
 use Rattle.elf_write.specs.Parts.{SegmentsFit, IsWord, holds_range, range_in}
 use Rattle.elf_write.specs.declared.parts.OwnSegment.{OwnSegment}
 use Rattle.elf_write.proofs.Layouts.{contents_length}
-use Rattle.elf_write.proofs.Pieces.{program, word_back, field_is, behind}
+use Rattle.elf_write.proofs.Pieces.{program, word_back, field_is, after}
 use Rattle.elf_write.proofs.Planning.{length_program}
 
 abbrev pub header : ℕ → ℕ → ℕ → ℕ → ℕ → ℕ → ProgramHeader
@@ -78,7 +78,7 @@ headers_back bytes rest others off k at m (s ∷ xs) fit inside h last =
     (omega arith) (omega (arith, place, inside)) fit.0 (omega (arith, place, inside)) fit.1 (flags_fit s) whole in
     let rows = length_program 1 (aligned at) s.start (length s.bytes) s.size (4 + bit s.write 2 + bit s.exec 1) in
     let later : drop (off + 32 * (k + 1)) bytes ≡ program_rows next xs ++ rest =
-    behind (off + 32 * k) (off + 32 * (k + 1)) bytes row (program_rows next xs ++ rest) whole (omega (arith, rows)) in
+    after (off + 32 * k) (off + 32 * (k + 1)) bytes row (program_rows next xs ++ rest) whole (omega (arith, rows)) in
     let e : k + suc (length xs) ≡ k + 1 + length xs = omega arith in
     let f : suc (length xs) + m ≡ suc (length xs + m) = omega arith in
     let more = headers_back bytes rest others off (k + 1) next m xs fit.2 (omega (arith, place, inside)) later (rw e at last) in

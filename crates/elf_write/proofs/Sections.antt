@@ -9,7 +9,7 @@ use Rattle.elf_write.specs.Layout.{word, aligned, bit, contents, section_bytes, 
 use Rattle.elf_write.specs.Parts.{IsWord}
 use Rattle.elf_write.specs.declared.parts.OwnSegment.{OwnSegment}
 use Rattle.elf_write.proofs.Layouts.{length_zeros}
-use Rattle.elf_write.proofs.Pieces.{section, word_back, field_is, behind}
+use Rattle.elf_write.proofs.Pieces.{section, word_back, field_is, after}
 use Rattle.elf_write.proofs.Programs.{first_place}
 
 abbrev pub head : ℕ → ℕ → ℕ → ℕ → SectionHeader
@@ -78,7 +78,7 @@ heads_back bytes rest others off k i name at m (s ∷ xs) inside h last =
     (omega arith) (omega (arith, place, inside)) (omega (arith, place, inside)) (omega arith) whole in
     let rows = length_section name 1 (2 + bit s.write 1 + bit s.exec 4) s.start (aligned at) (length s.bytes) 0 0 0 in
     let later : drop (off + 40 * (k + 1)) bytes ≡ tail ++ rest =
-    behind (off + 40 * k) (off + 40 * (k + 1)) bytes row (tail ++ rest) whole (omega (arith, rows)) in
+    after (off + 40 * k) (off + 40 * (k + 1)) bytes row (tail ++ rest) whole (omega (arith, rows)) in
     let e : k + suc (length xs) ≡ k + 1 + length xs = omega arith in
     let f : suc (length xs) + m ≡ suc (length xs + m) = omega arith in
     let more = heads_back bytes rest others off (k + 1) (i + 1) (name + length (segment_name i)) next m xs (omega (arith, place, inside)) later (rw e at last) in
@@ -93,8 +93,8 @@ last_back bytes at ta tl sa sl na nl i j n locals link a b c d e f g h =
     let two : List ℕ = section_bytes (section j 3 0 0 sa sl 0 0 0) ++ three in
     let zero_word : IsWord 0 = omega arith in
     let three_word : IsWord 3 = omega arith in
-    let second = behind at (at + 40) bytes (section_bytes (section i 2 0 0 ta tl link locals 16)) two h (omega (arith, length_section i 2 0 0 ta tl link locals 16)) in
-    let third = behind (at + 40) (at + 40 + 40) bytes (section_bytes (section j 3 0 0 sa sl 0 0 0)) three second (omega (arith, length_section j 3 0 0 sa sl 0 0 0)) in (
+    let second = after at (at + 40) bytes (section_bytes (section i 2 0 0 ta tl link locals 16)) two h (omega (arith, length_section i 2 0 0 ta tl link locals 16)) in
+    let third = after (at + 40) (at + 40 + 40) bytes (section_bytes (section j 3 0 0 sa sl 0 0 0)) three second (omega (arith, length_section j 3 0 0 sa sl 0 0 0)) in (
       head_back bytes two at i 2 0 0 ta tl link locals 16 (omega arith) a b g h,
       head_back bytes three (at + 40) j 3 0 0 sa sl 0 0 0 three_word c d zero_word second,
       head_back bytes [] (at + 40 + 40) n 3 0 0 na nl 0 0 0 three_word e f zero_word third,
@@ -113,9 +113,9 @@ sections_back bytes off base ta tl sa sl na nl i j n locals xs inside a b c d e 
     let rows : List ℕ = section_rows 0 1 base xs in
     let there : drop (off + 40 * 0) bytes ≡ zeros 40 ++ (rows ++ last) = let o : off + 40 * 0 ≡ off = omega arith in rw o h in
     let null = null_back bytes (rows ++ last) (off + 40 * 0) there in
-    let segments : drop (off + 40 * 1) bytes ≡ rows ++ last = behind (off + 40 * 0) (off + 40 * 1) bytes (zeros 40) (rows ++ last) there (omega (arith, length_zeros 40)) in
+    let segments : drop (off + 40 * 1) bytes ≡ rows ++ last = after (off + 40 * 0) (off + 40 * 1) bytes (zeros 40) (rows ++ last) there (omega (arith, length_zeros 40)) in
     let p : ℕ = off + 40 * (1 + length xs) in
-    let ends : drop p bytes ≡ last = behind (off + 40 * 1) p bytes rows last segments (omega (arith, length_section_rows 0 1 base xs)) in
+    let ends : drop p bytes ≡ last = after (off + 40 * 1) p bytes rows last segments (omega (arith, length_section_rows 0 1 base xs)) in
     let lasts = last_back bytes p ta tl sa sl na nl i j n locals (length xs + 2) a b c d e f g ends in
     let q : off + 40 * (1 + length xs + 1) ≡ p + 40 = omega arith in
     let r : off + 40 * (1 + length xs + 1 + 1) ≡ p + 40 + 40 = omega arith in

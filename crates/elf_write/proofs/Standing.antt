@@ -13,12 +13,12 @@ use Rattle.elf_image.specs.declared.fault.ImageFault.TheVariants.{TooLarge}
 use Rattle.elf_image.specs.declared.format.ProgramHeader.{ProgramHeader}
 use Rattle.elf_image.specs.declared.format.SectionHeader.{SectionHeader}
 use Rattle.eh_list.specs.Bytes.{zeros}
-use Rattle.elf_write.specs.Layout.{word, half, aligned, padding, bit, contents, program_rows, place_of, index_row, has_index, base_of, section_bytes, strings_of, table_of, Plan, contents_end, table_at, strings_at, names_at, names_end, sections_at, file_end, identity, header_sizes, file_header, sections_of, joined, plan_of, layout_of, is_too_long, is_read, if_read, written_of}
-use Rattle.elf_write.specs.Parts.{IsWord, AreParts, segments_of_parts, index_of_parts, symbols_of_parts, image_of_parts, Stands, ReadsBack}
+use Rattle.elf_write.specs.Layout.{word, half, aligned, padding, bit, contents, program_rows, file_place, index_row, has_index, base_of, section_bytes, strings_of, table_of, Plan, contents_end, table_at, strings_at, names_at, names_end, sections_at, file_end, identity, header_sizes, file_header, sections_of, joined, plan_of, layout_of, is_too_long, is_read, if_read, written_of}
+use Rattle.elf_write.specs.Parts.{IsWord, AreParts, segments_of_parts, index_of_parts, symbols_of_parts, image_of_parts, FilesMeanTheirParts, ReadsBack}
 use Rattle.elf_write.specs.declared.parts.ImageParts.{ImageParts}
 use Rattle.elf_write.proofs.Layouts.{length_zeros}
 use Rattle.elf_write.proofs.Planning.{length_programs, length_program_rows}
-use Rattle.elf_write.proofs.Pieces.{section, word_back, half_back, behind, piece_is}
+use Rattle.elf_write.proofs.Pieces.{section, word_back, half_back, after, piece_is}
 use Rattle.elf_write.proofs.Programs.{headers_of, headers_back, index_headers, index_back, indexes_back, loads_are, index_range}
 use Rattle.elf_write.proofs.Sections.{head, sections_back, tables_back}
 use Rattle.elf_write.proofs.Table.{table_back}
@@ -33,12 +33,12 @@ regroup a b c d e f g h i = simp append_assoc
 regroup_sections : (a b c d e : List ℕ) → (((a ++ b) ++ c) ++ d) ++ e ≡ a ++ (b ++ (c ++ (d ++ (e ++ []))))
 regroup_sections a b c d e = simp (append_assoc, append-nil)
 
--- what stands behind the file header
-abbrev behind_header : Plan → List ℕ
-behind_header p =
+-- what stands after the file header
+abbrev after_header : Plan → List ℕ
+after_header p =
     p.programs ++ (p.contents ++ (padding (contents_end p) ++ (p.table ++ (p.strings ++ (p.names ++ (padding (names_end p) ++ sections_of p))))))
 
-shape : (p : Plan) → joined p ≡ file_header p ++ behind_header p
+shape : (p : Plan) → joined p ≡ file_header p ++ after_header p
 unfolding joined
 shape p = regroup (file_header p) p.programs p.contents (padding (contents_end p)) p.table p.strings p.names (padding (names_end p)) (sections_of p)
 
@@ -83,9 +83,9 @@ pub record Reads (p : Plan) (bytes : List ℕ) : Type 0 where
 
 -- a piece, and where the next one stands
 step : (n m : ℕ) (bytes piece rest : List ℕ) → drop n bytes ≡ piece ++ rest → m ≡ n + length piece → (drop n bytes ≡ piece ++ drop m bytes) × (drop m bytes ≡ rest)
-step n m bytes piece rest h e = let later = behind n m bytes piece rest h e in (rw later h, later)
+step n m bytes piece rest h e = let later = after n m bytes piece rest h e in (rw later h, later)
 
-reads : (p : Plan) (bytes : List ℕ) → IsWord p.entry → IsWord (file_end p) → p.segment_total ≤ SEGMENT_LIMIT → length p.programs / 32 < 2 ^ 16 → bytes ≡ file_header p ++ behind_header p → Reads p bytes
+reads : (p : Plan) (bytes : List ℕ) → IsWord p.entry → IsWord (file_end p) → p.segment_total ≤ SEGMENT_LIMIT → length p.programs / 32 < 2 ^ 16 → bytes ≡ file_header p ++ after_header p → Reads p bytes
 reads p bytes entry short few programs e =
     let six : List ℕ = padding (names_end p) ++ sections_of p in
     let five : List ℕ = p.names ++ six in
@@ -93,7 +93,7 @@ reads p bytes entry short few programs e =
     let three : List ℕ = p.table ++ four in
     let two : List ℕ = padding (contents_end p) ++ three in
     let one : List ℕ = p.contents ++ two in
-    let start : drop 52 bytes ≡ p.programs ++ one = rw e (header_ends p (behind_header p)) in
+    let start : drop 52 bytes ≡ p.programs ++ one = rw e (header_ends p (after_header p)) in
     let at_contents = step 52 (52 + length p.programs) bytes p.programs one start refl in
     let at_gap = step (52 + length p.programs) (contents_end p) bytes p.contents two at_contents.1 refl in
     let at_table = step (contents_end p) (table_at p) bytes (padding (contents_end p)) three at_gap.1 (omega (arith, length_zeros (aligned (contents_end p) - contents_end p))) in
@@ -102,11 +102,11 @@ reads p bytes entry short few programs e =
     let at_end = step (names_at p) (names_end p) bytes p.names six at_names.1 refl in
     let at_sections = step (names_end p) (sections_at p) bytes (padding (names_end p)) (sections_of p) at_end.1 (omega (arith, length_zeros (aligned (names_end p) - names_end p))) in
     record {
-      entry = rw e (entry_is p (behind_header p) (omega arith));
-      program_offset = rw e (program_offset_is p (behind_header p));
-      program_count = rw e (program_count_is p (behind_header p) programs);
-      section_offset = rw e (section_offset_is p (behind_header p) (omega arith));
-      section_count = rw e (section_count_is p (behind_header p) (omega arith));
+      entry = rw e (entry_is p (after_header p) (omega arith));
+      program_offset = rw e (program_offset_is p (after_header p));
+      program_count = rw e (program_count_is p (after_header p) programs);
+      section_offset = rw e (section_offset_is p (after_header p) (omega arith));
+      section_count = rw e (section_count_is p (after_header p) (omega arith));
       programs = at_contents.0;
       contents = at_gap.0;
       table = at_strings.0;
@@ -163,12 +163,12 @@ programs_back parts bytes are r short =
     let rest : List ℕ = drop (52 + length (rows ++ row)) bytes in
     let start : drop (52 + 32 * 0) bytes ≡ rows ++ (row ++ rest) = r.programs ∙ append_assoc rows row rest in
     let last : drop (52 + 32 * (0 + length parts.segments)) bytes ≡ row ++ rest =
-    behind (52 + 32 * 0) (52 + 32 * (0 + length parts.segments)) bytes rows (row ++ rest) start (omega (arith, length_program_rows base parts.segments)) in
+    after (52 + 32 * 0) (52 + 32 * (0 + length parts.segments)) bytes rows (row ++ rest) start (omega (arith, length_program_rows base parts.segments)) in
     ap (λ (o : ℕ). map (λ i. program_header bytes (o + 32 * i)) (range_with_len 0 (program_count bytes))) r.program_offset
     ∙ ap (λ (n : ℕ). map (λ i. program_header bytes (52 + 32 * i)) (range_with_len 0 n)) (r.program_count ∙ program_number parts)
     ∙ headers_back bytes (row ++ rest) (index_headers (has_index parts) (index_place parts bytes) parts.index.0 parts.index.1) 52 0 base (bit (has_index parts) 1) parts.segments
     are.segments (contents_fit parts short) start
-    (index_back (has_index parts) bytes rest 52 (0 + length parts.segments) (place_of parts.index.0 parts.index.1 base parts.segments) parts.index.0 parts.index.1
+    (index_back (has_index parts) bytes rest 52 (0 + length parts.segments) (file_place parts.index.0 parts.index.1 base parts.segments) parts.index.0 parts.index.1
     are.index_start are.index_size last)
 
 segments_back : (parts : ImageParts) (bytes : List ℕ) → AreParts parts → Reads (plan_of parts) bytes → IsWord (file_end (plan_of parts)) → file_segments bytes ≡ segments_of_parts parts.segments
@@ -246,7 +246,7 @@ same_image : (parts : ImageParts) (field : ℕ) (segments : List Segment) (index
 unfolding image_with image_of_parts
 same_image parts field segments index symbols e s i t = rw (e, s, i, t) refl
 
-pub stands : Stands
+pub stands : FilesMeanTheirParts
 unfolding image_of
 stands parts image are fits h =
     let bytes : List ℕ = layout_of parts in

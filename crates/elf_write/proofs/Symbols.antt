@@ -8,7 +8,7 @@ use Rattle.elf_image.specs.Symbols.{Symbol, symbol_at, name_at}
 use Rattle.elf_write.specs.Layout.{word, half, closed, name_offset, symbol_bytes, symbol_rows}
 use Rattle.elf_write.specs.Parts.{IsWord, HasNoZero}
 use Rattle.elf_write.proofs.Layouts.{length_row}
-use Rattle.elf_write.proofs.Pieces.{word_back, half_back, field_is, behind}
+use Rattle.elf_write.proofs.Pieces.{word_back, half_back, field_is, after}
 
 -- ---- names
 
@@ -85,7 +85,7 @@ symbols_back table strings names k n (s ∷ xs) fit small first there h =
     let one : symbol_at table strings (16 * k) ≡ s =
     symbol_back table strings (symbol_rows next xs) (more ++ names) (16 * k) n s (fit 0 s (omega arith)) (omega (arith, long, small)) first named h in
     let later : drop (16 * (k + 1)) table ≡ symbol_rows next xs =
-    behind (16 * k) (16 * (k + 1)) table (symbol_bytes n s) (symbol_rows next xs) h (omega (arith, length_row n s)) in
+    after (16 * k) (16 * (k + 1)) table (symbol_bytes n s) (symbol_rows next xs) h (omega (arith, length_row n s)) in
     let others = symbols_back table strings names (k + 1) next xs (λ i d l. fit (suc i) d (omega arith)) (omega (arith, long, small)) first
-    (behind n next strings (closed s.name) (more ++ names) named refl) later in
+    (after n next strings (closed s.name) (more ++ names) named refl) later in
     rw (one, others) refl

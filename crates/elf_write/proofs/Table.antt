@@ -53,9 +53,9 @@ null_back : (rest strings : List ℕ) → symbol_at (zeros 16 ++ rest) (0 ∷ st
 unfolding symbol_at zeros
 null_back rest strings = refl
 
-rows_behind : (rest : List ℕ) → drop 16 (zeros 16 ++ rest) ≡ rest
+rows_after : (rest : List ℕ) → drop 16 (zeros 16 ++ rest) ≡ rest
 unfolding zeros
-rows_behind rest = refl
+rows_after rest = refl
 
 rows_count : (xs : List Symbol) → symbol_count (zeros 16 ++ symbol_rows 1 xs) ≡ suc (length xs)
 rows_count xs =
@@ -71,5 +71,5 @@ table_back parts are few small =
     let table : List ℕ = zeros 16 ++ symbol_rows 1 xs in
     let nothing : strings ≡ strings ++ [] = sym (append-nil strings) in
     let others : map (λ i. symbol_at table (0 ∷ strings) (16 * i)) (range_with_len 1 (length xs)) ≡ xs =
-    symbols_back table (0 ∷ strings) [] 1 1 xs (table_fits parts are few) (omega (arith, small)) refl nothing (rows_behind (symbol_rows 1 xs)) in
+    symbols_back table (0 ∷ strings) [] 1 1 xs (table_fits parts are few) (omega (arith, small)) refl nothing (rows_after (symbol_rows 1 xs)) in
     rw (rows_count xs, null_back (symbol_rows 1 xs) strings, others) refl

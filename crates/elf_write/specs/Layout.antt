@@ -67,7 +67,7 @@ is_wanted false k = not (is_mapping k)
 abbrev pub wanted_rows : Bool → List OwnSegment → List OwnSymbol → List Symbol
 wanted_rows mapping segments symbols = rows_of segments (filter (λ s. is_wanted mapping s.kind) symbols)
 
--- the symbols in the order of the table, behind the null symbol: first the mapping symbols
+-- the symbols in the order of the table, after the null symbol: first the mapping symbols
 abbrev pub table_of : ImageParts → List Symbol
 table_of parts = wanted_rows true parts.segments parts.symbols ++ wanted_rows false parts.segments parts.symbols
 
@@ -123,18 +123,18 @@ program_rows at (s ∷ more) =
     ++ program_rows (aligned at + length s.bytes) more
 
 -- where the bytes at an address stand in the file: in the first segment whose bytes hold them all; 0 where none does
-abbrev pub place_of : ℕ → ℕ → ℕ → List OwnSegment → ℕ
-place_of address size at [] = 0
-place_of address size at (s ∷ more) =
+abbrev pub file_place : ℕ → ℕ → ℕ → List OwnSegment → ℕ
+file_place address size at [] = 0
+file_place address size at (s ∷ more) =
     if nat_le s.start address && nat_le (address + size) (s.start + length s.bytes) then aligned at + (address - s.start)
-    else place_of address size (aligned at + length s.bytes) more
+    else file_place address size (aligned at + length s.bytes) more
 
 abbrev pub has_index : ImageParts → Bool
 has_index parts = not (parts.index.1 == 0)
 
 abbrev pub index_row : ℕ → ImageParts → List ℕ
 index_row at parts =
-    if has_index parts then program_bytes (index_header (place_of parts.index.0 parts.index.1 at parts.segments) parts.index) else []
+    if has_index parts then program_bytes (index_header (file_place parts.index.0 parts.index.1 at parts.segments) parts.index) else []
 
 abbrev pub program_total : ImageParts → ℕ
 program_total parts = length parts.segments + bit (has_index parts) 1

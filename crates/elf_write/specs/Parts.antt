@@ -43,7 +43,7 @@ unfoldable pub index_of_parts : ImageParts → List Segment → ℕ × List ℕ
 index_of_parts parts segments =
     if has_index parts then (parts.index.0, range_in parts.index.0 parts.index.1 (find (holds_range parts.index.0 parts.index.1) segments)) else (0, [])
 
--- ---- the symbols, behind the null symbol of every table
+-- ---- the symbols, after the null symbol of every table
 
 abbrev pub null_symbol : Symbol
 null_symbol = record { name = []; value = 0; size = 0; info = 0; section = 0 }
@@ -92,8 +92,8 @@ pub record AreParts (parts : ImageParts) : Type 0 where
   pub index_size : IsWord parts.index.1
 
 -- where a file is written for the parts, it stands for their image
-abbrev pub Stands : Type 0
-Stands = (parts : ImageParts) (image : Image) → AreParts parts → is_too_long parts ≡ false → image_of (layout_of parts) ≡ Ok image → image ≡ image_of_parts parts
+abbrev pub FilesMeanTheirParts : Type 0
+FilesMeanTheirParts = (parts : ImageParts) (image : Image) → AreParts parts → is_too_long parts ≡ false → image_of (layout_of parts) ≡ Ok image → image ≡ image_of_parts parts
 
 -- reading what is written for the parts gives their image
 abbrev pub ReadsBack : Type 0

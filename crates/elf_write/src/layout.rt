@@ -1,6 +1,6 @@
 //! The segments of a file with their headers, and the sections that name them (docs/elf.md).
 ghost use Rattle.std.specs.Prelude.{◌≡◌, ◌+◌, ◌-◌, ◌*◌, ◌^◌, ◌<◌, ◌≤◌, [], ◌∷◌, ◌++◌, length, nat_le, ◌&&◌, OnOk, IfOk};
-ghost use Rattle.elf_write.specs.Layout.{load_header, segment_row, word, half, aligned, padding, bit, contents, program_bytes, program_rows, place_of, decimal, segment_name, segment_names, last_names, section_names, section_bytes, section_rows};
+ghost use Rattle.elf_write.specs.Layout.{load_header, segment_row, word, half, aligned, padding, bit, contents, program_bytes, program_rows, file_place, decimal, segment_name, segment_names, last_names, section_names, section_bytes, section_rows};
 ghost use Rattle.elf_image.specs.declared.limits.TheConstants.{SEGMENT_LIMIT};
 
 use crate::parts::OwnSegment;
@@ -121,9 +121,9 @@ fn holds_range(s: &OwnSegment, address: u32, size: u32) -> bool
 
 /// Where the bytes of a range of addresses stand in the file: in the first segment whose bytes hold them all.
 #[tactic(auto, using(crate::proofs::Layouts::layouts))]
-pub(crate) fn place_of(address: u32, size: u32, base: usize, segments: &[OwnSegment]) -> u32
+pub(crate) fn file_place(address: u32, size: u32, base: usize, segments: &[OwnSegment]) -> u32
     requires { base + length (contents base segments.now) < 2 ^ 32 }
-    ensures { result ≡ place_of address size base segments.now }
+    ensures { result ≡ file_place address size base segments.now }
 {
     let mut end = base;
     for s in segments {
@@ -174,7 +174,7 @@ fn put_last_names(out: &mut Vec<u8>) -> Result<(), AllocError>
     out.extend_from_slice(b".symtab\0.strtab\0.shstrtab\0")
 }
 
-/// The names of the sections, each closed by a zero byte, behind a zero byte.
+/// The names of the sections, each closed by a zero byte, after a zero byte.
 #[tactic(auto, using(crate::proofs::Layouts::layouts))]
 pub(crate) fn section_names(alloc: Global, segments: &[OwnSegment]) -> Result<Vec<u8>, AllocError>
     requires { length segments.now ≤ SEGMENT_LIMIT }

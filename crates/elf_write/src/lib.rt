@@ -1,7 +1,7 @@
 //! Writing Arm ELF images (docs/elf.md).
 #![tactic(auto)]
 
-ghost use Rattle.elf_write.specs.Parts.{ReadsBack, Stands};
+ghost use Rattle.elf_write.specs.Parts.{ReadsBack, FilesMeanTheirParts};
 
 pub mod layout;
 pub mod parts;
@@ -14,7 +14,7 @@ pub use write::write_image;
 
 /// The file of parts that have no zero byte in a name stands for the image of these parts, wherever it is accepted.
 pub fn what_is_written_stands_for_its_parts()
-    ensures { Stands }
+    ensures { FilesMeanTheirParts }
 {}
 
 /// Reading what `write_image` wrote for such parts gives their image.

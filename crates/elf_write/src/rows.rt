@@ -2,7 +2,7 @@
 ghost use Rattle.std.specs.Prelude.{◌≡◌, ◌≢◌, ◌+◌, ◌-◌, ◌*◌, ◌^◌, ◌<◌, ◌≤◌, [], ◌∷◌, ◌++◌, length, OnOk, IfOk, map, filter};
 ghost use Rattle.eh_list.specs.Bytes.{zeros};
 ghost use Rattle.elf_image.specs.declared.symbol.TheConstants.{SYMBOL_SIZE};
-ghost use Rattle.elf_write.specs.Layout.{word, half, aligned, padding, is_mapping, section_of, symbol_row_of, rows_of, is_wanted, wanted_rows, closed, name_offset, symbol_bytes, symbol_rows, strings_of, contents, program_bytes, program_rows, place_of};
+ghost use Rattle.elf_write.specs.Layout.{word, half, aligned, padding, is_mapping, section_of, symbol_row_of, rows_of, is_wanted, wanted_rows, closed, name_offset, symbol_bytes, symbol_rows, strings_of, contents, program_bytes, program_rows, file_place};
 ghost use Rattle.elf_image.specs.declared.limits.TheConstants.{SEGMENT_LIMIT};
 
 use crate::layout::SHN_ABS;
@@ -33,7 +33,7 @@ pub(crate) fn aligned(n: usize) -> usize
     next_multiple(n as u64, 4) as usize
 }
 
-/// Zeros up to the next multiple of 4 behind the offset `at`.
+/// Zeros up to the next multiple of 4 after the offset `at`.
 pub(crate) fn put_padding(out: &mut Vec<u8>, at: usize) -> Result<(), AllocError>
     requires { at + 4 ≤ 2 ^ 64 }
     ensures { OnOk result (out.new.items ≡ out.old.items ++ padding at) }
@@ -117,7 +117,7 @@ fn put_closed(out: &mut Vec<u8>, name: &[u8]) -> Result<(), AllocError>
     Ok(())
 }
 
-/// The names of the rows, each closed by a zero byte, behind a zero byte.
+/// The names of the rows, each closed by a zero byte, after a zero byte.
 pub(crate) fn strings_of(alloc: Global, rows: &[Symbol]) -> Result<Vec<u8>, AllocError>
     ensures { IfOk result (λ v. v.items ≡ strings_of rows.now) }
 {
@@ -156,7 +156,7 @@ fn put_symbol(out: &mut Vec<u8>, s: &Symbol, at: u32) -> Result<(), AllocError>
     put_half(out, s.section)
 }
 
-/// The rows of the table behind the null symbol.
+/// The rows of the table after the null symbol.
 #[tactic(auto, using(crate::proofs::Layouts::layouts))]
 pub(crate) fn table_of(alloc: Global, rows: &[Symbol]) -> Result<Vec<u8>, AllocError>
     requires { length (strings_of rows.now) < 2 ^ 32 }

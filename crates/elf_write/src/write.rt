@@ -5,7 +5,7 @@ ghost use Rattle.elf_image.specs.Image.{image_of};
 ghost use Rattle.elf_image.specs.declared.fault.ImageFault.TheVariants.{OutOfMemory};
 ghost use Rattle.elf_write.specs.Layout.{contents, program_rows, index_row, base_of, plan_of, layout_of, file_end, written_of, is_read};
 
-use crate::layout::{contents, place_of, program_rows, put_program, section_names, section_rows};
+use crate::layout::{contents, file_place, program_rows, put_program, section_names, section_rows};
 use crate::parts::ImageParts;
 use crate::plan::{Plan, join, placed};
 use crate::rows::{push_rows, strings_of, table_of};
@@ -36,7 +36,7 @@ fn programs(alloc: Global, base: usize, parts: &ImageParts) -> Result<Vec<u8>, A
     let (address, size) = parts.index;
     let mut out = program_rows(alloc, base, segments)?;
     if size != 0 {
-        let place = place_of(address, size, base, segments);
+        let place = file_place(address, size, base, segments);
         let header = ProgramHeader {
             kind: PT_ARM_EXIDX,
             offset: place,

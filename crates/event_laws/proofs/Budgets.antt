@@ -36,22 +36,22 @@ use Rattle.thumb_core.specs.declared.ends.End.{End}
 use Rattle.thumb_core.specs.declared.ends.End.TheVariants as the_end
 use Rattle.eh_gates.specs.declared.state.Turned.TheVariants.{Went, Ended}
 use Rattle.eh_gates.specs.declared.gates.TheConstants.{ALLOCATE_GATE, FREE_GATE, THROW_GATE, BEGIN_CATCH_GATE, END_CATCH_GATE, RETHROW_GATE, END_CLEANUP_GATE, UNEXPECTED_GATE, TERMINATE_GATE, UNCAUGHT_GATE}
-use Rattle.eh_gates.specs.State.{State, Guide}
-use Rattle.two_machines.specs.Program.{Program, guide}
+use Rattle.eh_gates.specs.State.{State, Tables}
+use Rattle.two_machines.specs.Program.{Program, program_tables}
 use Rattle.two_machines.specs.Activations.{Activation, Recorded, reg_in, memory_of, words_in, heads, with_lists, lists_of, cleanups_in, InProgress}
-use Rattle.two_machines.specs.Machine.{leaves_cleanup, sp_end, way_end, fell_off}
+use Rattle.two_machines.specs.Machine.{leaves_cleanup, sp_end, control_flow_trap, fell_off}
 use Rattle.two_machines.specs.Machine as bytes
 use Rattle.two_machines.specs.ActivationMachine as acts
 use Rattle.event_laws.specs.Ends.{NoEventIsBudget}
 use Rattle.event_laws.proofs.GateEnds.{is_gates, fault_is, rethrow_is, BarrierEnds, barrier_is}
-use Rattle.event_laws.proofs.EventEnds.{either, is_budget, gates_budget, trap_budget, Lacks, OfEvent, way_is, acted_is}
+use Rattle.event_laws.proofs.EventEnds.{either, is_budget, gates_budget, trap_budget, Lacks, OfEvent, flow_trap_is, acted_is}
 
 -- an end that may come of a test
 abbrev Fine : Option End → Type 0
 Fine o = Lacks is_budget gates_budget (λ n. refl) (λ v pc. refl) (λ v pc. refl) o
 
-ways : (p : Program) (branches : Bool) (pc : ℕ) (what : Stepped) (regs : Regs) → Fine (way_end p branches pc what regs)
-ways p branches pc what regs = way_is is_budget gates_budget (λ n. refl) (λ v pc. refl) (λ v pc. refl) p branches pc what regs
+flow_traps : (p : Program) (branches : Bool) (pc : ℕ) (what : Stepped) (regs : Regs) → Fine (control_flow_trap p branches pc what regs)
+flow_traps p branches pc what regs = flow_trap_is is_budget gates_budget (λ n. refl) (λ v pc. refl) (λ v pc. refl) p branches pc what regs
 
 sps : (landing : Option ℕ) (low pc old new : ℕ) → Fine (sp_end landing low pc old new)
 sps landing low pc old new = either Fine (leaves_cleanup landing old new) _ _ refl (either Fine (nat_lt new low) _ _ refl tt)
@@ -72,12 +72,12 @@ module _ (p : Program) (s : State) (input : List ℕ) where
   tested_bytes : (what : Stepped) (regs : Regs) (m : Memory) (o : Option End) → Fine o → OfBytes (bytes.onward p s (bytes.tested p s what regs m o) input)
   tested_bytes what regs m (Some end) h = h
   tested_bytes what regs m None h =
-      acted_is is_budget gates_budget (λ n. refl) (λ v pc. refl) (λ v pc. refl) p s what (record s { regs = regs; memory = bytes.settled_at p s regs m }) input
+      acted_is is_budget gates_budget (λ n. refl) (λ v pc. refl) (λ v pc. refl) p s what (record s { regs = regs; memory = bytes.reguarded_at p s regs m }) input
 
   tests_bytes : (what : Stepped) (regs : Regs) → Fine (bytes.tests p s what regs)
   tests_bytes what regs =
-      one_of (sp_end _ s.memory.home.0 s.regs.pc _ (slice_index regs.r SP)) (way_end p (branches_some (instr_at s.memory s.regs.pc) s.regs) s.regs.pc what regs)
-      (sps _ s.memory.home.0 s.regs.pc _ (slice_index regs.r SP)) (ways p (branches_some (instr_at s.memory s.regs.pc) s.regs) s.regs.pc what regs)
+      one_of (sp_end _ s.memory.home.0 s.regs.pc _ (slice_index regs.r SP)) (control_flow_trap p (branches_some (instr_at s.memory s.regs.pc) s.regs) s.regs.pc what regs)
+      (sps _ s.memory.home.0 s.regs.pc _ (slice_index regs.r SP)) (flow_traps p (branches_some (instr_at s.memory s.regs.pc) s.regs) s.regs.pc what regs)
 
   stepped_bytes : (o : Stepping) → OfBytes (bytes.onward p s (bytes.stepped p s o) input)
   stepped_bytes (Trap trap, regs, m) = trap_budget trap s.regs.pc
@@ -130,7 +130,7 @@ lands s activations block object (enters.Terminate why) = refl
 advances : (s : Recorded) (activations : List Activation) (block object : ℕ) (g : Goal) (from : ℕ) (fs : Frames) → GateEnds (acts.advances s activations block object g from fs)
 advances s activations block object g from fs = lands s (drop (acts.passed_by g from fs.frames) activations) block object (phase2 g from fs)
 
-flies : (g : Guide) (site block : ℕ) (b : Barrier) (s : Recorded) → GateEnds (acts.throw_to g site block b s)
+flies : (g : Tables) (site block : ℕ) (b : Barrier) (s : Recorded) → GateEnds (acts.throw_to g site block b s)
 unfolding acts.throw_to
 flies g site block b s = advances _ _ block _ _ 0 _
 
@@ -138,33 +138,33 @@ from_is : (further : Barrier → Recorded → acts.Outcome) (p : Result Barrier 
 from_is further (Ok b, t) h f = f b t
 from_is further (Err end, t) h f = h
 
-sought_is : (g : Guide) (s : Recorded) (what : EventKind) (thrown : Thrown) → BarrierEnds (acts.sought g s what thrown).0
+sought_is : (g : Tables) (s : Recorded) (what : EventKind) (thrown : Thrown) → BarrierEnds (acts.sought g s what thrown).0
 unfolding acts.sought
 sought_is g s what thrown =
     either (λ (p : Result Barrier End × Recorded). BarrierEnds p.0) (is_some (row_of g.types thrown.ty)) _ _ (barrier_is s.regs.pc (acts.searched g s thrown)) refl
 
-throws_is : (g : Guide) (s : Recorded) (r : Result ℕ CxaFault) → GateEnds (acts.throws g s r)
+throws_is : (g : Tables) (s : Recorded) (r : Result ℕ CxaFault) → GateEnds (acts.throws g s r)
 throws_is g s (Err why) = fault_is why (reg_in s 0) s.regs.pc
 throws_is g s (Ok block) =
     from_is (λ b t. acts.throw_to g s.regs.pc block b (acts.flies_first t)) (acts.sought g s event.Throw (acts.thrown_first s)) (sought_is g s event.Throw (acts.thrown_first s))
     (λ b t. flies g s.regs.pc block b (acts.flies_first t))
 
-rethrows_is : (g : Guide) (s : Recorded) (r : Result ℕ CxaFault) → GateEnds (acts.rethrows g s r)
+rethrows_is : (g : Tables) (s : Recorded) (r : Result ℕ CxaFault) → GateEnds (acts.rethrows g s r)
 rethrows_is g s (Err why) = rethrow_is why _ s.regs.pc
 rethrows_is g s (Ok block) =
     from_is (λ b t. acts.throw_to g s.regs.pc block b (acts.flies_again t)) (acts.sought g s event.Rethrow (acts.thrown_of_slot (lists_of s) (block_slot block)))
     (sought_is g s event.Rethrow (acts.thrown_of_slot (lists_of s) (block_slot block))) (λ b t. flies g s.regs.pc block b (acts.flies_again t))
 
-resumes_in_is : (g : Guide) (s : Recorded) (c : InProgress) (more : List InProgress) (outer : List Activation) → GateEnds (acts.resumes_in g s c more outer)
+resumes_in_is : (g : Tables) (s : Recorded) (c : InProgress) (more : List InProgress) (outer : List Activation) → GateEnds (acts.resumes_in g s c more outer)
 resumes_in_is g s c more [] = refl
 resumes_in_is g s c more (a ∷ outer) =
     either GateEnds ((s.first.caller.sp == c.cleanup.sp) && (length outer == c.place)) _ _ (advances _ _ _ _ _ _ _) refl
 
-resumes_is : (g : Guide) (s : Recorded) (cleanups : List InProgress) → GateEnds (acts.resumes g s cleanups)
+resumes_is : (g : Tables) (s : Recorded) (cleanups : List InProgress) → GateEnds (acts.resumes g s cleanups)
 resumes_is g s [] = refl
 resumes_is g s (c ∷ more) = either GateEnds (acts.can_unwind (covered_at g.image s.regs.pc)) _ _ (resumes_in_is g s c more s.outer) refl
 
-gate_is : (g : Guide) (number next : ℕ) (s : Recorded) → GateEnds (acts.gate_of g number next s)
+gate_is : (g : Tables) (number next : ℕ) (s : Recorded) → GateEnds (acts.gate_of g number next s)
 unfolding acts.gate_of
 gate_is g number next s =
     let P : acts.Outcome → Type 0 = λ o. GateEnds o in
@@ -189,7 +189,7 @@ module _ (p : Program) (s : Recorded) (input : List ℕ) where
 
   acted_recorded : (what : Stepped) (t : Recorded) → OfRecorded (acts.acted p s what t input)
   acted_recorded (Gate number) t =
-      either OfRecorded (nat_lt INPUT_GATE number) _ _ (outcome_is (acts.gate_of (guide p) number t.regs.pc s) (gate_is (guide p) number t.regs.pc s)) (plain_is number t.regs)
+      either OfRecorded (nat_lt INPUT_GATE number) _ _ (outcome_is (acts.gate_of (program_tables p) number t.regs.pc s) (gate_is (program_tables p) number t.regs.pc s)) (plain_is number t.regs)
   acted_recorded Done t = tt
   acted_recorded (Call target ret) t = tt
   acted_recorded (Return to) t = tt
@@ -199,18 +199,18 @@ module _ (p : Program) (s : Recorded) (input : List ℕ) where
   return_is [] regs = refl
   return_is (a ∷ more) regs = either Fine (p.look regs.pc).is_function _ _ refl tt
 
-  way_of : (branches : Bool) (what : Stepped) (regs : Regs) → Fine (acts.way_end_of p s branches what regs)
-  way_of branches Done regs = ways p branches s.regs.pc Done regs
-  way_of branches (Call target ret) regs = ways p branches s.regs.pc (Call target ret) regs
-  way_of branches (Return to) regs = return_is s.outer regs
-  way_of branches (Gate number) regs = ways p branches s.regs.pc (Gate number) regs
-  way_of branches (Trap trap) regs = tt
+  flow_trap_of : (branches : Bool) (what : Stepped) (regs : Regs) → Fine (acts.control_flow_trap_of p s branches what regs)
+  flow_trap_of branches Done regs = flow_traps p branches s.regs.pc Done regs
+  flow_trap_of branches (Call target ret) regs = flow_traps p branches s.regs.pc (Call target ret) regs
+  flow_trap_of branches (Return to) regs = return_is s.outer regs
+  flow_trap_of branches (Gate number) regs = flow_traps p branches s.regs.pc (Gate number) regs
+  flow_trap_of branches (Trap trap) regs = tt
 
   tests_are : (what : Stepped) (regs : Regs) → Fine (acts.tests p s what regs)
   tests_are what regs =
       one_of (sp_end (innermost_in (cleanups_in s.cleanups)) s.home.0 s.regs.pc (reg_in s SP) (slice_index regs.r SP))
-      (acts.way_end_of p s (branches_some (instr_at (memory_of s) s.regs.pc) s.regs) what regs)
-      (sps (innermost_in (cleanups_in s.cleanups)) s.home.0 s.regs.pc (reg_in s SP) (slice_index regs.r SP)) (way_of (branches_some (instr_at (memory_of s) s.regs.pc) s.regs) what regs)
+      (acts.control_flow_trap_of p s (branches_some (instr_at (memory_of s) s.regs.pc) s.regs) what regs)
+      (sps (innermost_in (cleanups_in s.cleanups)) s.home.0 s.regs.pc (reg_in s SP) (slice_index regs.r SP)) (flow_trap_of (branches_some (instr_at (memory_of s) s.regs.pc) s.regs) what regs)
 
   tested_recorded : (what : Stepped) (regs : Regs) (m : Memory) (o : Option End) → Fine o → OfRecorded (acts.onward p s (acts.tested p s what regs m o) input)
   tested_recorded what regs m (Some end) h = h

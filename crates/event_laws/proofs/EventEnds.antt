@@ -17,8 +17,8 @@ use Rattle.thumb_core.specs.declared.ends.End.TheVariants as the_end
 use Rattle.eh_gates.specs.declared.state.Turned.TheVariants.{Went, Ended}
 use Rattle.eh_gates.specs.State.{State, Outcome}
 use Rattle.eh_gates.specs.Gates.{gate_of}
-use Rattle.two_machines.specs.Program.{Program, guide}
-use Rattle.two_machines.specs.Machine.{fell_off, goes_behind, way_end, event_of, in_state, acted}
+use Rattle.two_machines.specs.Program.{Program, program_tables}
+use Rattle.two_machines.specs.Machine.{fell_off, goes_after, control_flow_trap, event_of, in_state, acted}
 use Rattle.event_laws.proofs.GateEnds.{is_gate_kind, is_gates, GateEnds, gate_is}
 
 pub either : {A : Type 0} (P : A → Type 0) (b : Bool) (x y : A) → P x → P y → P (cond b x y)
@@ -39,12 +39,12 @@ module _ (is : End → Bool) (gates : (end : End) → is_gates end ≡ true → 
   fell_is : (p : Program) (pc to : ℕ) → Lacks (fell_off p pc to)
   fell_is p pc to = either Lacks (p.look to).is_function _ _ (fell to pc) tt
 
-  pub way_is : (p : Program) (branches : Bool) (pc : ℕ) (what : Stepped) (regs : Regs) → Lacks (way_end p branches pc what regs)
-  way_is p branches pc Done regs = either Lacks branches _ _ tt (fell_is p pc regs.pc)
-  way_is p branches pc (Call target ret) regs = either Lacks (p.look target).is_function _ _ tt (target_is target pc)
-  way_is p branches pc (Return to) regs = either Lacks (to == NO_CALLER) _ _ (exit (r0 regs)) (fell_is p pc regs.pc)
-  way_is p branches pc (Gate number) regs = either Lacks (goes_behind number) _ _ (fell_is p pc regs.pc) tt
-  way_is p branches pc (Trap trap) regs = tt
+  pub flow_trap_is : (p : Program) (branches : Bool) (pc : ℕ) (what : Stepped) (regs : Regs) → Lacks (control_flow_trap p branches pc what regs)
+  flow_trap_is p branches pc Done regs = either Lacks branches _ _ tt (fell_is p pc regs.pc)
+  flow_trap_is p branches pc (Call target ret) regs = either Lacks (p.look target).is_function _ _ tt (target_is target pc)
+  flow_trap_is p branches pc (Return to) regs = either Lacks (to == NO_CALLER) _ _ (exit (r0 regs)) (fell_is p pc regs.pc)
+  flow_trap_is p branches pc (Gate number) regs = either Lacks (goes_after number) _ _ (fell_is p pc regs.pc) tt
+  flow_trap_is p branches pc (Trap trap) regs = tt
 
   outcome_is : (o : Outcome) (input : List ℕ) → GateEnds o → OfEvent (event_of o input)
   outcome_is (Went, t) input h = tt
@@ -58,7 +58,7 @@ module _ (is : End → Bool) (gates : (end : End) → is_gates end ≡ true → 
 
   pub acted_is : (p : Program) (s : State) (what : Stepped) (t : State) (input : List ℕ) → OfEvent (acted p s what t input)
   acted_is p s (Gate number) t input =
-      either OfEvent (nat_lt INPUT_GATE number) _ _ (outcome_is (gate_of (guide p) number t.regs.pc s) input (gate_is (guide p) number t.regs.pc s))
+      either OfEvent (nat_lt INPUT_GATE number) _ _ (outcome_is (gate_of (program_tables p) number t.regs.pc s) input (gate_is (program_tables p) number t.regs.pc s))
       (plain_is s number t.regs input)
   acted_is p s Done t input = tt
   acted_is p s (Call target ret) t input = tt

@@ -32,7 +32,7 @@ use Rattle.thumb_core.specs.declared.ends.End.{End}
 use Rattle.thumb_core.specs.declared.ends.End.TheVariants.{Exit, Terminate, Trap, Budget, ReadFault, WriteFault}
 use Rattle.eh_gates.specs.declared.state.Turned.TheVariants.{Went, Ended}
 use Rattle.eh_gates.specs.declared.gates.TheConstants.{ALLOCATE_GATE, FREE_GATE, THROW_GATE, BEGIN_CATCH_GATE, END_CATCH_GATE, RETHROW_GATE, END_CLEANUP_GATE, UNEXPECTED_GATE, TERMINATE_GATE, UNCAUGHT_GATE}
-use Rattle.eh_gates.specs.State.{State, Guide, Outcome, reg}
+use Rattle.eh_gates.specs.State.{State, Tables, Outcome, reg}
 use Rattle.eh_gates.specs.CallGates.{fault_end, allocated, freed, caught, dropped}
 use Rattle.eh_gates.specs.Landing.{entered}
 use Rattle.eh_gates.specs.Throwing.{frames_from, barrier_words, with_barrier, handed, throw_to, barrier_in, searched, sought, from_barrier, flies_to, flies, first_flight, throws, thrown_first, thrown_of_block, second_flight, rethrow_end, rethrows}
@@ -135,13 +135,13 @@ lands s block object (enters.Spec vrs pad) = tt
 lands s block object enters.Unexpected = refl
 lands s block object (enters.Terminate why) = refl
 
-throws_to : (g : Guide) (s : State) (site block : ℕ) (b : Barrier) → GateEnds (throw_to g s site block b)
+throws_to : (g : Tables) (s : State) (site block : ℕ) (b : Barrier) → GateEnds (throw_to g s site block b)
 unfolding throw_to
 throws_to g s site block b =
     let u = with_barrier s block (barrier_words block b) in
     lands u block (handed block b.hit) (phase2 (goal_of b) 0 (frames_from g u None site))
 
-flies_is : (g : Guide) (s : State) (given : ℕ) (b : Barrier) (r : Result ℕ CxaFault) → GateEnds (flies_to g s given b r)
+flies_is : (g : Tables) (s : State) (given : ℕ) (b : Barrier) (r : Result ℕ CxaFault) → GateEnds (flies_to g s given b r)
 flies_is g s given b (Ok block) = throws_to g s s.regs.pc block b
 flies_is g s given b (Err why) = fault_is why given s.regs.pc
 
@@ -149,38 +149,38 @@ from_is : (further : Barrier → State → Outcome) (p : Result Barrier End × S
 from_is further (Ok b, t) h f = f b t
 from_is further (Err end, t) h f = h
 
-sought_is : (g : Guide) (s : State) (what : EventKind) (thrown : Thrown) → BarrierEnds (sought g s what thrown).0
+sought_is : (g : Tables) (s : State) (what : EventKind) (thrown : Thrown) → BarrierEnds (sought g s what thrown).0
 unfolding sought
 sought_is g s what thrown =
     either (λ (p : Result Barrier End × State). BarrierEnds p.0) (is_some (row_of g.types thrown.ty)) _ _ (barrier_is s.regs.pc (searched g s thrown)) refl
 
-throws_is : (g : Guide) (s : State) (r : Result (Unit {0}) CxaFault) → GateEnds (throws g s r)
+throws_is : (g : Tables) (s : State) (r : Result (Unit {0}) CxaFault) → GateEnds (throws g s r)
 throws_is g s (Err why) = fault_is why (reg s 0) s.regs.pc
 throws_is g s (Ok may) =
     from_is (λ b t. flies g t (reg s 0) (first_flight t) b) (sought g s event.Throw (thrown_first s)) (sought_is g s event.Throw (thrown_first s))
     (λ b t. flies_is g (record t { globals = (first_flight t).globals; memory = put_all (first_flight t).writes t.memory }) (reg s 0) b (first_flight t).answer)
 
-rethrows_is : (g : Guide) (s : State) (r : Result ℕ CxaFault) → GateEnds (rethrows g s r)
+rethrows_is : (g : Tables) (s : State) (r : Result ℕ CxaFault) → GateEnds (rethrows g s r)
 rethrows_is g s (Err why) = rethrow_is why s.globals.caught s.regs.pc
 rethrows_is g s (Ok block) =
     from_is (λ b t. flies g t block (second_flight t) b) (sought g s event.Rethrow (thrown_of_block s block)) (sought_is g s event.Rethrow (thrown_of_block s block))
     (λ b t. flies_is g (record t { globals = (second_flight t).globals; memory = put_all (second_flight t).writes t.memory }) block b (second_flight t).answer)
 
-goes_is : (g : Guide) (s : State) (vrs : Vrs) (r : Result (ℕ × CleanupWords) CxaFault) → GateEnds (goes_on g s vrs r)
+goes_is : (g : Tables) (s : State) (vrs : Vrs) (r : Result (ℕ × CleanupWords) CxaFault) → GateEnds (goes_on g s vrs r)
 goes_is g s vrs (Ok (block, w)) = lands s block _ _
 goes_is g s vrs (Err why) = fault_is why (slice_index vrs.r SP) s.regs.pc
 
-resumes_in_is : (g : Guide) (s : State) (o : Option Vrs) → GateEnds (resumes_in g s o)
+resumes_in_is : (g : Tables) (s : State) (o : Option Vrs) → GateEnds (resumes_in g s o)
 resumes_in_is g s None = refl
 resumes_in_is g s (Some vrs) =
     let d = end_cleanup_of (word s.memory) s.globals (slice_index vrs.r SP) in
     goes_is g (record s { globals = d.globals; memory = put_all d.writes s.memory }) vrs d.answer
 
-resumes_is : (g : Guide) (s : State) (o : Option ℕ) → GateEnds (resumes g s o)
+resumes_is : (g : Tables) (s : State) (o : Option ℕ) → GateEnds (resumes g s o)
 resumes_is g s None = refl
 resumes_is g s (Some sp) = resumes_in_is g s (caller_at g.image s.memory.segments s.regs.pc (all_of s.regs))
 
-pub gate_is : (g : Guide) (number next : ℕ) (s : State) → GateEnds (gate_of g number next s)
+pub gate_is : (g : Tables) (number next : ℕ) (s : State) → GateEnds (gate_of g number next s)
 unfolding gate_of
 gate_is g number next s =
     let P : Outcome → Type 0 = λ o. GateEnds o in

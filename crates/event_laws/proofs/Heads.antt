@@ -16,13 +16,13 @@ use Rattle.eh_gates.specs.State.{State, Outcome}
 use Rattle.eh_gates.specs.Gates.{gate_of}
 use Rattle.eh_gates.specs.Laws.{AreHeads}
 use Rattle.eh_gates.proofs.Heads.{gate_heads}
-use Rattle.two_machines.specs.Program.{Program, guide}
+use Rattle.two_machines.specs.Program.{Program, program_tables}
 use Rattle.two_machines.specs.Machine.{Passed, tests, tested, stepped, checked, passed, event_of, in_state, gated, acted, onward, machine_event}
-use Rattle.event_laws.specs.Heads.{state_behind, HeadsStayHeads}
+use Rattle.event_laws.specs.Heads.{state_after, HeadsStayHeads}
 use Rattle.event_laws.proofs.EventEnds.{either}
 
 abbrev OfEvent : Event State End → Type 0
-OfEvent e = AreHeads (state_behind e).globals
+OfEvent e = AreHeads (state_after e).globals
 
 module _ (p : Program) (s : State) (heads : AreHeads s.globals) where
   -- up to the gates globals stay
@@ -60,7 +60,7 @@ module _ (p : Program) (s : State) (heads : AreHeads s.globals) where
 
   gated_heads : (number : ℕ) (regs : Regs) (input : List ℕ) → OfEvent (gated p number s regs input)
   gated_heads number regs input =
-      either OfEvent (nat_lt INPUT_GATE number) _ _ (outcome_heads (gate_of (guide p) number regs.pc s) input (gate_heads (guide p) number regs.pc s heads)) (plain_heads number regs input)
+      either OfEvent (nat_lt INPUT_GATE number) _ _ (outcome_heads (gate_of (program_tables p) number regs.pc s) input (gate_heads (program_tables p) number regs.pc s heads)) (plain_heads number regs input)
 
   kept : (t : State) → t.globals ≡ s.globals → AreHeads t.globals
   kept t e = subst AreHeads (sym e) heads

@@ -2,7 +2,8 @@ pub mod GateEnds
 pub mod EventEnds
 pub mod Stack
 pub mod Tests
-pub mod Ways
+pub mod GoingOn
+pub mod PlainGates
 pub mod Saves
 pub mod Budgets
 pub mod Heads

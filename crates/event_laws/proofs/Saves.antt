@@ -29,7 +29,7 @@ use Rattle.thumb_core.specs.declared.ends.End.{End}
 use Rattle.thumb_core.specs.declared.ends.End.TheVariants as the_end
 use Rattle.eh_gates.specs.State.{State, reg}
 use Rattle.two_machines.specs.Program.{Program}
-use Rattle.two_machines.specs.Machine.{saved_words, settled, settled_at, tests, tested, stepped, checked, passed, onward, machine_event}
+use Rattle.two_machines.specs.Machine.{saved_words, reguarded, reguarded_at, tests, tested, stepped, checked, passed, onward, machine_event}
 use Rattle.event_laws.specs.Saves.{IsSave, PushesGuardTheirSaves}
 use Rattle.event_laws.specs.Refused.{RefusedStoresEnd}
 
@@ -91,11 +91,11 @@ in_all (x ∷ xs) gs g (inl h) = still_inserted x g (insert_all xs gs) (in_all x
 in_all (x ∷ xs) gs g (inr (inl e)) = subst (λ (y : ℕ). Has (insert_all (x ∷ xs) gs) y) e (in_inserted x (insert_all xs gs))
 in_all (x ∷ xs) gs g (inr (inr h)) = still_inserted x g (insert_all xs gs) (in_all xs gs g (inr h))
 
-settled_guards : (saves list before sp : ℕ) (m : Memory) → sp ≤ before → (g : ℕ)
-    → Has (settled saves (length (listed list)) before sp m).guards g ↔ (Has m.guards g ⊎ IsSave saves list sp g)
-settled_guards saves list before sp m low g =
+reguarded_guards : (saves list before sp : ℕ) (m : Memory) → sp ≤ before → (g : ℕ)
+    → Has (reguarded saves (length (listed list)) before sp m).guards g ↔ (Has m.guards g ⊎ IsSave saves list sp g)
+reguarded_guards saves list before sp m low g =
     let words = saved_words saves (length (listed list)) sp in
-    let is : settled saves (length (listed list)) before sp m ≡ record m { guards = insert_all words m.guards } = rw (le-ltb before sp low) (guard_all-is words m) in
+    let is : reguarded saves (length (listed list)) before sp m ≡ record m { guards = insert_all words m.guards } = rw (le-ltb before sp low) (guard_all-is words m) in
     subst (λ (x : Memory). Has x.guards g ↔ (Has m.guards g ⊎ IsSave saves list sp g)) (sym is) (
       λ h. elim (all_in words m.guards g h) [ inl k ↦ inl k | inr k ↦ inr (words_are saves list sp g k) ],
       λ h. in_all words m.guards g (elim h [ inl k ↦ inl k | inr k ↦ inr (are_words saves list sp g k) ]),
@@ -113,21 +113,21 @@ module _ (p : Program) (s t : State) (input text left : List ℕ) (list size g :
   counted : pushes_some (instr_at s.memory s.regs.pc) ≡ length (listed list)
   counted = ap pushes_some stands
 
-  guarded : (regs : Regs) (m : Memory) → store_run s.memory start (words_of list s.regs) ≡ (Ok tt, m) → Guarded (record s { regs = regs; memory = settled_at p s regs m })
+  guarded : (regs : Regs) (m : Memory) → store_run s.memory start (words_of list s.regs) ≡ (Ok tt, m) → Guarded (record s { regs = regs; memory = reguarded_at p s regs m })
   guarded regs m e low =
       let saves = (p.look s.regs.pc).saves in
       let sp = slice_index regs.r SP in
       let same : m.guards ≡ s.memory.guards = ap (λ (x : Memory). x.guards) (run_done s.memory start (words_of list s.regs) m e) in
-      subst (λ (n : ℕ). Has (settled saves n (reg s SP) sp m).guards g ↔ (Has s.memory.guards g ⊎ IsSave saves list sp g)) (sym counted)
-      (subst (λ (old : List ℕ). Has (settled saves (length (listed list)) (reg s SP) sp m).guards g ↔ (Has old g ⊎ IsSave saves list sp g)) same
-      (settled_guards saves list (reg s SP) sp m low g))
+      subst (λ (n : ℕ). Has (reguarded saves n (reg s SP) sp m).guards g ↔ (Has s.memory.guards g ⊎ IsSave saves list sp g)) (sym counted)
+      (subst (λ (old : List ℕ). Has (reguarded saves (length (listed list)) (reg s SP) sp m).guards g ↔ (Has old g ⊎ IsSave saves list sp g)) same
+      (reguarded_guards saves list (reg s SP) sp m low g))
 
   from_test : (regs : Regs) (m : Memory) (o : Option End) → store_run s.memory start (words_of list s.regs) ≡ (Ok tt, m)
       → onward p s (tested p s Done regs m o) input ≡ Goes t text left → Guarded t
   from_test regs m (Some end) e f = absurd (cc)
   from_test regs m None e f =
-      let goes : ◌≡◌ {A = Event State End} (Goes (record s { regs = regs; memory = settled_at p s regs m }) [] input) (Goes t text left) = f in
-      let state : record s { regs = regs; memory = settled_at p s regs m } ≡ t = cc in
+      let goes : ◌≡◌ {A = Event State End} (Goes (record s { regs = regs; memory = reguarded_at p s regs m }) [] input) (Goes t text left) = f in
+      let state : record s { regs = regs; memory = reguarded_at p s regs m } ≡ t = cc in
       subst (λ (u : State). Guarded u) state (guarded regs m e)
 
   from_store : (r : Result (Unit {0}) BusFault × Memory) → store_run s.memory start (words_of list s.regs) ≡ r

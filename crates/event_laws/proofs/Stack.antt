@@ -19,9 +19,9 @@ use Rattle.thumb_core.specs.declared.ends.End.{End}
 use Rattle.thumb_core.specs.declared.ends.End.TheVariants as the_end
 use Rattle.eh_gates.specs.State.{State, reg}
 use Rattle.two_machines.specs.Program.{Program}
-use Rattle.two_machines.specs.Machine.{sp_end, way_end, tests, tested, stepped, checked, passed, acted, onward, settled_at, machine_event}
+use Rattle.two_machines.specs.Machine.{sp_end, control_flow_trap, tests, tested, stepped, checked, passed, acted, onward, reguarded_at, machine_event}
 use Rattle.event_laws.specs.Stack.{Does, RisesAreRefused, IsRefused, OnlyRisesAreRefused}
-use Rattle.event_laws.proofs.EventEnds.{is_sp, gates_sp, OfEvent, Lacks, way_is, acted_is}
+use Rattle.event_laws.proofs.EventEnds.{is_sp, gates_sp, OfEvent, Lacks, flow_trap_is, acted_is}
 
 -- ---- an event is its tests
 
@@ -47,11 +47,11 @@ rises_end low pc old new landing r a = rw (lt-ltb old new r, lt-ltb landing new 
 pub rises : RisesAreRefused
 rises p s input what after m landing d i r =
     let new = slice_index after.r SP in
-    let way = way_end p (branches_some (instr_at s.memory s.regs.pc) s.regs) s.regs.pc what after in
-    let of : Option ℕ → Option End = λ o. option_or (sp_end o s.memory.home.0 s.regs.pc (reg s SP) new) way in
+    let flow_trap = control_flow_trap p (branches_some (instr_at s.memory s.regs.pc) s.regs) s.regs.pc what after in
+    let of : Option ℕ → Option End = λ o. option_or (sp_end o s.memory.home.0 s.regs.pc (reg s SP) new) flow_trap in
     let inner : innermost_at (word s.memory) (block_slot s.globals.cleanup) ≡ Some landing = ap (innermost_at (word s.memory)) i.is ∙ ap (λ (x : ℕ). Some x) i.sp in
     let sp : sp_end (Some landing) s.memory.home.0 s.regs.pc (reg s SP) new ≡ Some (the_end.Trap kind.SpInCleanup new s.regs.pc) = rises_end s.memory.home.0 s.regs.pc (reg s SP) new landing r.rises r.above in
-    let test : tests p s what after ≡ Some (the_end.Trap kind.SpInCleanup new s.regs.pc) = ap of inner ∙ ap (λ (o : Option End). option_or o way) sp in
+    let test : tests p s what after ≡ Some (the_end.Trap kind.SpInCleanup new s.regs.pc) = ap of inner ∙ ap (λ (o : Option End). option_or o flow_trap) sp in
     does_is p s input what after m d ∙ ap (λ (o : Option End). onward p s (tested p s what after m o) input) test
 
 -- ---- and only there
@@ -68,17 +68,17 @@ lacks : (s : State) (after : Regs) (o : Option End) → Lacks is_sp gates_sp (λ
 lacks s after None h = tt
 lacks s after (Some end) h = not_sp s after end h
 
-module _ (s : State) (after : Regs) (way : Option End) (fine : OnlyAbove s after way) where
+module _ (s : State) (after : Regs) (flow_trap : Option End) (fine : OnlyAbove s after flow_trap) where
   abbrev new : ℕ
   new = slice_index after.r SP
 
   -- no rise above: the start of the stack, or the way
-  below : (b : Bool) → OnlyAbove s after (option_or (cond b (Some (the_end.Trap kind.StackLimit new s.regs.pc)) None) way)
+  below : (b : Bool) → OnlyAbove s after (option_or (cond b (Some (the_end.Trap kind.StackLimit new s.regs.pc)) None) flow_trap)
   below true = not_sp s after (the_end.Trap kind.StackLimit new s.regs.pc) refl
   below false = fine
 
   above : (slot : ℕ) → block_slot s.globals.cleanup ≡ Some slot → (t u : Bool) → nat_lt (reg s SP) new ≡ t → nat_lt (word s.memory slot 25) new ≡ u
-      → OnlyAbove s after (option_or (cond (t && u) (Some (the_end.Trap kind.SpInCleanup new s.regs.pc)) (cond (nat_lt new s.memory.home.0) (Some (the_end.Trap kind.StackLimit new s.regs.pc)) None)) way)
+      → OnlyAbove s after (option_or (cond (t && u) (Some (the_end.Trap kind.SpInCleanup new s.regs.pc)) (cond (nat_lt new s.memory.home.0) (Some (the_end.Trap kind.StackLimit new s.regs.pc)) None)) flow_trap)
   above slot is true true f g = λ value pc e. record {
     landing = word s.memory slot 25;
     innermost = record { slot = slot; is = is; sp = refl };
@@ -88,15 +88,15 @@ module _ (s : State) (after : Regs) (way : Option End) (fine : OnlyAbove s after
   above slot is true false f g = below (nat_lt new s.memory.home.0)
   above slot is false u f g = below (nat_lt new s.memory.home.0)
 
-  by_slot : (o : Option ℕ) → block_slot s.globals.cleanup ≡ o → OnlyAbove s after (option_or (sp_end (innermost_at (word s.memory) o) s.memory.home.0 s.regs.pc (reg s SP) new) way)
+  by_slot : (o : Option ℕ) → block_slot s.globals.cleanup ≡ o → OnlyAbove s after (option_or (sp_end (innermost_at (word s.memory) o) s.memory.home.0 s.regs.pc (reg s SP) new) flow_trap)
   by_slot None is = below (nat_lt new s.memory.home.0)
   by_slot (Some slot) is = above slot is (nat_lt (reg s SP) new) (nat_lt (word s.memory slot 25) new) refl refl
 
 tests_only : (p : Program) (s : State) (what : Stepped) (after : Regs) → OnlyAbove s after (tests p s what after)
 tests_only p s what after =
     let branches = branches_some (instr_at s.memory s.regs.pc) s.regs in
-    by_slot s after (way_end p branches s.regs.pc what after)
-    (lacks s after (way_end p branches s.regs.pc what after) (way_is is_sp gates_sp (λ n. refl) (λ v pc. refl) (λ v pc. refl) p branches s.regs.pc what after))
+    by_slot s after (control_flow_trap p branches s.regs.pc what after)
+    (lacks s after (control_flow_trap p branches s.regs.pc what after) (flow_trap_is is_sp gates_sp (λ n. refl) (λ v pc. refl) (λ v pc. refl) p branches s.regs.pc what after))
     (block_slot s.globals.cleanup) refl
 
 ended_only : (p : Program) (s t : State) (input : List ℕ) (what : Stepped) (after : Regs) (m : Memory) (value pc : ℕ) (o : Option End) → OnlyAbove s after o
@@ -104,7 +104,7 @@ ended_only : (p : Program) (s t : State) (input : List ℕ) (what : Stepped) (af
 ended_only p s t input what after m value pc (Some end) h e =
     let same : end ≡ the_end.Trap kind.SpInCleanup value pc = cc in h value pc same
 ended_only p s t input what after m value pc None h e =
-    let u : State = record s { regs = after; memory = settled_at p s after m } in
+    let u : State = record s { regs = after; memory = reguarded_at p s after m } in
     let of : OfEvent is_sp gates_sp (λ n. refl) (λ v pc. refl) (λ v pc. refl) (acted p s what u input) = acted_is is_sp gates_sp (λ n. refl) (λ v pc. refl) (λ v pc. refl) p s what u input in
     let f : true ≡ false = subst (λ (x : Event State End). OfEvent is_sp gates_sp (λ n. refl) (λ v pc. refl) (λ v pc. refl) x) e of in
     absurd (cc)

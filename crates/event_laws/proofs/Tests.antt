@@ -17,7 +17,7 @@ use Rattle.thumb_core.specs.declared.ends.End.{End}
 use Rattle.thumb_core.specs.declared.ends.End.TheVariants as the_end
 use Rattle.eh_gates.specs.State.{State, reg}
 use Rattle.two_machines.specs.Program.{Program}
-use Rattle.two_machines.specs.Machine.{sp_end, way_end, tests, tested, checked, passed, onward, machine_event}
+use Rattle.two_machines.specs.Machine.{sp_end, control_flow_trap, tests, tested, checked, passed, onward, machine_event}
 use Rattle.event_laws.specs.Stack.{Does}
 use Rattle.event_laws.specs.Tests.{TestsEndSo}
 use Rattle.event_laws.proofs.Stack.{does_is}
@@ -30,8 +30,8 @@ module _ (p : Program) (s : State) (input : List ℕ) where
   abbrev inner : Option ℕ
   inner = innermost_of (word s.memory) s.globals
 
-  abbrev way : Stepped → Regs → Option End
-  way what after = way_end p (branches_some (instr_at s.memory s.regs.pc) s.regs) s.regs.pc what after
+  abbrev flow_trap : Stepped → Regs → Option End
+  flow_trap what after = control_flow_trap p (branches_some (instr_at s.memory s.regs.pc) s.regs) s.regs.pc what after
 
   -- an event ends as its tests do
   ends : (what : Stepped) (after : Regs) (m : Memory) (end : End) → Does p s what after m → tests p s what after ≡ Some end → machine_event p s input ≡ Ends end s
@@ -49,13 +49,13 @@ module _ (p : Program) (s : State) (input : List ℕ) where
       → machine_event p s input ≡ Ends (the_end.Trap kind.StackLimit (slice_index after.r 13) s.regs.pc) s
   low what after m d f h =
       ends what after m (the_end.Trap kind.StackLimit (slice_index after.r 13) s.regs.pc) d
-      (ap (λ (o : Option End). option_or o (way what after)) (falls inner s.memory.home.0 s.regs.pc (reg s SP) (slice_index after.r SP) f h))
+      (ap (λ (o : Option End). option_or o (flow_trap what after)) (falls inner s.memory.home.0 s.regs.pc (reg s SP) (slice_index after.r SP) f h))
 
   nowhere : (target ret : ℕ) (after : Regs) (m : Memory) → Does p s (Call target ret) after m → slice_index after.r 13 ≡ reg s 13 → s.memory.home.0 ≤ reg s 13
       → (p.look target).is_function ≡ false → machine_event p s input ≡ Ends (the_end.Trap kind.BadCallTarget target s.regs.pc) s
   nowhere target ret after m d same high none =
       ends (Call target ret) after m (the_end.Trap kind.BadCallTarget target s.regs.pc) d
-      (ap (λ (o : Option End). option_or o (way (Call target ret) after)) (stays inner s.memory.home.0 s.regs.pc (reg s SP) (slice_index after.r SP) (omega (arith, same)) (omega (arith, same, high)))
+      (ap (λ (o : Option End). option_or o (flow_trap (Call target ret) after)) (stays inner s.memory.home.0 s.regs.pc (reg s SP) (slice_index after.r SP) (omega (arith, same)) (omega (arith, same, high)))
       ∙ ap (λ (b : Bool). cond b None (Some (the_end.Trap kind.BadCallTarget target s.regs.pc))) none)
 
   -- no cleanup is in progress
@@ -67,7 +67,7 @@ module _ (p : Program) (s : State) (input : List ℕ) where
       → machine_event p s input ≡ Ends (the_end.Exit (slice_index after.r 0)) s
   exits after m d none high =
       ends (Return 0xFFFFFFFF) after m (the_end.Exit (slice_index after.r 0)) d
-      (ap (λ (o : Option End). option_or o (way (Return 0xFFFFFFFF) after))
+      (ap (λ (o : Option End). option_or o (flow_trap (Return 0xFFFFFFFF) after))
       (no_landing inner s.memory.home.0 s.regs.pc (reg s SP) (slice_index after.r SP) (ap (innermost_at (word s.memory)) none) high))
 
 pub end_so : TestsEndSo

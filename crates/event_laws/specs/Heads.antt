@@ -9,11 +9,11 @@ use Rattle.two_machines.specs.Program.{Program}
 use Rattle.two_machines.specs.Machine.{machine_event}
 
 -- whatever an event does, it leaves a state
-abbrev pub state_behind : Event State End → State
-state_behind (Goes t text left) = t
-state_behind (Ends end t) = t
+abbrev pub state_after : Event State End → State
+state_after (Goes t text left) = t
+state_after (Ends end t) = t
 
--- where each head is none or a slot's control block, it is so behind every event and every run
+-- where each head is none or a slot's control block, it is so after every event and every run
 pub record HeadsStayHeads : Type 0 where
-  pub event : (p : Program) (s : State) (input : List ℕ) → AreHeads s.globals → AreHeads (state_behind (machine_event p s input)).globals
+  pub event : (p : Program) (s : State) (input : List ℕ) → AreHeads s.globals → AreHeads (state_after (machine_event p s input)).globals
   pub run : (p : Program) (n : ℕ) (s : State) (input : List ℕ) → AreHeads s.globals → AreHeads (run (machine_event p) Budget n s input).state.globals

@@ -1,5 +1,6 @@
 pub mod Stack
-pub mod Ways
+pub mod GoingOn
+pub mod PlainGates
 pub mod Saves
 pub mod Refused
 pub mod Ends

@@ -17,7 +17,7 @@ pub record IsSave (saves list sp g : ℕ) : Type 0 where
   pub save : bit_at saves k ≡ 1
   pub place : g ≡ sp + 4 * k
 
--- behind a PUSH those are guarded that were, and the saves among the words that it stored; no other
+-- after a PUSH those are guarded that were, and the saves among the words that it stored; no other
 abbrev pub PushesGuardTheirSaves : Type 0
 PushesGuardTheirSaves =
     (p : Program) (s t : State) (input text left : List ℕ) (list size g : ℕ) → instr_at s.memory s.regs.pc ≡ Some (Push list, size)

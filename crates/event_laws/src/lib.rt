@@ -3,7 +3,8 @@
 
 ghost use Rattle.event_laws.specs.Stack.{RisesAreRefused, OnlyRisesAreRefused};
 ghost use Rattle.event_laws.specs.Tests.{TestsEndSo};
-ghost use Rattle.event_laws.specs.Ways.{GatesGoOn, GatesFallOff};
+ghost use Rattle.event_laws.specs.GoingOn.{GatesGoOn, GatesFallOff};
+ghost use Rattle.event_laws.specs.PlainGates.{PlainGatesAreAsTold};
 ghost use Rattle.event_laws.specs.Saves.{PushesGuardTheirSaves};
 ghost use Rattle.event_laws.specs.Refused.{RefusedStoresEnd};
 ghost use Rattle.event_laws.specs.Ends.{NoEventIsBudget};
@@ -23,6 +24,13 @@ pub fn only_rises_are_refused()
 /// a call to where no function begins BadCallTarget with the target; and a return to FFFFFFFF, with no cleanup in progress, exits with r0.
 pub fn tests_end_so()
     ensures { TestsEndSo }
+{}
+
+/// Gate 0 exits with r0; gate 1 writes the low byte of r0; gate 2 takes the next byte of the input into r0, and FFFFFFFF at its end; and those
+/// that go on leave all else but pc. Any number that is no gate is UnknownGate with the number. A failed write may come at gate 1 alone, a failed
+/// read at gate 2. So it is over bytes, with recorded activations and in raw code.
+pub fn plain_gates_are_as_told()
+    ensures { PlainGatesAreAsTold }
 {}
 
 /// A gate that goes on, but for 18, 21 and 22, goes on at the next address.
@@ -50,7 +58,7 @@ pub fn no_event_is_budget()
     ensures { NoEventIsBudget }
 {}
 
-/// Where the heads of both chains of exceptions are each none or a slot's control block, they are so behind every event and every run.
+/// Where the heads of both chains of exceptions are each none or a slot's control block, they are so after every event and every run.
 pub fn heads_stay_heads()
     ensures { HeadsStayHeads }
 {}

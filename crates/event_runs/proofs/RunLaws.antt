@@ -1,7 +1,7 @@
 -- Laws of runs.
 use Rattle.std.specs.Prelude.{MatchOption, IsSome, IsNone, option_map}
 use Rattle.std.proofs.Common.{◌≡◌, ℕ, zero, suc, ◌+◌, ◌<◌, ◌-◌, List, [], ◌∷◌, ◌++◌, Option, Some, None, refl, sym, ap, ◌∙◌, arith, append_assoc, append-nil, zero-add}
-use Rattle.event_runs.specs.Runs.{Event, Goes, Ends, Ran, Reached, prepend, follow, run, reached, reached_after, behind}
+use Rattle.event_runs.specs.Runs.{Event, Goes, Ends, Ran, Reached, prepend, follow, run, reached, reached_after, prepended}
 use Rattle.event_runs.specs.Laws.{Stops, AllGo, Spent, IsNoEnd, spared, Alike, EventsAlike, SameRan, runs, AllSame, RunAlike}
 
 pub prepend-prepend : {S E : Type 0} (xs ys : List ℕ) (r : Ran S E) → prepend xs (prepend ys r) ≡ prepend (xs ++ ys) r
@@ -46,7 +46,7 @@ module _ (S E : Type 0) (event : S → List ℕ → Event S E) where
   unfolding reached
   reached-zero state input = refl
 
-  -- one event more, behind those that went
+  -- one event more, after those that went
   pub reached-more : (n : ℕ) (state : S) (input more left : List ℕ) (state' : S) (r : Reached S)
       → reached event n state input ≡ Some r → event r.state r.left ≡ Goes state' more left
       → reached event (suc n) state input ≡ Some (record { text = r.text ++ more; state = state'; left = left })
@@ -59,7 +59,7 @@ module _ (S E : Type 0) (event : S → List ℕ → Event S E) where
       go v is same e =
           let here : event state input ≡ Goes state' more left = ap (λ (q : Reached S). event q.state q.left) same ∙ e in
           reached-suc 0 state input ∙ ap (λ v. reached_after v (reached event 0)) here
-          ∙ ap (option_map (behind more)) (reached-zero state' left)
+          ∙ ap (option_map (prepended more)) (reached-zero state' left)
           ∙ ap (λ text. Some (record { text = text; state = state'; left = left })) (append-nil more ∙ ap (λ (q : Reached S). q.text ++ more) same)
   reached-more (suc n) state input more left state' r h e =
       go (event state input) refl (reached-more n)
@@ -70,11 +70,11 @@ module _ (S E : Type 0) (event : S → List ℕ → Event S E) where
           → reached event (suc (suc n)) state input ≡ Some (record { text = r.text ++ more; state = state'; left = left })
       go (Ends end new) is rest = absurd (let no = sym (ap (λ v. reached_after v (reached event n)) is) ∙ sym (reached-suc n state input) ∙ h in cc)
       go (Goes s1 t1 l1) is rest =
-          let p = some_of (behind t1) (reached event n s1 l1) r (sym (ap (λ v. reached_after v (reached event n)) is) ∙ sym (reached-suc n state input) ∙ h) in
+          let p = some_of (prepended t1) (reached event n s1 l1) r (sym (ap (λ v. reached_after v (reached event n)) is) ∙ sym (reached-suc n state input) ∙ h) in
           let q : Reached S = p.0 in
           let next = rest s1 l1 more left state' q p.1 (ap (λ (x : Reached S). event x.state x.left) p.2 ∙ e) in
           reached-suc (suc n) state input ∙ ap (λ v. reached_after v (reached event (suc n))) is
-          ∙ ap (option_map (behind t1)) next
+          ∙ ap (option_map (prepended t1)) next
           ∙ ap (λ text. Some (record { text = text; state = state'; left = left })) (sym (append_assoc t1 q.text more) ∙ ap (λ (x : Reached S). x.text ++ more) p.2)
 
   -- where an event ends a run, no more go
@@ -93,10 +93,10 @@ module _ (S E : Type 0) (event : S → List ℕ → Event S E) where
           → reached event (suc n) state input ≡ None
       go (Ends end' new') is rest = reached-suc n state input ∙ ap (λ v. reached_after v (reached event n)) is
       go (Goes s1 t1 l1) is rest =
-          let p = some_of (behind t1) (reached event count s1 l1) r (sym (ap (λ v. reached_after v (reached event count)) is) ∙ sym (reached-suc count state input) ∙ went) in
+          let p = some_of (prepended t1) (reached event count s1 l1) r (sym (ap (λ v. reached_after v (reached event count)) is) ∙ sym (reached-suc count state input) ∙ went) in
           let q : Reached S = p.0 in
           let none = rest s1 l1 q end new (omega arith) p.1 (ap (λ (x : Reached S). event x.state x.left) p.2 ∙ ends) in
-          reached-suc n state input ∙ ap (λ v. reached_after v (reached event n)) is ∙ ap (option_map (behind t1)) none
+          reached-suc n state input ∙ ap (λ v. reached_after v (reached event n)) is ∙ ap (option_map (prepended t1)) none
 
 module _ (S E : Type 0) (event : S → List ℕ → Event S E) (spent : E) where
   pub splits : (n m : ℕ) (state : S) (input : List ℕ)
@@ -119,7 +119,7 @@ module _ (S E : Type 0) (event : S → List ℕ → Event S E) (spent : E) where
       go (Goes s1 t1 l1) is rest =
           let e : suc n + m ≡ suc (n + m) = omega arith in
           rw (e, reached-suc S E event n state input, run-suc S E event spent (n + m) state input, run-suc S E event spent n state input, is)
-          (match_map (behind t1) (reached event n s1 l1) _ _ _ _
+          (match_map (prepended t1) (reached event n s1 l1) _ _ _ _
           (λ h. ap (prepend t1) h)
           (λ r h. ap (prepend t1) h ∙ prepend-prepend t1 r.text (run event spent m r.state r.left))
           (rest s1 l1))
@@ -137,7 +137,7 @@ module _ (S E : Type 0) (event : S → List ℕ → Event S E) (spent : E) where
           → run event spent (suc n) state input ≡ record { text = r.text; end = spent; state = r.state; left = r.left; spare = 0 }
       go (Ends end new) is rest = absurd (let no = sym (ap (λ v. reached_after v (reached event n)) is) ∙ sym (reached-suc S E event n state input) ∙ h in cc)
       go (Goes s1 t1 l1) is rest =
-          let p = some_of (behind t1) (reached event n s1 l1) r (sym (ap (λ v. reached_after v (reached event n)) is) ∙ sym (reached-suc S E event n state input) ∙ h) in
+          let p = some_of (prepended t1) (reached event n s1 l1) r (sym (ap (λ v. reached_after v (reached event n)) is) ∙ sym (reached-suc S E event n state input) ∙ h) in
           run-suc S E event spent n state input ∙ ap (λ v. follow v (run event spent n) n input) is
           ∙ ap (prepend t1) (rest s1 l1 p.0 p.1)
           ∙ ap (λ (q : Reached S). record { text = q.text; end = spent; state = q.state; left = q.left; spare = 0 }) p.2
@@ -153,14 +153,14 @@ module _ (S E : Type 0) (event : S → List ℕ → Event S E) (spent : E) where
           rw (run-suc S E event spent n state input, is)
           (record { count = 0; at = state; within = omega arith; went = reached-zero S E event state input; ends = is; spare = omega arith })
       go (Goes s1 t1 l1) is rest =
-          let none = none_of (behind t1) (reached event n s1 l1) (sym (ap (λ v. reached_after v (reached event n)) is) ∙ sym (reached-suc S E event n state input) ∙ h) in
+          let none = none_of (prepended t1) (reached event n s1 l1) (sym (ap (λ v. reached_after v (reached event n)) is) ∙ sym (reached-suc S E event n state input) ∙ h) in
           let r = rest s1 l1 none in
           rw (run-suc S E event spent n state input, is)
           (record {
             count = suc r.count;
             at = r.at;
             within = omega (arith, r.within);
-            went = reached-suc S E event r.count state input ∙ ap (λ v. reached_after v (reached event r.count)) is ∙ ap (option_map (behind t1)) r.went;
+            went = reached-suc S E event r.count state input ∙ ap (λ v. reached_after v (reached event r.count)) is ∙ ap (option_map (prepended t1)) r.went;
             ends = r.ends;
             spare = omega (arith, r.spare);
           })

@@ -15,7 +15,7 @@ Splits S E = (event : S → List ℕ → Event S E) (spent : E) (n m : ℕ) (sta
 
 -- ---- how a run ends
 
--- an event of the run, behind `count` others that went, ends it
+-- an event of the run, after `count` others that went, ends it
 pub record Stops {S E : Type 0} (event : S → List ℕ → Event S E) (n : ℕ) (state : S) (input : List ℕ) (ran : Ran S E) : Type 0 where
   pub count : ℕ
   pub at : S
@@ -68,7 +68,7 @@ pub record SameRan {S T E : Type 0} (Related : S → T → Type 0) (one : Ran S 
 abbrev pub EventsAlike : {S T E : Type 0} → (S → T → Type 0) → (S → List ℕ → Event S E) → (T → List ℕ → Event T E) → Type 0
 EventsAlike {S} {T} Related one two = (s : S) (t : T) (input : List ℕ) → Related s t → Alike Related (one s input) (two t input)
 
--- runs one behind the other, each with a budget of its own: each goes on in the state, and with the input, that the one
+-- runs one after the other, each with a budget of its own: each goes on in the state, and with the input, that the one
 -- before left, however it ended
 unfoldable pub runs : {S E : Type 0} → (S → List ℕ → Event S E) → E → List ℕ → S → List ℕ → List (Ran S E)
 runs event spent [] state input = []

@@ -38,11 +38,11 @@ pub record Reached (S : Type 0) : Type 0 where
   pub state : S
   pub left : List ℕ
 
-abbrev pub behind : {S : Type 0} → List ℕ → Reached S → Reached S
-behind text reached = record { text = text ++ reached.text; state = reached.state; left = reached.left }
+abbrev pub prepended : {S : Type 0} → List ℕ → Reached S → Reached S
+prepended text reached = record { text = text ++ reached.text; state = reached.state; left = reached.left }
 
 abbrev pub reached_after : {S E : Type 0} → Event S E → (S → List ℕ → Option (Reached S)) → Option (Reached S)
-reached_after (Goes state text left) rest = option_map (behind text) (rest state left)
+reached_after (Goes state text left) rest = option_map (prepended text) (rest state left)
 reached_after (Ends end state) rest = None
 
 -- None where one of the first n events ends the run
@@ -83,7 +83,7 @@ pub record EndsBy {S E : Type 0} (is_fault may_fail : E → Bool) (event : Event
   pub leaves : left ≡ Some input
   pub wrote : Appends before now []
 
--- a fault stopped the run behind some events that went, in a state where it may come
+-- a fault stopped the run after some events that went, in a state where it may come
 pub record StopsAt {S E : Type 0} (machine : Machine S E) (n : ℕ) (state : S) (input : List ℕ) (end : E) (new : S) (unspent : ℕ) (left before now : Option (List ℕ)) : Type 0 where
   pub count : ℕ
   pub text : List ℕ

@@ -2,7 +2,7 @@
 use eh_cxa::{CleanupWords, CxaFault};
 use std::alloc::{AllocError, Global};
 
-/// Adds an answer behind those of the calls before it.
+/// Adds an answer after those of the calls before it.
 pub fn push(all: &mut String, answer: &str) -> Result<(), AllocError> {
     if !all.is_empty() && !answer.is_empty() {
         all.push_str("; ")?;

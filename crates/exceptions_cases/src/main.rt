@@ -1,4 +1,4 @@
-//! Runs the cases of data/: calls over a pool, one behind the other. A line is a question, ` : ` and the answer to
+//! Runs the cases of data/: calls over a pool, one after the other. A line is a question, ` : ` and the answer to
 //! it, by hand from docs/exceptions.md and IHI 0038.
 #![tactic(auto)]
 

@@ -261,7 +261,7 @@ fn are_slots(run: &Run) -> bool {
     run.globals.uncaught == flying
 }
 
-/// One sequence: whether each call answers what the model does, with the slot that it names and the lists as the model has them behind it,
+/// One sequence: whether each call answers what the model does, with the slot that it names and the lists as the model has them after it,
 /// and all slots at the end.
 fn is_sequence(alloc: Global, run: &mut Run, dice: &mut Pcg32) -> Result<bool, AllocError> {
     begin_again(run);

@@ -81,7 +81,7 @@ fn file(alloc: Global) -> Result<Option<Vec<u8>>, AllocError> {
     Ok(write_image(alloc, &parts).ok())
 }
 
-/// Four bytes of a number, the lowest first, and what stands behind them.
+/// Four bytes of a number, the lowest first, and what stands after them.
 const SEVEN: [u8; 16] = [7, 0, 0, 0, 9, 9, 9, 9, 9, 9, 9, 9, 9, 9, 9, 9];
 
 const THROW: Event = Event {
@@ -216,7 +216,7 @@ static ROWS: [(&[Event], &[u8]); 10] = [
     ),
 ];
 
-/// These events, one behind the other.
+/// These events, one after the other.
 fn events(alloc: Global, list: &[Event]) -> Result<Events, Fail> {
     let mut events = Events::reserve(alloc)?;
     for event in list {

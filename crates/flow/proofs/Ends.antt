@@ -5,7 +5,7 @@ use Rattle.std.proofs.lemmas.List.{get_or-set_same, length-set, length_push, len
 use Rattle.std.proofs.lemmas.List.Sums.{sum_by-set}
 use Rattle.std.specs.List.{Contains}
 use Rattle.flow.specs.Flow.{Flow, IsState, at_entry, meeting, Stands, met, apart, fact_at, Passes, AreValid, AreStates}
-use Rattle.flow.specs.Laws.{Laws, Falls, IsFinite, HasValidFacts, NoneStands, Decides, Settle}
+use Rattle.flow.specs.Laws.{Laws, Falls, IsFinite, HasValidFacts, NoneStands, Decides, SolvingGivesStates}
 use Rattle.flow.proofs.Law.{none_stand}
 use Rattle.flow.specs.Sound.{Sound, weigh, weight}
 use Rattle.flow.proofs.Work.{written, contains_head, contains_one, contains_none, grow, keep, take_up, unasked, over}
@@ -38,7 +38,7 @@ blank zero p = refl
 blank (suc n) zero = refl
 blank (suc n) (suc p) = blank n p
 
-module _ (F C : Type 0) (flow : Flow F C) (at_most : F → F → Type 0) (laws : Laws F C flow at_most) (n : ℕ) (inside : (p : ℕ) (f : F) (q : ℕ) (g : F) → Contains (flow.edges p f) (q, g) → q < n)
+module _ (F C : Type 0) (flow : Flow F C) (at_most : F → F → Type 0) (laws : Laws F C flow at_most) (n : ℕ) (inside : (p : ℕ) (f : F) (q : ℕ) (g : F) → Contains (flow.transfer p f) (q, g) → q < n)
     (height : F → ℕ) (top : ℕ) (falls : Falls F C flow height top) where
   -- no place has a fact yet
   pub starts : (facts : List (Option F)) → length facts ≡ n → ((p : ℕ) → fact_at facts p ≡ None) → flow.entry < n
@@ -111,17 +111,17 @@ module _ (F C : Type 0) (flow : Flow F C) (at_most : F → F → Type 0) (laws :
         (some_or_none (flow.join some.0 g)))
         (some_or_none (fact_at facts q))
 
-    settle : (fuel : ℕ) (facts : List (Option F)) (work : List ℕ) → Sound F C flow at_most n facts work [] → weight height top facts work < fuel → Outcome
-    settle zero facts work s l = absurd (omega (arith, l))
-    settle (suc fuel) facts work s l = ⊎_elim
+    solve : (fuel : ℕ) (facts : List (Option F)) (work : List ℕ) → Sound F C flow at_most n facts work [] → weight height top facts work < fuel → Outcome
+    solve zero facts work s l = absurd (omega (arith, l))
+    solve (suc fuel) facts work s l = ⊎_elim
         (λ (e : work ≡ []). inl (facts, over F C flow at_most laws n inside facts (subst (λ w. Sound F C flow at_most n facts w []) e s), s.states))
         (λ (w : (ys : List ℕ) × (y : ℕ) × (work ≡ ys ++ y ∷ [])).
         let s' = subst (λ w. Sound F C flow at_most n facts w []) w.2 s in
         let l' : weight height top facts w.0 < fuel = omega (arith, popped height top facts w.0 w.1, subst (λ v. weight height top facts v < suc fuel) w.2 l) in
         ⊎_elim
-        (λ (none : fact_at facts w.1 ≡ None). settle fuel facts w.0 (unasked F C flow at_most laws n inside facts w.0 w.1 s' none) l')
+        (λ (none : fact_at facts w.1 ≡ None). solve fuel facts w.0 (unasked F C flow at_most laws n inside facts w.0 w.1 s' none) l')
         (λ (some : (h : F) × (fact_at facts w.1 ≡ Some h)). ⊎_elim
-        (λ (fine : first w.1 some.0 ≡ None). follow fuel (settle fuel) (flow.edges w.1 some.0) facts w.0 (take_up F C flow at_most laws n inside facts w.0 w.1 some.0 s' some.1 (first_none w.1 some.0 fine)) l')
+        (λ (fine : first w.1 some.0 ≡ None). follow fuel (solve fuel) (flow.transfer w.1 some.0) facts w.0 (take_up F C flow at_most laws n inside facts w.0 w.1 some.0 s' some.1 (first_none w.1 some.0 fine)) l')
         (λ (c : (c : C) × (first w.1 some.0 ≡ Some c)). inr (w.1, c.0, refused facts (w.0 ++ w.1 ∷ []) [] w.1 some.0 c.0 s' some.1 (first_met w.1 some.0 c.0 c.1)))
         (some_or_none (first w.1 some.0)))
         (some_or_none (fact_at facts w.1)))
@@ -131,11 +131,11 @@ module _ (F C : Type 0) (flow : Flow F C) (at_most : F → F → Type 0) (laws :
     pub either : flow.entry < n → Outcome
     either l =
         let facts = set (replicate n (nothing F)) flow.entry (Some flow.start) in
-        settle (suc (weight height top facts (flow.entry ∷ []))) facts (flow.entry ∷ []) (starts (replicate n (nothing F)) (length-replicate n (nothing F)) (blank n) l) (omega arith)
+        solve (suc (weight height top facts (flow.entry ∷ []))) facts (flow.entry ∷ []) (starts (replicate n (nothing F)) (length-replicate n (nothing F)) (blank n) l) (omega arith)
 
 -- the search from the entry on, with what a finite flow has
-settled : (F C : Type 0) (flow : Flow F C) (at_most : F → F → Type 0) (laws : Laws F C flow at_most) (finite : IsFinite F C flow) → Outcome F C flow at_most laws finite.count finite.inside finite.height finite.top finite.falls
-settled F C flow at_most laws finite =
+solved : (F C : Type 0) (flow : Flow F C) (at_most : F → F → Type 0) (laws : Laws F C flow at_most) (finite : IsFinite F C flow) → Outcome F C flow at_most laws finite.count finite.inside finite.height finite.top finite.falls
+solved F C flow at_most laws finite =
     either F C flow at_most laws finite.count finite.inside finite.height finite.top finite.falls finite.first finite.first_met finite.first_none finite.named finite.named_is finite.begins
 
 -- valid facts exist exactly where no cause stands
@@ -144,7 +144,7 @@ decides F C at_most flow laws finite =
     let outcome : HasValidFacts F C flow at_most ⊎ ((p : ℕ) × (c : C) × Stands F C flow p c) = ⊎_elim
     (λ (v : (facts : List (Option F)) × AreValid F C flow at_most facts × AreStates F C flow facts). inl (v.0, v.1))
     (λ (w : (p : ℕ) × (c : C) × Stands F C flow p c). inr w)
-    (settled F C flow at_most laws finite) in (
+    (solved F C flow at_most laws finite) in (
       outcome,
       (
         λ (v : HasValidFacts F C flow at_most). λ p c s. none_stand F C flow at_most laws v.0 v.1 p c s,
@@ -156,8 +156,8 @@ decides F C at_most flow laws finite =
     )
 
 -- and then there are some that are states
-pub settles : (F C : Type 0) (at_most : F → F → Type 0) → Settle F C at_most
-settles F C at_most flow laws finite none = ⊎_elim
+pub solves : (F C : Type 0) (at_most : F → F → Type 0) → SolvingGivesStates F C at_most
+solves F C at_most flow laws finite none = ⊎_elim
     (λ (v : (facts : List (Option F)) × AreValid F C flow at_most facts × AreStates F C flow facts). v)
     (λ (w : (p : ℕ) × (c : C) × Stands F C flow p c). absurd (none w.0 w.1 w.2))
-    (settled F C flow at_most laws finite)
+    (solved F C flow at_most laws finite)

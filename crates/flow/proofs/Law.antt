@@ -10,7 +10,7 @@ module _ (F C : Type 0) (flow : Flow F C) (at_most : F → F → Type 0) (laws :
   below _ _ at_entry = v.entry
   below _ _ (along {p} {q} {f} {g} s e) =
       let c = below p f s in
-      let d = laws.edges p f c.0 c.2 (v.passes p c.0 c.1) q g e in
+      let d = laws.transfer p f c.0 c.2 (v.passes p c.0 c.1) q g e in
       let r = v.closed p c.0 q d.0 c.1 d.1 in
       (r.0, r.1, laws.via g d.0 r.0 d.2 r.2)
   below _ _ (meeting {p} {f} {g} {h} s t e) =

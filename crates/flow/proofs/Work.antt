@@ -36,7 +36,7 @@ written {F} facts q p k f l e = ⊎_elim
     (λ (other : p ≡ q → ⊥). inr (other, sym (get_or-set_other facts q p (Some k) None other) ∙ e))
     (cases_eq p q)
 
-module _ (F C : Type 0) (flow : Flow F C) (at_most : F → F → Type 0) (laws : Laws F C flow at_most) (n : ℕ) (inside : (p : ℕ) (f : F) (q : ℕ) (g : F) → Contains (flow.edges p f) (q, g) → q < n) where
+module _ (F C : Type 0) (flow : Flow F C) (at_most : F → F → Type 0) (laws : Laws F C flow at_most) (n : ℕ) (inside : (p : ℕ) (f : F) (q : ℕ) (g : F) → Contains (flow.transfer p f) (q, g) → q < n) where
   -- what is covered stays so where a fact gets vaguer
   still : (facts : List (Option F)) (q : ℕ) (k : F) → q < length facts → ((h : F) → fact_at facts q ≡ Some h → at_most h k) → (p : ℕ) (g : F) → Covered at_most facts p g → Covered at_most (set facts q (Some k)) p g
   still facts q k l vaguer p g c = ⊎_elim
@@ -105,7 +105,7 @@ module _ (F C : Type 0) (flow : Flow F C) (at_most : F → F → Type 0) (laws :
 
   -- the last place of the work list comes in hand
   pub take_up : (facts : List (Option F)) (work : List ℕ) (p : ℕ) (f : F)
-      → Sound F C flow at_most n facts (work ++ p ∷ []) [] → fact_at facts p ≡ Some f → Passes flow p f → Sound F C flow at_most n facts work (flow.edges p f)
+      → Sound F C flow at_most n facts (work ++ p ∷ []) [] → fact_at facts p ≡ Some f → Passes flow p f → Sound F C flow at_most n facts work (flow.transfer p f)
   take_up facts work p f s is passes = record {
     long = s.long;
     states = s.states;
@@ -118,8 +118,8 @@ module _ (F C : Type 0) (flow : Flow F C) (at_most : F → F → Type 0) (laws :
         (λ (c' : Contains (p ∷ []) p').
         let one : p' ≡ p = contains_one p' p c' in
         let fact : f ≡ f' = same_Some f f' (sym is ∙ subst (λ x. fact_at facts x ≡ Some f') one e) in
-        inr (subst (λ (x : F). Rests F C flow at_most facts (flow.edges p f) p' x) fact
-        (subst (λ (x : ℕ). Rests F C flow at_most facts (flow.edges p f) x f) (sym one) (passes, λ q g h. inl h))))
+        inr (subst (λ (x : F). Rests F C flow at_most facts (flow.transfer p f) p' x) fact
+        (subst (λ (x : ℕ). Rests F C flow at_most facts (flow.transfer p f) x f) (sym one) (passes, λ q g h. inl h))))
         (Contains-append_cases work (p ∷ []) p' c))
         (λ (r : Rests F C flow at_most facts [] p' f'). inr (
           r.0,

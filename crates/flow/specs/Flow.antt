@@ -2,13 +2,13 @@
 use Rattle.std.specs.Prelude.{ℕ, ◌≡◌, List, Bool, true, false, Option, Some, None, slice_index_or}
 use Rattle.std.specs.List.{Contains}
 
--- Facts of type F at places, and causes of type C to refuse them. `edges p f` are the places that p leads to, each with the fact
+-- Facts of type F at places, and causes of type C to refuse them. `transfer p f` are the places that p leads to, each with the fact
 -- there, for a fact f at p; `meets c p f` says that a fact f at p meets the condition of the cause c; `join` is the meeting of two
 -- facts of one place, where they have one; `parted p c` says that c is a cause of two facts at p that have none.
 pub record Flow (F C : Type 0) : Type 0 where
   pub entry : ℕ
   pub start : F
-  pub edges : ℕ → F → List (ℕ × F)
+  pub transfer : ℕ → F → List (ℕ × F)
   pub meets : C → ℕ → F → Bool
   pub join : F → F → Option F
   pub parted : ℕ → C → Bool
@@ -17,7 +17,7 @@ pub record Flow (F C : Type 0) : Type 0 where
 -- and nothing else.
 pub data IsState (F C : Type 0) (flow : Flow F C) : ℕ → F → Type 0 where
   at_entry : IsState F C flow flow.entry flow.start
-  along : {p q : ℕ} {f g : F} → IsState F C flow p f → Contains (flow.edges p f) (q, g) → IsState F C flow q g
+  along : {p q : ℕ} {f g : F} → IsState F C flow p f → Contains (flow.transfer p f) (q, g) → IsState F C flow q g
   meeting : {p : ℕ} {f g h : F} → IsState F C flow p f → IsState F C flow p g → flow.join f g ≡ Some h → IsState F C flow p h
 
 -- A cause stands at a place where a state there meets it, or where two states there have no meeting.
@@ -42,7 +42,7 @@ Covered {F} at_most facts q g = (h : F) × (fact_at facts q ≡ Some h) × at_mo
 pub record AreValid (F C : Type 0) (flow : Flow F C) (at_most : F → F → Type 0) (facts : List (Option F)) : Type 0 where
   pub entry : Covered at_most facts flow.entry flow.start
   pub passes : (p : ℕ) (f : F) → fact_at facts p ≡ Some f → Passes flow p f
-  pub closed : (p : ℕ) (f : F) (q : ℕ) (g : F) → fact_at facts p ≡ Some f → Contains (flow.edges p f) (q, g) → Covered at_most facts q g
+  pub closed : (p : ℕ) (f : F) (q : ℕ) (g : F) → fact_at facts p ≡ Some f → Contains (flow.transfer p f) (q, g) → Covered at_most facts q g
 
 -- each fact of a table is a state of its place
 abbrev pub AreStates : (F C : Type 0) → Flow F C → List (Option F) → Type 0

@@ -14,8 +14,8 @@ pub record Laws (F C : Type 0) (flow : Flow F C) (at_most : F → F → Type 0) 
   pub least : (f g h k : F) → flow.join f g ≡ Some h → at_most f k → at_most g k → at_most h k
   pub joins : (f g k : F) → at_most f k → at_most g k → flow.join f g ≡ None → ⊥
   pub passes : (p : ℕ) (f g : F) → at_most f g → Passes flow p g → Passes flow p f
-  pub edges : (p : ℕ) (f g : F) → at_most f g → Passes flow p g → (q : ℕ) (f' : F) → Contains (flow.edges p f) (q, f')
-      → (g' : F) × Contains (flow.edges p g) (q, g') × at_most f' g'
+  pub transfer : (p : ℕ) (f g : F) → at_most f g → Passes flow p g → (q : ℕ) (f' : F) → Contains (flow.transfer p f) (q, f')
+      → (g' : F) × Contains (flow.transfer p g) (q, g') × at_most f' g'
 
 -- A meeting leaves the first fact or lowers its height, and the height of every state is below a top.
 pub record Falls (F C : Type 0) (flow : Flow F C) (height : F → ℕ) (top : ℕ) : Type 0 where
@@ -27,7 +27,7 @@ pub record Falls (F C : Type 0) (flow : Flow F C) (height : F → ℕ) (top : �
 pub record IsFinite (F C : Type 0) (flow : Flow F C) : Type 0 where
   pub count : ℕ
   pub begins : flow.entry < count
-  pub inside : (p : ℕ) (f : F) (q : ℕ) (g : F) → Contains (flow.edges p f) (q, g) → q < count
+  pub inside : (p : ℕ) (f : F) (q : ℕ) (g : F) → Contains (flow.transfer p f) (q, g) → q < count
   pub height : F → ℕ
   pub top : ℕ
   pub falls : Falls F C flow height top
@@ -59,6 +59,6 @@ Decides F C at_most = (flow : Flow F C) → Laws F C flow at_most → IsFinite F
 
 -- where places and heights are finite, and no cause stands: valid facts each of which is a state. So their table has a fact exactly at
 -- the places that have a state
-abbrev pub Settle : (F C : Type 0) → (F → F → Type 0) → Type 0
-Settle F C at_most = (flow : Flow F C) → Laws F C flow at_most → IsFinite F C flow → NoneStands F C flow
+abbrev pub SolvingGivesStates : (F C : Type 0) → (F → F → Type 0) → Type 0
+SolvingGivesStates F C at_most = (flow : Flow F C) → Laws F C flow at_most → IsFinite F C flow → NoneStands F C flow
     → (facts : List (Option F)) × AreValid F C flow at_most facts × AreStates F C flow facts

@@ -2,7 +2,7 @@
 //! is valid (docs/acceptance.md, "Facts that flow").
 #![tactic(auto)]
 
-ghost use Rattle.flow.specs.Laws.{Bounds, Decides, Settle};
+ghost use Rattle.flow.specs.Laws.{Bounds, Decides, SolvingGivesStates};
 
 /// Which of two facts is at most as vague as the other.
 pub trait Vagueness<F> {
@@ -23,6 +23,6 @@ pub fn valid_facts_decide<F, C, V: Vagueness<F>>()
 
 /// Of a flow whose places and heights are finite and where no cause stands, there are valid facts that are states. So each place that has
 /// a state has a fact, and no other place has one.
-pub fn valid_facts_settle<F, C, V: Vagueness<F>>()
-    ensures { Settle F C V.at_most }
+pub fn solving_gives_states<F, C, V: Vagueness<F>>()
+    ensures { SolvingGivesStates F C V.at_most }
 {}

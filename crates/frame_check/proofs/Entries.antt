@@ -7,16 +7,16 @@ use Rattle.unwind_codes.specs.declared.row.Entry.{Entry}
 use Rattle.eh_bytecode.specs.declared.recipe.Recipe.{Recipe}
 use Rattle.eh_desc.specs.declared.descriptor.DescFault.{DescFault}
 use Rattle.frame_facts.specs.declared.cause.FrameCause.TheVariants as cause
-use Rattle.frame_scene.specs.declared.unwinding.Unwinding.{Unwinding}
-use Rattle.frame_scene.specs.declared.unwinding.Unwinding.TheVariants.{Finds, Refused, BadBytecode, GenericModel}
-use Rattle.frame_scene.specs.Scene.{Scene}
-use Rattle.frame_scene.specs.Sites.{Item, is_fault, items_at, unwinding_at, site_at, entry_at, begins_above}
-use Rattle.frame_scene.specs.Reach.{IsReached}
+use Rattle.frame_graph.specs.declared.unwinding.Unwinding.{Unwinding}
+use Rattle.frame_graph.specs.declared.unwinding.Unwinding.TheVariants.{Finds, Refused, BadBytecode, GenericModel}
+use Rattle.frame_graph.specs.FlowGraph.{FlowGraph}
+use Rattle.frame_graph.specs.Sites.{Item, is_fault, items_at, unwinding_at, site_at, entry_at, begins_above}
+use Rattle.frame_graph.specs.Reach.{IsReached}
 use Rattle.frame_reach.specs.declared.marks.TheConstants.{MOST_REACHED}
 use Rattle.frame_check.specs.Accepts.{IsWell}
 use Rattle.frame_check.specs.Laws.{WellFunctions}
 
-codes : (s : Scene) → IsWell s → ((r : Recipe) × (unwinding_at s s.start ≡ Finds r)) ⊎ (unwinding_at s s.start ≡ Refused)
+codes : (s : FlowGraph) → IsWell s → ((r : Recipe) × (unwinding_at s s.start ≡ Finds r)) ⊎ (unwinding_at s s.start ≡ Refused)
 codes s w = go (unwinding_at s s.start) refl
   where
     go : (u : Unwinding) → unwinding_at s s.start ≡ u → ((r : Recipe) × (unwinding_at s s.start ≡ Finds r)) ⊎ (unwinding_at s s.start ≡ Refused)
@@ -34,14 +34,14 @@ some_fault (x ∷ items) fault (suc k, l, e) = ap (λ (b : Bool). is_fault x || 
     or_true true = refl
     or_true false = refl
 
-sites : (s : Scene) (p site : ℕ) (e : Entry) → IsWell s → IsReached s p → site_at s p ≡ Some site → entry_at s site ≡ Some e → e.start ≤ s.start
+sites : (s : FlowGraph) (p site : ℕ) (e : Entry) → IsWell s → IsReached s p → site_at s p ≡ Some site → entry_at s site ≡ Some e → e.start ≤ s.start
 sites s p site e w r f g = go (nat_lt s.start e.start) refl
   where
     go : (t : Bool) → nat_lt s.start e.start ≡ t → e.start ≤ s.start
     go true t = absurd (w.start cause.SplitEntry (p, site, r, f, ap (begins_above s.start) g ∙ t))
     go false t = ltb-false s.start e.start t
 
-few : (s : Scene) (ps : List ℕ) → IsWell s → IsDistinct nat_eq ps → ((p : ℕ) → Contains ps p → IsReached s p) → length ps ≤ MOST_REACHED
+few : (s : FlowGraph) (ps : List ℕ) → IsWell s → IsDistinct nat_eq ps → ((p : ℕ) → Contains ps p → IsReached s p) → length ps ≤ MOST_REACHED
 few s ps w d r = go (nat_lt MOST_REACHED (length ps)) refl
   where
     go : (t : Bool) → nat_lt MOST_REACHED (length ps) ≡ t → length ps ≤ MOST_REACHED

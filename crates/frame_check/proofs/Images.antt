@@ -1,4 +1,4 @@
--- The spots of an image, function by function.
+-- The roles of an image, function by function.
 use Rattle.std.proofs.Common.{◌≡◌, ◌≢◌, ℕ, ◌+◌, ◌%◌, ◌^◌, ◌==◌, ◌||◌, ◌<◌, ◌≤◌, ◌⊎◌, inl, inr, Bool, true, false, if◌then◌else◌, List, [], ◌∷◌, ◌++◌, refl, sym, ap, ◌∙◌, subst, arith, le-leb, lt-ltb}
 use Rattle.std.specs.Prelude.{All, Contains}
 use Rattle.std.proofs.lemmas.Bool.{eqb-true, and_parts, leb-true, ltb-true}
@@ -7,20 +7,20 @@ use Rattle.std.proofs.lemmas.List.Elements.{Contains-push, Contains-push_cases, 
 use Rattle.elf_image.specs.Functions.{Function, FunctionsFrom, is_inside}
 use Rattle.elf_image.specs.Image.{Image}
 use Rattle.image_memory.specs.Start.{begins_function}
-use Rattle.frame_scene.specs.Scene.{Scene}
-use Rattle.frame_scene.specs.Places.{address_of}
-use Rattle.frame_scene.specs.Reach.{IsReached}
+use Rattle.frame_graph.specs.FlowGraph.{FlowGraph}
+use Rattle.frame_graph.specs.Places.{address_of}
+use Rattle.frame_graph.specs.Reach.{IsReached}
 use Rattle.frame_reach.specs.Marks.{Marks, AreMarks}
 use Rattle.frame_reach.specs.Prologue.{prologue, lines, places}
 use Rattle.frame_reach.specs.Laws.{MarksAgree}
 use Rattle.frame_check.specs.declared.pushes.Pushed.{Pushed}
-use Rattle.frame_check.specs.declared.spots.Spot.{Spot}
-use Rattle.frame_check.specs.declared.spots.TheConstants.{NO_SPOT}
-use Rattle.frame_check.specs.Spots.{Table, no_table, look}
-use Rattle.frame_check.specs.Roots.{scene_of}
+use Rattle.frame_check.specs.declared.roles.Role.{Role}
+use Rattle.frame_check.specs.declared.roles.TheConstants.{NO_ROLE}
+use Rattle.frame_check.specs.Roles.{Table, no_table, look}
+use Rattle.frame_check.specs.Roots.{flow_graph_of}
 use Rattle.frame_check.specs.Pushes.{pushes_of}
 use Rattle.frame_check.specs.Marking.{saves_over, IsMarked}
-use Rattle.frame_check.specs.Accepts.{IsInstr, saves_at, AreSpots}
+use Rattle.frame_check.specs.Accepts.{IsInstr, saves_at, AreRoles}
 use Rattle.frame_check.proofs.Lines.{IsFrom, pushes_inside}
 
 -- ---- PUSHes elsewhere
@@ -52,43 +52,43 @@ functions_before low (g ∷ done) more f h =
     let later = functions_before g.end done more f h.2 in
     (All-cons (λ (x : Function). x.end ≤ f.start) g done later.1 later.0, omega (arith, h.0, h.1, later.1), later.2)
 
--- ---- spots
+-- ---- roles
 
-blank_look : (a : ℕ) → look no_table a ≡ NO_SPOT
+blank_look : (a : ℕ) → look no_table a ≡ NO_ROLE
 unfolding look
 blank_look a = go (a % 2 == 1)
   where
-    go : (t : Bool) → (if t then NO_SPOT else NO_SPOT) ≡ NO_SPOT
+    go : (t : Bool) → (if t then NO_ROLE else NO_ROLE) ≡ NO_ROLE
     go true = refl
     go false = refl
 
-pub no_spots : (image : Image) → AreSpots image [] no_table
-no_spots image = record {
-  instr = λ a. ((λ e. absurd (let f : false ≡ true = sym (ap (λ (x : Spot). x.is_instr) (blank_look a)) ∙ e in cc)), (λ i. absurd (omega (arith, (i.among).1))));
-  starts = λ a. ap (λ (x : Spot). x.is_function) (blank_look a);
+pub no_roles : (image : Image) → AreRoles image [] no_table
+no_roles image = record {
+  instr = λ a. ((λ e. absurd (let f : false ≡ true = sym (ap (λ (x : Role). x.is_instr) (blank_look a)) ∙ e in cc)), (λ i. absurd (omega (arith, (i.among).1))));
+  starts = λ a. ap (λ (x : Role). x.is_function) (blank_look a);
   saves = λ f m a c am i. absurd (omega (arith, c.1));
-  blank = λ a away. ap (λ (x : Spot). x.saves) (blank_look a);
+  blank = λ a away. ap (λ (x : Role). x.saves) (blank_look a);
 }
 
-pub spots_more : (image : Image) (done : List Function) (f : Function) (m : Marks) (old new : Table) → f.start % 2 ≡ 0 → f.end + 4 ≤ 2 ^ 32
-    → All (λ (g : Function). g.end ≤ f.start) done → MarksAgree → AreMarks (scene_of image f) m → AreSpots image done old → IsMarked (scene_of image f) m old new
-    → AreSpots image (done ++ f ∷ []) new
+pub roles_more : (image : Image) (done : List Function) (f : Function) (m : Marks) (old new : Table) → f.start % 2 ≡ 0 → f.end + 4 ≤ 2 ^ 32
+    → All (λ (g : Function). g.end ≤ f.start) done → MarksAgree → AreMarks (flow_graph_of image f) m → AreRoles image done old → IsMarked (flow_graph_of image f) m old new
+    → AreRoles image (done ++ f ∷ []) new
 unfolding saves_at
-spots_more image done f m old new even low before agree are x y = record { instr = λ a. (there a, back a); starts = starts; saves = saves; blank = blank }
+roles_more image done f m old new even low before agree are x y = record { instr = λ a. (there a, back a); starts = starts; saves = saves; blank = blank }
   where
-    s : Scene
-    s = scene_of image f
+    s : FlowGraph
+    s = flow_graph_of image f
 
     pushes : List Pushed
-    pushes = pushes_of (prologue (scene_of image f) m) f.start (lines (scene_of image f) m.target (places (scene_of image f)) 0)
+    pushes = pushes_of (prologue (flow_graph_of image f) m) f.start (lines (flow_graph_of image f) m.target (places (flow_graph_of image f)) 0)
 
-    inside : All (λ (p : Pushed). IsFrom (scene_of image f) 0 p.at) (pushes_of (prologue (scene_of image f) m) f.start (lines (scene_of image f) m.target (places (scene_of image f)) 0))
-    inside = pushes_inside (scene_of image f) m (prologue (scene_of image f) m) even low
+    inside : All (λ (p : Pushed). IsFrom (flow_graph_of image f) 0 p.at) (pushes_of (prologue (flow_graph_of image f) m) f.start (lines (flow_graph_of image f) m.target (places (flow_graph_of image f)) 0))
+    inside = pushes_inside (flow_graph_of image f) m (prologue (flow_graph_of image f) m) even low
 
     there : (a : ℕ) → (look new a).is_instr ≡ true → IsInstr image (done ++ f ∷ []) a
     there a e = go ((y.instr a).0 e)
       where
-        go : ((look old a).is_instr ≡ true) ⊎ ((p : ℕ) × IsReached (scene_of image f) p × (a ≡ address_of (scene_of image f) p)) → IsInstr image (done ++ f ∷ []) a
+        go : ((look old a).is_instr ≡ true) ⊎ ((p : ℕ) × IsReached (flow_graph_of image f) p × (a ≡ address_of (flow_graph_of image f) p)) → IsInstr image (done ++ f ∷ []) a
         go (inl h) =
             let i = (x.instr a).0 h in
             record { function = i.function; among = Contains-append_left done (f ∷ []) i.function i.among; place = i.place; reached = i.reached; address = i.address }
@@ -101,7 +101,7 @@ spots_more image done f m old new even low before agree are x y = record { instr
         go (inl c) = (y.instr a).1 (inl ((x.instr a).1 (record { function = i.function; among = c; place = i.place; reached = i.reached; address = i.address })))
         go (inr e) =
             (y.instr a).1
-            (inr (i.place, subst (λ (g : Function). IsReached (scene_of image g) i.place) (sym e) i.reached, i.address ∙ ap (λ (g : Function). address_of (scene_of image g) i.place) (sym e)))
+            (inr (i.place, subst (λ (g : Function). IsReached (flow_graph_of image g) i.place) (sym e) i.reached, i.address ∙ ap (λ (g : Function). address_of (flow_graph_of image g) i.place) (sym e)))
 
     starts : (a : ℕ) → (look new a).is_function ≡ begins_function (done ++ f ∷ []) a
     starts a =
@@ -123,20 +123,20 @@ spots_more image done f m old new even low before agree are x y = record { instr
         let q = within a f j in
         omega (arith, e, p.below, q.above)
 
-    saves : (g : Function) (n : Marks) (a : ℕ) → Contains (done ++ f ∷ []) g → AreMarks (scene_of image g) n → is_inside a g ≡ true → (look new a).saves ≡ saves_at (scene_of image g) n a
+    saves : (g : Function) (n : Marks) (a : ℕ) → Contains (done ++ f ∷ []) g → AreMarks (flow_graph_of image g) n → is_inside a g ≡ true → (look new a).saves ≡ saves_at (flow_graph_of image g) n a
     saves g n a c am i = go (Contains-push_cases done f g c)
       where
-        here : AreMarks (scene_of image f) n → is_inside a f ≡ true → (look new a).saves ≡ saves_at (scene_of image f) n a
+        here : AreMarks (flow_graph_of image f) n → is_inside a f ≡ true → (look new a).saves ≡ saves_at (flow_graph_of image f) n a
         here bm j =
-            let same = agree (scene_of image f) m n are bm in
+            let same = agree (flow_graph_of image f) m n are bm in
             y.saves a
-            ∙ ap (λ (z : ℕ). saves_over z (pushes_of (prologue (scene_of image f) m) f.start (lines (scene_of image f) m.target (places (scene_of image f)) 0)) a) (x.blank a (λ h d k. apart a h d k j))
-            ∙ ap (λ (z : Marks). saves_over 0 (pushes_of (prologue (scene_of image f) z) f.start (lines (scene_of image f) z.target (places (scene_of image f)) 0)) a) same
+            ∙ ap (λ (z : ℕ). saves_over z (pushes_of (prologue (flow_graph_of image f) m) f.start (lines (flow_graph_of image f) m.target (places (flow_graph_of image f)) 0)) a) (x.blank a (λ h d k. apart a h d k j))
+            ∙ ap (λ (z : Marks). saves_over 0 (pushes_of (prologue (flow_graph_of image f) z) f.start (lines (flow_graph_of image f) z.target (places (flow_graph_of image f)) 0)) a) same
 
-        go : Contains done g ⊎ (f ≡ g) → (look new a).saves ≡ saves_at (scene_of image g) n a
+        go : Contains done g ⊎ (f ≡ g) → (look new a).saves ≡ saves_at (flow_graph_of image g) n a
         go (inl d) = outside a (apart a g d i) ∙ x.saves g n a d am i
         go (inr e) =
-            subst (λ (h : Function). AreMarks (scene_of image h) n → is_inside a h ≡ true → (look new a).saves ≡ saves_at (scene_of image h) n a) e here am i
+            subst (λ (h : Function). AreMarks (flow_graph_of image h) n → is_inside a h ≡ true → (look new a).saves ≡ saves_at (flow_graph_of image h) n a) e here am i
 
     blank : (a : ℕ) → ((g : Function) → Contains (done ++ f ∷ []) g → is_inside a g ≡ true → ⊥) → (look new a).saves ≡ 0
     blank a away = outside a (away f (Contains-push done f)) ∙ x.blank a (λ g c. away g (Contains-append_left done (f ∷ []) g c))

@@ -5,10 +5,10 @@ use Rattle.std.proofs.lemmas.List.{take_more}
 use Rattle.std.proofs.lemmas.List.Elements.{All-weaker, All-same}
 use Rattle.frame_facts.specs.declared.cause.FrameCause.{FrameCause}
 use Rattle.flow.specs.Flow.{met, apart}
-use Rattle.frame_scene.specs.Scene.{Scene}
-use Rattle.frame_scene.specs.Places.{address_of}
-use Rattle.frame_scene.specs.Reach.{IsReached}
-use Rattle.frame_scene.proofs.Inside.{reached_places_are_inside}
+use Rattle.frame_graph.specs.FlowGraph.{FlowGraph}
+use Rattle.frame_graph.specs.Places.{address_of}
+use Rattle.frame_graph.specs.Reach.{IsReached}
+use Rattle.frame_graph.proofs.Inside.{reached_places_are_inside}
 use Rattle.frame_reach.specs.Marks.{Marks, AreMarks, AreThePlaces}
 use Rattle.frame_reach.specs.Prologue.{prologue, lines, places}
 use Rattle.frame_flow.specs.declared.work.FrameFault.{FrameFault}
@@ -20,7 +20,7 @@ use Rattle.frame_flow.specs.Flows.{StandsIn}
 use Rattle.frame_flow.specs.Work.{FaultStands}
 use Rattle.frame_flow.proofs.Reaching.{state_reached}
 use Rattle.frame_check.specs.declared.pushes.Pushed.{Pushed}
-use Rattle.frame_check.specs.Spots.{Table}
+use Rattle.frame_check.specs.Roles.{Table}
 use Rattle.frame_check.specs.Pushes.{pushes_of}
 use Rattle.frame_check.specs.Marking.{with_instr, with_start, Turned, AreInstrs, AreSaved, IsMarked}
 use Rattle.frame_check.specs.Accepts.{framed, by_facts}
@@ -28,46 +28,46 @@ use Rattle.frame_check.specs.Judged.{IsJudged}
 use Rattle.frame_check.proofs.Lines.{IsFrom, pushes_inside}
 use Rattle.frame_check.proofs.Marked.{instrs_more, marked_all}
 
-stands_reached : (x : Framed) (p : ℕ) (c : FrameCause) → StandsIn x p c → IsReached x.scene p
+stands_reached : (x : Framed) (p : ℕ) (c : FrameCause) → StandsIn x p c → IsReached x.flow_graph p
 stands_reached x _ _ (met {p} {f} {c} s e) = state_reached x p f s
 stands_reached x _ _ (apart {p} {f} {g} {c} s t j e) = state_reached x p f s
 
-judged : (s : Scene) (m : Marks) (fault : FrameFault) → s.start < s.end → AreMarks s m → FaultStands (framed s m) fault → IsJudged s fault
+judged : (s : FlowGraph) (m : Marks) (fault : FrameFault) → s.start < s.end → AreMarks s m → FaultStands (framed s m) fault → IsJudged s fault
 judged s m (Stands place cause) some are st = (by_facts m are st, reached_places_are_inside s place some (stands_reached (framed s m) place cause st))
 judged s m OutOfMemory some are st = tt
 
-pub all_judged : (s : Scene) (m : Marks) (x : Framed) (r : Result (Unit {0}) FrameFault) → s.start < s.end → AreMarks s m → x ≡ framed s m → IfErr r (FaultStands x) → IfErr r (IsJudged s)
+pub all_judged : (s : FlowGraph) (m : Marks) (x : Framed) (r : Result (Unit {0}) FrameFault) → s.start < s.end → AreMarks s m → x ≡ framed s m → IfErr r (FaultStands x) → IfErr r (IsJudged s)
 all_judged s m x (Ok u) some are e h = tt
 all_judged s m x (Err fault) some are e h = judged s m fault some are (subst (λ (y : Framed). FaultStands y fault) e h)
 
 -- the function as it is handed on, with its marks in lists
-pub framed_by : (s : Scene) (h : Held) (x : Parts) (p : Prologue) (pads : List Bool) → x ≡ record { scene = s; prologue = p; pads = pads } → p ≡ prologue s (marks_of h) → pads ≡ h.pad
+pub framed_by : (s : FlowGraph) (h : Held) (x : Parts) (p : Prologue) (pads : List Bool) → x ≡ record { flow_graph = s; prologue = p; pads = pads } → p ≡ prologue s (marks_of h) → pads ≡ h.pad
     → framed_of x ≡ framed s (marks_of h)
 framed_by s h x p pads e f g =
     ap framed_of e
-    ∙ ap (λ q. let y : Framed = record { scene = s; prologue = q; pad = is_set pads } in y) f
-    ∙ ap (λ l. let y : Framed = record { scene = s; prologue = prologue s (marks_of h); pad = is_set l } in y) g
+    ∙ ap (λ q. let y : Framed = record { flow_graph = s; prologue = q; pad = is_set pads } in y) f
+    ∙ ap (λ l. let y : Framed = record { flow_graph = s; prologue = prologue s (marks_of h); pad = is_set l } in y) g
 
 -- ---- marking
 
-pub instrs_next : (s : Scene) (ps : List ℕ) (i a : ℕ) (old mid new : Table) → i < length ps → AreInstrs s (take i ps) old mid → a ≡ address_of s (get_or ps i 0) → Turned with_instr a mid new
+pub instrs_next : (s : FlowGraph) (ps : List ℕ) (i a : ℕ) (old mid new : Table) → i < length ps → AreInstrs s (take i ps) old mid → a ≡ address_of s (get_or ps i 0) → Turned with_instr a mid new
     → AreInstrs s (take (i + 1) ps) old new
 instrs_next s ps i a old mid new l x e t =
     subst (λ (qs : List ℕ). AreInstrs s qs old new) (sym (take_more ps i 0 l))
     (instrs_more s (take i ps) (get_or ps i 0) old mid new x (subst (λ (b : ℕ). Turned with_instr b mid new) e t))
 
-pub low_places : (s : Scene) (m : Marks) (ps : List ℕ) → s.start < s.end → s.end + 4 ≤ 2 ^ 32 → AreMarks s m → AreThePlaces m ps → (p : ℕ) → Contains ps p → s.start + 2 * p < 2 ^ 32
+pub low_places : (s : FlowGraph) (m : Marks) (ps : List ℕ) → s.start < s.end → s.end + 4 ≤ 2 ^ 32 → AreMarks s m → AreThePlaces m ps → (p : ℕ) → Contains ps p → s.start + 2 * p < 2 ^ 32
 low_places s m ps some low are the p c =
     let r = reached_places_are_inside s p some ((are.reached p).0 ((the.all p).0 c)) in
     omega (arith, r)
 
-pub even_pushes : (s : Scene) (m : Marks) (pushes : List Pushed) → s.start % 2 ≡ 0 → s.end + 4 ≤ 2 ^ 32 → pushes ≡ pushes_of (prologue s m) s.start (lines s m.target (places s) 0)
+pub even_pushes : (s : FlowGraph) (m : Marks) (pushes : List Pushed) → s.start % 2 ≡ 0 → s.end + 4 ≤ 2 ^ 32 → pushes ≡ pushes_of (prologue s m) s.start (lines s m.target (places s) 0)
     → All (λ (x : Pushed). x.at % 2 ≡ 0) pushes
 even_pushes s m pushes even low e =
     All-same (λ (x : Pushed). x.at % 2 ≡ 0) pushes (pushes_of (prologue s m) s.start (lines s m.target (places s) 0)) e
     (All-weaker (λ (x : Pushed). IsFrom s 0 x.at) (λ (x : Pushed). x.at % 2 ≡ 0) (λ x h. h.even) (pushes_of (prologue s m) s.start (lines s m.target (places s) 0)) (pushes_inside s m (prologue s m) even low))
 
-pub all_marked : {E : Type 0} (s : Scene) (m : Marks) (ps : List ℕ) (pushes : List Pushed) (old first second new : Table) (r : Result (Unit {0}) E) → AreMarks s m → AreThePlaces m ps
+pub all_marked : {E : Type 0} (s : FlowGraph) (m : Marks) (ps : List ℕ) (pushes : List Pushed) (old first second new : Table) (r : Result (Unit {0}) E) → AreMarks s m → AreThePlaces m ps
     → AreInstrs s ps old first → Turned with_start s.start first second → pushes ≡ pushes_of (prologue s m) s.start (lines s m.target (places s) 0) → OnOk r (AreSaved pushes second new)
     → OnOk r (IsMarked s m old new)
 all_marked s m ps pushes old first second new (Ok u) are the x t e y = marked_all s m ps pushes old first second new are the x t e y

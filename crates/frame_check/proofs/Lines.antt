@@ -12,10 +12,10 @@ use Rattle.frame_facts.specs.declared.saves.Prologue.{Prologue}
 use Rattle.frame_facts.specs.declared.straight.Straight.{Straight}
 use Rattle.frame_facts.specs.After.{effect}
 use Rattle.frame_facts.specs.Prologues.{taken, ended, pushed_by, may_stand, begun}
-use Rattle.frame_scene.specs.declared.places.Standing.{Standing}
-use Rattle.frame_scene.specs.declared.places.Standing.TheVariants.{Instruction, Udf, Nothing}
-use Rattle.frame_scene.specs.Scene.{Scene}
-use Rattle.frame_scene.specs.Places.{is_code_of, address_of, standing_at}
+use Rattle.frame_graph.specs.declared.places.Standing.{Standing}
+use Rattle.frame_graph.specs.declared.places.Standing.TheVariants.{Instruction, Udf, Nothing}
+use Rattle.frame_graph.specs.FlowGraph.{FlowGraph}
+use Rattle.frame_graph.specs.Places.{is_code_of, address_of, standing_at}
 use Rattle.frame_reach.specs.Marks.{Marks}
 use Rattle.frame_reach.specs.Prologue.{places, is_led_to, line_by, line_at, lines}
 use Rattle.frame_reach.proofs.Stands.{stands, stands_size}
@@ -24,17 +24,17 @@ use Rattle.frame_check.specs.Pushes.{Pushing, pushing, pushings, marked, pushes_
 
 -- ---- what stands at a place that is a line
 
-pub record IsLine (s : Scene) (place bytes : ℕ) : Type 0 where
+pub record IsLine (s : FlowGraph) (place bytes : ℕ) : Type 0 where
   pub inside : address_of s place < s.end
   pub size : (bytes ≡ 2) ⊎ (bytes ≡ 4)
 
-code_below : (s : Scene) (a : ℕ) → is_code_of s a ≡ true → a < s.end
+code_below : (s : FlowGraph) (a : ℕ) → is_code_of s a ≡ true → a < s.end
 code_below s a e = let two = and_parts _ _ e in let low = and_parts _ _ two.0 in ltb-true a s.end low.1
 
-standing_line : (s : Scene) (place : ℕ) (i : Instr) (size : ℕ) → standing_at s place ≡ Instruction i size → IsLine s place size
+standing_line : (s : FlowGraph) (place : ℕ) (i : Instr) (size : ℕ) → standing_at s place ≡ Instruction i size → IsLine s place size
 standing_line s place i size e = record { inside = code_below s (address_of s place) (stands s place i size e).0; size = stands_size s place i size e }
 
-pub line_is : (s : Scene) (target : ℕ → Bool) (place : ℕ) (line : Instr × ℕ) → line_at s target place ≡ Some line → IsLine s place line.1
+pub line_is : (s : FlowGraph) (target : ℕ → Bool) (place : ℕ) (line : Instr × ℕ) → line_at s target place ≡ Some line → IsLine s place line.1
 line_is s target place line e = go (standing_at s place) refl e
   where
     go : (x : Standing) → standing_at s place ≡ x → line_by target place x ≡ Some line → IsLine s place line.1
@@ -65,16 +65,16 @@ taken_end s t i size e = go (pushed_by s i) (nat_le s.fact.depth DEEPEST && may_
     go (Some p) true e = by p (effect (record p { end = (s.prologue.end + size) % 2 ^ 32 }) false s.prologue.end i s.fact) e
 
 -- an even address of the function, at a place or above it
-pub record IsFrom (s : Scene) (place a : ℕ) : Type 0 where
+pub record IsFrom (s : FlowGraph) (place a : ℕ) : Type 0 where
   pub even : a % 2 ≡ 0
   pub above : address_of s place ≤ a
   pub below : a < s.end
 
-pushing_at : (s : Scene) (place : ℕ) (run : Straight) (i : Instr) → IsFrom s place run.prologue.end → All (λ (x : Pushing). IsFrom s place x.at) (pushing run i)
+pushing_at : (s : FlowGraph) (place : ℕ) (run : Straight) (i : Instr) → IsFrom s place run.prologue.end → All (λ (x : Pushing). IsFrom s place x.at) (pushing run i)
 pushing_at s place run (Push list) x = All-cons (λ (y : Pushing). IsFrom s place y.at) _ [] x (All-nil (λ (y : Pushing). IsFrom s place y.at))
 pushing_at s place run i x = All-nil (λ (y : Pushing). IsFrom s place y.at)
 
-pub next_address : (s : Scene) (place size : ℕ) (run t : Straight) (i : Instr) → s.end + 4 ≤ 2 ^ 32 → run.prologue.end ≡ address_of s place → IsLine s place size → taken run i size ≡ Some t
+pub next_address : (s : FlowGraph) (place size : ℕ) (run t : Straight) (i : Instr) → s.end + 4 ≤ 2 ^ 32 → run.prologue.end ≡ address_of s place → IsLine s place size → taken run i size ≡ Some t
     → t.prologue.end ≡ address_of s (place + size / 2)
 next_address s place size run t i low e l f = taken_end run t i size f ∙ next l.size
   where
@@ -82,7 +82,7 @@ next_address s place size run t i low e l f = taken_end run t i size f ∙ next 
     next (inl n) = omega (arith, n, e, l.inside, low)
     next (inr n) = omega (arith, n, e, l.inside, low)
 
-pub pushings_from : (s : Scene) (target : ℕ → Bool) (fuel place : ℕ) (run : Straight) → s.start % 2 ≡ 0 → s.end + 4 ≤ 2 ^ 32 → run.prologue.end ≡ address_of s place
+pub pushings_from : (s : FlowGraph) (target : ℕ → Bool) (fuel place : ℕ) (run : Straight) → s.start % 2 ≡ 0 → s.end + 4 ≤ 2 ^ 32 → run.prologue.end ≡ address_of s place
     → All (λ (x : Pushing). IsFrom s place x.at) (pushings run (lines s target fuel place))
 unfolding pushings
 pushings_from s target zero place run even low e = All-nil (λ (x : Pushing). IsFrom s place x.at)
@@ -105,7 +105,7 @@ pushings_from s target (suc fuel) place run even low e = go (line_at s target pl
     go None f rec = All-nil (λ (x : Pushing). IsFrom s place x.at)
     go (Some line) f rec = rest line (line_is s target place line f) (taken run line.0 line.1) refl rec
 
-pub pushes_inside : (s : Scene) (m : Marks) (p : Prologue) → s.start % 2 ≡ 0 → s.end + 4 ≤ 2 ^ 32
+pub pushes_inside : (s : FlowGraph) (m : Marks) (p : Prologue) → s.start % 2 ≡ 0 → s.end + 4 ≤ 2 ^ 32
     → All (λ (x : Pushed). IsFrom s 0 x.at) (pushes_of p s.start (lines s m.target (places s) 0))
 unfolding pushes_of
 pushes_inside s m p even low =

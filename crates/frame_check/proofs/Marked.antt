@@ -1,21 +1,21 @@
--- Spots, as they are marked one after the other.
+-- Roles, as they are marked one after the other.
 use Rattle.std.proofs.Common.{◌≡◌, ℕ, ◌==◌, ◌||◌, ◌⊎◌, inl, inr, Bool, true, false, cond, if◌then◌else◌, List, [], ◌∷◌, ◌++◌, refl, sym, ap, ◌∙◌, arith}
 use Rattle.std.specs.Prelude.{Contains}
 use Rattle.std.proofs.lemmas.Bool.{eqb-true, eqb-false}
 use Rattle.std.proofs.lemmas.List.Elements.{Contains-push, Contains-push_cases, Contains-append_left}
-use Rattle.frame_scene.specs.Scene.{Scene}
-use Rattle.frame_scene.specs.Places.{address_of}
-use Rattle.frame_scene.specs.Reach.{IsReached}
+use Rattle.frame_graph.specs.FlowGraph.{FlowGraph}
+use Rattle.frame_graph.specs.Places.{address_of}
+use Rattle.frame_graph.specs.Reach.{IsReached}
 use Rattle.frame_reach.specs.Marks.{Marks, AreMarks, AreThePlaces}
 use Rattle.frame_reach.specs.Prologue.{prologue, lines, places}
-use Rattle.frame_check.specs.declared.spots.Spot.{Spot}
+use Rattle.frame_check.specs.declared.roles.Role.{Role}
 use Rattle.frame_check.specs.declared.pushes.Pushed.{Pushed}
-use Rattle.frame_check.specs.Spots.{Table, look}
+use Rattle.frame_check.specs.Roles.{Table, look}
 use Rattle.frame_check.specs.Pushes.{pushes_of}
 use Rattle.frame_check.specs.Marking.{with_instr, with_start, with_saves, Turned, AreInstrs, AreSaved, saves_over, IsMarked}
 
--- what a look-up finds behind a change of one spot
-pub turned : (X : Type 0) (part : Spot → X) (change : Spot → Spot) (a b : ℕ) (old new : Table) → Turned change a old new
+-- what a look-up finds after a change of one role
+pub turned : (X : Type 0) (part : Role → X) (change : Role → Role) (a b : ℕ) (old new : Table) → Turned change a old new
     → part (look new b) ≡ (if b == a then part (change (look old b)) else part (look old b))
 turned X part change a b old new t = go (b == a) refl
   where
@@ -26,7 +26,7 @@ turned X part change a b old new t = go (b == a) refl
     go false q = ap part (t.there b (eqb-false b a q))
 
 -- a part that the change leaves is as it was
-pub left : (X : Type 0) (part : Spot → X) (change : Spot → Spot) (a b : ℕ) (old new : Table) → ((x : Spot) → part (change x) ≡ part x) → Turned change a old new
+pub left : (X : Type 0) (part : Role → X) (change : Role → Role) (a b : ℕ) (old new : Table) → ((x : Role) → part (change x) ≡ part x) → Turned change a old new
     → part (look new b) ≡ part (look old b)
 left X part change a b old new k t = turned X part change a b old new t ∙ go (b == a)
   where
@@ -36,7 +36,7 @@ left X part change a b old new k t = turned X part change a b old new t ∙ go (
 
 -- ---- instructions
 
-pub instrs_none : (s : Scene) (x : Table) → AreInstrs s [] x x
+pub instrs_none : (s : FlowGraph) (x : Table) → AreInstrs s [] x x
 instrs_none s x = record {
   instr = λ a. (inl, λ o. back a o);
   starts = λ a. refl;
@@ -47,7 +47,7 @@ instrs_none s x = record {
     back a (inl e) = e
     back a (inr (p, c, e)) = absurd (omega (arith, c.1))
 
-pub instrs_more : (s : Scene) (ps : List ℕ) (p : ℕ) (old mid new : Table) → AreInstrs s ps old mid → Turned with_instr (address_of s p) mid new → AreInstrs s (ps ++ p ∷ []) old new
+pub instrs_more : (s : FlowGraph) (ps : List ℕ) (p : ℕ) (old mid new : Table) → AreInstrs s ps old mid → Turned with_instr (address_of s p) mid new → AreInstrs s (ps ++ p ∷ []) old new
 instrs_more s ps p old mid new x t = record {
   instr = λ a. (there a, back a);
   starts = λ a. left Bool (λ y. y.is_function) with_instr (address_of s p) a mid new (λ y. refl) t ∙ x.starts a;
@@ -120,7 +120,7 @@ saved_more xs x old mid new y t = record {
 
 -- ---- a function
 
-pub marked_all : (s : Scene) (m : Marks) (ps : List ℕ) (pushes : List Pushed) (old first second new : Table) → AreMarks s m → AreThePlaces m ps
+pub marked_all : (s : FlowGraph) (m : Marks) (ps : List ℕ) (pushes : List Pushed) (old first second new : Table) → AreMarks s m → AreThePlaces m ps
     → AreInstrs s ps old first → Turned with_start s.start first second → pushes ≡ pushes_of (prologue s m) s.start (lines s m.target (places s) 0) → AreSaved pushes second new
     → IsMarked s m old new
 marked_all s m ps pushes old first second new am the x t e y = record { instr = λ a. (there a, back a); starts = starts; saves = saves }

@@ -18,8 +18,8 @@ use Rattle.eh_desc.specs.Grammar.{type_in}
 use Rattle.unwind_codes.specs.declared.row.Entry.{Entry}
 use Rattle.unwind_codes.specs.declared.row.EntryBody.{EntryBody}
 use Rattle.unwind_codes.specs.declared.row.EntryBody.TheVariants.{CantUnwind, Inline, Table}
-use Rattle.frame_scene.specs.Sites.{Item, items_by, items_at}
-use Rattle.frame_check.specs.Roots.{scene_of, type_at, listed, catch_types, kind_types, item_types, entry_of, entry_types, same_body, same_entry, types_from, roots_of}
+use Rattle.frame_graph.specs.Sites.{Item, items_by, items_at}
+use Rattle.frame_check.specs.Roots.{flow_graph_of, type_at, listed, catch_types, kind_types, item_types, entry_of, entry_types, same_body, same_entry, types_from, roots_of}
 use Rattle.frame_check.specs.Laws.{Names, RootsAreNamed}
 
 -- ---- joined lists
@@ -156,11 +156,11 @@ to_types image before (g ∷ more) f t c d = by c (λ k. to_types image (entry_o
     by (zero, l, e) rec = head (subst (λ x. Contains (entry_types image (entry_of image x)) t) (sym e) d) (same_entry before (entry_of image g)) refl
     by (suc k, l, e) rec = later (rec (k, omega (arith, l), e))
 
-entry_items : (image : Image) (f : Function) → entry_types image (entry_of image f) ≡ flat_map (item_types image.segments) (items_at (scene_of image f) f.start)
+entry_items : (image : Image) (f : Function) → entry_types image (entry_of image f) ≡ flat_map (item_types image.segments) (items_at (flow_graph_of image f) f.start)
 unfolding items_at
 entry_items image f = go (entry_of image f)
   where
-    go : (o : Option Entry) → entry_types image o ≡ flat_map (item_types image.segments) (items_by (scene_of image f) o)
+    go : (o : Option Entry) → entry_types image o ≡ flat_map (item_types image.segments) (items_by (flow_graph_of image f) o)
     go None = refl
     go (Some e) = refl
 
@@ -190,28 +190,28 @@ pub roots_named : RootsAreNamed
 unfolding roots_of
 roots_named image t = (there, back)
   where
-    item : (f : Function) → Contains image.functions f → (x : Item) → Contains (items_at (scene_of image f) f.start) x → Contains (item_types image.segments x) t
-        → (g : Function) × (d : Desc) × Contains image.functions g × Contains (items_at (scene_of image g) g.start) (Ok d) × Names image d t × (t ≢ 0)
+    item : (f : Function) → Contains image.functions f → (x : Item) → Contains (items_at (flow_graph_of image f) f.start) x → Contains (item_types image.segments x) t
+        → (g : Function) × (d : Desc) × Contains image.functions g × Contains (items_at (flow_graph_of image g) g.start) (Ok d) × Names image d t × (t ≢ 0)
     item f c (Ok d) i k = let r = named image.segments d.kind t k in (f, d, c, i, r.0, r.1)
     item f c (Err fault) i k = absurd (omega (arith, k.1))
 
     there : Contains (types_from image None image.functions ++ type_symbols_of image.symbols) t
-        → ((f : Function) × (d : Desc) × Contains image.functions f × Contains (items_at (scene_of image f) f.start) (Ok d) × Names image d t × (t ≢ 0)) ⊎ Contains (type_symbols_of image.symbols) t
+        → ((f : Function) × (d : Desc) × Contains image.functions f × Contains (items_at (flow_graph_of image f) f.start) (Ok d) × Names image d t × (t ≢ 0)) ⊎ Contains (type_symbols_of image.symbols) t
     there c = go (Contains-append_cases (types_from image None image.functions) (type_symbols_of image.symbols) t c)
       where
         go : Contains (types_from image None image.functions) t ⊎ Contains (type_symbols_of image.symbols) t
-            → ((f : Function) × (d : Desc) × Contains image.functions f × Contains (items_at (scene_of image f) f.start) (Ok d) × Names image d t × (t ≢ 0)) ⊎ Contains (type_symbols_of image.symbols) t
+            → ((f : Function) × (d : Desc) × Contains image.functions f × Contains (items_at (flow_graph_of image f) f.start) (Ok d) × Names image d t × (t ≢ 0)) ⊎ Contains (type_symbols_of image.symbols) t
         go (inl k) =
             let r = from_types image None image.functions t k in
-            let q = from_joined (item_types image.segments) (items_at (scene_of image r.0) (r.0).start) t (subst (λ l. Contains l t) (entry_items image r.0) r.2) in
+            let q = from_joined (item_types image.segments) (items_at (flow_graph_of image r.0) (r.0).start) t (subst (λ l. Contains l t) (entry_items image r.0) r.2) in
             inl (item r.0 r.1 q.0 q.1 q.2)
         go (inr k) = inr k
 
-    back : (((f : Function) × (d : Desc) × Contains image.functions f × Contains (items_at (scene_of image f) f.start) (Ok d) × Names image d t × (t ≢ 0)) ⊎ Contains (type_symbols_of image.symbols) t)
+    back : (((f : Function) × (d : Desc) × Contains image.functions f × Contains (items_at (flow_graph_of image f) f.start) (Ok d) × Names image d t × (t ≢ 0)) ⊎ Contains (type_symbols_of image.symbols) t)
         → Contains (types_from image None image.functions ++ type_symbols_of image.symbols) t
     back (inl (f, d, c, i, n, ne)) =
         told (to_types image None image.functions f t c
-        (subst (λ l. Contains l t) (sym (entry_items image f)) (to_joined (item_types image.segments) (items_at (scene_of image f) f.start) (Ok d) t i (naming image.segments d.kind t ne n))))
+        (subst (λ l. Contains l t) (sym (entry_items image f)) (to_joined (item_types image.segments) (items_at (flow_graph_of image f) f.start) (Ok d) t i (naming image.segments d.kind t ne n))))
       where
         told : Contains (types_from image None image.functions) t ⊎ Contains (entry_types image None) t → Contains (types_from image None image.functions ++ type_symbols_of image.symbols) t
         told (inl h) = Contains-append_left (types_from image None image.functions) (type_symbols_of image.symbols) t h

@@ -22,10 +22,10 @@ use Rattle.frame_facts.specs.declared.facts.TheConstants.{DEEPEST}
 use Rattle.frame_facts.specs.After.{effect}
 use Rattle.frame_facts.specs.Facts.{source}
 use Rattle.frame_facts.specs.Prologues.{is_callers, may_stand, saved, with_save, with_pushed, pushed_by, taken, ended, run_on, begun}
-use Rattle.frame_scene.specs.declared.places.Standing.{Standing}
-use Rattle.frame_scene.specs.declared.places.Standing.TheVariants.{Instruction, Udf, Nothing}
-use Rattle.frame_scene.specs.Scene.{Scene}
-use Rattle.frame_scene.specs.Places.{address_of, standing_at}
+use Rattle.frame_graph.specs.declared.places.Standing.{Standing}
+use Rattle.frame_graph.specs.declared.places.Standing.TheVariants.{Instruction, Udf, Nothing}
+use Rattle.frame_graph.specs.FlowGraph.{FlowGraph}
+use Rattle.frame_graph.specs.Places.{address_of, standing_at}
 use Rattle.frame_reach.specs.Marks.{Marks}
 use Rattle.frame_reach.specs.Prologue.{prologue, places, is_led_to, line_by, line_at, lines}
 use Rattle.frame_reach.specs.Laws.{IsRun, begins, takes}
@@ -97,24 +97,24 @@ found_over before [] x ys h = go (x.at == x.at) refl
 found_over before (z ∷ xs) x ys h = found_over (if z.at == x.at then z.saves else before) xs x ys h
 
 -- the PUSHes before a run's place, and those from there on
-record IsCut (s : Scene) (m : Marks) (p : ℕ) (run : Straight) : Type 0 where
+record IsCut (s : FlowGraph) (m : Marks) (p : ℕ) (run : Straight) : Type 0 where
   pub before : List Pushing
   pub fuel : ℕ
   pub parts : pushings (begun s.start) (lines s m.target (places s) 0) ≡ before ++ pushings run (lines s m.target fuel p)
   pub enough : places s ≤ fuel + p
   pub here : run.prologue.end ≡ address_of s p
 
-line_there : (s : Scene) (m : Marks) (p : ℕ) (i : Instr) (size : ℕ) → standing_at s p ≡ Instruction i size → is_led_to m.target p size ≡ false → line_at s m.target p ≡ Some (i, size)
+line_there : (s : FlowGraph) (m : Marks) (p : ℕ) (i : Instr) (size : ℕ) → standing_at s p ≡ Instruction i size → is_led_to m.target p size ≡ false → line_at s m.target p ≡ Some (i, size)
 line_there s m p i size e f = ap (line_by m.target p) e ∙ ap (λ (b : Bool). if b then None else Some (i, size)) f
 
-one_more : (s : Scene) (m : Marks) (p fuel : ℕ) (run next : Straight) (i : Instr) (size : ℕ) → standing_at s p ≡ Instruction i size → is_led_to m.target p size ≡ false → taken run i size ≡ Some next
+one_more : (s : FlowGraph) (m : Marks) (p fuel : ℕ) (run next : Straight) (i : Instr) (size : ℕ) → standing_at s p ≡ Instruction i size → is_led_to m.target p size ≡ false → taken run i size ≡ Some next
     → pushings run (lines s m.target (suc fuel) p) ≡ pushing run i ++ pushings next (lines s m.target fuel (p + size / 2))
 unfolding pushings
 one_more s m p fuel run next i size e f t =
     ap (λ (o : Option (Instr × ℕ)). pushings run (option_map_or (λ line. line ∷ lines s m.target fuel (p + line.1 / 2)) o [])) (line_there s m p i size e f)
     ∙ ap (λ (o : Option Straight). option_map_or (λ t. pushing run i ++ pushings t (lines s m.target fuel (p + size / 2))) o []) t
 
-is_cut : (s : Scene) (m : Marks) (p : ℕ) (run : Straight) → s.start % 2 ≡ 0 → s.end + 4 ≤ 2 ^ 32 → IsRun s m p run → IsCut s m p run
+is_cut : (s : FlowGraph) (m : Marks) (p : ℕ) (run : Straight) → s.start % 2 ≡ 0 → s.end + 4 ≤ 2 ^ 32 → IsRun s m p run → IsCut s m p run
 is_cut s m _ _ even low begins = record { before = []; fuel = places s; parts = refl; enough = omega arith; here = omega arith }
 is_cut s m _ _ even low (takes {p} {run} {next} {i} {size} r e f t) = go (is_cut s m p run even low r)
   where
@@ -139,7 +139,7 @@ is_cut s m _ _ even low (takes {p} {run} {next} {i} {size} r e f t) = go (is_cut
     go d = by d d.fuel refl
 
 -- what is told at a PUSH
-told : (s : Scene) (m : Marks) (p : ℕ) (run : Straight) (list : ℕ) → s.start % 2 ≡ 0 → s.end + 4 ≤ 2 ^ 32 → IsPush s m p run list
+told : (s : FlowGraph) (m : Marks) (p : ℕ) (run : Straight) (list : ℕ) → s.start % 2 ≡ 0 → s.end + 4 ≤ 2 ^ 32 → IsPush s m p run list
     → saves_at s m (address_of s p) ≡ word_bits (prologue s m) (run.fact.depth + 4 * length (listed list)) (length (listed list))
 unfolding saves_at pushes_of
 told s m p run list even low x = go (is_cut s m p run even low x.comes) (is_cut s m p run even low x.comes).fuel refl
@@ -166,7 +166,7 @@ told s m p run list even low x = go (is_cut s m p run even low x.comes) (is_cut 
 
 -- ---- elsewhere
 
-record StandsBy (s : Scene) (m : Marks) (a : ℕ) : Type 0 where
+record StandsBy (s : FlowGraph) (m : Marks) (a : ℕ) : Type 0 where
   pub place : ℕ
   pub run : Straight
   pub list : ℕ
@@ -176,7 +176,7 @@ record StandsBy (s : Scene) (m : Marks) (a : ℕ) : Type 0 where
 abbrev nothing : (X : Type 0) → Option X
 nothing X = None
 
-line_back : (s : Scene) (target : ℕ → Bool) (p : ℕ) (i : Instr) (size : ℕ) → line_at s target p ≡ Some (i, size) → (standing_at s p ≡ Instruction i size) × (is_led_to target p size ≡ false)
+line_back : (s : FlowGraph) (target : ℕ → Bool) (p : ℕ) (i : Instr) (size : ℕ) → line_at s target p ≡ Some (i, size) → (standing_at s p ≡ Instruction i size) × (is_led_to target p size ≡ false)
 line_back s target p i size e = go (standing_at s p) refl e
   where
     go : (x : Standing) → standing_at s p ≡ x → line_by target p x ≡ Some (i, size) → (standing_at s p ≡ Instruction i size) × (is_led_to target p size ≡ false)
@@ -191,7 +191,7 @@ line_back s target p i size e = go (standing_at s p) refl e
             let two : n ≡ size = ap (λ (x : Instr × ℕ). x.1) (unsome (j, n) (i, size) e) in
             (f ∙ ap (λ k. Instruction k n) one ∙ ap (Instruction i) two, ap (is_led_to target p) (sym two) ∙ q)
 
-stands_by : (s : Scene) (m : Marks) (fuel p : ℕ) (run : Straight) → s.end + 4 ≤ 2 ^ 32 → IsRun s m p run → run.prologue.end ≡ address_of s p
+stands_by : (s : FlowGraph) (m : Marks) (fuel p : ℕ) (run : Straight) → s.end + 4 ≤ 2 ^ 32 → IsRun s m p run → run.prologue.end ≡ address_of s p
     → All (λ (x : Pushing). StandsBy s m x.at) (pushings run (lines s m.target fuel p))
 unfolding pushings
 stands_by s m zero p run low r e = All-nil (λ (x : Pushing). StandsBy s m x.at)
@@ -220,7 +220,7 @@ stands_by s m (suc fuel) p run low r e = go (line_at s m.target p) refl (λ q t 
     go None f rec = All-nil (λ (x : Pushing). StandsBy s m x.at)
     go (Some (i, size)) f rec = rest i size f (taken run i size) refl rec
 
-elsewhere : (s : Scene) (m : Marks) (a : ℕ) → s.end + 4 ≤ 2 ^ 32 → ((p : ℕ) (run : Straight) (list : ℕ) → IsPush s m p run list → a ≡ address_of s p → ⊥) → saves_at s m a ≡ 0
+elsewhere : (s : FlowGraph) (m : Marks) (a : ℕ) → s.end + 4 ≤ 2 ^ 32 → ((p : ℕ) (run : Straight) (list : ℕ) → IsPush s m p run list → a ≡ address_of s p → ⊥) → saves_at s m a ≡ 0
 unfolding saves_at pushes_of
 elsewhere s m a low away =
     over_other 0 (map (marked (prologue s m)) (pushings (begun s.start) (lines s m.target (places s) 0))) a
@@ -289,7 +289,7 @@ pushed_saves p q f (reg ∷ more) x e h = go (with_pushed p f more) refl e
     go (Some mid) m e rec = saves mid (λ c. later (rec mid m c)) (saved (f.depth + 4 * length (reg ∷ more)) (source f reg)) refl e
 
 -- what an instruction of the run saves
-record IsOne (s : Scene) (m : Marks) (x : Save) : Type 0 where
+record IsOne (s : FlowGraph) (m : Marks) (x : Save) : Type 0 where
   pub place : ℕ
   pub run : Straight
   pub list : ℕ
@@ -310,7 +310,7 @@ taken_saves run t i size e = go (nat_le run.fact.depth DEEPEST && may_stand i) (
     go true None p e = absurd (cc)
     go true (Some q) p e = (q, p, by q (effect (record q { end = (run.prologue.end + size) % 2 ^ 32 }) false run.prologue.end i run.fact) e)
 
-one_saves : (s : Scene) (m : Marks) (p size : ℕ) (i : Instr) (run t : Straight) (x : Save) → IsRun s m p run → standing_at s p ≡ Instruction i size → is_led_to m.target p size ≡ false → taken run i size ≡ Some t
+one_saves : (s : FlowGraph) (m : Marks) (p size : ℕ) (i : Instr) (run t : Straight) (x : Save) → IsRun s m p run → standing_at s p ≡ Instruction i size → is_led_to m.target p size ≡ false → taken run i size ≡ Some t
     → Contains (saves_of t.prologue) x → Contains (saves_of run.prologue) x ⊎ IsOne s m x
 one_saves s m p size (Push list) run t x r e f g h = go (taken_saves run t (Push list) size g)
   where
@@ -325,7 +325,7 @@ one_saves s m p size i run t x r e f g h = go (taken_saves run t i size g)
     go : (q : Prologue) × (pushed_by run i ≡ Some q) × (saves_of t.prologue ≡ saves_of q) → Contains (saves_of run.prologue) x ⊎ IsOne s m x
     go (q, b, c) = inl (subst (λ (l : List Save). Contains l x) (c ∙ ap saves_of (sym (unsome run.prologue q b))) h)
 
-each_from : (s : Scene) (m : Marks) (fuel p : ℕ) (run : Straight) (x : Save) → IsRun s m p run → Contains (saves_of (run_on run (lines s m.target fuel p)).prologue) x
+each_from : (s : FlowGraph) (m : Marks) (fuel p : ℕ) (run : Straight) (x : Save) → IsRun s m p run → Contains (saves_of (run_on run (lines s m.target fuel p)).prologue) x
     → Contains (saves_of run.prologue) x ⊎ IsOne s m x
 each_from s m zero p run x r h = inl h
 each_from s m (suc fuel) p run x r h = go (line_at s m.target p) refl h (λ q t k c. each_from s m fuel q t x k c)
@@ -360,7 +360,7 @@ saves_are_words = record { bits = bits; past = past; elsewhere = λ s m a even l
     lone true = ((λ e. refl), (λ e. refl))
     lone false = ((λ e. absurd (omega arith)), (λ e. absurd (cc)))
 
-    bits : (s : Scene) (m : Marks) (p : ℕ) (run : Straight) (list k offset : ℕ) → s.start % 2 ≡ 0 → s.end + 4 ≤ 2 ^ 32 → IsPush s m p run list → IsWord run list k offset
+    bits : (s : FlowGraph) (m : Marks) (p : ℕ) (run : Straight) (list k offset : ℕ) → s.start % 2 ≡ 0 → s.end + 4 ≤ 2 ^ 32 → IsPush s m p run list → IsWord run list k offset
         → (bit_at (saves_at s m (address_of s p)) k ≡ 1) ↔ (is_saved (prologue s m) offset ≡ true)
     bits s m p run list k offset even low x w =
         let at : run.fact.depth + 4 * length (listed list) - 4 * k ≡ offset = omega (arith, w.1) in
@@ -369,13 +369,13 @@ saves_are_words = record { bits = bits; past = past; elsewhere = λ s m a even l
         let both = lone (is_saved (prologue s m) offset) in
         ((λ e. both.0 (sym bit ∙ e)), (λ e. bit ∙ both.1 e))
 
-    past : (s : Scene) (m : Marks) (p : ℕ) (run : Straight) (list k : ℕ) → s.start % 2 ≡ 0 → s.end + 4 ≤ 2 ^ 32 → IsPush s m p run list → length (listed list) ≤ k
+    past : (s : FlowGraph) (m : Marks) (p : ℕ) (run : Straight) (list k : ℕ) → s.start % 2 ≡ 0 → s.end + 4 ≤ 2 ^ 32 → IsPush s m p run list → length (listed list) ≤ k
         → bit_at (saves_at s m (address_of s p)) k ≡ 0
     past s m p run list k even low x l =
         ap (λ (n : ℕ). bit_at n k) (told s m p run list even low x)
         ∙ bit_at_above (word_bits (prologue s m) (run.fact.depth + 4 * length (listed list)) (length (listed list))) (length (listed list)) k (bits_below (prologue s m) (run.fact.depth + 4 * length (listed list)) (length (listed list))) l
 
-    each : (s : Scene) (m : Marks) (x : Save) → Contains (saves_of (prologue s m)) x → (p : ℕ) × (run : Straight) × (list : ℕ) × (k : ℕ) × IsPush s m p run list × IsWord run list k x.offset
+    each : (s : FlowGraph) (m : Marks) (x : Save) → Contains (saves_of (prologue s m)) x → (p : ℕ) × (run : Straight) × (list : ℕ) × (k : ℕ) × IsPush s m p run list × IsWord run list k x.offset
     each s m x h = go (each_from s m (places s) 0 (begun s.start) x begins h)
       where
         go : Contains (saves_of (begun s.start).prologue) x ⊎ IsOne s m x → (p : ℕ) × (run : Straight) × (list : ℕ) × (k : ℕ) × IsPush s m p run list × IsWord run list k x.offset

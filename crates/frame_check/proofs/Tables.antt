@@ -1,34 +1,34 @@
--- Spots by pages: a blank page changes no spot, and a spot that is put is the spot of its address alone.
+-- Roles by pages: a blank page changes no role, and a role that is put is the role of its address alone.
 use Rattle.std.proofs.Common.{◌≡◌, ◌≢◌, ℕ, ◌+◌, ◌-◌, ◌*◌, ◌/◌, ◌%◌, ◌==◌, ◌<◌, ◌≤◌, Bool, true, false, cond, nat_lt, List, ◌++◌, length, replicate, get_or, set, take, Option, Some, None, refl, sym, ap, ◌∙◌, arith}
 use Rattle.std.proofs.lemmas.List.{get_or-set_same, get_or-set_other, length-set, length-append, length-replicate, get_or_append_left, get_or-append-add, get_or_past, get_or-replicate, take_all}
 use Rattle.std.proofs.lemmas.Bool.{eqb-true, eqb-false, ltb-true, ltb-false}
-use Rattle.frame_check.specs.declared.spots.Spot.{Spot}
-use Rattle.frame_check.specs.declared.spots.TheConstants.{PAGE_SPOTS, NO_SPOT}
-use Rattle.frame_check.specs.Spots.{Table, IsTable, Grown, Ready, Put, table, in_page, place_of, spot_at, half_spot, look}
+use Rattle.frame_check.specs.declared.roles.Role.{Role}
+use Rattle.frame_check.specs.declared.roles.TheConstants.{PAGE_ROLES, NO_ROLE}
+use Rattle.frame_check.specs.Roles.{Table, IsTable, Grown, Ready, Put, table, in_page, place_of, role_at, half_role, look}
 
 -- where a halfword has a place, its page has one
 pub record Placed (t : Table) (h at : ℕ) : Type 0 where
   pub page : ℕ
-  pub is : get_or t.places (h / PAGE_SPOTS) None ≡ Some page
-  pub place : page * PAGE_SPOTS + h % PAGE_SPOTS ≡ at
+  pub is : get_or t.places (h / PAGE_ROLES) None ≡ Some page
+  pub place : page * PAGE_ROLES + h % PAGE_ROLES ≡ at
 
 pub placed : (t : Table) (h at : ℕ) → place_of t.places h ≡ Some at → Placed t h at
-placed t h at e = go (get_or t.places (h / PAGE_SPOTS) None) refl e
+placed t h at e = go (get_or t.places (h / PAGE_ROLES) None) refl e
   where
-    go : (o : Option ℕ) → get_or t.places (h / PAGE_SPOTS) None ≡ o → in_page o h ≡ Some at → Placed t h at
+    go : (o : Option ℕ) → get_or t.places (h / PAGE_ROLES) None ≡ o → in_page o h ≡ Some at → Placed t h at
     go None o e = absurd (cc)
     go (Some q) o e = record { page = q; is = o; place = cc }
 
-pub absent : (places : List (Option ℕ)) (h : ℕ) → place_of places h ≡ None → get_or places (h / PAGE_SPOTS) None ≡ None
-absent places h e = go (get_or places (h / PAGE_SPOTS) None) refl e
+pub absent : (places : List (Option ℕ)) (h : ℕ) → place_of places h ≡ None → get_or places (h / PAGE_ROLES) None ≡ None
+absent places h e = go (get_or places (h / PAGE_ROLES) None) refl e
   where
-    go : (o : Option ℕ) → get_or places (h / PAGE_SPOTS) None ≡ o → in_page o h ≡ None → get_or places (h / PAGE_SPOTS) None ≡ None
+    go : (o : Option ℕ) → get_or places (h / PAGE_ROLES) None ≡ o → in_page o h ≡ None → get_or places (h / PAGE_ROLES) None ≡ None
     go None o e = o
     go (Some q) o e = absurd (cc)
 
--- a place lies among the spots
-pub inside : (t : Table) (h at : ℕ) → IsTable t → place_of t.places h ≡ Some at → at < length t.spots
-inside t h at x e = let p = placed t h at e in omega (arith, x.within (h / PAGE_SPOTS) p.page p.is, p.place)
+-- a place lies among the roles
+pub inside : (t : Table) (h at : ℕ) → IsTable t → place_of t.places h ≡ Some at → at < length t.roles
+inside t h at x e = let p = placed t h at e in omega (arith, x.within (h / PAGE_ROLES) p.page p.is, p.place)
 
 -- two halfwords with one place are one
 pub one_place : (t : Table) (h g at : ℕ) → IsTable t → place_of t.places h ≡ Some at → place_of t.places g ≡ Some at → h ≡ g
@@ -36,7 +36,7 @@ one_place t h g at x e f =
     let p = placed t h at e in
     let q = placed t g at f in
     let same : p.page ≡ q.page = omega (arith, p.place, q.place) in
-    let page = x.once (h / PAGE_SPOTS) (g / PAGE_SPOTS) p.page p.is (q.is ∙ ap Some (sym same)) in
+    let page = x.once (h / PAGE_ROLES) (g / PAGE_ROLES) p.page p.is (q.is ∙ ap Some (sym same)) in
     omega (arith, page, p.place, q.place, same)
 
 -- ---- a page is added
@@ -48,18 +48,18 @@ grown_sound old new n at x none g = record {
   whole = omega (arith, x.whole, size);
 }
   where
-    size : length new.spots ≡ length old.spots + PAGE_SPOTS
-    size = ap length g.spots ∙ length-append old.spots (replicate PAGE_SPOTS NO_SPOT) ∙ ap (λ k. length old.spots + k) (length-replicate PAGE_SPOTS NO_SPOT)
+    size : length new.roles ≡ length old.roles + PAGE_ROLES
+    size = ap length g.roles ∙ length-append old.roles (replicate PAGE_ROLES NO_ROLE) ∙ ap (λ k. length old.roles + k) (length-replicate PAGE_ROLES NO_ROLE)
 
-    last : (m q : ℕ) → m ≡ n → get_or new.places m None ≡ Some q → q ≡ length old.spots / PAGE_SPOTS
+    last : (m q : ℕ) → m ≡ n → get_or new.places m None ≡ Some q → q ≡ length old.roles / PAGE_ROLES
     last m q same e =
-        let f : Some q ≡ Some (length old.spots / PAGE_SPOTS) = sym e ∙ ap (λ (k : ℕ). get_or new.places k None) same ∙ g.here in
+        let f : Some q ≡ Some (length old.roles / PAGE_ROLES) = sym e ∙ ap (λ (k : ℕ). get_or new.places k None) same ∙ g.here in
         cc
 
     before : (m q : ℕ) → (m == n) ≡ false → get_or new.places m None ≡ Some q → get_or old.places m None ≡ Some q
     before m q t e = sym (g.there m (eqb-false m n t)) ∙ e
 
-    within : (m q : ℕ) → get_or new.places m None ≡ Some q → (t : Bool) → (m == n) ≡ t → q * PAGE_SPOTS + PAGE_SPOTS ≤ length new.spots
+    within : (m q : ℕ) → get_or new.places m None ≡ Some q → (t : Bool) → (m == n) ≡ t → q * PAGE_ROLES + PAGE_ROLES ≤ length new.roles
     within m q e true t = let l = last m q (eqb-true m n t) e in omega (arith, l, size, x.whole)
     within m q e false t = let l = x.within m q (before m q t e) in omega (arith, l, size)
 
@@ -75,89 +75,89 @@ grown_sound old new n at x none g = record {
         absurd (omega (arith, l, w))
     once m k q e f false t false u = x.once m k q (before m q t e) (before k q u f)
 
-pub grown_spot : (old new : Table) (n at : ℕ) → IsTable old → get_or old.places n None ≡ None → Grown old new n at → (b : ℕ) → half_spot new b ≡ half_spot old b
-grown_spot old new n at x none g b = go (b / PAGE_SPOTS == n) refl
+pub grown_role : (old new : Table) (n at : ℕ) → IsTable old → get_or old.places n None ≡ None → Grown old new n at → (b : ℕ) → half_role new b ≡ half_role old b
+grown_role old new n at x none g b = go (b / PAGE_ROLES == n) refl
   where
-    kept : (o : Option ℕ) → place_of old.places b ≡ o → spot_at new.spots o ≡ spot_at old.spots o
+    kept : (o : Option ℕ) → place_of old.places b ≡ o → role_at new.roles o ≡ role_at old.roles o
     kept None e = refl
-    kept (Some i) e = ap (λ (s : List Spot). get_or s i NO_SPOT) g.spots ∙ get_or_append_left old.spots (replicate PAGE_SPOTS NO_SPOT) NO_SPOT i (inside old b i x e)
+    kept (Some i) e = ap (λ (s : List Role). get_or s i NO_ROLE) g.roles ∙ get_or_append_left old.roles (replicate PAGE_ROLES NO_ROLE) NO_ROLE i (inside old b i x e)
 
-    go : (t : Bool) → (b / PAGE_SPOTS == n) ≡ t → half_spot new b ≡ half_spot old b
+    go : (t : Bool) → (b / PAGE_ROLES == n) ≡ t → half_role new b ≡ half_role old b
     go false t =
-        let same : place_of new.places b ≡ place_of old.places b = ap (λ (o : Option ℕ). in_page o b) (g.there (b / PAGE_SPOTS) (eqb-false _ _ t)) in
-        ap (spot_at new.spots) same ∙ kept (place_of old.places b) refl
+        let same : place_of new.places b ≡ place_of old.places b = ap (λ (o : Option ℕ). in_page o b) (g.there (b / PAGE_ROLES) (eqb-false _ _ t)) in
+        ap (role_at new.roles) same ∙ kept (place_of old.places b) refl
     go true t =
-        let same : b / PAGE_SPOTS ≡ n = eqb-true _ _ t in
-        let here : place_of new.places b ≡ Some (length old.spots / PAGE_SPOTS * PAGE_SPOTS + b % PAGE_SPOTS) =
+        let same : b / PAGE_ROLES ≡ n = eqb-true _ _ t in
+        let here : place_of new.places b ≡ Some (length old.roles / PAGE_ROLES * PAGE_ROLES + b % PAGE_ROLES) =
         ap (λ (o : Option ℕ). in_page o b) (ap (λ (k : ℕ). get_or new.places k None) same ∙ g.here) in
         let nothing : place_of old.places b ≡ None = ap (λ (o : Option ℕ). in_page o b) (ap (λ (k : ℕ). get_or old.places k None) same ∙ none) in
-        let at : length old.spots / PAGE_SPOTS * PAGE_SPOTS + b % PAGE_SPOTS ≡ length old.spots + b % PAGE_SPOTS = omega (arith, x.whole) in
-        ap (spot_at new.spots) (here ∙ ap Some at)
-        ∙ ap (λ (s : List Spot). get_or s (length old.spots + b % PAGE_SPOTS) NO_SPOT) g.spots
-        ∙ get_or-append-add old.spots (replicate PAGE_SPOTS NO_SPOT) (b % PAGE_SPOTS) NO_SPOT
-        ∙ blank PAGE_SPOTS (b % PAGE_SPOTS)
-        ∙ sym (ap (spot_at old.spots) nothing)
+        let at : length old.roles / PAGE_ROLES * PAGE_ROLES + b % PAGE_ROLES ≡ length old.roles + b % PAGE_ROLES = omega (arith, x.whole) in
+        ap (role_at new.roles) (here ∙ ap Some at)
+        ∙ ap (λ (s : List Role). get_or s (length old.roles + b % PAGE_ROLES) NO_ROLE) g.roles
+        ∙ get_or-append-add old.roles (replicate PAGE_ROLES NO_ROLE) (b % PAGE_ROLES) NO_ROLE
+        ∙ blank PAGE_ROLES (b % PAGE_ROLES)
+        ∙ sym (ap (role_at old.roles) nothing)
       where
-        blank : (n k : ℕ) → get_or (replicate n NO_SPOT) k NO_SPOT ≡ NO_SPOT
+        blank : (n k : ℕ) → get_or (replicate n NO_ROLE) k NO_ROLE ≡ NO_ROLE
         blank n k = by (nat_lt k n) refl
           where
-            by : (t : Bool) → nat_lt k n ≡ t → get_or (replicate n NO_SPOT) k NO_SPOT ≡ NO_SPOT
-            by true t = get_or-replicate n k NO_SPOT NO_SPOT (ltb-true k n t)
-            by false t = get_or_past (replicate n NO_SPOT) k NO_SPOT (let l = ltb-false k n t in omega (arith, l, length-replicate n NO_SPOT))
+            by : (t : Bool) → nat_lt k n ≡ t → get_or (replicate n NO_ROLE) k NO_ROLE ≡ NO_ROLE
+            by true t = get_or-replicate n k NO_ROLE NO_ROLE (ltb-true k n t)
+            by false t = get_or_past (replicate n NO_ROLE) k NO_ROLE (let l = ltb-false k n t in omega (arith, l, length-replicate n NO_ROLE))
 
-pub grown_ready : (old new : Table) (h at : ℕ) → IsTable old → place_of old.places h ≡ None → Grown old new (h / PAGE_SPOTS) at → Ready old new h (at + h % PAGE_SPOTS)
+pub grown_ready : (old new : Table) (h at : ℕ) → IsTable old → place_of old.places h ≡ None → Grown old new (h / PAGE_ROLES) at → Ready old new h (at + h % PAGE_ROLES)
 grown_ready old new h at x e g = record {
   place = ap (λ (o : Option ℕ). in_page o h) g.here ∙ ap Some (omega (arith, x.whole, g.begins));
-  same = grown_spot old new (h / PAGE_SPOTS) at x (absent old.places h e) g;
+  same = grown_role old new (h / PAGE_ROLES) at x (absent old.places h e) g;
 }
 
--- ---- a spot is put
+-- ---- a role is put
 
-pub set_sound : (t : Table) (at : ℕ) (spot : Spot) → IsTable t → IsTable (table t.places (set t.spots at spot))
-set_sound t at spot x = record {
-  within = λ n q e. omega (arith, x.within n q e, length-set t.spots at spot);
+pub set_sound : (t : Table) (at : ℕ) (role : Role) → IsTable t → IsTable (table t.places (set t.roles at role))
+set_sound t at role x = record {
+  within = λ n q e. omega (arith, x.within n q e, length-set t.roles at role);
   once = x.once;
-  whole = ap (λ (k : ℕ). k % PAGE_SPOTS) (length-set t.spots at spot) ∙ x.whole;
+  whole = ap (λ (k : ℕ). k % PAGE_ROLES) (length-set t.roles at role) ∙ x.whole;
 }
 
-pub put_here : (old mid : Table) (a at : ℕ) (spot : Spot) → IsTable mid → a % 2 ≡ 0 → Ready old mid (a / 2) at → Put old (table mid.places (set mid.spots at spot)) a spot
+pub put_here : (old mid : Table) (a at : ℕ) (role : Role) → IsTable mid → a % 2 ≡ 0 → Ready old mid (a / 2) at → Put old (table mid.places (set mid.roles at role)) a role
 unfolding look
-put_here old mid a at spot x even r = record { here = here; there = there }
+put_here old mid a at role x even r = record { here = here; there = there }
   where
-    here : look (table mid.places (set mid.spots at spot)) a ≡ spot
+    here : look (table mid.places (set mid.roles at role)) a ≡ role
     here =
         let e : (a % 2 == 1) ≡ false = ap (λ (k : ℕ). k == 1) even in
-        rw e (ap (spot_at (set mid.spots at spot)) r.place ∙ get_or-set_same mid.spots at spot NO_SPOT (inside mid (a / 2) at x r.place))
+        rw e (ap (role_at (set mid.roles at role)) r.place ∙ get_or-set_same mid.roles at role NO_ROLE (inside mid (a / 2) at x r.place))
 
-    other : (b : ℕ) → (b ≡ a / 2 → ⊥) → (o : Option ℕ) → place_of mid.places b ≡ o → spot_at (set mid.spots at spot) o ≡ spot_at mid.spots o
+    other : (b : ℕ) → (b ≡ a / 2 → ⊥) → (o : Option ℕ) → place_of mid.places b ≡ o → role_at (set mid.roles at role) o ≡ role_at mid.roles o
     other b ne None e = refl
     other b ne (Some i) e =
-        get_or-set_other mid.spots at i spot NO_SPOT (λ (same : i ≡ at). ne (one_place mid b (a / 2) at x (e ∙ ap Some same) r.place))
+        get_or-set_other mid.roles at i role NO_ROLE (λ (same : i ≡ at). ne (one_place mid b (a / 2) at x (e ∙ ap Some same) r.place))
 
-    there : (b : ℕ) → b ≢ a → look (table mid.places (set mid.spots at spot)) b ≡ look old b
+    there : (b : ℕ) → b ≢ a → look (table mid.places (set mid.roles at role)) b ≡ look old b
     there b ne = by (b % 2 == 1) refl
       where
         by : (t : Bool) → (b % 2 == 1) ≡ t
-            → cond t NO_SPOT (half_spot (table mid.places (set mid.spots at spot)) (b / 2)) ≡ cond t NO_SPOT (half_spot old (b / 2))
+            → cond t NO_ROLE (half_role (table mid.places (set mid.roles at role)) (b / 2)) ≡ cond t NO_ROLE (half_role old (b / 2))
         by true t = refl
         by false t =
             let odd : b % 2 ≢ 1 = eqb-false _ _ t in
             other (b / 2) (λ (e : b / 2 ≡ a / 2). ne (omega (arith, e, even, odd))) (place_of mid.places (b / 2)) refl ∙ r.same (b / 2)
 
--- what is made of spots that a page is added to
-pub grown : (places wide new : List (Option ℕ)) (spots filled : List Spot) (n page : ℕ) → IsTable (table places spots) → n < length wide
-    → ((k : ℕ) → get_or wide k None ≡ get_or places k None) → page ≡ length spots / PAGE_SPOTS → new ≡ set wide n (Some page) → filled ≡ spots ++ replicate PAGE_SPOTS NO_SPOT
-    → Grown (table places spots) (table new filled) n (page * PAGE_SPOTS)
-grown places wide new spots filled n page x room same e f g = record {
+-- what is made of roles that a page is added to
+pub grown : (places wide new : List (Option ℕ)) (roles filled : List Role) (n page : ℕ) → IsTable (table places roles) → n < length wide
+    → ((k : ℕ) → get_or wide k None ≡ get_or places k None) → page ≡ length roles / PAGE_ROLES → new ≡ set wide n (Some page) → filled ≡ roles ++ replicate PAGE_ROLES NO_ROLE
+    → Grown (table places roles) (table new filled) n (page * PAGE_ROLES)
+grown places wide new roles filled n page x room same e f g = record {
   begins = omega (arith, e, x.whole);
   here = ap (λ (l : List (Option ℕ)). get_or l n None) f ∙ get_or-set_same wide n (Some page) None room ∙ ap Some e;
   there = λ k ne. ap (λ (l : List (Option ℕ)). get_or l k None) f ∙ get_or-set_other wide n k (Some page) None ne ∙ same k;
-  spots = g;
+  roles = g;
 }
 
--- spots with a page of blank ones behind them
-pub resized : (xs ys : List Spot) (n len : ℕ) → n ≡ len + PAGE_SPOTS → length xs ≡ len → ys ≡ take n xs ++ replicate (n - len) NO_SPOT → ys ≡ xs ++ replicate PAGE_SPOTS NO_SPOT
+-- roles with a page of blank ones after them
+pub resized : (xs ys : List Role) (n len : ℕ) → n ≡ len + PAGE_ROLES → length xs ≡ len → ys ≡ take n xs ++ replicate (n - len) NO_ROLE → ys ≡ xs ++ replicate PAGE_ROLES NO_ROLE
 resized xs ys n len e l f =
     let whole : take n xs ≡ xs = take_all n xs (omega arith) in
-    let rest : n - len ≡ PAGE_SPOTS = omega arith in
-    f ∙ ap (λ (zs : List Spot). zs ++ replicate (n - len) NO_SPOT) whole ∙ ap (λ (k : ℕ). xs ++ replicate k NO_SPOT) rest
+    let rest : n - len ≡ PAGE_ROLES = omega arith in
+    f ∙ ap (λ (zs : List Role). zs ++ replicate (n - len) NO_ROLE) whole ∙ ap (λ (k : ℕ). xs ++ replicate k NO_ROLE) rest

@@ -9,21 +9,21 @@ use Rattle.elf_image.specs.Image.{Image, IsSound as IsSoundImage, IsWithinCode}
 use Rattle.elf_image.specs.declared.limits.TheConstants.{ADDRESS_LIMIT}
 use Rattle.eh_types.proofs.Meaning.{fault_no_graph}
 use Rattle.frame_facts.specs.declared.cause.FrameCause.{FrameCause}
-use Rattle.frame_scene.specs.Scene.{Scene}
+use Rattle.frame_graph.specs.FlowGraph.{FlowGraph}
 use Rattle.frame_reach.specs.Marks.{Marks}
 use Rattle.frame_reach.specs.Laws.{MarksExist, MarksAgree}
 use Rattle.frame_flow.specs.Flows.{StandsIn}
 use Rattle.frame_flow.specs.Laws.{FactsDecide}
 use Rattle.frame_check.specs.declared.fault.CheckFault.{CheckFault}
 use Rattle.frame_check.specs.declared.fault.CheckFault.TheVariants.{Index, Function as OfFunction, Types, OutOfMemory}
-use Rattle.frame_check.specs.Spots.{Table}
-use Rattle.frame_check.specs.Roots.{scene_of, roots_of}
-use Rattle.frame_check.specs.Accepts.{framed, CauseStands, by_facts, at_start, IsWell, AreWell, AreSpots}
+use Rattle.frame_check.specs.Roles.{Table}
+use Rattle.frame_check.specs.Roots.{flow_graph_of, roots_of}
+use Rattle.frame_check.specs.Accepts.{framed, CauseStands, by_facts, at_start, IsWell, AreWell, AreRoles}
 use Rattle.frame_check.specs.Judged.{RefusesOne, RefusesFunctions, IsTaken, IsPlaced}
 use Rattle.frame_check.specs.Laws.{WellIsUnrefused, RefusalsAreRight}
-use Rattle.frame_check.proofs.Images.{functions_before, spots_more}
+use Rattle.frame_check.proofs.Images.{functions_before, roles_more}
 
-pub none_stands : MarksAgree → FactsDecide → (s : Scene) → s.start < s.end → IsWell s → (p : ℕ) (c : FrameCause) → CauseStands s p c → ⊥
+pub none_stands : MarksAgree → FactsDecide → (s : FlowGraph) → s.start < s.end → IsWell s → (p : ℕ) (c : FrameCause) → CauseStands s p c → ⊥
 none_stands agree decide s some w p c (by_facts m am st) =
     let e = agree s m w.marks am w.are in
     (decide (framed s w.marks) some).0 w.facts p c (subst (λ (n : Marks). StandsIn (framed s n) p c) e st)
@@ -42,9 +42,9 @@ refusals_right agree decide image (Index fault) r a = cc (r, a.index)
 refusals_right agree decide image (OfFunction r) x a =
     let f = x.1 in
     let all = subst (λ (fs : List Function). AreWell image fs) f.divided a.functions in
-    let well : IsWell (scene_of image f.function) =
-    All-contains (λ (g : Function). IsWell (scene_of image g)) (f.before ++ f.function ∷ f.after) f.function all (Contains-append_right f.before (f.function ∷ f.after) f.function (0, omega arith, refl)) in
-    none_stands agree decide (scene_of image f.function) (omega (arith, f.address, f.inside)) well f.place r.cause f.stands
+    let well : IsWell (flow_graph_of image f.function) =
+    All-contains (λ (g : Function). IsWell (flow_graph_of image g)) (f.before ++ f.function ∷ f.after) f.function all (Contains-append_right f.before (f.function ∷ f.after) f.function (0, omega arith, refl)) in
+    none_stands agree decide (flow_graph_of image f.function) (omega (arith, f.address, f.inside)) well f.place r.cause f.stands
 refusals_right agree decide image (Types fault) x a = fault_no_graph image (roots_of image) fault x.2 a.types a.graph
 refusals_right agree decide image OutOfMemory x a = x
 
@@ -113,8 +113,8 @@ rejected_item image fs i f fault e l is w r =
 
 -- one function more that is well
 pub taken_item : (image sound : Image) (fs : List Function) (i : ℕ) (f : Function) (old new : Table) → MarksAgree → IsSoundImage sound → sound ≡ image → fs ≡ image.functions → i < length fs → f ≡ get_or fs i f
-    → AreWell image (take i image.functions) → AreSpots image (take i image.functions) old → IsTaken image f old new → AreWell image (take (i + 1) image.functions) × AreSpots image (take (i + 1) image.functions) new
-taken_item image sound fs i f old new agree x same e l is w sp t = (well, spots)
+    → AreWell image (take i image.functions) → AreRoles image (take i image.functions) old → IsTaken image f old new → AreWell image (take (i + 1) image.functions) × AreRoles image (take (i + 1) image.functions) new
+taken_item image sound fs i f old new agree x same e l is w sp t = (well, roles)
   where
     at : f ≡ get_or image.functions i f
     at = same_item fs image.functions i f e is
@@ -134,9 +134,9 @@ taken_item image sound fs i f old new agree x same e l is w sp t = (well, spots)
     well : AreWell image (take (i + 1) image.functions)
     well =
         subst (λ (gs : List Function). AreWell image gs) (sym more)
-        (All-push (λ (g : Function). IsWell (scene_of image g)) (take i image.functions) f w t.well)
+        (All-push (λ (g : Function). IsWell (flow_graph_of image g)) (take i image.functions) f w t.well)
 
-    spots : AreSpots image (take (i + 1) image.functions) new
-    spots =
-        subst (λ (gs : List Function). AreSpots image gs new) (sym more)
-        (spots_more image (take i image.functions) f t.marks old new placed.even (omega (arith, placed.low)) before agree t.are sp t.marked)
+    roles : AreRoles image (take (i + 1) image.functions) new
+    roles =
+        subst (λ (gs : List Function). AreRoles image gs new) (sym more)
+        (roles_more image (take i image.functions) f t.marks old new placed.even (omega (arith, placed.low)) before agree t.are sp t.marked)

@@ -9,11 +9,11 @@ use Rattle.eh_types.specs.Graph.{Row}
 use Rattle.eh_types.specs.Meant.{IsGraph, Shows}
 use Rattle.frame_facts.specs.declared.cause.FrameCause.{FrameCause}
 use Rattle.frame_facts.specs.declared.cause.FrameCause.TheVariants.{Undecodable, BranchOut, IndirectBranch, CallNotFunction, SpWrite, JoinDepth, ReturnState, CallState, FramePointerLost, BadBytecode, BadDescriptor, PadDepth, ThrowInLeafScope, SplitEntry, GenericModel, TooLong}
-use Rattle.frame_scene.specs.declared.unwinding.Unwinding.TheVariants as unwinding
-use Rattle.frame_scene.specs.Scene.{Scene}
-use Rattle.frame_scene.specs.Places.{address_of}
-use Rattle.frame_scene.specs.Sites.{unwinding_at, has_fault}
-use Rattle.frame_scene.specs.Reach.{IsReached}
+use Rattle.frame_graph.specs.declared.unwinding.Unwinding.TheVariants as unwinding
+use Rattle.frame_graph.specs.FlowGraph.{FlowGraph}
+use Rattle.frame_graph.specs.Places.{address_of}
+use Rattle.frame_graph.specs.Sites.{unwinding_at, has_fault}
+use Rattle.frame_graph.specs.Reach.{IsReached}
 use Rattle.frame_reach.specs.Marks.{Marks, AreMarks, IsTooLong, IsSplit}
 use Rattle.frame_reach.specs.Prologue.{prologue, lines, places}
 use Rattle.frame_flow.specs.Framed.{Framed}
@@ -21,19 +21,19 @@ use Rattle.frame_flow.specs.Flows.{StandsIn, HasFacts}
 use Rattle.frame_check.specs.declared.fault.Rejected.{Rejected}
 use Rattle.frame_check.specs.declared.fault.CheckFault.{CheckFault}
 use Rattle.frame_check.specs.declared.fault.CheckFault.TheVariants.{Index, Function as OfFunction, Types, OutOfMemory}
-use Rattle.frame_check.specs.Spots.{Table, look}
-use Rattle.frame_check.specs.Roots.{scene_of, roots_of}
+use Rattle.frame_check.specs.Roles.{Table, look}
+use Rattle.frame_check.specs.Roots.{flow_graph_of, roots_of}
 use Rattle.frame_check.specs.Pushes.{pushes_of, saves_in}
 
 -- ---- functions
 
 -- a function with its prologue and its landing pads
-abbrev pub framed : Scene → Marks → Framed
-framed s m = record { scene = s; prologue = prologue s m; pad = m.pad }
+abbrev pub framed : FlowGraph → Marks → Framed
+framed s m = record { flow_graph = s; prologue = prologue s m; pad = m.pad }
 
 -- What stands at the start of a function: what the entry that covers it shows, by its codes and by its descriptors, and what is refused of
 -- the function as a whole. Every other cause stands where a fact meets it.
-abbrev pub StandsAtStart : Scene → FrameCause → Type 0
+abbrev pub StandsAtStart : FlowGraph → FrameCause → Type 0
 StandsAtStart s Undecodable = ⊥
 StandsAtStart s BranchOut = ⊥
 StandsAtStart s IndirectBranch = ⊥
@@ -52,12 +52,12 @@ StandsAtStart s GenericModel = unwinding_at s s.start ≡ unwinding.GenericModel
 StandsAtStart s TooLong = IsTooLong s
 
 -- a cause stands at a place: by the facts there, or at the start
-pub data CauseStands (s : Scene) : ℕ → FrameCause → Type 0 where
+pub data CauseStands (s : FlowGraph) : ℕ → FrameCause → Type 0 where
   by_facts : {p : ℕ} {c : FrameCause} (m : Marks) → AreMarks s m → StandsIn (framed s m) p c → CauseStands s p c
   at_start : {c : FrameCause} → StandsAtStart s c → CauseStands s 0 c
 
 -- a function is well: it has valid facts, and nothing stands at its start
-pub record IsWell (s : Scene) : Type 0 where
+pub record IsWell (s : FlowGraph) : Type 0 where
   pub marks : Marks
   pub are : AreMarks s marks
   pub facts : HasFacts (framed s marks)
@@ -66,7 +66,7 @@ pub record IsWell (s : Scene) : Type 0 where
 -- ---- images
 
 abbrev pub AreWell : Image → List Function → Type 0
-AreWell image functions = All (λ f. IsWell (scene_of image f)) functions
+AreWell image functions = All (λ f. IsWell (flow_graph_of image f)) functions
 
 -- its index is read, each of its functions is well, and its roots mean a graph of types
 pub record IsAccepted (image : Image) : Type 0 where
@@ -85,9 +85,9 @@ pub record IsFirstRejected (image : Image) (r : Rejected) : Type 0 where
   pub name : r.function ≡ function.name
   pub start : r.start ≡ function.start
   pub place : ℕ
-  pub address : r.at ≡ address_of (scene_of image function) place
+  pub address : r.at ≡ address_of (flow_graph_of image function) place
   pub inside : r.at < function.end
-  pub stands : CauseStands (scene_of image function) place r.cause
+  pub stands : CauseStands (flow_graph_of image function) place r.cause
 
 -- when each refusal may be named: the index first, then the functions in rising order, then the types
 abbrev pub Refuses : Image → CheckFault → Type 0
@@ -103,26 +103,26 @@ pub record IsInstr (image : Image) (functions : List Function) (a : ℕ) : Type 
   pub function : Function
   pub among : Contains functions function
   pub place : ℕ
-  pub reached : IsReached (scene_of image function) place
-  pub address : a ≡ address_of (scene_of image function) place
+  pub reached : IsReached (flow_graph_of image function) place
+  pub address : a ≡ address_of (flow_graph_of image function) place
 
 -- which words the PUSH at an address stores that are saves of the function's prologue
-unfoldable pub saves_at : Scene → Marks → ℕ → ℕ
+unfoldable pub saves_at : FlowGraph → Marks → ℕ → ℕ
 saves_at s m a = saves_in (pushes_of (prologue s m) s.start (lines s m.target (places s) 0)) a
 
--- the spots of these functions: instructions, starts, and the saves of each function's prologue; elsewhere no words are saves
-pub record AreSpots (image : Image) (functions : List Function) (spots : Table) : Type 0 where
-  pub instr : (a : ℕ) → ((look spots a).is_instr ≡ true) ↔ IsInstr image functions a
-  pub starts : (a : ℕ) → (look spots a).is_function ≡ begins_function functions a
-  pub saves : (f : Function) (m : Marks) (a : ℕ) → Contains functions f → AreMarks (scene_of image f) m → is_inside a f ≡ true
-      → (look spots a).saves ≡ saves_at (scene_of image f) m a
-  pub blank : (a : ℕ) → ((f : Function) → Contains functions f → is_inside a f ≡ true → ⊥) → (look spots a).saves ≡ 0
+-- the roles of these functions: instructions, starts, and the saves of each function's prologue; elsewhere no words are saves
+pub record AreRoles (image : Image) (functions : List Function) (roles : Table) : Type 0 where
+  pub instr : (a : ℕ) → ((look roles a).is_instr ≡ true) ↔ IsInstr image functions a
+  pub starts : (a : ℕ) → (look roles a).is_function ≡ begins_function functions a
+  pub saves : (f : Function) (m : Marks) (a : ℕ) → Contains functions f → AreMarks (flow_graph_of image f) m → is_inside a f ≡ true
+      → (look roles a).saves ≡ saves_at (flow_graph_of image f) m a
+  pub blank : (a : ℕ) → ((f : Function) → Contains functions f → is_inside a f ≡ true → ⊥) → (look roles a).saves ≡ 0
 
 -- an accepted image with what a run asks of it
 pub record Accepted : Type 0 where
   pub image : Image
   pub types : List Row
-  pub spots : Table
+  pub roles : Table
 
 -- the numbers that stand in segments are bytes
 abbrev pub AreBytes : List Segment → Type 0
@@ -133,4 +133,4 @@ pub record IsSound (x : Accepted) : Type 0 where
   pub index : index_refusal x.image ≡ None
   pub functions : AreWell x.image x.image.functions
   pub graph : IsGraph x.image (roots_of x.image) x.types
-  pub spots : AreSpots x.image x.image.functions x.spots
+  pub roles : AreRoles x.image x.image.functions x.roles

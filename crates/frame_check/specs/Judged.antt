@@ -5,34 +5,34 @@ use Rattle.elf_image.specs.Functions.{Function}
 use Rattle.elf_image.specs.Image.{Image}
 use Rattle.eh_types.specs.Meant.{Shows}
 use Rattle.frame_facts.specs.declared.cause.FrameCause.TheVariants.{BadBytecode, BadDescriptor, GenericModel}
-use Rattle.frame_scene.specs.Scene.{Scene}
-use Rattle.frame_scene.specs.Places.{address_of}
+use Rattle.frame_graph.specs.FlowGraph.{FlowGraph}
+use Rattle.frame_graph.specs.Places.{address_of}
 use Rattle.frame_reach.specs.Marks.{Marks, AreMarks}
 use Rattle.frame_flow.specs.declared.work.FrameFault.{FrameFault}
 use Rattle.frame_flow.specs.declared.work.FrameFault.TheVariants.{Stands, OutOfMemory}
 use Rattle.frame_check.specs.declared.fault.Rejected.{Rejected}
 use Rattle.frame_check.specs.declared.fault.CheckFault.{CheckFault}
 use Rattle.frame_check.specs.declared.fault.CheckFault.TheVariants.{Index, Function as OfFunction, Types, OutOfMemory as NoMemory}
-use Rattle.frame_check.specs.Spots.{Table}
-use Rattle.frame_check.specs.Roots.{scene_of, roots_of}
+use Rattle.frame_check.specs.Roles.{Table}
+use Rattle.frame_check.specs.Roots.{flow_graph_of, roots_of}
 use Rattle.frame_check.specs.Marking.{IsMarked}
 use Rattle.frame_check.specs.Accepts.{StandsAtStart, CauseStands, IsWell, IsFirstRejected}
 
 -- the entry that covers the start shows nothing
-pub record IsClear (s : Scene) : Type 0 where
+pub record IsClear (s : FlowGraph) : Type 0 where
   pub codes : StandsAtStart s BadBytecode → ⊥
   pub model : StandsAtStart s GenericModel → ⊥
   pub descriptors : StandsAtStart s BadDescriptor → ⊥
 
 -- a fault names a place of the function and a cause that stands there; that memory runs out says nothing
-abbrev pub IsJudged : Scene → FrameFault → Type 0
+abbrev pub IsJudged : FlowGraph → FrameFault → Type 0
 IsJudged s (Stands place cause) = CauseStands s place cause × (s.start + 2 * place < s.end)
 IsJudged s OutOfMemory = Unit {0}
 
 -- ---- the checks of an image
 
 -- a function is refused by its name, its start, and an address of its own with a cause that stands there
-pub record IsRejection (s : Scene) (f : Function) (r : Rejected) : Type 0 where
+pub record IsRejection (s : FlowGraph) (f : Function) (r : Rejected) : Type 0 where
   pub name : r.function ≡ f.name
   pub start : r.start ≡ f.start
   pub place : ℕ
@@ -43,7 +43,7 @@ pub record IsRejection (s : Scene) (f : Function) (r : Rejected) : Type 0 where
 -- what a check of one function answers; that memory runs out says nothing
 abbrev pub RefusesOne : Image → Function → CheckFault → Type 0
 RefusesOne image f (Index fault) = ⊥
-RefusesOne image f (OfFunction r) = IsRejection (scene_of image f) f r
+RefusesOne image f (OfFunction r) = IsRejection (flow_graph_of image f) f r
 RefusesOne image f (Types fault) = ⊥
 RefusesOne image f NoMemory = Unit {0}
 
@@ -61,10 +61,10 @@ RefusesTypes image NoMemory = Unit {0}
 
 -- a function that is well, with its addresses marked
 pub record IsTaken (image : Image) (f : Function) (old new : Table) : Type 0 where
-  pub well : IsWell (scene_of image f)
+  pub well : IsWell (flow_graph_of image f)
   pub marks : Marks
-  pub are : AreMarks (scene_of image f) marks
-  pub marked : IsMarked (scene_of image f) marks old new
+  pub are : AreMarks (flow_graph_of image f) marks
+  pub marked : IsMarked (flow_graph_of image f) marks old new
 
 -- where a function of an image lies
 pub record IsPlaced (f : Function) : Type 0 where

@@ -4,8 +4,8 @@ use Rattle.std.specs.List.{IsDistinct}
 use Rattle.unwind_codes.specs.declared.row.Entry.{Entry}
 use Rattle.eh_bytecode.specs.declared.recipe.Recipe.{Recipe}
 use Rattle.eh_desc.specs.declared.descriptor.DescFault.{DescFault}
-use Rattle.frame_scene.specs.declared.unwinding.Unwinding.TheVariants.{Finds, Refused}
-use Rattle.frame_scene.specs.Reach.{IsReached}
+use Rattle.frame_graph.specs.declared.unwinding.Unwinding.TheVariants.{Finds, Refused}
+use Rattle.frame_graph.specs.Reach.{IsReached}
 use Rattle.frame_reach.specs.declared.marks.TheConstants.{MOST_REACHED}
 use Rattle.std.specs.Int.{bit_at}
 use Rattle.thumb_core.specs.Words.{listed}
@@ -21,30 +21,30 @@ use Rattle.frame_facts.specs.declared.saves.Save.{Save}
 use Rattle.frame_facts.specs.declared.straight.Straight.{Straight}
 use Rattle.frame_facts.specs.Saves.{saves_of}
 use Rattle.frame_facts.specs.Prologues.{taken}
-use Rattle.frame_scene.specs.declared.places.Standing.TheVariants.{Instruction}
-use Rattle.frame_scene.specs.Places.{address_of, standing_at}
+use Rattle.frame_graph.specs.declared.places.Standing.TheVariants.{Instruction}
+use Rattle.frame_graph.specs.Places.{address_of, standing_at}
 use Rattle.frame_reach.specs.Marks.{Marks}
 use Rattle.frame_reach.specs.Prologue.{is_led_to, prologue}
 use Rattle.frame_reach.specs.Laws.{IsRun}
 use Rattle.frame_check.specs.Pushes.{is_saved}
-use Rattle.frame_scene.specs.Scene.{Scene}
-use Rattle.frame_scene.specs.Sites.{items_at, unwinding_at, site_at, entry_at}
+use Rattle.frame_graph.specs.FlowGraph.{FlowGraph}
+use Rattle.frame_graph.specs.Sites.{items_at, unwinding_at, site_at, entry_at}
 use Rattle.frame_check.specs.declared.fault.CheckFault.{CheckFault}
-use Rattle.frame_check.specs.Roots.{scene_of, roots_of}
+use Rattle.frame_check.specs.Roots.{flow_graph_of, roots_of}
 use Rattle.frame_check.specs.Accepts.{CauseStands, IsWell, IsAccepted, Refuses, saves_at}
 
 -- a function is well exactly where no cause stands at any of its places
 abbrev pub WellIsUnrefused : Type 0
-WellIsUnrefused = (s : Scene) → s.start < s.end → IsWell s ↔ ((p : ℕ) (c : FrameCause) → CauseStands s p c → ⊥)
+WellIsUnrefused = (s : FlowGraph) → s.start < s.end → IsWell s ↔ ((p : ℕ) (c : FrameCause) → CauseStands s p c → ⊥)
 
 -- Of a function that is well the entry that covers its start has codes that give a recipe, or nothing unwinds through it; each descriptor
 -- of that entry can be read; the entry of each reached site begins at the function's start or below it; and the places that are reached
 -- are few.
 pub record WellFunctions : Type 0 where
-  pub codes : (s : Scene) → IsWell s → ((r : Recipe) × (unwinding_at s s.start ≡ Finds r)) ⊎ (unwinding_at s s.start ≡ Refused)
-  pub descriptors : (s : Scene) (fault : DescFault) → IsWell s → Contains (items_at s s.start) (Err fault) → ⊥
-  pub sites : (s : Scene) (p site : ℕ) (e : Entry) → IsWell s → IsReached s p → site_at s p ≡ Some site → entry_at s site ≡ Some e → e.start ≤ s.start
-  pub few : (s : Scene) (ps : List ℕ) → IsWell s → IsDistinct nat_eq ps → ((p : ℕ) → Contains ps p → IsReached s p) → length ps ≤ MOST_REACHED
+  pub codes : (s : FlowGraph) → IsWell s → ((r : Recipe) × (unwinding_at s s.start ≡ Finds r)) ⊎ (unwinding_at s s.start ≡ Refused)
+  pub descriptors : (s : FlowGraph) (fault : DescFault) → IsWell s → Contains (items_at s s.start) (Err fault) → ⊥
+  pub sites : (s : FlowGraph) (p site : ℕ) (e : Entry) → IsWell s → IsReached s p → site_at s p ≡ Some site → entry_at s site ≡ Some e → e.start ≤ s.start
+  pub few : (s : FlowGraph) (ps : List ℕ) → IsWell s → IsDistinct nat_eq ps → ((p : ℕ) → Contains ps p → IsReached s p) → length ps ≤ MOST_REACHED
 
 -- what may be refused of an image that isn't accepted, and of no other
 abbrev pub RefusalsAreRight : Type 0
@@ -58,12 +58,12 @@ Names image d t = ((pad : ℕ) × (reference : Bool) × (d.kind ≡ Catch pad re
 abbrev pub RootsAreNamed : Type 0
 RootsAreNamed =
     (image : Image) (t : ℕ) → Contains (roots_of image) t
-    ↔ (((f : Function) × (d : Desc) × Contains image.functions f × Contains (items_at (scene_of image f) f.start) (Ok d) × Names image d t × (t ≢ 0)) ⊎ Contains (type_symbols_of image.symbols) t)
+    ↔ (((f : Function) × (d : Desc) × Contains image.functions f × Contains (items_at (flow_graph_of image f) f.start) (Ok d) × Names image d t × (t ≢ 0)) ⊎ Contains (type_symbols_of image.symbols) t)
 
 -- ---- the saves of a prologue
 
 -- a PUSH of the prologue: the run has come to its place and takes it
-pub record IsPush (s : Scene) (m : Marks) (p : ℕ) (run : Straight) (list : ℕ) : Type 0 where
+pub record IsPush (s : FlowGraph) (m : Marks) (p : ℕ) (run : Straight) (list : ℕ) : Type 0 where
   pub size : ℕ
   pub next : Straight
   pub comes : IsRun s m p run
@@ -78,11 +78,11 @@ IsWord run list k offset = (k < length (listed list)) × (offset + 4 * k ≡ run
 -- Of a PUSH of the prologue bit k is set exactly where its word k is a save; of any other address no bit is. And each save of the prologue
 -- is a word of one of its PUSHes.
 pub record SavesAreWords : Type 0 where
-  pub bits : (s : Scene) (m : Marks) (p : ℕ) (run : Straight) (list k offset : ℕ) → s.start % 2 ≡ 0 → s.end + 4 ≤ 2 ^ 32 → IsPush s m p run list → IsWord run list k offset
+  pub bits : (s : FlowGraph) (m : Marks) (p : ℕ) (run : Straight) (list k offset : ℕ) → s.start % 2 ≡ 0 → s.end + 4 ≤ 2 ^ 32 → IsPush s m p run list → IsWord run list k offset
       → (bit_at (saves_at s m (address_of s p)) k ≡ 1) ↔ (is_saved (prologue s m) offset ≡ true)
-  pub past : (s : Scene) (m : Marks) (p : ℕ) (run : Straight) (list k : ℕ) → s.start % 2 ≡ 0 → s.end + 4 ≤ 2 ^ 32 → IsPush s m p run list → length (listed list) ≤ k
+  pub past : (s : FlowGraph) (m : Marks) (p : ℕ) (run : Straight) (list k : ℕ) → s.start % 2 ≡ 0 → s.end + 4 ≤ 2 ^ 32 → IsPush s m p run list → length (listed list) ≤ k
       → bit_at (saves_at s m (address_of s p)) k ≡ 0
-  pub elsewhere : (s : Scene) (m : Marks) (a : ℕ) → s.start % 2 ≡ 0 → s.end + 4 ≤ 2 ^ 32
+  pub elsewhere : (s : FlowGraph) (m : Marks) (a : ℕ) → s.start % 2 ≡ 0 → s.end + 4 ≤ 2 ^ 32
       → ((p : ℕ) (run : Straight) (list : ℕ) → IsPush s m p run list → a ≡ address_of s p → ⊥) → saves_at s m a ≡ 0
-  pub each : (s : Scene) (m : Marks) (x : Save) → Contains (saves_of (prologue s m)) x
+  pub each : (s : FlowGraph) (m : Marks) (x : Save) → Contains (saves_of (prologue s m)) x
       → (p : ℕ) × (run : Straight) × (list : ℕ) × (k : ℕ) × IsPush s m p run list × IsWord run list k x.offset

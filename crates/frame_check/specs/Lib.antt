@@ -1,4 +1,4 @@
-pub mod Spots
+pub mod Roles
 pub mod Roots
 pub mod Pushes
 pub mod Accepts

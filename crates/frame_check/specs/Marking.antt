@@ -1,30 +1,30 @@
--- Spots, as a function's addresses are put into them.
+-- Roles, as a function's addresses are put into them.
 use Rattle.std.specs.Prelude.{ℕ, ◌≡◌, ◌↔◌, ◌⊎◌, ◌==◌, ◌||◌, true, if◌then◌else◌, List, fold, Contains}
-use Rattle.frame_scene.specs.Scene.{Scene}
-use Rattle.frame_scene.specs.Places.{address_of}
-use Rattle.frame_scene.specs.Reach.{IsReached}
+use Rattle.frame_graph.specs.FlowGraph.{FlowGraph}
+use Rattle.frame_graph.specs.Places.{address_of}
+use Rattle.frame_graph.specs.Reach.{IsReached}
 use Rattle.frame_reach.specs.Marks.{Marks}
 use Rattle.frame_reach.specs.Prologue.{prologue, lines, places}
-use Rattle.frame_check.specs.declared.spots.Spot.{Spot}
+use Rattle.frame_check.specs.declared.roles.Role.{Role}
 use Rattle.frame_check.specs.declared.pushes.Pushed.{Pushed}
-use Rattle.frame_check.specs.Spots.{Table, look, Put}
+use Rattle.frame_check.specs.Roles.{Table, look, Put}
 use Rattle.frame_check.specs.Pushes.{pushes_of}
 
-abbrev pub with_instr : Spot → Spot
+abbrev pub with_instr : Role → Role
 with_instr x = record x { is_instr = true }
 
-abbrev pub with_start : Spot → Spot
+abbrev pub with_start : Role → Role
 with_start x = record x { is_function = true }
 
-abbrev pub with_saves : ℕ → Spot → Spot
+abbrev pub with_saves : ℕ → Role → Role
 with_saves saves x = record x { saves = saves }
 
--- the spot of an address is changed so, and no other
-abbrev pub Turned : (Spot → Spot) → ℕ → Table → Table → Type 0
+-- the role of an address is changed so, and no other
+abbrev pub Turned : (Role → Role) → ℕ → Table → Table → Type 0
 Turned change a old new = Put old new a (change (look old a))
 
 -- the places' addresses are instructions now, beside those that were; nothing else has changed
-pub record AreInstrs (s : Scene) (ps : List ℕ) (old new : Table) : Type 0 where
+pub record AreInstrs (s : FlowGraph) (ps : List ℕ) (old new : Table) : Type 0 where
   pub instr : (a : ℕ) → ((look new a).is_instr ≡ true) ↔ (((look old a).is_instr ≡ true) ⊎ ((p : ℕ) × Contains ps p × (a ≡ address_of s p)))
   pub starts : (a : ℕ) → (look new a).is_function ≡ (look old a).is_function
   pub saves : (a : ℕ) → (look new a).saves ≡ (look old a).saves
@@ -40,7 +40,7 @@ pub record AreSaved (pushes : List Pushed) (old new : Table) : Type 0 where
   pub saves : (a : ℕ) → (look new a).saves ≡ saves_over ((look old a).saves) pushes a
 
 -- a function's reached places are instructions now, its start is one of a function, its prologue's saves are there; nothing else has changed
-pub record IsMarked (s : Scene) (m : Marks) (old new : Table) : Type 0 where
+pub record IsMarked (s : FlowGraph) (m : Marks) (old new : Table) : Type 0 where
   pub instr : (a : ℕ) → ((look new a).is_instr ≡ true) ↔ (((look old a).is_instr ≡ true) ⊎ ((p : ℕ) × IsReached s p × (a ≡ address_of s p)))
   pub starts : (a : ℕ) → (look new a).is_function ≡ ((look old a).is_function || (s.start == a))
   pub saves : (a : ℕ) → (look new a).saves ≡ saves_over ((look old a).saves) (pushes_of (prologue s m) s.start (lines s m.target (places s) 0)) a

@@ -9,16 +9,16 @@ use Rattle.eh_desc.specs.declared.descriptor.CatchType.TheVariants.{All, AllFail
 use Rattle.eh_desc.specs.declared.descriptor.DescKind.{DescKind}
 use Rattle.eh_desc.specs.declared.descriptor.DescKind.TheVariants.{Cleanup, Catch, Spec}
 use Rattle.eh_desc.specs.Grammar.{type_in, items_of}
-use Rattle.frame_scene.specs.Scene.{Scene}
+use Rattle.frame_graph.specs.FlowGraph.{FlowGraph}
 use Rattle.unwind_codes.specs.declared.row.Entry.{Entry}
 use Rattle.unwind_codes.specs.declared.row.EntryBody.{EntryBody}
 use Rattle.unwind_codes.specs.declared.row.EntryBody.TheVariants.{CantUnwind, Inline, Table}
 use Rattle.eh_index.specs.Places.{table_of}
-use Rattle.frame_scene.specs.Sites.{Item, entry_at}
+use Rattle.frame_graph.specs.Sites.{Item, entry_at}
 
--- the function as a scene
-abbrev pub scene_of : Image → Function → Scene
-scene_of image f = record { image = image; start = f.start; end = f.end }
+-- the function as a flow graph
+abbrev pub flow_graph_of : Image → Function → FlowGraph
+flow_graph_of image f = record { image = image; start = f.start; end = f.end }
 
 -- a type at an address; 0 is none
 abbrev pub type_at : ℕ → List ℕ
@@ -47,7 +47,7 @@ item_types segments (Err fault) = []
 
 -- the entry that covers the function's start
 abbrev pub entry_of : Image → Function → Option Entry
-entry_of image f = entry_at (scene_of image f) f.start
+entry_of image f = entry_at (flow_graph_of image f) f.start
 
 -- the types that its descriptors name
 abbrev pub entry_types : Image → Option Entry → List ℕ
@@ -70,6 +70,6 @@ unfoldable pub types_from : Image → Option Entry → List Function → List �
 types_from image before [] = []
 types_from image before (f ∷ more) = (if same_entry before (entry_of image f) then [] else entry_types image (entry_of image f)) ++ types_from image (entry_of image f) more
 
--- those of all functions, in rising order, and behind them the image's type symbols
+-- those of all functions, in rising order, and after them the image's type symbols
 unfoldable pub roots_of : Image → List ℕ
 roots_of image = types_from image None image.functions ++ type_symbols_of image.symbols

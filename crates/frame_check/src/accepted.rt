@@ -3,11 +3,11 @@ ghost use Rattle.std.specs.Prelude.{◌≡◌, ◌↔◌, IsTrue, Contains, true
 ghost use Rattle.elf_image.specs.Functions.{Function as Range, is_inside};
 ghost use Rattle.image_memory.specs.Start.{begins_function};
 ghost use Rattle.frame_reach.specs.Marks.{Marks, AreMarks};
-ghost use Rattle.frame_check.specs.Roots.{scene_of};
+ghost use Rattle.frame_check.specs.Roots.{flow_graph_of};
 ghost use Rattle.frame_check.specs.Accepts.{Accepted as Parts, IsSound, IsInstr, saves_at};
-ghost use Rattle.frame_check.specs.Spots.{look};
+ghost use Rattle.frame_check.specs.Roles.{look};
 
-use crate::spots::Spots;
+use crate::roles::Roles;
 use eh_index::Index;
 use eh_types::TypeGraph;
 use elf_image::image::Image;
@@ -17,8 +17,8 @@ use std::marker::Model;
 #[derive(Drop)]
 pub struct Accepted<'a> {
     pub(crate) image: Image<'a>,
-    pub(crate) types: TypeGraph,
-    pub(crate) spots: Spots,
+    pub(crate) types: TypeGraph<'a>,
+    pub(crate) roles: Roles,
 }
 
 impl<'a> Model for Accepted<'a> {
@@ -26,9 +26,9 @@ impl<'a> Model for Accepted<'a> {
 
     ghost Value = { Parts };
 
-    ghost view = { λ a. record { image = a.image; types = a.types; spots = a.spots } };
+    ghost view = { λ a. record { image = a.image; types = a.types; roles = a.roles } };
 
-    ghost invariant = { λ a. IsSound (record { image = a.image; types = a.types; spots = a.spots }) };
+    ghost invariant = { λ a. IsSound (record { image = a.image; types = a.types; roles = a.roles }) };
 }
 
 impl<'a> Accepted<'a> {
@@ -48,7 +48,7 @@ impl<'a> Accepted<'a> {
     }
 
     /// The types that its exceptions may have.
-    pub fn types(&self) -> &TypeGraph
+    pub fn types(&self) -> &TypeGraph<'a>
         ensures { result.now ≡ self.now.types }
     {
         &self.types
@@ -56,27 +56,27 @@ impl<'a> Accepted<'a> {
 
     /// Whether an instruction stands at an address that some path from its function's entry reaches. One look-up.
     pub fn is_instr(&self, a: u32) -> bool
-        ensures spot { result ≡ (look self.now.spots a).is_instr }
+        ensures role { result ≡ (look self.now.roles a).is_instr }
         ensures reached { IsTrue result ↔ IsInstr self.now.image self.now.image.functions a }
     {
-        self.spots.look(a).is_instr
+        self.roles.look(a).is_instr
     }
 
     /// Whether a function begins at an address. One look-up.
     pub fn is_function(&self, a: u32) -> bool
         ensures { result ≡ begins_function self.now.image.functions a }
     {
-        self.spots.look(a).is_function
+        self.roles.look(a).is_function
     }
 
     /// Which words that the PUSH at an address stores are saves of its function's prologue: bit k stands for word k, counted from the
     /// lowest address; 0 where no PUSH of a prologue stands. One look-up.
     pub fn saves_at(&self, a: u32) -> u16
-        ensures spot { result ≡ (look self.now.spots a).saves }
-        ensures saves { (f : Range) (m : Marks) → Contains self.now.image.functions f → AreMarks (scene_of self.now.image f) m → is_inside a f ≡ true → result ≡ saves_at (scene_of self.now.image f) m a }
+        ensures role { result ≡ (look self.now.roles a).saves }
+        ensures saves { (f : Range) (m : Marks) → Contains self.now.image.functions f → AreMarks (flow_graph_of self.now.image f) m → is_inside a f ≡ true → result ≡ saves_at (flow_graph_of self.now.image f) m a }
         ensures none { ((f : Range) → Contains self.now.image.functions f → is_inside a f ≡ true → ⊥) → result ≡ 0 }
     {
-        self.spots.look(a).saves
+        self.roles.look(a).saves
     }
 
     /// What every accepted image has.

@@ -2,16 +2,16 @@
 ghost use Rattle.std.specs.Prelude.{◌≡◌, ◌≢◌, ◌<◌, All, IfOk, IfErr, OnOk};
 ghost use Rattle.eh_types.specs.Meant.{IsGraph};
 ghost use Rattle.frame_check.specs.declared.fault.CheckFault.TheVariants.{OutOfMemory as NoMemory};
-ghost use Rattle.frame_check.specs.Roots.{scene_of, roots_of};
-ghost use Rattle.frame_check.specs.Accepts.{AreBytes, AreWell, AreSpots, IsSound, IsAccepted, Refuses};
+ghost use Rattle.frame_check.specs.Roots.{flow_graph_of, roots_of};
+ghost use Rattle.frame_check.specs.Accepts.{AreBytes, AreWell, AreRoles, IsSound, IsAccepted, Refuses};
 ghost use Rattle.frame_check.specs.Judged.{IsJudged, RefusesOne, RefusesFunctions, RefusesTypes, IsTaken, IsPlaced};
 
 use crate::accepted::Accepted;
 use crate::fault::{CheckFault, Rejected};
 use crate::judge::judge;
 use crate::marking::mark;
+use crate::roles::Roles;
 use crate::roots::roots_of;
-use crate::spots::Spots;
 use eh_index::Index;
 use eh_types::{TypeFault, TypeGraph};
 use eh_word::Name;
@@ -19,31 +19,31 @@ use elf_image::function::Function;
 use elf_image::image::Image;
 use elf_image::segment::Segment;
 use frame_flow::FrameFault;
-use frame_scene::{Cover, Scene};
+use frame_graph::{Cover, FlowGraph};
 use std::alloc::Global;
 
 /// What a run asks of an image that is accepted.
 #[derive(Drop)]
-struct Parts {
-    types: TypeGraph,
-    spots: Spots,
+struct Parts<'a> {
+    types: TypeGraph<'a>,
+    roles: Roles,
 }
 
 /// The refusal of a function.
-fn rejected(alloc: Global, scene: &Scene, f: &Function, fault: FrameFault) -> CheckFault
-    requires scene { scene.now ≡ scene_of scene.now.image f.now }
-    requires judged { IsJudged scene.now fault }
-    ensures { RefusesOne scene.now.image f.now result }
+fn rejected(alloc: Global, flow_graph: &FlowGraph, f: &Function, fault: FrameFault) -> CheckFault
+    requires flow_graph { flow_graph.now ≡ flow_graph_of flow_graph.now.image f.now }
+    requires judged { IsJudged flow_graph.now fault }
+    ensures { RefusesOne flow_graph.now.image f.now result }
 {
-    let _end = scene.end();
+    let _end = flow_graph.end();
     match fault {
         FrameFault::OutOfMemory => CheckFault::OutOfMemory,
         FrameFault::Stands(place, cause) => match Name::of(alloc, f.name) {
             Err(_) => CheckFault::OutOfMemory,
             Ok(function) => CheckFault::Function(Rejected {
                 function,
-                start: scene.start(),
-                at: scene.address_of(place),
+                start: flow_graph.start(),
+                at: flow_graph.address_of(place),
                 cause,
             }),
         },
@@ -53,42 +53,42 @@ fn rejected(alloc: Global, scene: &Scene, f: &Function, fault: FrameFault) -> Ch
 /// Checks a function, and marks its addresses where it is well. The cover keeps the entry of its start.
 fn check_function(
     alloc: Global,
-    spots: &mut Spots,
+    roles: &mut Roles,
     cover: &Cover,
     f: &Function,
 ) -> Result<(), CheckFault>
     requires { IsPlaced f.now }
-    ensures taken { OnOk result (IsTaken cover.now f.now spots.old spots.new) }
+    ensures taken { OnOk result (IsTaken cover.now f.now roles.old roles.new) }
     ensures refused { IfErr result (RefusesOne cover.now f.now) }
 {
-    let scene = Scene::under(cover, f.start, f.end);
-    match judge(alloc, &scene) {
-        Err(fault) => Err(rejected(alloc, &scene, f, fault)),
-        Ok(reached) => Ok(mark(alloc, spots, &scene, &reached)?),
+    let flow_graph = FlowGraph::under(cover, f.start, f.end);
+    match judge(alloc, &flow_graph) {
+        Err(fault) => Err(rejected(alloc, &flow_graph, f, fault)),
+        Ok(reached) => Ok(mark(alloc, roles, &flow_graph, &reached)?),
     }
 }
 
 /// Checks the functions, in rising order. An entry that covers several is read once.
-fn check_functions(alloc: Global, index: &Index) -> Result<Spots, CheckFault>
+fn check_functions(alloc: Global, index: &Index) -> Result<Roles, CheckFault>
     ensures well { OnOk result (AreWell index.now index.now.functions) }
-    ensures spots { IfOk result (AreSpots index.now index.now.functions) }
+    ensures roles { IfOk result (AreRoles index.now index.now.functions) }
     ensures refused { IfErr result (RefusesFunctions index.now) }
 {
-    let mut spots = Spots::new(alloc);
+    let mut roles = Roles::new(alloc);
     let mut cover = Cover::new(alloc, index);
     for f in index.image().functions() {
         let turned = cover.turned(alloc, f.start)?;
         cover = turned.around(alloc, f.start, f.end)?;
-        match check_function(alloc, &mut spots, &cover, f) {
+        match check_function(alloc, &mut roles, &cover, f) {
             Ok(()) => {}
             Err(fault) => return Err(fault),
         }
     }
-    Ok(spots)
+    Ok(roles)
 }
 
 /// The graph of the types.
-fn check_types(alloc: Global, index: &Index) -> Result<TypeGraph, CheckFault>
+fn check_types<'a>(alloc: Global, index: &Index<'_, 'a>) -> Result<TypeGraph<'a>, CheckFault>
     ensures graph { IfOk result (IsGraph index.now (roots_of index.now)) }
     ensures refused { IfErr result (RefusesTypes index.now) }
 {
@@ -124,17 +124,17 @@ fn hold_bytes(segments: &[Segment])
 }
 
 /// What a run asks of an image, where it is accepted.
-fn checked(alloc: Global, image: &Image) -> Result<Parts, CheckFault>
-    ensures sound { IfOk result (λ c. IsSound (record { image = image.now; types = c.types; spots = c.spots })) }
+fn checked<'a>(alloc: Global, image: &Image<'a>) -> Result<Parts<'a>, CheckFault>
+    ensures sound { IfOk result (λ c. IsSound (record { image = image.now; types = c.types; roles = c.roles })) }
     ensures refused { IfErr result (λ fault. fault ≢ NoMemory → Refuses image.now fault) }
 {
     match Index::read(image) {
         Err(fault) => Err(CheckFault::Index(fault)),
         Ok(index) => {
-            let spots = check_functions(alloc, &index)?;
+            let roles = check_functions(alloc, &index)?;
             let types = check_types(alloc, &index)?;
             hold_bytes(image.segments());
-            Ok(Parts { types, spots })
+            Ok(Parts { types, roles })
         }
     }
 }
@@ -149,10 +149,10 @@ pub fn check<'a>(alloc: Global, image: Image<'a>) -> Result<Accepted<'a>, CheckF
 {
     match checked(alloc, &image) {
         Err(fault) => Err(fault),
-        Ok(Parts { types, spots }) => Ok(Accepted {
+        Ok(Parts { types, roles }) => Ok(Accepted {
             image,
             types,
-            spots,
+            roles,
         }),
     }
 }

@@ -7,21 +7,21 @@ ghost use Rattle.frame_check.specs.Accepts.{StandsAtStart, IsWell, framed};
 ghost use Rattle.frame_check.specs.Judged.{IsClear, IsJudged};
 
 use frame_facts::FrameCause;
-use frame_flow::{FrameFault, Framed, settle};
+use frame_flow::{FrameFault, Framed, solve};
+use frame_graph::{FlowGraph, Unwinding};
 use frame_reach::{ReachFault, Reached, reach};
-use frame_scene::{Scene, Unwinding};
 use std::alloc::Global;
 
 /// What the entry shows that covers a function's start.
-fn entry_cause(scene: &Scene) -> Option<FrameCause>
-    ensures stands { IfSome result (StandsAtStart scene.now) }
-    ensures clear { IfNone result (IsClear scene.now) }
+fn entry_cause(flow_graph: &FlowGraph) -> Option<FrameCause>
+    ensures stands { IfSome result (StandsAtStart flow_graph.now) }
+    ensures clear { IfNone result (IsClear flow_graph.now) }
 {
-    match scene.unwinding_at(scene.start()) {
+    match flow_graph.unwinding_at(flow_graph.start()) {
         Unwinding::BadBytecode => Some(FrameCause::BadBytecode),
         Unwinding::GenericModel => Some(FrameCause::GenericModel),
         Unwinding::Finds(_) | Unwinding::Refused => {
-            if scene.has_fault(scene.start()) {
+            if flow_graph.has_fault(flow_graph.start()) {
                 Some(FrameCause::BadDescriptor)
             } else {
                 None
@@ -31,34 +31,34 @@ fn entry_cause(scene: &Scene) -> Option<FrameCause>
 }
 
 /// Whether a function whose places are marked is well.
-fn settled(alloc: Global, scene: &Scene, reached: &Reached) -> Result<(), FrameFault>
-    requires some { scene.now.start < scene.now.end }
-    requires marks { AreMarks scene.now (marks_of reached.now) }
-    ensures well { IfOk result (λ _. HasFacts (framed scene.now (marks_of reached.now))) }
-    ensures refused { IfErr result (IsJudged scene.now) }
+fn solved(alloc: Global, flow_graph: &FlowGraph, reached: &Reached) -> Result<(), FrameFault>
+    requires some { flow_graph.now.start < flow_graph.now.end }
+    requires marks { AreMarks flow_graph.now (marks_of reached.now) }
+    ensures well { IfOk result (λ _. HasFacts (framed flow_graph.now (marks_of reached.now))) }
+    ensures refused { IfErr result (IsJudged flow_graph.now) }
 {
-    let framed = Framed::new(scene, reached.prologue(scene), reached.pads());
-    settle(alloc, &framed)
+    let framed = Framed::new(flow_graph, reached.prologue(flow_graph), reached.pads());
+    solve(alloc, &framed)
 }
 
 /// The reached places of a function that is well, or a place with a cause that stands there.
-pub(crate) fn judge(alloc: Global, scene: &Scene) -> Result<Reached, FrameFault>
-    requires { scene.now.start < scene.now.end }
-    ensures marks { IfOk result (λ reached. AreMarks scene.now (marks_of reached)) }
-    ensures well { IfOk result (λ _. IsWell scene.now) }
-    ensures refused { IfErr result (IsJudged scene.now) }
+pub(crate) fn judge(alloc: Global, flow_graph: &FlowGraph) -> Result<Reached, FrameFault>
+    requires { flow_graph.now.start < flow_graph.now.end }
+    ensures marks { IfOk result (λ reached. AreMarks flow_graph.now (marks_of reached)) }
+    ensures well { IfOk result (λ _. IsWell flow_graph.now) }
+    ensures refused { IfErr result (IsJudged flow_graph.now) }
 {
-    if let Some(cause) = entry_cause(scene) {
+    if let Some(cause) = entry_cause(flow_graph) {
         return Err(FrameFault::Stands(0, cause));
     }
-    match reach(alloc, scene) {
+    match reach(alloc, flow_graph) {
         Err(ReachFault::TooLong) => Err(FrameFault::Stands(0, FrameCause::TooLong)),
         Err(ReachFault::OutOfMemory) => Err(FrameFault::OutOfMemory),
         Ok(reached) => {
-            if reached.splits(scene) {
+            if reached.splits(flow_graph) {
                 return Err(FrameFault::Stands(0, FrameCause::SplitEntry));
             }
-            settled(alloc, scene, &reached)?;
+            solved(alloc, flow_graph, &reached)?;
             Ok(reached)
         }
     }

@@ -9,11 +9,11 @@ mod judge;
 pub mod laws;
 mod marking;
 pub mod pushes;
+pub mod roles;
 pub mod roots;
-pub mod spots;
 mod walk;
 
 pub use accepted::Accepted;
 pub use checking::check;
 pub use fault::{CheckFault, Rejected};
-pub use spots::Spot;
+pub use roles::Role;

@@ -1,4 +1,4 @@
-//! What a run asks of the addresses of a function, put into the spots. docs/checking.md, "Look-ups".
+//! What a run asks of the addresses of a function, put into the roles. docs/checking.md, "Look-ups".
 ghost use Rattle.std.specs.Prelude.{◌≡◌, ℕ, ◌+◌, ◌*◌, ◌%◌, ◌^◌, ◌<◌, ◌≤◌, All, Contains, OnOk};
 ghost use Rattle.frame_reach.specs.Marks.{AreMarks};
 ghost use Rattle.frame_reach.specs.Held.{marks_of};
@@ -6,61 +6,61 @@ ghost use Rattle.frame_check.specs.declared.pushes.Pushed.{Pushed as Push};
 ghost use Rattle.frame_check.specs.Marking.{with_instr, with_start, with_saves, Turned, AreInstrs, AreSaved, IsMarked};
 
 use crate::pushes::Pushed;
-use crate::spots::Spots;
+use crate::roles::Roles;
 use crate::walk::pushes_of;
+use frame_graph::FlowGraph;
 use frame_reach::Reached;
-use frame_scene::Scene;
 use std::alloc::{AllocError, Global};
 
 /// Marks an address as a checked instruction.
-fn mark_instr(spots: &mut Spots, a: u32) -> Result<(), AllocError>
+fn mark_instr(roles: &mut Roles, a: u32) -> Result<(), AllocError>
     requires { a % 2 ≡ 0 }
-    ensures { OnOk result (Turned with_instr a spots.old spots.new) }
+    ensures { OnOk result (Turned with_instr a roles.old roles.new) }
 {
-    let mut spot = spots.look(a);
-    spot.is_instr = true;
-    spots.put(a, spot)
+    let mut role = roles.look(a);
+    role.is_instr = true;
+    roles.put(a, role)
 }
 
 /// Marks an address as a function's start.
-fn mark_start(spots: &mut Spots, a: u32) -> Result<(), AllocError>
+fn mark_start(roles: &mut Roles, a: u32) -> Result<(), AllocError>
     requires { a % 2 ≡ 0 }
-    ensures { OnOk result (Turned with_start a spots.old spots.new) }
+    ensures { OnOk result (Turned with_start a roles.old roles.new) }
 {
-    let mut spot = spots.look(a);
-    spot.is_function = true;
-    spots.put(a, spot)
+    let mut role = roles.look(a);
+    role.is_function = true;
+    roles.put(a, role)
 }
 
 /// Marks the saves of a PUSH.
-fn mark_push(spots: &mut Spots, push: &Pushed) -> Result<(), AllocError>
+fn mark_push(roles: &mut Roles, push: &Pushed) -> Result<(), AllocError>
     requires { push.now.at % 2 ≡ 0 }
-    ensures { OnOk result (Turned (with_saves push.now.saves) push.now.at spots.old spots.new) }
+    ensures { OnOk result (Turned (with_saves push.now.saves) push.now.at roles.old roles.new) }
 {
-    let mut spot = spots.look(push.at);
-    spot.saves = push.saves;
-    spots.put(push.at, spot)
+    let mut role = roles.look(push.at);
+    role.saves = push.saves;
+    roles.put(push.at, role)
 }
 
 /// Marks places of a function as checked instructions.
-fn mark_places(spots: &mut Spots, scene: &Scene, places: &[u32]) -> Result<(), AllocError>
-    requires even { scene.now.start % 2 ≡ 0 }
-    requires low { (p : ℕ) → Contains places.now p → scene.now.start + 2 * p < 2 ^ 32 }
-    ensures { OnOk result (AreInstrs scene.now places.now spots.old spots.new) }
+fn mark_places(roles: &mut Roles, flow_graph: &FlowGraph, places: &[u32]) -> Result<(), AllocError>
+    requires even { flow_graph.now.start % 2 ≡ 0 }
+    requires low { (p : ℕ) → Contains places.now p → flow_graph.now.start + 2 * p < 2 ^ 32 }
+    ensures { OnOk result (AreInstrs flow_graph.now places.now roles.old roles.new) }
 {
     for place in places {
-        mark_instr(spots, scene.address_of(*place))?;
+        mark_instr(roles, flow_graph.address_of(*place))?;
     }
     Ok(())
 }
 
 /// Marks the saves of PUSHes.
-fn mark_pushes(spots: &mut Spots, pushes: &[Pushed]) -> Result<(), AllocError>
+fn mark_pushes(roles: &mut Roles, pushes: &[Pushed]) -> Result<(), AllocError>
     requires { All (λ (x : Push). x.at % 2 ≡ 0) pushes.now }
-    ensures { OnOk result (AreSaved pushes.now spots.old spots.new) }
+    ensures { OnOk result (AreSaved pushes.now roles.old roles.new) }
 {
     for push in pushes {
-        mark_push(spots, push)?;
+        mark_push(roles, push)?;
     }
     Ok(())
 }
@@ -68,19 +68,19 @@ fn mark_pushes(spots: &mut Spots, pushes: &[Pushed]) -> Result<(), AllocError>
 /// Marks the checked instructions of a function, its start, and its prologue's saves.
 pub(crate) fn mark(
     alloc: Global,
-    spots: &mut Spots,
-    scene: &Scene,
+    roles: &mut Roles,
+    flow_graph: &FlowGraph,
     reached: &Reached,
 ) -> Result<(), AllocError>
-    requires even { scene.now.start % 2 ≡ 0 }
-    requires some { scene.now.start < scene.now.end }
-    requires low { scene.now.end + 4 ≤ 2 ^ 32 }
-    requires marks { AreMarks scene.now (marks_of reached.now) }
-    ensures { OnOk result (IsMarked scene.now (marks_of reached.now) spots.old spots.new) }
+    requires even { flow_graph.now.start % 2 ≡ 0 }
+    requires some { flow_graph.now.start < flow_graph.now.end }
+    requires low { flow_graph.now.end + 4 ≤ 2 ^ 32 }
+    requires marks { AreMarks flow_graph.now (marks_of reached.now) }
+    ensures { OnOk result (IsMarked flow_graph.now (marks_of reached.now) roles.old roles.new) }
 {
-    let _end = scene.end();
-    mark_places(spots, scene, reached.places())?;
-    mark_start(spots, scene.start())?;
-    let pushes = pushes_of(alloc, scene, reached)?;
-    mark_pushes(spots, &pushes)
+    let _end = flow_graph.end();
+    mark_places(roles, flow_graph, reached.places())?;
+    mark_start(roles, flow_graph.start())?;
+    let pushes = pushes_of(alloc, flow_graph, reached)?;
+    mark_pushes(roles, &pushes)
 }

@@ -80,7 +80,7 @@ fn word_bits(p: &Prologue, lowest: u32, words: u32) -> u16
     bits
 }
 
-/// Adds an instruction that stands behind a run, where it is a PUSH.
+/// Adds an instruction that stands after a run, where it is a PUSH.
 pub(crate) fn add_push(
     pushes: &mut Vec<Pushed>,
     p: &Prologue,

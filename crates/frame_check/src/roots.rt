@@ -128,7 +128,7 @@ fn add_other(
     }
 }
 
-/// The types that the descriptors of an image's functions name, function by function, and behind them its type symbols. An entry that
+/// The types that the descriptors of an image's functions name, function by function, and after them its type symbols. An entry that
 /// covers several functions is looked at once.
 #[tactic(auto, unfolding(crate::specs::Roots::roots_of))]
 pub fn roots_of(alloc: Global, index: &Index) -> Result<Vec<u32>, AllocError>

@@ -6,25 +6,25 @@ ghost use Rattle.frame_check.specs.Pushes.{pushes_of};
 
 use crate::pushes::{Pushed, add_push};
 use frame_facts::straight::Straight;
+use frame_graph::FlowGraph;
 use frame_reach::Reached;
 use frame_reach::prologue::places;
-use frame_scene::Scene;
 use std::alloc::{AllocError, Global};
 
 /// The PUSHes of a function's prologue, in their order.
 pub(crate) fn pushes_of(
     alloc: Global,
-    scene: &Scene,
+    flow_graph: &FlowGraph,
     reached: &Reached,
 ) -> Result<Vec<Pushed>, AllocError>
-    ensures { IfOk result (λ pushes. pushes.items ≡ pushes_of (prologue scene.now (marks_of reached.now)) scene.now.start (lines scene.now (marks_of reached.now).target (places scene.now) 0)) }
+    ensures { IfOk result (λ pushes. pushes.items ≡ pushes_of (prologue flow_graph.now (marks_of reached.now)) flow_graph.now.start (lines flow_graph.now (marks_of reached.now).target (places flow_graph.now) 0)) }
 {
-    let p = reached.prologue(scene);
+    let p = reached.prologue(flow_graph);
     let mut pushes = Vec::new(alloc);
-    let mut run = Straight::begin(scene.start());
+    let mut run = Straight::begin(flow_graph.start());
     let mut place = 0;
-    for step in 0..places(scene) {
-        let Some((i, size)) = reached.line_at(scene, place) else {
+    for step in 0..places(flow_graph) {
+        let Some((i, size)) = reached.line_at(flow_graph, place) else {
             return Ok(pushes);
         };
         let Some(next) = run.taken(&i, size) else {

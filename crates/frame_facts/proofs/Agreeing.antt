@@ -18,8 +18,8 @@ use Rattle.frame_facts.specs.declared.saves.Prologue.{Prologue}
 use Rattle.frame_facts.specs.Facts.{source, is_entry, IsVaguer, IsAtMost}
 use Rattle.frame_facts.specs.Saves.{word}
 use Rattle.frame_facts.specs.Branches.{call_changes}
-use Rattle.frame_facts.specs.Agrees.{at_site, place_of, base_at, is_lost, word_from, found, lies_whole, in_frame, gives_cfa, gives, has_no_room, fails, answer, agreed}
-use Rattle.frame_facts.proofs.Vaguer.{source_vaguer, forgotten_vaguer}
+use Rattle.frame_facts.specs.Agrees.{at_site, stack_place, base_at, is_lost, word_from, source_found, lies_whole, in_frame, gives_cfa, gives, has_no_room, fails, answer, agreed}
+use Rattle.frame_facts.proofs.Vaguer.{source_vaguer, clobbered_vaguer}
 use Rattle.frame_facts.proofs.Following.{word_vaguer, entry_vaguer}
 
 module _ (p : Prologue) (r : Recipe) (is_call : Bool) (f here : Fact) where
@@ -38,12 +38,12 @@ agreed_fails p r is_call f here reg e some = sym (ap (λ o. answer o (is_lost r 
 -- ---- on a fact that is less vague
 
 site_vaguer : (is_call : Bool) (f g : Fact) → IsAtMost f g → IsAtMost (at_site is_call f) (at_site is_call g)
-site_vaguer true f g x = forgotten_vaguer call_changes f g x
+site_vaguer true f g x = clobbered_vaguer call_changes f g x
 site_vaguer false f g x = x
 
-place_follows : (s t : Source) (k : ℕ) → IsVaguer s t → place_of t ≡ Some k → place_of s ≡ Some k
-place_follows s t k (inl e) h = ap place_of e ∙ h
-place_follows s t k (inr e) h = absurd (none-some k (sym (ap place_of e) ∙ h))
+place_follows : (s t : Source) (k : ℕ) → IsVaguer s t → stack_place t ≡ Some k → stack_place s ≡ Some k
+place_follows s t k (inl e) h = ap stack_place e ∙ h
+place_follows s t k (inr e) h = absurd (none-some k (sym (ap stack_place e) ∙ h))
 
 sp_follows : (a b : Bool) (d d' k : ℕ) → (IsTrue a → IsTrue b) → d ≡ d' → cond b None (Some d') ≡ Some k → cond a None (Some d) ≡ Some k
 sp_follows a true d d' k h e is = absurd (none-some k is)
@@ -56,7 +56,7 @@ some_either false o o' u u' k v w = w
 
 base_follows : (f g : Fact) (base k : ℕ) → IsAtMost f g → base_at g base ≡ Some k → base_at f base ≡ Some k
 base_follows f g base k x =
-    some_either (eqb base 13) (cond f.below None (Some f.depth)) (cond g.below None (Some g.depth)) (place_of (source f base)) (place_of (source g base)) k
+    some_either (eqb base 13) (cond f.below None (Some f.depth)) (cond g.below None (Some g.depth)) (stack_place (source f base)) (stack_place (source g base)) k
     (sp_follows f.below g.below f.depth g.depth k x.below x.depth) (place_follows (source f base) (source g base) k (source_vaguer f g base x))
 
 lost_follows : (r : Recipe) (f g : Fact) → IsAtMost f g → is_lost r g ≡ false → is_lost r f ≡ false
@@ -74,7 +74,7 @@ from_vaguer p f g base offset x = split (base_at g base) refl
     split None e = inr refl
     split (Some k) e = subst (λ o. IsVaguer (word_from p f o offset) (word p g.kept k offset)) (sym (base_follows f g base k x e)) (word_vaguer p f.kept g.kept k offset x.kept)
 
-found_vaguer : (p : Prologue) (r : Recipe) (f g : Fact) (reg : ℕ) (src : Src) → IsAtMost f g → IsVaguer (found p r f reg src) (found p r g reg src)
+found_vaguer : (p : Prologue) (r : Recipe) (f g : Fact) (reg : ℕ) (src : Src) → IsAtMost f g → IsVaguer (source_found p r f reg src) (source_found p r g reg src)
 found_vaguer p r f g reg Same x = source_vaguer f g (cond (eqb reg 15) 14 reg) x
 found_vaguer p r f g reg (FromSp offset) x = from_vaguer p f g 13 offset x
 found_vaguer p r f g reg (FromBase offset) x = from_vaguer p f g r.base offset x
@@ -107,14 +107,14 @@ gives_follows p r f g reg x =
     let src = get_or r.src reg Same in
     let seen = found_vaguer p r f g reg src x in
     true_either (eqb reg 13) (gives_cfa r f) (gives_cfa r g)
-    (cond (eqb reg 15) (is_entry 14 (found p r f reg src)) (cond (leb 4 reg && ltb reg 12) (is_entry reg (found p r f reg src)) (in_frame r f src)))
-    (cond (eqb reg 15) (is_entry 14 (found p r g reg src)) (cond (leb 4 reg && ltb reg 12) (is_entry reg (found p r g reg src)) (in_frame r g src)))
+    (cond (eqb reg 15) (is_entry 14 (source_found p r f reg src)) (cond (leb 4 reg && ltb reg 12) (is_entry reg (source_found p r f reg src)) (in_frame r f src)))
+    (cond (eqb reg 15) (is_entry 14 (source_found p r g reg src)) (cond (leb 4 reg && ltb reg 12) (is_entry reg (source_found p r g reg src)) (in_frame r g src)))
     (cfa_follows r f g x)
-    (true_either (eqb reg 15) (is_entry 14 (found p r f reg src)) (is_entry 14 (found p r g reg src))
-    (cond (leb 4 reg && ltb reg 12) (is_entry reg (found p r f reg src)) (in_frame r f src)) (cond (leb 4 reg && ltb reg 12) (is_entry reg (found p r g reg src)) (in_frame r g src))
-    (entry_vaguer 14 (found p r f reg src) (found p r g reg src) seen)
-    (true_either (leb 4 reg && ltb reg 12) (is_entry reg (found p r f reg src)) (is_entry reg (found p r g reg src)) (in_frame r f src) (in_frame r g src)
-    (entry_vaguer reg (found p r f reg src) (found p r g reg src) seen) (frame_follows r f g src x)))
+    (true_either (eqb reg 15) (is_entry 14 (source_found p r f reg src)) (is_entry 14 (source_found p r g reg src))
+    (cond (leb 4 reg && ltb reg 12) (is_entry reg (source_found p r f reg src)) (in_frame r f src)) (cond (leb 4 reg && ltb reg 12) (is_entry reg (source_found p r g reg src)) (in_frame r g src))
+    (entry_vaguer 14 (source_found p r f reg src) (source_found p r g reg src) seen)
+    (true_either (leb 4 reg && ltb reg 12) (is_entry reg (source_found p r f reg src)) (is_entry reg (source_found p r g reg src)) (in_frame r f src) (in_frame r g src)
+    (entry_vaguer reg (source_found p r f reg src) (source_found p r g reg src) seen) (frame_follows r f g src x)))
 
 -- where the frame pointer is known, a register that is fine stays so
 fails_follows : (p : Prologue) (r : Recipe) (is_call : Bool) (f g : Fact) (reg : ℕ) → IsAtMost f g → is_lost r g ≡ false → fails p r is_call g reg ≡ false → fails p r is_call f reg ≡ false

@@ -18,10 +18,10 @@ use Rattle.frame_facts.specs.declared.facts.Source.{Source}
 use Rattle.frame_facts.specs.declared.facts.Source.TheVariants.{Entry, SpAt, Other}
 use Rattle.frame_facts.specs.declared.facts.Fact.{Fact}
 use Rattle.frame_facts.specs.declared.facts.TheConstants.{DEEPEST}
-use Rattle.frame_facts.specs.Facts.{source, slot, with_source, lost, forgotten, sp_at, sp_plus, moved}
+use Rattle.frame_facts.specs.Facts.{source, slot, with_source, lost, clobbered, sp_at, sp_plus, shifted}
 use Rattle.frame_facts.specs.Shifts.{shift_imm}
 use Rattle.frame_facts.specs.Data.{add_sub_imm3, imm8, alu, copied, sp_set}
-use Rattle.frame_facts.specs.Machine.{Means, Describes, IsRoomy, DataIsDescribed, MovesAreDescribed, ForgettingIsDescribed}
+use Rattle.frame_facts.specs.Machine.{Means, Describes, IsRoomy, DataIsDescribed, MovesAreDescribed, ClobberingIsDescribed}
 
 -- ---- places of registers
 
@@ -71,8 +71,8 @@ module _ (entry : ℕ → ℕ) (cfa : ℕ) where
     sp = λ b. ap (λ r. get_or r 13 0 + f.depth) is ∙ x.sp b;
   }
 
-  forgets : (f : Fact) (regs : Regs) (d : ℕ) → d < 8 → Describes entry cfa f regs → Describes entry cfa (lost d f) regs
-  forgets f regs d low x = record {
+  clobbers : (f : Fact) (regs : Regs) (d : ℕ) → d < 8 → Describes entry cfa f regs → Describes entry cfa (lost d f) regs
+  clobbers f regs d low x = record {
     long = length-set f.regs (slot d) Other ∙ x.long;
     sources = λ k. ⊎_elim
         (λ (e : k ≡ d). subst (λ j. Means entry cfa (source (lost d f) j) (reg regs j)) (sym e)
@@ -103,7 +103,7 @@ module _ (entry : ℕ → ℕ) (cfa : ℕ) where
       split true e = h n refl (leb-true n DEEPEST e)
       split false e = tt
 
-  moved_means : (sub : Bool) (imm : ℕ) (s : Source) (v w : ℕ) → DEEPEST ≤ cfa → cfa < 2 ^ 32 → v < 2 ^ 32 → w ≡ (sum_or_difference sub v imm).value % 2 ^ 32 → Means entry cfa s v → Means entry cfa (moved sub imm s) w
+  moved_means : (sub : Bool) (imm : ℕ) (s : Source) (v w : ℕ) → DEEPEST ≤ cfa → cfa < 2 ^ 32 → v < 2 ^ 32 → w ≡ (sum_or_difference sub v imm).value % 2 ^ 32 → Means entry cfa s v → Means entry cfa (shifted sub imm s) w
   moved_means sub imm (Entry k) v w room top l e m = tt
   moved_means sub imm Other v w room top l e m = tt
   moved_means true imm (SpAt o) v w room top l e m = at_place (pos o +ℤ pos imm) w (λ n z deep. let sum : o + imm ≡ n = omega (arith, ints, z) in omega (arith, room, top, l, e, m, sum, deep))
@@ -114,10 +114,10 @@ module _ (entry : ℕ → ℕ) (cfa : ℕ) where
   same_value false imm v e = omega (arith, e)
 
   imm3_described : (sub : Bool) (d n imm : ℕ) (f : Fact) (regs new : Regs) → d < 8 → IsRoomy cfa regs → Describes entry cfa f regs → new.r ≡ set regs.r d (word_in d (sum_or_difference sub (reg regs n) imm).value)
-      → Describes entry cfa (with_source f d (cond (eqb imm 0) (source f n) (moved sub imm (source f n)))) new
-  imm3_described sub d n imm f regs new low roomy x is = written f regs new d (cond (eqb imm 0) (source f n) (moved sub imm (source f n))) (word_in d (sum_or_difference sub (reg regs n) imm).value) low roomy x is (split (eqb imm 0) refl)
+      → Describes entry cfa (with_source f d (cond (eqb imm 0) (source f n) (shifted sub imm (source f n)))) new
+  imm3_described sub d n imm f regs new low roomy x is = written f regs new d (cond (eqb imm 0) (source f n) (shifted sub imm (source f n))) (word_in d (sum_or_difference sub (reg regs n) imm).value) low roomy x is (split (eqb imm 0) refl)
     where
-      split : (b : Bool) → eqb imm 0 ≡ b → Means entry cfa (cond b (source f n) (moved sub imm (source f n))) (word_in d (sum_or_difference sub (reg regs n) imm).value)
+      split : (b : Bool) → eqb imm 0 ≡ b → Means entry cfa (cond b (source f n) (shifted sub imm (source f n))) (word_in d (sum_or_difference sub (reg regs n) imm).value)
       split true e = kept (source f n) (reg regs n) (word_in d (sum_or_difference sub (reg regs n) imm).value) (roomy.words n) (low_word d (sum_or_difference sub (reg regs n) imm).value low ∙ same_value sub imm (reg regs n) (eqb-true imm 0 e)) (x.sources n)
       split false e = moved_means sub imm (source f n) (reg regs n) (word_in d (sum_or_difference sub (reg regs n) imm).value) roomy.room roomy.top (roomy.words n) (low_word d (sum_or_difference sub (reg regs n) imm).value low) (x.sources n)
 
@@ -135,7 +135,7 @@ module _ (entry : ℕ → ℕ) (cfa : ℕ) where
 
   maybe_described : (b : Bool) (d w : ℕ) (f : Fact) (regs new : Regs) → d < 8 → IsRoomy cfa regs → Describes entry cfa f regs → new.r ≡ cond b (set regs.r d w) regs.r → Describes entry cfa (lost d f) new
   maybe_described true d w f regs new low roomy x is = untold f regs new d w low roomy x is
-  maybe_described false d w f regs new low roomy x is = unchanged (lost d f) regs new (forgets f regs d low x) is
+  maybe_described false d w f regs new low roomy x is = unchanged (lost d f) regs new (clobbers f regs d low x) is
 
   unwritten : (op x y : ℕ) (regs : Regs) → (eqb op 8 || eqb op 10 || eqb op 11) ≡ true → (alu_of op x y regs).written ≡ false
   unwritten op x y regs e = split (eqb op 8) (eqb op 10) (eqb op 11) refl refl refl e
@@ -167,20 +167,20 @@ module _ (entry : ℕ → ℕ) (cfa : ℕ) where
   imm8_described : (op d imm : ℕ) (f : Fact) (regs : Regs) → d < 8 → IsRoomy cfa regs → Describes entry cfa f regs → Describes entry cfa (imm8 op d imm f) (data_effect (Imm8 op d imm) regs)
   imm8_described op d imm f regs low roomy x = split (eqb op 0) (eqb op 1) (eqb op 2)
     where
-      raised : (sub : Bool) (new : Regs) → new.r ≡ set regs.r d (word_in d (sum_or_difference sub (reg regs d) imm).value) → Describes entry cfa (with_source f d (moved sub imm (source f d))) new
+      raised : (sub : Bool) (new : Regs) → new.r ≡ set regs.r d (word_in d (sum_or_difference sub (reg regs d) imm).value) → Describes entry cfa (with_source f d (shifted sub imm (source f d))) new
       raised sub new is =
-          written f regs new d (moved sub imm (source f d)) (word_in d (sum_or_difference sub (reg regs d) imm).value) low roomy x is
+          written f regs new d (shifted sub imm (source f d)) (word_in d (sum_or_difference sub (reg regs d) imm).value) low roomy x is
           (moved_means sub imm (source f d) (reg regs d) (word_in d (sum_or_difference sub (reg regs d) imm).value) roomy.room roomy.top (roomy.words d) (low_word d (sum_or_difference sub (reg regs d) imm).value low) (x.sources d))
 
       split : (a b c : Bool)
-          → Describes entry cfa (cond a (lost d f) (cond b f (with_source f d (moved (not c) imm (source f d)))))
+          → Describes entry cfa (cond a (lost d f) (cond b f (with_source f d (shifted (not c) imm (source f d)))))
           (cond a (with_value d imm regs) (cond b (with_flags regs (difference_of (reg regs d) imm)) (cond c (with_sum d (sum_of (reg regs d) imm 0) regs) (with_sum d (difference_of (reg regs d) imm) regs))))
       split true b c = untold f regs (with_value d imm regs) d (word_in d imm) low roomy x refl
       split false true c = unchanged f regs (with_flags regs (difference_of (reg regs d) imm)) x refl
       split false false true = raised false (with_sum d (sum_of (reg regs d) imm 0) regs) refl
       split false false false = raised true (with_sum d (difference_of (reg regs d) imm) regs) refl
 
--- the instructions, one by one: which register, and the fact behind
+-- the instructions, one by one: which register, and the fact after
 for_d : (P : ℕ → Type 0) (d d' : ℕ) → (let o : Option ℕ = Some d in o) ≡ Some d' → P d' → P d
 for_d P d d' e h = subst P (sym (same_Some d d' e)) h
 
@@ -251,29 +251,29 @@ lost_cases f r k = ⊎_elim
 differs : (a b : ℕ) → (b ≡ a → ⊥) → eqb a b ≡ false
 differs a b n = ⊎_elim (λ (e : eqb a b ≡ true). absurd (n (sym (eqb-true a b e)))) (λ (e : eqb a b ≡ false). e) (cases_Bool (eqb a b))
 
-forgotten_cases : (xs : List ℕ) (f : Fact) (k : ℕ) → (source (forgotten xs f) k ≡ Other) ⊎ ((source (forgotten xs f) k ≡ source f k) × (list_any (λ j. eqb j k) xs ≡ false))
-forgotten_cases [] f k = inr (refl, refl)
-forgotten_cases (r ∷ xs) f k = ⊎_elim
-    (λ (e : source (forgotten xs (lost r f)) k ≡ Other). inl e)
-    (λ (w : (source (forgotten xs (lost r f)) k ≡ source (lost r f) k) × (list_any (λ j. eqb j k) xs ≡ false)). ⊎_elim
+clobbered_cases : (xs : List ℕ) (f : Fact) (k : ℕ) → (source (clobbered xs f) k ≡ Other) ⊎ ((source (clobbered xs f) k ≡ source f k) × (list_any (λ j. eqb j k) xs ≡ false))
+clobbered_cases [] f k = inr (refl, refl)
+clobbered_cases (r ∷ xs) f k = ⊎_elim
+    (λ (e : source (clobbered xs (lost r f)) k ≡ Other). inl e)
+    (λ (w : (source (clobbered xs (lost r f)) k ≡ source (lost r f) k) × (list_any (λ j. eqb j k) xs ≡ false)). ⊎_elim
     (λ (e : source (lost r f) k ≡ Other). inl (w.0 ∙ e))
     (λ (v : (source (lost r f) k ≡ source f k) × (k ≡ r → ⊥)). inr (w.0 ∙ v.0, ap (λ b. b || list_any (λ j. eqb j k) xs) (differs r k v.1) ∙ w.1))
     (lost_cases f r k))
-    (forgotten_cases xs (lost r f) k)
+    (clobbered_cases xs (lost r f) k)
 
-forgotten_same : (xs : List ℕ) (f : Fact) → (length (forgotten xs f).regs ≡ length f.regs) × ((forgotten xs f).below ≡ f.below) × ((forgotten xs f).depth ≡ f.depth)
-forgotten_same [] f = (refl, refl, refl)
-forgotten_same (r ∷ xs) f = let w = forgotten_same xs (lost r f) in (w.0 ∙ length-set f.regs (slot r) Other, w.1, w.2)
+clobbered_same : (xs : List ℕ) (f : Fact) → (length (clobbered xs f).regs ≡ length f.regs) × ((clobbered xs f).below ≡ f.below) × ((clobbered xs f).depth ≡ f.depth)
+clobbered_same [] f = (refl, refl, refl)
+clobbered_same (r ∷ xs) f = let w = clobbered_same xs (lost r f) in (w.0 ∙ length-set f.regs (slot r) Other, w.1, w.2)
 
-pub forgetting_described : ForgettingIsDescribed
-forgetting_described entry cfa xs f regs new x same keeps =
-    let w = forgotten_same xs f in
+pub clobbering_described : ClobberingIsDescribed
+clobbering_described entry cfa xs f regs new x same keeps =
+    let w = clobbered_same xs f in
     record {
       long = w.0 ∙ x.long;
       sources = λ k. ⊎_elim
-          (λ (e : source (forgotten xs f) k ≡ Other). subst (λ s. Means entry cfa s (reg new k)) (sym e) tt)
-          (λ (v : (source (forgotten xs f) k ≡ source f k) × (list_any (λ j. eqb j k) xs ≡ false)).
+          (λ (e : source (clobbered xs f) k ≡ Other). subst (λ s. Means entry cfa s (reg new k)) (sym e) tt)
+          (λ (v : (source (clobbered xs f) k ≡ source f k) × (list_any (λ j. eqb j k) xs ≡ false)).
           subst (λ s. Means entry cfa s (reg new k)) (sym v.0) (subst (λ u. Means entry cfa (source f k) u) (sym (same k v.1)) (x.sources k)))
-          (forgotten_cases xs f k);
+          (clobbered_cases xs f k);
       sp = λ b. omega (arith, same 13 keeps, w.2, x.sp (sym w.1 ∙ b));
     }

@@ -17,7 +17,7 @@ use Rattle.frame_facts.specs.declared.facts.Fact.{Fact}
 use Rattle.frame_facts.specs.declared.facts.TheConstants.{DEEPEST}
 use Rattle.frame_facts.specs.declared.saves.Save.{Save}
 use Rattle.frame_facts.specs.declared.saves.Prologue.{Prologue}
-use Rattle.frame_facts.specs.Facts.{source, with_source, lost, forgotten, within, sp_plus, moved, entered, join_of, known, height, IsFit}
+use Rattle.frame_facts.specs.Facts.{source, with_source, lost, clobbered, within, sp_plus, shifted, entered, join_of, known, height, IsFit}
 use Rattle.frame_facts.specs.Saves.{saves_within, stack_word, moved_to, to_depth}
 use Rattle.frame_facts.specs.Shifts.{shift_imm}
 use Rattle.frame_facts.specs.Data.{add_sub_imm3, imm8, alu, copied, sp_set, mov_high}
@@ -37,9 +37,9 @@ with_fits n f reg s x = record { depth = x.depth; kept = x.kept; long = length-s
 lost_fits : (n : ℕ) (f : Fact) (reg : ℕ) → IsFit n f → IsFit n (lost reg f)
 lost_fits n f reg x = with_fits n f reg Other x
 
-pub forgotten_fits : (n : ℕ) (regs : List ℕ) (f : Fact) → IsFit n f → IsFit n (forgotten regs f)
-forgotten_fits n [] f x = x
-forgotten_fits n (reg ∷ more) f x = forgotten_fits n more (lost reg f) (lost_fits n f reg x)
+pub clobbered_fits : (n : ℕ) (regs : List ℕ) (f : Fact) → IsFit n f → IsFit n (clobbered regs f)
+clobbered_fits n [] f x = x
+clobbered_fits n (reg ∷ more) f x = clobbered_fits n more (lost reg f) (lost_fits n f reg x)
 
 pub join_fits : (n : ℕ) (a b c : Fact) → IsFit n a → join_of a b ≡ Some c → IsFit n c
 join_fits n a b c x h = subst (λ f. IsFit n f) (join_is a b c h).1 (let r : IsFit n (joined a b) = record { depth = x.depth; kept = omega (arith, x.kept); long = met_length a.regs b.regs ∙ x.long } in r)
@@ -125,16 +125,16 @@ effect_fits : (p : Prologue) (lowers : Bool) (at : ℕ) (i : Instr) (f : Fact) �
 effect_fits p lowers at (ShiftImm op d m n) f x =
     always p.count (shift_imm op d m n f) (pick_fact p.count (eqb op 0 && eqb n 0) (with_source f d (source f m)) (lost d f) (with_fits p.count f d (source f m) x) (lost_fits p.count f d x))
 effect_fits p lowers at (AddSubReg sub d n m) f x = always p.count (lost d f) (lost_fits p.count f d x)
-effect_fits p lowers at (AddSubImm3 sub d n imm) f x = always p.count (add_sub_imm3 sub d n imm f) (with_fits p.count f d (cond (eqb imm 0) (source f n) (moved sub imm (source f n))) x)
+effect_fits p lowers at (AddSubImm3 sub d n imm) f x = always p.count (add_sub_imm3 sub d n imm f) (with_fits p.count f d (cond (eqb imm 0) (source f n) (shifted sub imm (source f n))) x)
 effect_fits p lowers at (Imm8 op d imm) f x =
-    let t = moved (not (eqb op 2)) imm (source f d) in
+    let t = shifted (not (eqb op 2)) imm (source f d) in
     always p.count (imm8 op d imm f) (pick_fact p.count (eqb op 0) (lost d f) (cond (eqb op 1) f (with_source f d t)) (lost_fits p.count f d x) (pick_fact p.count (eqb op 1) f (with_source f d t) x (with_fits p.count f d t x)))
 effect_fits p lowers at (Alu op d m) f x = always p.count (alu op d f) (pick_fact p.count (eqb op 8 || eqb op 10 || eqb op 11) f (lost d f) x (lost_fits p.count f d x))
 effect_fits p lowers at (AddHigh d m) f x = pick p.count (eqb d 13) None (Some (lost d f)) (never p.count) (always p.count (lost d f) (lost_fits p.count f d x))
 effect_fits p lowers at (CmpHigh n m) f x = always p.count f x
 effect_fits p lowers at (MovHigh d m) f x = mov_high_fits p lowers d m f x
 effect_fits p lowers at (Bx m) f x = always p.count f x
-effect_fits p lowers at (Blx m) f x = always p.count (forgotten call_changes f) (forgotten_fits p.count call_changes f x)
+effect_fits p lowers at (Blx m) f x = always p.count (clobbered call_changes f) (clobbered_fits p.count call_changes f x)
 effect_fits p lowers at (LdrLit t off) f x = always p.count (lost t f) (lost_fits p.count f t x)
 effect_fits p lowers at (MemReg op t n m) f x = always p.count (mem_reg op t f) (pick_fact p.count (ltb op 3) f (lost t f) x (lost_fits p.count f t x))
 effect_fits p lowers at (MemImm op t n off) f x = always p.count (mem_imm op t f) (pick_fact p.count (eqb op 1 || eqb op 3 || eqb op 5) (lost t f) f (lost_fits p.count f t x) x)
@@ -149,11 +149,11 @@ effect_fits p lowers at (Push list) f x = push_fits p at list f x
 effect_fits p lowers at (Pop list) f x = to_depth_fits p (pos f.depth -ℤ pos (4 * length (listed list))) (loaded p f 0 (listed list) f) (loaded_fits p.count p f 0 (listed list) f x)
 effect_fits p lowers at (Hint n) f x = always p.count f x
 effect_fits p lowers at (Stm n list) f x = always p.count (lost n f) (lost_fits p.count f n x)
-effect_fits p lowers at (Ldm n list) f x = always p.count (ldm n list f) (lost_fits p.count (forgotten (listed list) f) n (forgotten_fits p.count (listed list) f x))
+effect_fits p lowers at (Ldm n list) f x = always p.count (ldm n list f) (lost_fits p.count (clobbered (listed list) f) n (clobbered_fits p.count (listed list) f x))
 effect_fits p lowers at (BCond cc off) f x = always p.count f x
-effect_fits p lowers at (Svc imm) f x = always p.count (forgotten gate_changes f) (forgotten_fits p.count gate_changes f x)
+effect_fits p lowers at (Svc imm) f x = always p.count (clobbered gate_changes f) (clobbered_fits p.count gate_changes f x)
 effect_fits p lowers at (B off) f x = always p.count f x
-effect_fits p lowers at (Bl off) f x = always p.count (forgotten call_changes f) (forgotten_fits p.count call_changes f x)
+effect_fits p lowers at (Bl off) f x = always p.count (clobbered call_changes f) (clobbered_fits p.count call_changes f x)
 effect_fits p lowers at (Barrier op option) f x = always p.count f x
 
 err_ok : (e : FrameCause) (x : Fact) → (let r : Result Fact FrameCause = Err e in r) ≡ Ok x → ⊥

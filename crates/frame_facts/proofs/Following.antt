@@ -16,7 +16,7 @@ use Rattle.frame_facts.specs.declared.facts.Source.TheVariants.{Entry, SpAt, Oth
 use Rattle.frame_facts.specs.declared.facts.Fact.{Fact}
 use Rattle.frame_facts.specs.declared.saves.Save.{Save}
 use Rattle.frame_facts.specs.declared.saves.Prologue.{Prologue}
-use Rattle.frame_facts.specs.Facts.{source, with_source, lost, forgotten, within, sp_at, sp_plus, moved, is_entry, IsVaguer, IsAtMost}
+use Rattle.frame_facts.specs.Facts.{source, with_source, lost, clobbered, within, sp_at, sp_plus, shifted, is_entry, IsVaguer, IsAtMost}
 use Rattle.frame_facts.specs.Saves.{saves_of, saves_within, lies_at, word, stack_word, moved_to, to_depth}
 use Rattle.frame_facts.specs.Shifts.{shift_imm}
 use Rattle.frame_facts.specs.Data.{add_sub_imm3, imm8, alu, copied, sp_set, mov_high, add_high}
@@ -24,7 +24,7 @@ use Rattle.frame_facts.specs.Access.{mem_reg, mem_imm, mem_sp}
 use Rattle.frame_facts.specs.Lists.{pushed_to, push, loaded, pop, ldm}
 use Rattle.frame_facts.specs.Branches.{call_changes, gate_changes, kept_by_calls, is_indirect, return_to, holds_own, returns_well}
 use Rattle.frame_facts.specs.After.{effect, returned, gone_on, after_of}
-use Rattle.frame_facts.proofs.Vaguer.{source_vaguer, with_vaguer, lost_vaguer, forgotten_vaguer}
+use Rattle.frame_facts.proofs.Vaguer.{source_vaguer, with_vaguer, lost_vaguer, clobbered_vaguer}
 
 -- ---- words of the stack
 
@@ -59,9 +59,9 @@ stack_word_vaguer p f g offset x =
 sp_plus_vaguer : (f g : Fact) (offset : ℤ) → IsAtMost f g → IsVaguer (sp_plus f offset) (sp_plus g offset)
 sp_plus_vaguer f g offset x = guarded f.below g.below (sp_at (pos f.depth -ℤ offset)) (sp_at (pos g.depth -ℤ offset)) x.below (inl (ap (λ d. sp_at (pos d -ℤ offset)) x.depth))
 
-moved_vaguer : (sub : Bool) (by : ℕ) (s t : Source) → IsVaguer s t → IsVaguer (moved sub by s) (moved sub by t)
-moved_vaguer sub by s t (inl e) = inl (ap (moved sub by) e)
-moved_vaguer sub by s t (inr e) = inr (ap (moved sub by) e)
+moved_vaguer : (sub : Bool) (by : ℕ) (s t : Source) → IsVaguer s t → IsVaguer (shifted sub by s) (shifted sub by t)
+moved_vaguer sub by s t (inl e) = inl (ap (shifted sub by) e)
+moved_vaguer sub by s t (inr e) = inr (ap (shifted sub by) e)
 
 pub entry_vaguer : (n : ℕ) (s t : Source) → IsVaguer s t → is_entry n t ≡ true → is_entry n s ≡ true
 entry_vaguer n s t (inl e) h = ap (is_entry n) e ∙ h
@@ -162,13 +162,13 @@ shift_vaguer op d m n f g x =
 
 imm3_vaguer : (sub : Bool) (d n imm : ℕ) (f g : Fact) → IsAtMost f g → IsAtMost (add_sub_imm3 sub d n imm f) (add_sub_imm3 sub d n imm g)
 imm3_vaguer sub d n imm f g x =
-    with_vaguer f g d (cond (eqb imm 0) (source f n) (moved sub imm (source f n))) (cond (eqb imm 0) (source g n) (moved sub imm (source g n))) x
-    (pick_source (eqb imm 0) (source f n) (source g n) (moved sub imm (source f n)) (moved sub imm (source g n)) (source_vaguer f g n x) (moved_vaguer sub imm (source f n) (source g n) (source_vaguer f g n x)))
+    with_vaguer f g d (cond (eqb imm 0) (source f n) (shifted sub imm (source f n))) (cond (eqb imm 0) (source g n) (shifted sub imm (source g n))) x
+    (pick_source (eqb imm 0) (source f n) (source g n) (shifted sub imm (source f n)) (shifted sub imm (source g n)) (source_vaguer f g n x) (moved_vaguer sub imm (source f n) (source g n) (source_vaguer f g n x)))
 
 imm8_vaguer : (op d imm : ℕ) (f g : Fact) → IsAtMost f g → IsAtMost (imm8 op d imm f) (imm8 op d imm g)
 imm8_vaguer op d imm f g x =
-    let s = moved (not (eqb op 2)) imm (source f d) in
-    let t = moved (not (eqb op 2)) imm (source g d) in
+    let s = shifted (not (eqb op 2)) imm (source f d) in
+    let t = shifted (not (eqb op 2)) imm (source g d) in
     pick_fact (eqb op 0) (lost d f) (lost d g) (cond (eqb op 1) f (with_source f d s)) (cond (eqb op 1) g (with_source g d t)) (lost_vaguer f g d x)
     (pick_fact (eqb op 1) f g (with_source f d s) (with_source g d t) x (with_vaguer f g d s t x (moved_vaguer (not (eqb op 2)) imm (source f d) (source g d) (source_vaguer f g d x))))
 
@@ -192,7 +192,7 @@ effect_vaguer p lowers at (AddHigh d m) f g x = add_high_vaguer d f g x
 effect_vaguer p lowers at (CmpHigh n m) f g x = always f g x
 effect_vaguer p lowers at (MovHigh d m) f g x = mov_high_vaguer p lowers d m f g x
 effect_vaguer p lowers at (Bx m) f g x = always f g x
-effect_vaguer p lowers at (Blx m) f g x = always (forgotten call_changes f) (forgotten call_changes g) (forgotten_vaguer call_changes f g x)
+effect_vaguer p lowers at (Blx m) f g x = always (clobbered call_changes f) (clobbered call_changes g) (clobbered_vaguer call_changes f g x)
 effect_vaguer p lowers at (LdrLit t off) f g x = always (lost t f) (lost t g) (lost_vaguer f g t x)
 effect_vaguer p lowers at (MemReg op t n m) f g x = always (mem_reg op t f) (mem_reg op t g) (or_lost (ltb op 3) t f g x)
 effect_vaguer p lowers at (MemImm op t n off) f g x = always (mem_imm op t f) (mem_imm op t g) (lost_or (eqb op 1 || eqb op 3 || eqb op 5) t f g x)
@@ -207,11 +207,11 @@ effect_vaguer p lowers at (Push list) f g x = push_vaguer p at list f g x
 effect_vaguer p lowers at (Pop list) f g x = pop_vaguer p list f g x
 effect_vaguer p lowers at (Hint n) f g x = always f g x
 effect_vaguer p lowers at (Stm n list) f g x = always (lost n f) (lost n g) (lost_vaguer f g n x)
-effect_vaguer p lowers at (Ldm n list) f g x = always (ldm n list f) (ldm n list g) (lost_vaguer (forgotten (listed list) f) (forgotten (listed list) g) n (forgotten_vaguer (listed list) f g x))
+effect_vaguer p lowers at (Ldm n list) f g x = always (ldm n list f) (ldm n list g) (lost_vaguer (clobbered (listed list) f) (clobbered (listed list) g) n (clobbered_vaguer (listed list) f g x))
 effect_vaguer p lowers at (BCond cc off) f g x = always f g x
-effect_vaguer p lowers at (Svc imm) f g x = always (forgotten gate_changes f) (forgotten gate_changes g) (forgotten_vaguer gate_changes f g x)
+effect_vaguer p lowers at (Svc imm) f g x = always (clobbered gate_changes f) (clobbered gate_changes g) (clobbered_vaguer gate_changes f g x)
 effect_vaguer p lowers at (B off) f g x = always f g x
-effect_vaguer p lowers at (Bl off) f g x = always (forgotten call_changes f) (forgotten call_changes g) (forgotten_vaguer call_changes f g x)
+effect_vaguer p lowers at (Bl off) f g x = always (clobbered call_changes f) (clobbered call_changes g) (clobbered_vaguer call_changes f g x)
 effect_vaguer p lowers at (Barrier op option) f g x = always f g x
 
 -- ---- branches and returns
@@ -284,7 +284,7 @@ gone_vaguer pc pc' o (Some g) k v n h =
     let r = returned_vaguer pc pc' w.0 g k v w.2 h in
     (w.0, ap (gone_on pc) w.1 ∙ r.0, subst (λ x. IsAtMost w.0 x) r.1 w.2)
 
--- where an instruction shows no cause on a fact, it shows none on a fact that is less vague, and the fact behind is no vaguer
+-- where an instruction shows no cause on a fact, it shows none on a fact that is less vague, and the fact after is no vaguer
 pub after_vaguer : (p : Prologue) (lowers : Bool) (at : ℕ) (i : Instr) (f g k : Fact) → IsAtMost f g → after_of p lowers at i g ≡ Ok k → (f' : Fact) × (after_of p lowers at i f ≡ Ok f') × IsAtMost f' k
 after_vaguer p lowers at i f g k x h = split (is_indirect i g) refl h
   where

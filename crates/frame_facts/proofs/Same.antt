@@ -6,7 +6,7 @@ use Rattle.frame_facts.specs.declared.facts.Fact.{Fact}
 use Rattle.frame_facts.specs.Facts.{same_source, same_sources, same_bool, same_fact}
 use Rattle.frame_facts.proofs.Meeting.{same_true, same_self}
 
--- at a place, the sources there and those behind it
+-- at a place, the sources there and those after it
 pub alike_step : (r : ℕ) (xs ys : List Source) (d : Source) → r < length xs → r < length ys
     → same_sources (drop r xs) (drop r ys) ≡ (same_source (get_or xs r d) (get_or ys r d) && same_sources (drop (r + 1) xs) (drop (r + 1) ys))
 unfolding same_sources

@@ -17,14 +17,14 @@ use Rattle.frame_facts.specs.After.{after_of}
 use Rattle.frame_facts.specs.Agrees.{agreed}
 use Rattle.frame_facts.specs.Frames.{pushed_list, popped_list, codes_of, StandardFrames}
 
--- behind the PUSH, by whether it stands before the prologue's end
-abbrev behind_push : Bool → ℕ → Prologue → Option Straight
-behind_push within_run mask q = option_map (λ f. record { fact = f; prologue = q })
+-- after the PUSH, by whether it stands before the prologue's end
+abbrev after_push : Bool → ℕ → Prologue → Option Straight
+after_push within_run mask q = option_map (λ f. record { fact = f; prologue = q })
     (option_map (λ d. cond within_run (record entered { depth = d; kept = saves_within q d }) (moved_to q d entered)) (within (pos 0 +ℤ pos (4 * length (listed (pushed_list mask))))))
 
 abbrev push_to : Bool → ℕ → ℕ → ℕ → Option Straight
 push_to within_run start end mask =
-    option_and_then (λ (p : Prologue). behind_push within_run mask (record p { end = end })) (with_pushed (begun start).prologue entered (listed (pushed_list mask)))
+    option_and_then (λ (p : Prologue). after_push within_run mask (record p { end = end })) (with_pushed (begun start).prologue entered (listed (pushed_list mask)))
 
 abbrev made : ℕ → ℕ → ℕ → Straight
 made start end mask = unwrap_or (push_to true start end mask) (begun end)
@@ -203,7 +203,7 @@ standard start mask room low =
     let m = made_all start end mask low in
     let before : start < (start + 2) % 2 ^ 32 = omega (arith, room) in
     record {
-      behind = made start end mask;
+      after = made start end mask;
       pushed = pushed_as start mask ∙ ap (λ b. push_to b start end mask) (lt-ltb start end before) ∙ m.pushed;
       kept = m.kept;
       undo = undo_of mask;

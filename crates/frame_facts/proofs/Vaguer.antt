@@ -7,7 +7,7 @@ use Rattle.std.specs.List.{sum_by}
 use Rattle.frame_facts.specs.declared.facts.Source.{Source}
 use Rattle.frame_facts.specs.declared.facts.Source.TheVariants.{Other}
 use Rattle.frame_facts.specs.declared.facts.Fact.{Fact}
-use Rattle.frame_facts.specs.Facts.{source, slot, with_source, met_sources, join_of, lost, forgotten, known, height, IsVaguer, IsAtMost}
+use Rattle.frame_facts.specs.Facts.{source, slot, with_source, met_sources, join_of, lost, clobbered, known, height, IsVaguer, IsAtMost}
 use Rattle.frame_facts.proofs.Meeting.{met_left, met_right, met_least, met_at, met_length, met_falls}
 
 pub vaguer_self : (s : Source) → IsVaguer s s
@@ -157,6 +157,6 @@ with_vaguer f g reg s t x v = set_vaguer (slot reg)
 pub lost_vaguer : (f g : Fact) (reg : ℕ) → IsAtMost f g → IsAtMost (lost reg f) (lost reg g)
 lost_vaguer f g reg x = with_vaguer f g reg Other Other x (inl refl)
 
-pub forgotten_vaguer : (regs : List ℕ) (f g : Fact) → IsAtMost f g → IsAtMost (forgotten regs f) (forgotten regs g)
-forgotten_vaguer [] f g x = x
-forgotten_vaguer (reg ∷ more) f g x = forgotten_vaguer more (lost reg f) (lost reg g) (lost_vaguer f g reg x)
+pub clobbered_vaguer : (regs : List ℕ) (f g : Fact) → IsAtMost f g → IsAtMost (clobbered regs f) (clobbered regs g)
+clobbered_vaguer [] f g x = x
+clobbered_vaguer (reg ∷ more) f g x = clobbered_vaguer more (lost reg f) (lost reg g) (lost_vaguer f g reg x)

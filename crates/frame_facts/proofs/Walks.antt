@@ -10,7 +10,7 @@ use Rattle.frame_facts.specs.declared.facts.Source.{Source}
 use Rattle.frame_facts.specs.declared.facts.Source.TheVariants.{Other}
 use Rattle.frame_facts.specs.declared.facts.Fact.{Fact}
 use Rattle.frame_facts.specs.declared.saves.Prologue.{Prologue}
-use Rattle.frame_facts.specs.Facts.{with_source, forgotten}
+use Rattle.frame_facts.specs.Facts.{with_source, clobbered}
 use Rattle.frame_facts.specs.Saves.{stack_word}
 use Rattle.frame_facts.specs.Lists.{loaded}
 use Rattle.frame_facts.specs.Branches.{holds_own}
@@ -29,17 +29,17 @@ one_less k list low clear =
     let none : bit_at list k ≡ 0 = omega arith in
     listed_more k list low ∙ ap (λ b. cond b (k ∷ listed_from (k + 1) list) (listed_from (k + 1) list)) (ap (λ (n : ℕ). n == 1) none)
 
-pub forget_start : (list : ℕ) (f left : Fact) → left ≡ f → forgotten (listed_from 0 list) left ≡ forgotten (listed list) f
-forget_start list f left e = ap (λ l. forgotten l left) (sym (listed_all list)) ∙ ap (forgotten (listed list)) e
+pub clobber_start : (list : ℕ) (f left : Fact) → left ≡ f → clobbered (listed_from 0 list) left ≡ clobbered (listed list) f
+clobber_start list f left e = ap (λ l. clobbered l left) (sym (listed_all list)) ∙ ap (clobbered (listed list)) e
 
-pub forget_next : (k list : ℕ) (left new : Fact) → k < 16 → bit_and (list / 2 ^ k) 1 ≡ 1 → new ≡ with_source left k Other → forgotten (listed_from (k + 1) list) new ≡ forgotten (listed_from k list) left
-forget_next k list left new low is e = ap (forgotten (listed_from (k + 1) list)) e ∙ sym (ap (λ l. forgotten l left) (one_more k list low is))
+pub clobber_next : (k list : ℕ) (left new : Fact) → k < 16 → bit_and (list / 2 ^ k) 1 ≡ 1 → new ≡ with_source left k Other → clobbered (listed_from (k + 1) list) new ≡ clobbered (listed_from k list) left
+clobber_next k list left new low is e = ap (clobbered (listed_from (k + 1) list)) e ∙ sym (ap (λ l. clobbered l left) (one_more k list low is))
 
-pub forget_past : (k list : ℕ) (left new : Fact) → k < 16 → bit_and (list / 2 ^ k) 1 ≢ 1 → new ≡ left → forgotten (listed_from (k + 1) list) new ≡ forgotten (listed_from k list) left
-forget_past k list left new low is e = ap (forgotten (listed_from (k + 1) list)) e ∙ sym (ap (λ l. forgotten l left) (one_less k list low is))
+pub clobber_past : (k list : ℕ) (left new : Fact) → k < 16 → bit_and (list / 2 ^ k) 1 ≢ 1 → new ≡ left → clobbered (listed_from (k + 1) list) new ≡ clobbered (listed_from k list) left
+clobber_past k list left new low is e = ap (clobbered (listed_from (k + 1) list)) e ∙ sym (ap (λ l. clobbered l left) (one_less k list low is))
 
-pub forget_end : (k list : ℕ) (left all : Fact) → k ≡ 16 → forgotten (listed_from k list) left ≡ all → left ≡ all
-forget_end k list left all last e = sym (ap (λ n. forgotten (listed_from n list) left) last ∙ ap (λ l. forgotten l left) (listed_none list)) ∙ e
+pub clobber_end : (k list : ℕ) (left all : Fact) → k ≡ 16 → clobbered (listed_from k list) left ≡ all → left ≡ all
+clobber_end k list left all last e = sym (ap (λ n. clobbered (listed_from n list) left) last ∙ ap (λ l. clobbered l left) (listed_none list)) ∙ e
 
 pub load_start : (p : Prologue) (f : Fact) (list : ℕ) → loaded p f 0 (listed_from 0 list) f ≡ loaded p f 0 (listed list) f
 load_start p f list = ap (λ l. loaded p f 0 l f) (sym (listed_all list))

@@ -8,7 +8,7 @@ use Rattle.frame_facts.specs.declared.cause.FrameCause.TheVariants.{IndirectBran
 use Rattle.frame_facts.specs.declared.facts.Source.{Source}
 use Rattle.frame_facts.specs.declared.facts.Fact.{Fact}
 use Rattle.frame_facts.specs.declared.saves.Prologue.{Prologue}
-use Rattle.frame_facts.specs.Facts.{with_source, lost, forgotten, sp_plus}
+use Rattle.frame_facts.specs.Facts.{with_source, lost, clobbered, sp_plus}
 use Rattle.frame_facts.specs.Saves.{to_depth}
 use Rattle.frame_facts.specs.Shifts.{shift_imm}
 use Rattle.frame_facts.specs.Data.{add_sub_imm3, imm8, alu, mov_high, add_high}
@@ -16,7 +16,7 @@ use Rattle.frame_facts.specs.Access.{mem_reg, mem_imm, mem_sp}
 use Rattle.frame_facts.specs.Lists.{push, pop, ldm}
 use Rattle.frame_facts.specs.Branches.{call_changes, gate_changes, is_indirect, return_to, returns_well}
 
--- the fact behind an instruction at an address, where sp is written as it may be
+-- the fact after an instruction at an address, where sp is written as it may be
 abbrev pub effect : Prologue → Bool → ℕ → Instr → Fact → Option Fact
 effect p lowers at (ShiftImm op d m n) f = Some (shift_imm op d m n f)
 effect p lowers at (AddSubReg sub d n m) f = Some (lost d f)
@@ -27,7 +27,7 @@ effect p lowers at (AddHigh d m) f = add_high d f
 effect p lowers at (CmpHigh n m) f = Some f
 effect p lowers at (MovHigh d m) f = mov_high p lowers d m f
 effect p lowers at (Bx m) f = Some f
-effect p lowers at (Blx m) f = Some (forgotten call_changes f)
+effect p lowers at (Blx m) f = Some (clobbered call_changes f)
 effect p lowers at (LdrLit t off) f = Some (lost t f)
 effect p lowers at (MemReg op t n m) f = Some (mem_reg op t f)
 effect p lowers at (MemImm op t n off) f = Some (mem_imm op t f)
@@ -44,9 +44,9 @@ effect p lowers at (Hint n) f = Some f
 effect p lowers at (Stm n list) f = Some (lost n f)
 effect p lowers at (Ldm n list) f = Some (ldm n list f)
 effect p lowers at (BCond cc off) f = Some f
-effect p lowers at (Svc imm) f = Some (forgotten gate_changes f)
+effect p lowers at (Svc imm) f = Some (clobbered gate_changes f)
 effect p lowers at (B off) f = Some f
-effect p lowers at (Bl off) f = Some (forgotten call_changes f)
+effect p lowers at (Bl off) f = Some (clobbered call_changes f)
 effect p lowers at (Barrier op option) f = Some f
 
 -- ---- the causes, each by itself
@@ -70,6 +70,6 @@ abbrev pub gone_on : Option Source → Option Fact → Result Fact FrameCause
 gone_on pc None = Err SpWrite
 gone_on pc (Some g) = returned pc g
 
--- the fact behind an instruction, or the lowest cause that it shows
+-- the fact after an instruction, or the lowest cause that it shows
 abbrev pub after_of : Prologue → Bool → ℕ → Instr → Fact → Result Fact FrameCause
 after_of p lowers at i f = if is_indirect i f then Err IndirectBranch else gone_on (return_to p i f) (effect p lowers at i f)

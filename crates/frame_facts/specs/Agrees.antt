@@ -12,22 +12,22 @@ use Rattle.frame_facts.specs.declared.facts.Source.{Source}
 use Rattle.frame_facts.specs.declared.facts.Source.TheVariants.{Entry, SpAt, Other}
 use Rattle.frame_facts.specs.declared.facts.Fact.{Fact}
 use Rattle.frame_facts.specs.declared.saves.Prologue.{Prologue}
-use Rattle.frame_facts.specs.Facts.{source, is_entry, forgotten}
+use Rattle.frame_facts.specs.Facts.{source, is_entry, clobbered}
 use Rattle.frame_facts.specs.Saves.{word}
 use Rattle.frame_facts.specs.Branches.{call_changes}
 
 -- what holds at a site: in a call r0 to r3, r12 and lr are the callee's
 abbrev pub at_site : Bool → Fact → Fact
-at_site is_call f = if is_call then forgotten call_changes f else f
+at_site is_call f = if is_call then clobbered call_changes f else f
 
-abbrev pub place_of : Source → Option ℕ
-place_of (SpAt offset) = Some offset
-place_of (Entry k) = None
-place_of Other = None
+abbrev pub stack_place : Source → Option ℕ
+stack_place (SpAt offset) = Some offset
+stack_place (Entry k) = None
+stack_place Other = None
 
 -- how many bytes below the CFA the stack pointer, or the register that the virtual one is taken from, is known to stand
 abbrev pub base_at : Fact → ℕ → Option ℕ
-base_at f base = if base == 13 then (if f.below then None else Some f.depth) else place_of (source f base)
+base_at f base = if base == 13 then (if f.below then None else Some f.depth) else stack_place (source f base)
 
 -- the codes take the virtual stack pointer from a register that isn't known to hold a place
 abbrev pub is_lost : Recipe → Fact → Bool
@@ -39,10 +39,10 @@ word_from p f None offset = Other
 word_from p f (Some at) offset = word p f.kept at offset
 
 -- what a recipe finds for a register; its own value is lr's for pc
-abbrev pub found : Prologue → Recipe → Fact → ℕ → Src → Source
-found p r f reg Same = source f (if reg == 15 then 14 else reg)
-found p r f reg (FromSp offset) = word_from p f (base_at f 13) offset
-found p r f reg (FromBase offset) = word_from p f (base_at f r.base) offset
+abbrev pub source_found : Prologue → Recipe → Fact → ℕ → Src → Source
+source_found p r f reg Same = source f (if reg == 15 then 14 else reg)
+source_found p r f reg (FromSp offset) = word_from p f (base_at f 13) offset
+source_found p r f reg (FromBase offset) = word_from p f (base_at f r.base) offset
 
 -- the word at an offset from a base lies whole between sp and the CFA
 abbrev pub lies_whole : Fact → Option ℕ → ℤ → Bool
@@ -64,8 +64,8 @@ gives_cfa r f = option_map_or (λ at. int_eq (pos at) r.vsp) (base_at f r.base) 
 abbrev pub gives : Prologue → Recipe → Fact → ℕ → Bool
 gives p r f reg =
     if reg == 13 then gives_cfa r f
-    else (if reg == 15 then is_entry 14 (found p r f reg (slice_index_or r.src reg Same))
-    else (if nat_le 4 reg && nat_lt reg 12 then is_entry reg (found p r f reg (slice_index_or r.src reg Same))
+    else (if reg == 15 then is_entry 14 (source_found p r f reg (slice_index_or r.src reg Same))
+    else (if nat_le 4 reg && nat_lt reg 12 then is_entry reg (source_found p r f reg (slice_index_or r.src reg Same))
     else in_frame r f (slice_index_or r.src reg Same)))
 
 -- a call with no word on the stack counts as lr

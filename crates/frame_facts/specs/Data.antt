@@ -4,19 +4,19 @@ use Rattle.frame_facts.specs.declared.facts.Source.{Source}
 use Rattle.frame_facts.specs.declared.facts.Source.TheVariants.{Entry, SpAt, Other}
 use Rattle.frame_facts.specs.declared.facts.Fact.{Fact}
 use Rattle.frame_facts.specs.declared.saves.Prologue.{Prologue}
-use Rattle.frame_facts.specs.Facts.{source, with_source, lost, moved, sp_plus}
+use Rattle.frame_facts.specs.Facts.{source, with_source, lost, shifted, sp_plus}
 use Rattle.frame_facts.specs.Saves.{moved_to}
 
 -- ADD, SUB of three bits: with 0 a copy
 abbrev pub add_sub_imm3 : Bool → ℕ → ℕ → ℕ → Fact → Fact
-add_sub_imm3 sub d n imm f = with_source f d (if imm == 0 then source f n else moved sub imm (source f n))
+add_sub_imm3 sub d n imm f = with_source f d (if imm == 0 then source f n else shifted sub imm (source f n))
 
 -- MOV, CMP, ADD, SUB of eight bits
 abbrev pub imm8 : ℕ → ℕ → ℕ → Fact → Fact
 imm8 op d imm f =
     if op == 0 then lost d f
     else (if op == 1 then f
-    else with_source f d (moved (not (op == 2)) imm (source f d)))
+    else with_source f d (shifted (not (op == 2)) imm (source f d)))
 
 -- TST, CMP and CMN write no register
 abbrev pub alu : ℕ → ℕ → Fact → Fact

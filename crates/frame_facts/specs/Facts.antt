@@ -7,7 +7,7 @@ use Rattle.frame_facts.specs.declared.facts.Source.TheVariants.{Entry, SpAt, Oth
 use Rattle.frame_facts.specs.declared.facts.Fact.{Fact}
 use Rattle.frame_facts.specs.declared.facts.TheConstants.{DEEPEST}
 
--- where a register stands among the sources of a fact: r0 to r12 and then lr; sp and pc stand behind the last
+-- where a register stands among the sources of a fact: r0 to r12 and then lr; sp and pc stand after the last
 abbrev pub slot : ℕ → ℕ
 slot reg = if nat_lt reg 13 then reg else (if reg == 14 then 13 else 14)
 
@@ -42,10 +42,10 @@ abbrev pub sp_plus : Fact → ℤ → Source
 sp_plus f offset = if f.below then Other else sp_at (pos f.depth -ℤ offset)
 
 -- a value raised, or lowered, by so many bytes
-abbrev pub moved : Bool → ℕ → Source → Source
-moved sub by (SpAt offset) = sp_at (if sub then pos offset +ℤ pos by else pos offset -ℤ pos by)
-moved sub by (Entry k) = Other
-moved sub by Other = Other
+abbrev pub shifted : Bool → ℕ → Source → Source
+shifted sub by (SpAt offset) = sp_at (if sub then pos offset +ℤ pos by else pos offset -ℤ pos by)
+shifted sub by (Entry k) = Other
+shifted sub by Other = Other
 
 abbrev pub is_entry : ℕ → Source → Bool
 is_entry reg (Entry k) = k == reg
@@ -57,9 +57,9 @@ abbrev pub lost : ℕ → Fact → Fact
 lost reg f = with_source f reg Other
 
 -- nothing is known of these registers
-abbrev pub forgotten : List ℕ → Fact → Fact
-forgotten [] f = f
-forgotten (reg ∷ more) f = forgotten more (lost reg f)
+abbrev pub clobbered : List ℕ → Fact → Fact
+clobbered [] f = f
+clobbered (reg ∷ more) f = clobbered more (lost reg f)
 
 -- ---- what two facts have in common
 

@@ -21,16 +21,16 @@ popped_list mask = 16 * mask + 0x8000
 abbrev pub codes_of : ℕ → List Item
 codes_of mask = Is (PopMask (mask + 0x400)) ∷ []
 
--- What the prologue of such a frame leaves: behind the PUSH every word that it stored is kept, a call there agrees with the codes, and
+-- What the prologue of such a frame leaves: after the PUSH every word that it stored is kept, a call there agrees with the codes, and
 -- the POP gives the entry's fact back and returns well.
 pub record IsStandard (start mask : ℕ) : Type 0 where
-  pub behind : Straight
-  pub pushed : taken (begun start) (Push (pushed_list mask)) 2 ≡ Some behind
-  pub kept : behind.fact.kept ≡ behind.prologue.count
+  pub after : Straight
+  pub pushed : taken (begun start) (Push (pushed_list mask)) 2 ≡ Some after
+  pub kept : after.fact.kept ≡ after.prologue.count
   pub undo : Recipe
   pub undone : recipe (codes_of mask) ≡ Ok undo
-  pub agrees : (is_call : Bool) → agreed behind.prologue undo is_call behind.fact ≡ Ok tt
-  pub returns : (at : ℕ) → after_of behind.prologue false at (Pop (popped_list mask)) behind.fact ≡ Ok entered
+  pub agrees : (is_call : Bool) → agreed after.prologue undo is_call after.fact ≡ Ok tt
+  pub returns : (at : ℕ) → after_of after.prologue false at (Pop (popped_list mask)) after.fact ≡ Ok entered
 
 abbrev pub StandardFrames : Type 0
 StandardFrames = (start mask : ℕ) → start + 2 < 2 ^ 32 → mask < 16 → IsStandard start mask

@@ -4,17 +4,17 @@ use Rattle.thumb_isa.specs.declared.instr.Instr.{Instr}
 use Rattle.eh_bytecode.specs.declared.recipe.Recipe.{Recipe}
 use Rattle.frame_facts.specs.declared.facts.Fact.{Fact}
 use Rattle.frame_facts.specs.declared.saves.Prologue.{Prologue}
-use Rattle.frame_facts.specs.Facts.{entered, forgotten, join_of, IsAtMost, IsFit, height}
+use Rattle.frame_facts.specs.Facts.{entered, clobbered, join_of, IsAtMost, IsFit, height}
 use Rattle.frame_facts.specs.After.{after_of}
 use Rattle.frame_facts.specs.Agrees.{agreed}
 
--- Where an instruction shows no cause on a vague fact it shows none on one that is at most as vague, and the fact behind is at most as
--- vague too. So it is for a recipe at a site, and for registers that are forgotten.
+-- Where an instruction shows no cause on a vague fact it shows none on one that is at most as vague, and the fact after is at most as
+-- vague too. So it is for a recipe at a site, and for registers that are clobbered.
 pub record KeepVagueness : Type 0 where
   pub after : (p : Prologue) (lowers : Bool) (at : ℕ) (i : Instr) (f g g' : Fact) → IsAtMost f g → after_of p lowers at i g ≡ Ok g'
       → (f' : Fact) × (after_of p lowers at i f ≡ Ok f') × IsAtMost f' g'
   pub agrees : (p : Prologue) (r : Recipe) (is_call : Bool) (f g : Fact) → IsAtMost f g → agreed p r is_call g ≡ Ok tt → agreed p r is_call f ≡ Ok tt
-  pub forgets : (regs : List ℕ) (f g : Fact) → IsAtMost f g → IsAtMost (forgotten regs f) (forgotten regs g)
+  pub clobbers : (regs : List ℕ) (f g : Fact) → IsAtMost f g → IsAtMost (clobbered regs f) (clobbered regs g)
 
 -- Being at most as vague is an order, and the meeting of two facts is the least vague fact that both are at most as vague as. Facts have
 -- none only where no fact is as vague as both.
@@ -36,4 +36,4 @@ pub record FactsFit : Type 0 where
   pub entry : (count : ℕ) → IsFit count entered
   pub after : (p : Prologue) (lowers : Bool) (at : ℕ) (i : Instr) (f g : Fact) → IsFit p.count f → after_of p lowers at i f ≡ Ok g → IsFit p.count g
   pub join : (count : ℕ) (f g h : Fact) → IsFit count f → join_of f g ≡ Some h → IsFit count h
-  pub forgets : (count : ℕ) (regs : List ℕ) (f : Fact) → IsFit count f → IsFit count (forgotten regs f)
+  pub clobbers : (count : ℕ) (regs : List ℕ) (f : Fact) → IsFit count f → IsFit count (clobbered regs f)

@@ -5,7 +5,7 @@ use Rattle.thumb_core.specs.Words.{listed}
 use Rattle.frame_facts.specs.declared.facts.Source.{Source}
 use Rattle.frame_facts.specs.declared.facts.Fact.{Fact}
 use Rattle.frame_facts.specs.declared.saves.Prologue.{Prologue}
-use Rattle.frame_facts.specs.Facts.{with_source, lost, forgotten, within}
+use Rattle.frame_facts.specs.Facts.{with_source, lost, clobbered, within}
 use Rattle.frame_facts.specs.Saves.{saves_within, stack_word, moved_to, to_depth}
 
 -- sp falls by a word for each register; in the prologue the saves that now lie at or above it are kept
@@ -15,12 +15,12 @@ pushed_to p at depth f = if nat_lt at p.end then record f { depth = depth; kept 
 abbrev pub push : Prologue → ℕ → ℕ → Fact → Option Fact
 push p at list f = option_map (λ d. pushed_to p at d f) (within (pos f.depth +ℤ pos (4 * length (listed list))))
 
--- registers take what words hold that stand one behind the other, from an offset above the old sp on
+-- registers take what words hold that stand one after the other, from an offset above the old sp on
 abbrev pub loaded : Prologue → Fact → ℕ → List ℕ → Fact → Fact
 loaded p old at [] f = f
 loaded p old at (reg ∷ more) f = loaded p old (at + 4) more (with_source f reg (stack_word p old (pos at)))
 
--- and then sp rises behind them
+-- and then sp rises after them
 abbrev pub pop : Prologue → ℕ → Fact → Option Fact
 pop p list f = to_depth p (pos f.depth -ℤ pos (4 * length (listed list))) (loaded p f 0 (listed list) f)
 
@@ -30,4 +30,4 @@ popped_pc p list f = if bit_at list 15 == 1 then Some (stack_word p f (pos (4 * 
 
 -- the base is written back; LDM writes its registers too
 abbrev pub ldm : ℕ → ℕ → Fact → Fact
-ldm n list f = lost n (forgotten (listed list) f)
+ldm n list f = lost n (clobbered (listed list) f)

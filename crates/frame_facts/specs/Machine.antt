@@ -12,7 +12,7 @@ use Rattle.frame_facts.specs.declared.facts.Source.TheVariants.{Entry, SpAt, Oth
 use Rattle.frame_facts.specs.declared.facts.Fact.{Fact}
 use Rattle.frame_facts.specs.declared.facts.TheConstants.{DEEPEST}
 use Rattle.frame_facts.specs.declared.saves.Prologue.{Prologue}
-use Rattle.frame_facts.specs.Facts.{source, forgotten}
+use Rattle.frame_facts.specs.Facts.{source, clobbered}
 use Rattle.frame_facts.specs.After.{effect}
 
 -- what a source says of a register's value, by the registers at the entry and the CFA
@@ -47,7 +47,7 @@ works_on (Extend op d m) = Some d
 works_on (Rev op d m) = Some d
 works_on i = None
 
--- Where a fact describes the registers before such an instruction, the fact behind it describes those that it leaves.
+-- Where a fact describes the registers before such an instruction, the fact after it describes those that it leaves.
 abbrev pub DataIsDescribed : Type 0
 DataIsDescribed = (entry : ℕ → ℕ) (cfa : ℕ) (p : Prologue) (lowers : Bool) (at : ℕ) (i : Instr) (d : ℕ) (f g : Fact) (regs : Regs)
     → works_on i ≡ Some d → d < 8 → IsRoomy cfa regs → Describes entry cfa f regs → effect p lowers at i f ≡ Some g
@@ -59,14 +59,14 @@ MovesAreDescribed = (entry : ℕ → ℕ) (cfa : ℕ) (p : Prologue) (lowers : B
     → d < 8 → IsRoomy cfa regs → Describes entry cfa f regs → effect p lowers at (MovHigh d m) f ≡ Some g
     → Describes entry cfa g (mov_high d m size regs)
 
--- Where a fact describes registers, the fact that forgets some of them describes any that differ only in these, sp not among them: so a
+-- Where a fact describes registers, the fact that clobbers some of them describes any that differ only in these, sp not among them: so a
 -- call and a gate may leave what they like in the registers that they may change.
-abbrev pub ForgettingIsDescribed : Type 0
-ForgettingIsDescribed = (entry : ℕ → ℕ) (cfa : ℕ) (forgets : List ℕ) (f : Fact) (regs new : Regs)
-    → Describes entry cfa f regs → ((k : ℕ) → list_any (λ j. j == k) forgets ≡ false → reg new k ≡ reg regs k) → list_any (λ j. j == 13) forgets ≡ false
-    → Describes entry cfa (forgotten forgets f) new
+abbrev pub ClobberingIsDescribed : Type 0
+ClobberingIsDescribed = (entry : ℕ → ℕ) (cfa : ℕ) (clobbers : List ℕ) (f : Fact) (regs new : Regs)
+    → Describes entry cfa f regs → ((k : ℕ) → list_any (λ j. j == k) clobbers ≡ false → reg new k ≡ reg regs k) → list_any (λ j. j == 13) clobbers ≡ false
+    → Describes entry cfa (clobbered clobbers f) new
 
 pub record RegistersAreDescribed : Type 0 where
   pub worked_on : DataIsDescribed
   pub moves : MovesAreDescribed
-  pub forgetting : ForgettingIsDescribed
+  pub clobbering : ClobberingIsDescribed

@@ -78,7 +78,7 @@ abbrev pub pushed_by : Straight → Instr → Option Prologue
 pushed_by s (Push list) = with_pushed s.prologue s.fact (listed list)
 pushed_by s i = Some s.prologue
 
--- the run with its end behind an instruction of so many bytes
+-- the run with its end after an instruction of so many bytes
 abbrev pub ended : Straight → Instr → ℕ → Prologue → Option Straight
 ended s i size p =
     let q : Prologue = record p { end = (s.prologue.end + size) % 2 ^ 32 } in

@@ -2,27 +2,27 @@
 ghost use Rattle.std.specs.Prelude.{◌≡◌, ◌≤◌, ◌<◌};
 ghost use Rattle.std.specs.List.{list_all};
 ghost use Rattle.thumb_core.specs.Words.{listed};
-ghost use Rattle.frame_facts.specs.Facts.{forgotten};
+ghost use Rattle.frame_facts.specs.Facts.{clobbered};
 ghost use Rattle.frame_facts.specs.Branches.{call_changes, gate_changes, kept_by_calls, is_indirect, return_to, holds_own, returns_well};
 
-use crate::facts::{Fact, Source, forget};
+use crate::facts::{Fact, Source, clobber};
 use crate::lists;
 use crate::saves::Prologue;
 use thumb_core::calls::{CALL_CHANGES, GATE_CHANGES};
 use thumb_isa::instr::Instr;
 
-/// A call, behind its return.
+/// A call, after its return.
 pub(crate) fn call(fact: &Fact) -> Fact
-    ensures { result ≡ forgotten call_changes fact.now }
+    ensures { result ≡ clobbered call_changes fact.now }
 {
-    forget(fact, CALL_CHANGES)
+    clobber(fact, CALL_CHANGES)
 }
 
-/// A gate, behind it.
+/// A gate, after it.
 pub(crate) fn gate(fact: &Fact) -> Fact
-    ensures { result ≡ forgotten gate_changes fact.now }
+    ensures { result ≡ clobbered gate_changes fact.now }
 {
-    forget(fact, GATE_CHANGES)
+    clobber(fact, GATE_CHANGES)
 }
 
 /// Whether an instruction branches to where a register says and is no call and no return.
@@ -112,7 +112,7 @@ fn all_own(fact: &Fact) -> bool
     true
 }
 
-/// Whether a return with this fact behind it leaves the frame as the caller wants it.
+/// Whether a return with this fact after it leaves the frame as the caller wants it.
 pub(crate) fn returns_well(fact: &Fact, pc: Source) -> bool
     ensures { result ≡ returns_well fact.now pc }
 {

@@ -13,7 +13,7 @@ pub(crate) fn add_sub_imm3(fact: &Fact, sub: bool, d: u8, n: u8, imm: u32) -> Fa
     if imm == 0 {
         fact.with(d, held)
     } else {
-        fact.with(d, held.moved(sub, imm))
+        fact.with(d, held.shifted(sub, imm))
     }
 }
 
@@ -26,7 +26,7 @@ pub(crate) fn imm8(fact: &Fact, op: u8, d: u8, imm: u32) -> Fact
     } else if op == 1 {
         *fact
     } else {
-        fact.with(d, fact.source(d).moved(op != 2, imm))
+        fact.with(d, fact.source(d).shifted(op != 2, imm))
     }
 }
 

@@ -12,7 +12,7 @@ use crate::saves::Prologue;
 use crate::shifts::shift_imm;
 use thumb_isa::instr::Instr;
 
-/// The fact behind an instruction at the address `at`; `None` where sp is written as it may not be.
+/// The fact after an instruction at the address `at`; `None` where sp is written as it may not be.
 pub(crate) fn effect(fact: &Fact, i: &Instr, at: u32, p: &Prologue, lowers: bool) -> Option<Fact>
     ensures { result ≡ effect p.now lowers at i.now fact.now }
 {
@@ -50,8 +50,8 @@ pub(crate) fn effect(fact: &Fact, i: &Instr, at: u32, p: &Prologue, lowers: bool
     }
 }
 
-/// The fact behind an instruction that stands at the address `at` of a function with this prologue, or the lowest cause that it shows:
-/// `IndirectBranch`, `SpWrite` or `ReturnState`. Behind a return it says what the caller finds.
+/// The fact after an instruction that stands at the address `at` of a function with this prologue, or the lowest cause that it shows:
+/// `IndirectBranch`, `SpWrite` or `ReturnState`. After a return it says what the caller finds.
 ///
 /// `lowers` says that `at` is a place where sp is lowered by an amount that is known only at run time; it plays a part only for a MOV
 /// into sp.

@@ -1,7 +1,7 @@
 //! Facts: what is known of registers and stack at a place, what two of them have in common. docs/acceptance.md, "Facts".
 ghost use Rattle.std.specs.Prelude.{◌≡◌, ℕ, ◌+◌, ◌-◌, ◌*◌, ◌<◌, ◌≤◌, ◌^◌, ◌==◌, ℤ, pos, ◌+ℤ◌, ◌-ℤ◌, length, IsTrue, ◌↔◌};
 ghost use Rattle.thumb_core.specs.Words.{listed};
-ghost use Rattle.frame_facts.specs.Facts.{source, with_source, entered, within, sp_at, sp_plus, moved, is_entry, forgotten, met_source, same_source, same_sources, same_fact, join_of};
+ghost use Rattle.frame_facts.specs.Facts.{source, with_source, entered, within, sp_at, sp_plus, shifted, is_entry, clobbered, met_source, same_source, same_sources, same_fact, join_of};
 
 /// The greatest depth of a frame, and of a place that a register is known to hold, in bytes below the CFA.
 pub const DEEPEST: u32 = 65_536;
@@ -80,8 +80,8 @@ pub(crate) fn sp_at(offset: i64) -> Source
 
 impl Source {
     /// What a register holds that had this value and is raised, or lowered, by so many bytes.
-    pub(crate) fn moved(self, sub: bool, by: u32) -> Source
-        ensures { result ≡ moved sub by self }
+    pub(crate) fn shifted(self, sub: bool, by: u32) -> Source
+        ensures { result ≡ shifted sub by self }
     {
         match self {
             Source::SpAt(offset) => {
@@ -165,8 +165,8 @@ impl Fact {
 }
 
 /// The fact where nothing is known of the registers of a list; bit k of it stands for register k.
-pub fn forget(fact: &Fact, list: u16) -> Fact
-    ensures { result ≡ forgotten (listed list) fact.now }
+pub fn clobber(fact: &Fact, list: u16) -> Fact
+    ensures { result ≡ clobbered (listed list) fact.now }
 {
     let mut left = *fact;
     for k in 0..16u8 {

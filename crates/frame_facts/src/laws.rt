@@ -23,14 +23,14 @@ pub fn facts_fit()
     ensures { FactsFit }
 {}
 
-/// The standard frame: behind a PUSH of some of r4 to r7 and of lr at a function's entry all its words are saves that are kept, the codes
+/// The standard frame: after a PUSH of some of r4 to r7 and of lr at a function's entry all its words are saves that are kept, the codes
 /// that pop the same registers agree there, at a call and at a gate, and a POP of them gives the entry's fact back and returns well.
 pub fn standard_frames_agree()
     ensures { StandardFrames }
 {}
 
 /// Facts say what is so of the machine's registers: where a fact describes them before an instruction that works on a low register, or a
-/// MOV to one, the fact behind it describes those that the core leaves; and a fact that forgets some registers describes any that differ
+/// MOV to one, the fact after it describes those that the core leaves; and a fact that clobbers some registers describes any that differ
 /// only in these.
 pub fn registers_are_described()
     ensures { RegistersAreDescribed }

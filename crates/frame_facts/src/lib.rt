@@ -17,7 +17,7 @@ pub mod straight;
 
 pub use cause::FrameCause;
 pub use effects::after;
-pub use facts::{Fact, Source, entry_fact, forget, is_same, join};
+pub use facts::{Fact, Source, clobber, entry_fact, is_same, join};
 pub use saves::{Prologue, Save};
 pub use sites::agrees;
 pub use straight::Straight;

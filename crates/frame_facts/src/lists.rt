@@ -4,7 +4,7 @@ ghost use Rattle.thumb_core.specs.Words.{listed};
 ghost use Rattle.frame_facts.specs.Saves.{stack_word};
 ghost use Rattle.frame_facts.specs.Lists.{push, pushed_to, loaded, pop, popped_pc, ldm};
 
-use crate::facts::{Fact, Source, forget, within};
+use crate::facts::{Fact, Source, clobber, within};
 use crate::saves::Prologue;
 
 /// How many bytes the registers of a list take.
@@ -90,5 +90,5 @@ pub(crate) fn popped_pc(p: &Prologue, fact: &Fact, list: u16) -> Option<Source>
 pub(crate) fn ldm(fact: &Fact, n: u8, list: u16) -> Fact
     ensures { result ≡ ldm n list fact.now }
 {
-    forget(fact, list).with(n, Source::Other)
+    clobber(fact, list).with(n, Source::Other)
 }

@@ -19,7 +19,7 @@ pub const MOST_SAVES: u32 = 16;
 /// A function's prologue.
 #[derive(Clone, Copy, PartialEq, Eq, Debug)]
 pub struct Prologue {
-    /// The address behind its last instruction; that of the entry where it has none.
+    /// The address after its last instruction; that of the entry where it has none.
     pub end: u32,
     /// How many words it saves, at most 16.
     pub count: u32,

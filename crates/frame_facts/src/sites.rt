@@ -1,6 +1,6 @@
 //! Whether a recipe, run on a fact, gives the caller's registers. docs/acceptance.md, "Sites".
 ghost use Rattle.std.specs.Prelude.{◌≡◌, ◌<◌, ◌≤◌, ◌^◌};
-ghost use Rattle.frame_facts.specs.Agrees.{at_site, place_of, base_at, is_lost, word_from, found, lies_whole, in_frame, gives_cfa, gives, has_no_room, fails, agreed};
+ghost use Rattle.frame_facts.specs.Agrees.{at_site, stack_place, base_at, is_lost, word_from, source_found, lies_whole, in_frame, gives_cfa, gives, has_no_room, fails, agreed};
 
 use crate::branches::call;
 use crate::cause::FrameCause;
@@ -46,8 +46,8 @@ fn word_from(p: &Prologue, fact: &Fact, at: Option<u32>, offset: i32) -> Source
 }
 
 /// What a recipe finds for a register.
-fn found(p: &Prologue, fact: &Fact, r: &Recipe, reg: u8, src: Src) -> Source
-    ensures { result ≡ found p.now r.now fact.now reg src }
+fn source_found(p: &Prologue, fact: &Fact, r: &Recipe, reg: u8, src: Src) -> Source
+    ensures { result ≡ source_found p.now r.now fact.now reg src }
 {
     match src {
         Src::Same => fact.source(if reg == 15 { 14 } else { reg }),
@@ -100,9 +100,9 @@ fn gives(p: &Prologue, fact: &Fact, r: &Recipe, reg: u8) -> bool
     if reg == 13 {
         gives_cfa(fact, r)
     } else if reg == 15 {
-        found(p, fact, r, reg, src).is_entry(14)
+        source_found(p, fact, r, reg, src).is_entry(14)
     } else if 4 <= reg && reg < 12 {
-        found(p, fact, r, reg, src).is_entry(reg)
+        source_found(p, fact, r, reg, src).is_entry(reg)
     } else {
         in_frame(fact, r, src)
     }

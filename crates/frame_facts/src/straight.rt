@@ -9,12 +9,12 @@ use crate::facts::{DEEPEST, Fact, Source, entry_fact};
 use crate::saves::{MOST_SAVES, Prologue, Save};
 use thumb_isa::instr::Instr;
 
-/// The run so far: the fact behind it, and the prologue that it is.
+/// The run so far: the fact after it, and the prologue that it is.
 #[derive(Clone, Copy, PartialEq, Eq, Debug)]
 pub struct Straight {
-    /// What holds behind the run.
+    /// What holds after the run.
     pub fact: Fact,
-    /// The prologue; it ends behind the run.
+    /// The prologue; it ends after the run.
     pub prologue: Prologue,
 }
 
@@ -186,7 +186,7 @@ impl Straight {
         }
     }
 
-    /// The run with an instruction more, of `size` bytes, that stands behind it; `None` where the prologue ends before it. That nothing
+    /// The run with an instruction more, of `size` bytes, that stands after it; `None` where the prologue ends before it. That nothing
     /// branches to one of its halfwords and that no pad stands there is for the caller to see.
     pub fn taken(&self, i: &Instr, size: u32) -> Option<Straight>
         ensures { result ≡ taken self.now i.now size }

@@ -13,11 +13,11 @@ use Rattle.frame_facts.specs.Facts.{IsAtMost}
 use Rattle.frame_facts.specs.Agrees.{has_no_room, agreed}
 use Rattle.frame_facts.proofs.Agreeing.{agrees_vaguer}
 use Rattle.frame_facts.proofs.Following.{after_vaguer}
-use Rattle.frame_scene.specs.declared.unwinding.Unwinding.{Unwinding}
-use Rattle.frame_scene.specs.declared.unwinding.Unwinding.TheVariants.{Finds, Refused, BadBytecode as BadCodes, GenericModel as Generic}
-use Rattle.frame_scene.specs.Places.{address_of}
-use Rattle.frame_scene.specs.Ways.{is_undecodable, branches_out, calls_nothing, instruction_at}
-use Rattle.frame_scene.specs.Sites.{site_at, unwinding_at, is_scoped, pads_out}
+use Rattle.frame_graph.specs.declared.unwinding.Unwinding.{Unwinding}
+use Rattle.frame_graph.specs.declared.unwinding.Unwinding.TheVariants.{Finds, Refused, BadBytecode as BadCodes, GenericModel as Generic}
+use Rattle.frame_graph.specs.Places.{address_of}
+use Rattle.frame_graph.specs.Edges.{is_undecodable, branches_out, calls_nothing, instruction_at}
+use Rattle.frame_graph.specs.Sites.{site_at, unwinding_at, is_scoped, pads_out}
 use Rattle.flow.specs.Flow.{Passes}
 use Rattle.flow.proofs.Work.{contains_none, contains_cons, contains_head, contains_tail}
 use Rattle.frame_flow.specs.Framed.{Framed}
@@ -52,7 +52,7 @@ unwound_vaguer p Generic call f g x h = room_vaguer call f g x h
 
 site_vaguer : (x : Framed) (call : Bool) (f g : Fact) (site : ℕ) → IsAtMost f g → site_causes x call g site ≡ [] → site_causes x call f site ≡ []
 site_vaguer x call f g site m h =
-    let s = x.scene in
+    let s = x.flow_graph in
     let a = both_nil (unwound x.prologue (unwinding_at s site) call g) (shown (pads_out s site) PadDepth ++ shown (throws_in_leaf s site call g) ThrowInLeafScope) h in
     let b = both_nil (shown (pads_out s site) PadDepth) (shown (throws_in_leaf s site call g) ThrowInLeafScope) a.1 in
     from_nils (unwound x.prologue (unwinding_at s site) call f) (shown (pads_out s site) PadDepth ++ shown (throws_in_leaf s site call f) ThrowInLeafScope)
@@ -66,11 +66,11 @@ sites_vaguer x call f g (Some site) m h = site_vaguer x call f g site m h
 
 instruction_vaguer : (x : Framed) (p : ℕ) (f g : Fact) (i : Instr) → IsAtMost f g → instruction_causes x p g i ≡ [] → instruction_causes x p f i ≡ []
 instruction_vaguer x p f g i m h =
-    let a = both_nil (answered (after_at x p g i)) (option_map_or (site_causes x (is_call i) g) (site_at x.scene p) []) h in
+    let a = both_nil (answered (after_at x p g i)) (option_map_or (site_causes x (is_call i) g) (site_at x.flow_graph p) []) h in
     let w = answered_ok (after_at x p g i) a.0 in
-    let v = after_vaguer x.prologue false (address_of x.scene p) i f g w.0 m w.1 in
-    from_nils (answered (after_at x p f i)) (option_map_or (site_causes x (is_call i) f) (site_at x.scene p) [])
-    (ap answered v.1) (sites_vaguer x (is_call i) f g (site_at x.scene p) m a.1)
+    let v = after_vaguer x.prologue false (address_of x.flow_graph p) i f g w.0 m w.1 in
+    from_nils (answered (after_at x p f i)) (option_map_or (site_causes x (is_call i) f) (site_at x.flow_graph p) [])
+    (ap answered v.1) (sites_vaguer x (is_call i) f g (site_at x.flow_graph p) m a.1)
 
 instructions_vaguer : (x : Framed) (p : ℕ) (f g : Fact) (o : Option Instr) → IsAtMost f g → option_map_or (instruction_causes x p g) o [] ≡ [] → option_map_or (instruction_causes x p f) o [] ≡ []
 instructions_vaguer x p f g None m h = refl
@@ -78,34 +78,34 @@ instructions_vaguer x p f g (Some i) m h = instruction_vaguer x p f g i m h
 
 -- what is found at a place whatever the fact, and then what its instruction shows
 abbrev split : Framed → ℕ → List FrameCause → List FrameCause
-split x p more = shown (is_undecodable x.scene p) Undecodable ++ (shown (branches_out x.scene p) BranchOut ++ (shown (calls_nothing x.scene p) CallNotFunction ++ more))
+split x p more = shown (is_undecodable x.flow_graph p) Undecodable ++ (shown (branches_out x.flow_graph p) BranchOut ++ (shown (calls_nothing x.flow_graph p) CallNotFunction ++ more))
 
 pub found_parts : (x : Framed) (p : ℕ) (f : Fact) → found x p f ≡ []
-    → (shown (is_undecodable x.scene p) Undecodable ≡ []) × (shown (branches_out x.scene p) BranchOut ≡ []) × (shown (calls_nothing x.scene p) CallNotFunction ≡ [])
-    × (option_map_or (instruction_causes x p f) (instruction_at x.scene p) [] ≡ [])
+    → (shown (is_undecodable x.flow_graph p) Undecodable ≡ []) × (shown (branches_out x.flow_graph p) BranchOut ≡ []) × (shown (calls_nothing x.flow_graph p) CallNotFunction ≡ [])
+    × (option_map_or (instruction_causes x p f) (instruction_at x.flow_graph p) [] ≡ [])
 unfolding found
 found_parts x p f h =
-    let d = option_map_or (instruction_causes x p f) (instruction_at x.scene p) [] in
-    let c = shown (calls_nothing x.scene p) CallNotFunction in
-    let b = shown (branches_out x.scene p) BranchOut in
-    let u = both_nil (shown (is_undecodable x.scene p) Undecodable) (b ++ (c ++ d)) h in
+    let d = option_map_or (instruction_causes x p f) (instruction_at x.flow_graph p) [] in
+    let c = shown (calls_nothing x.flow_graph p) CallNotFunction in
+    let b = shown (branches_out x.flow_graph p) BranchOut in
+    let u = both_nil (shown (is_undecodable x.flow_graph p) Undecodable) (b ++ (c ++ d)) h in
     let v = both_nil b (c ++ d) u.1 in
     let w = both_nil c d v.1 in
     (u.0, v.0, w.0, w.1)
 
-pub parts_found : (x : Framed) (p : ℕ) (f : Fact) → shown (is_undecodable x.scene p) Undecodable ≡ [] → shown (branches_out x.scene p) BranchOut ≡ [] → shown (calls_nothing x.scene p) CallNotFunction ≡ []
-    → option_map_or (instruction_causes x p f) (instruction_at x.scene p) [] ≡ [] → found x p f ≡ []
+pub parts_found : (x : Framed) (p : ℕ) (f : Fact) → shown (is_undecodable x.flow_graph p) Undecodable ≡ [] → shown (branches_out x.flow_graph p) BranchOut ≡ [] → shown (calls_nothing x.flow_graph p) CallNotFunction ≡ []
+    → option_map_or (instruction_causes x p f) (instruction_at x.flow_graph p) [] ≡ [] → found x p f ≡ []
 unfolding found
 parts_found x p f u v w h =
-    let d = option_map_or (instruction_causes x p f) (instruction_at x.scene p) [] in
-    let c = shown (calls_nothing x.scene p) CallNotFunction in
-    let b = shown (branches_out x.scene p) BranchOut in
-    from_nils (shown (is_undecodable x.scene p) Undecodable) (b ++ (c ++ d)) u (from_nils b (c ++ d) v (from_nils c d w h))
+    let d = option_map_or (instruction_causes x p f) (instruction_at x.flow_graph p) [] in
+    let c = shown (calls_nothing x.flow_graph p) CallNotFunction in
+    let b = shown (branches_out x.flow_graph p) BranchOut in
+    from_nils (shown (is_undecodable x.flow_graph p) Undecodable) (b ++ (c ++ d)) u (from_nils b (c ++ d) v (from_nils c d w h))
 
 pub found_vaguer : (x : Framed) (p : ℕ) (f g : Fact) → IsAtMost f g → found x p g ≡ [] → found x p f ≡ []
 found_vaguer x p f g m h =
     let w = found_parts x p g h in
-    parts_found x p f w.0 w.1 w.2 (instructions_vaguer x p f g (instruction_at x.scene p) m w.3)
+    parts_found x p f w.0 w.1 w.2 (instructions_vaguer x p f g (instruction_at x.flow_graph p) m w.3)
 
 -- ---- which causes are met
 

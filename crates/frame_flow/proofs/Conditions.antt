@@ -16,18 +16,18 @@ use Rattle.frame_facts.specs.declared.saves.Prologue.{Prologue}
 use Rattle.frame_facts.specs.Branches.{is_indirect, return_to, returns_well}
 use Rattle.frame_facts.specs.After.{effect, returned, gone_on, after_of}
 use Rattle.frame_facts.specs.Agrees.{at_site, is_lost, fails, has_no_room, answer, agreed}
-use Rattle.frame_scene.specs.declared.unwinding.Unwinding.{Unwinding}
-use Rattle.frame_scene.specs.declared.unwinding.Unwinding.TheVariants.{Finds, Refused, BadBytecode as BadCodes, GenericModel as Generic}
-use Rattle.frame_scene.specs.Places.{address_of}
-use Rattle.frame_scene.specs.Ways.{is_undecodable, branches_out, calls_nothing, instruction_at}
-use Rattle.frame_scene.specs.Sites.{site_at, unwinding_at, is_scoped, pads_out}
+use Rattle.frame_graph.specs.declared.unwinding.Unwinding.{Unwinding}
+use Rattle.frame_graph.specs.declared.unwinding.Unwinding.TheVariants.{Finds, Refused, BadBytecode as BadCodes, GenericModel as Generic}
+use Rattle.frame_graph.specs.Places.{address_of}
+use Rattle.frame_graph.specs.Edges.{is_undecodable, branches_out, calls_nothing, instruction_at}
+use Rattle.frame_graph.specs.Sites.{site_at, unwinding_at, is_scoped, pads_out}
 use Rattle.flow.proofs.Work.{contains_none, contains_one, contains_head}
 use Rattle.frame_flow.specs.Framed.{Framed}
 use Rattle.frame_flow.specs.Causes.{shown, answered, is_call, unwound, throws_in_leaf, site_causes, after_at, instruction_causes, found}
-use Rattle.frame_flow.specs.Flows.{edges}
-use Rattle.frame_flow.specs.Conditions.{Shows, AtSite, Disagrees, Holds, CausesAreConditions, EdgesAreWays}
+use Rattle.frame_flow.specs.Flows.{transfer}
+use Rattle.frame_flow.specs.Conditions.{Shows, AtSite, Disagrees, Holds, CausesAreConditions, TransferFollowsEdges}
 use Rattle.frame_flow.proofs.Causing.{found_are_met}
-use Rattle.frame_flow.proofs.Instance.{behind_is, is_behind, edge_is, is_edge}
+use Rattle.frame_flow.proofs.Instance.{after_is, is_after, transfer_is, is_transfer}
 
 -- ---- the parts of a list
 
@@ -109,9 +109,9 @@ is_unwound p Refused i f c h = roomless i f c h.0 h.1 h.2
 is_unwound p BadCodes i f c h = roomless i f c h.0 h.1 h.2
 is_unwound p Generic i f c h = roomless i f c h.0 h.1 h.2
 
-throws_is : (x : Framed) (site : ℕ) (call : Bool) (f : Fact) → throws_in_leaf x.scene site call f ≡ true → (call ≡ false) × (f.depth ≡ 0) × (is_scoped x.scene site ≡ true)
+throws_is : (x : Framed) (site : ℕ) (call : Bool) (f : Fact) → throws_in_leaf x.flow_graph site call f ≡ true → (call ≡ false) × (f.depth ≡ 0) × (is_scoped x.flow_graph site ≡ true)
 throws_is x site call f h =
-    let w = and_parts (not call && (f.depth == 0)) (is_scoped x.scene site) h in
+    let w = and_parts (not call && (f.depth == 0)) (is_scoped x.flow_graph site) h in
     let v = and_parts (not call) (f.depth == 0) w.0 in
     (turned call v.0, eqb-true f.depth 0 v.1, w.1)
   where
@@ -119,56 +119,56 @@ throws_is x site call f h =
     turned true h = absurd (false≢true h)
     turned false h = refl
 
-is_throw : (x : Framed) (site : ℕ) (call : Bool) (f : Fact) → call ≡ false → f.depth ≡ 0 → is_scoped x.scene site ≡ true → throws_in_leaf x.scene site call f ≡ true
-is_throw x site call f e d s = and_from (not call && (f.depth == 0)) (is_scoped x.scene site) (and_from (not call) (f.depth == 0) (ap not e) (eq-eqb f.depth 0 d)) s
+is_throw : (x : Framed) (site : ℕ) (call : Bool) (f : Fact) → call ≡ false → f.depth ≡ 0 → is_scoped x.flow_graph site ≡ true → throws_in_leaf x.flow_graph site call f ≡ true
+is_throw x site call f e d s = and_from (not call && (f.depth == 0)) (is_scoped x.flow_graph site) (and_from (not call) (f.depth == 0) (ap not e) (eq-eqb f.depth 0 d)) s
 
 -- ---- what is found
 
 -- the place in a list that a cause comes from
 pub data From (x : Framed) (p : ℕ) (f : Fact) (c : FrameCause) : Type 0 where
-  undecodable : is_undecodable x.scene p ≡ true → c ≡ Undecodable → From x p f c
-  branch : branches_out x.scene p ≡ true → c ≡ BranchOut → From x p f c
-  call : calls_nothing x.scene p ≡ true → c ≡ CallNotFunction → From x p f c
-  shows : (i : Instr) → instruction_at x.scene p ≡ Some i → after_at x p f i ≡ Err c → From x p f c
-  unwinds : (i : Instr) (site : ℕ) → instruction_at x.scene p ≡ Some i → site_at x.scene p ≡ Some site → Disagrees x.prologue (unwinding_at x.scene site) i f c → BySite c → From x p f c
-  lands : (i : Instr) (site : ℕ) → instruction_at x.scene p ≡ Some i → site_at x.scene p ≡ Some site → pads_out x.scene site ≡ true → c ≡ PadDepth → From x p f c
-  throws : (i : Instr) (site : ℕ) → instruction_at x.scene p ≡ Some i → site_at x.scene p ≡ Some site → throws_in_leaf x.scene site (is_call i) f ≡ true → c ≡ ThrowInLeafScope → From x p f c
+  undecodable : is_undecodable x.flow_graph p ≡ true → c ≡ Undecodable → From x p f c
+  branch : branches_out x.flow_graph p ≡ true → c ≡ BranchOut → From x p f c
+  call : calls_nothing x.flow_graph p ≡ true → c ≡ CallNotFunction → From x p f c
+  shows : (i : Instr) → instruction_at x.flow_graph p ≡ Some i → after_at x p f i ≡ Err c → From x p f c
+  unwinds : (i : Instr) (site : ℕ) → instruction_at x.flow_graph p ≡ Some i → site_at x.flow_graph p ≡ Some site → Disagrees x.prologue (unwinding_at x.flow_graph site) i f c → BySite c → From x p f c
+  lands : (i : Instr) (site : ℕ) → instruction_at x.flow_graph p ≡ Some i → site_at x.flow_graph p ≡ Some site → pads_out x.flow_graph site ≡ true → c ≡ PadDepth → From x p f c
+  throws : (i : Instr) (site : ℕ) → instruction_at x.flow_graph p ≡ Some i → site_at x.flow_graph p ≡ Some site → throws_in_leaf x.flow_graph site (is_call i) f ≡ true → c ≡ ThrowInLeafScope → From x p f c
 
-from_site : (x : Framed) (p : ℕ) (f : Fact) (c : FrameCause) (i : Instr) (o : Option ℕ) → instruction_at x.scene p ≡ Some i → site_at x.scene p ≡ o → Contains (option_map_or (site_causes x (is_call i) f) o []) c → From x p f c
+from_site : (x : Framed) (p : ℕ) (f : Fact) (c : FrameCause) (i : Instr) (o : Option ℕ) → instruction_at x.flow_graph p ≡ Some i → site_at x.flow_graph p ≡ o → Contains (option_map_or (site_causes x (is_call i) f) o []) c → From x p f c
 from_site x p f c i None e s h = absurd (contains_none c h)
 from_site x p f c i (Some site) e s h =
-    let one = unwound x.prologue (unwinding_at x.scene site) (is_call i) f in
-    let two = shown (pads_out x.scene site) PadDepth in
-    let three = shown (throws_in_leaf x.scene site (is_call i) f) ThrowInLeafScope in
+    let one = unwound x.prologue (unwinding_at x.flow_graph site) (is_call i) f in
+    let two = shown (pads_out x.flow_graph site) PadDepth in
+    let three = shown (throws_in_leaf x.flow_graph site (is_call i) f) ThrowInLeafScope in
     ⊎_elim
-    (λ (a : Contains one c). let w = unwound_is x.prologue (unwinding_at x.scene site) i f c a in unwinds i site e s w.0 w.1)
+    (λ (a : Contains one c). let w = unwound_is x.prologue (unwinding_at x.flow_graph site) i f c a in unwinds i site e s w.0 w.1)
     (λ (b : Contains (two ++ three) c). ⊎_elim
-    (λ (a : Contains two c). let w = shown_is (pads_out x.scene site) PadDepth c a in lands i site e s w.0 w.1)
-    (λ (a : Contains three c). let w = shown_is (throws_in_leaf x.scene site (is_call i) f) ThrowInLeafScope c a in throws i site e s w.0 w.1)
+    (λ (a : Contains two c). let w = shown_is (pads_out x.flow_graph site) PadDepth c a in lands i site e s w.0 w.1)
+    (λ (a : Contains three c). let w = shown_is (throws_in_leaf x.flow_graph site (is_call i) f) ThrowInLeafScope c a in throws i site e s w.0 w.1)
     (Contains-append_cases two three c b))
     (Contains-append_cases one (two ++ three) c h)
 
-from_instruction : (x : Framed) (p : ℕ) (f : Fact) (c : FrameCause) (o : Option Instr) → instruction_at x.scene p ≡ o → Contains (option_map_or (instruction_causes x p f) o []) c → From x p f c
+from_instruction : (x : Framed) (p : ℕ) (f : Fact) (c : FrameCause) (o : Option Instr) → instruction_at x.flow_graph p ≡ o → Contains (option_map_or (instruction_causes x p f) o []) c → From x p f c
 from_instruction x p f c None e h = absurd (contains_none c h)
 from_instruction x p f c (Some i) e h = ⊎_elim
     (λ (a : Contains (answered (after_at x p f i)) c). shows i e (answered_is (after_at x p f i) c a))
-    (λ (b : Contains (option_map_or (site_causes x (is_call i) f) (site_at x.scene p) []) c). from_site x p f c i (site_at x.scene p) e refl b)
-    (Contains-append_cases (answered (after_at x p f i)) (option_map_or (site_causes x (is_call i) f) (site_at x.scene p) []) c h)
+    (λ (b : Contains (option_map_or (site_causes x (is_call i) f) (site_at x.flow_graph p) []) c). from_site x p f c i (site_at x.flow_graph p) e refl b)
+    (Contains-append_cases (answered (after_at x p f i)) (option_map_or (site_causes x (is_call i) f) (site_at x.flow_graph p) []) c h)
 
 from : (x : Framed) (p : ℕ) (f : Fact) (c : FrameCause) → Contains (found x p f) c → From x p f c
 unfolding found
 from x p f c h =
-    let one = shown (is_undecodable x.scene p) Undecodable in
-    let two = shown (branches_out x.scene p) BranchOut in
-    let three = shown (calls_nothing x.scene p) CallNotFunction in
-    let four = option_map_or (instruction_causes x p f) (instruction_at x.scene p) [] in
+    let one = shown (is_undecodable x.flow_graph p) Undecodable in
+    let two = shown (branches_out x.flow_graph p) BranchOut in
+    let three = shown (calls_nothing x.flow_graph p) CallNotFunction in
+    let four = option_map_or (instruction_causes x p f) (instruction_at x.flow_graph p) [] in
     ⊎_elim
-    (λ (a : Contains one c). let w = shown_is (is_undecodable x.scene p) Undecodable c a in undecodable w.0 w.1)
+    (λ (a : Contains one c). let w = shown_is (is_undecodable x.flow_graph p) Undecodable c a in undecodable w.0 w.1)
     (λ (b : Contains (two ++ (three ++ four)) c). ⊎_elim
-    (λ (a : Contains two c). let w = shown_is (branches_out x.scene p) BranchOut c a in branch w.0 w.1)
+    (λ (a : Contains two c). let w = shown_is (branches_out x.flow_graph p) BranchOut c a in branch w.0 w.1)
     (λ (d : Contains (three ++ four) c). ⊎_elim
-    (λ (a : Contains three c). let w = shown_is (calls_nothing x.scene p) CallNotFunction c a in call w.0 w.1)
-    (λ (a : Contains four c). from_instruction x p f c (instruction_at x.scene p) refl a)
+    (λ (a : Contains three c). let w = shown_is (calls_nothing x.flow_graph p) CallNotFunction c a in call w.0 w.1)
+    (λ (a : Contains four c). from_instruction x p f c (instruction_at x.flow_graph p) refl a)
     (Contains-append_cases three four c d))
     (Contains-append_cases two (three ++ four) c b))
     (Contains-append_cases one (two ++ (three ++ four)) c h)
@@ -183,61 +183,61 @@ holds x p f c (shows i e h) = ⊎_elim
     (λ (is : c ≡ SpWrite). subst (λ k. Holds x p f k) (sym is) (i, e, h ∙ ap Err is))
     (λ (is : c ≡ ReturnState). subst (λ k. Holds x p f k) (sym is) (i, e, h ∙ ap Err is))
     more)
-    (after_shows x.prologue (address_of x.scene p) i f c h)
+    (after_shows x.prologue (address_of x.flow_graph p) i f c h)
 holds x p f c (unwinds i site e s h by) = ⊎_elim
-    (λ (w : (reg : ℕ) × (c ≡ CallState reg)). subst (λ k. Holds x p f k) (sym w.1) (i, site, e, s, subst (λ k. Disagrees x.prologue (unwinding_at x.scene site) i f k) w.1 h))
-    (λ (w : (reg : ℕ) × (c ≡ FramePointerLost reg)). subst (λ k. Holds x p f k) (sym w.1) (i, site, e, s, subst (λ k. Disagrees x.prologue (unwinding_at x.scene site) i f k) w.1 h))
+    (λ (w : (reg : ℕ) × (c ≡ CallState reg)). subst (λ k. Holds x p f k) (sym w.1) (i, site, e, s, subst (λ k. Disagrees x.prologue (unwinding_at x.flow_graph site) i f k) w.1 h))
+    (λ (w : (reg : ℕ) × (c ≡ FramePointerLost reg)). subst (λ k. Holds x p f k) (sym w.1) (i, site, e, s, subst (λ k. Disagrees x.prologue (unwinding_at x.flow_graph site) i f k) w.1 h))
     by
 holds x p f c (lands i site e s h is) = subst (λ k. Holds x p f k) (sym is) (i, site, e, s, h)
 holds x p f c (throws i site e s h is) = subst (λ k. Holds x p f k) (sym is) (i, site, e, s, throws_is x site (is_call i) f h)
 
 -- ---- what holds is found
 
-in_instruction : (x : Framed) (p : ℕ) (f : Fact) (c : FrameCause) (i : Instr) → instruction_at x.scene p ≡ Some i → Contains (instruction_causes x p f i) c → Contains (found x p f) c
+in_instruction : (x : Framed) (p : ℕ) (f : Fact) (c : FrameCause) (i : Instr) → instruction_at x.flow_graph p ≡ Some i → Contains (instruction_causes x p f i) c → Contains (found x p f) c
 unfolding found
 in_instruction x p f c i e h =
-    let one = shown (is_undecodable x.scene p) Undecodable in
-    let two = shown (branches_out x.scene p) BranchOut in
-    let three = shown (calls_nothing x.scene p) CallNotFunction in
-    let four = option_map_or (instruction_causes x p f) (instruction_at x.scene p) [] in
+    let one = shown (is_undecodable x.flow_graph p) Undecodable in
+    let two = shown (branches_out x.flow_graph p) BranchOut in
+    let three = shown (calls_nothing x.flow_graph p) CallNotFunction in
+    let four = option_map_or (instruction_causes x p f) (instruction_at x.flow_graph p) [] in
     let there : Contains four c = subst (λ o. Contains (option_map_or (instruction_causes x p f) o []) c) (sym e) h in
     Contains-append_right one (two ++ (three ++ four)) c (Contains-append_right two (three ++ four) c (Contains-append_right three four c there))
 
 by_effect : (x : Framed) (p : ℕ) (f : Fact) (c : FrameCause) → Shows x p f c → Contains (found x p f) c
 by_effect x p f c h = in_instruction x p f c h.0 h.1
-    (Contains-append_left (answered (after_at x p f h.0)) (option_map_or (site_causes x (is_call h.0) f) (site_at x.scene p) []) c (is_answered (after_at x p f h.0) c h.2))
+    (Contains-append_left (answered (after_at x p f h.0)) (option_map_or (site_causes x (is_call h.0) f) (site_at x.flow_graph p) []) c (is_answered (after_at x p f h.0) c h.2))
 
-at_the_site : (x : Framed) (p : ℕ) (f : Fact) (c : FrameCause) (i : Instr) (site : ℕ) → instruction_at x.scene p ≡ Some i → site_at x.scene p ≡ Some site → Contains (site_causes x (is_call i) f site) c → Contains (found x p f) c
+at_the_site : (x : Framed) (p : ℕ) (f : Fact) (c : FrameCause) (i : Instr) (site : ℕ) → instruction_at x.flow_graph p ≡ Some i → site_at x.flow_graph p ≡ Some site → Contains (site_causes x (is_call i) f site) c → Contains (found x p f) c
 at_the_site x p f c i site e s h = in_instruction x p f c i e
-    (Contains-append_right (answered (after_at x p f i)) (option_map_or (site_causes x (is_call i) f) (site_at x.scene p) []) c
+    (Contains-append_right (answered (after_at x p f i)) (option_map_or (site_causes x (is_call i) f) (site_at x.flow_graph p) []) c
     (subst (λ o. Contains (option_map_or (site_causes x (is_call i) f) o []) c) (sym s) h))
 
-by_site : (x : Framed) (p : ℕ) (f : Fact) (c : FrameCause) → AtSite x p (λ i site. Disagrees x.prologue (unwinding_at x.scene site) i f c) → Contains (found x p f) c
+by_site : (x : Framed) (p : ℕ) (f : Fact) (c : FrameCause) → AtSite x p (λ i site. Disagrees x.prologue (unwinding_at x.flow_graph site) i f c) → Contains (found x p f) c
 by_site x p f c h =
     let i = h.0 in let site = h.1 in
     at_the_site x p f c i site h.2 h.3
-    (Contains-append_left (unwound x.prologue (unwinding_at x.scene site) (is_call i) f)
-    (shown (pads_out x.scene site) PadDepth ++ shown (throws_in_leaf x.scene site (is_call i) f) ThrowInLeafScope) c
-    (is_unwound x.prologue (unwinding_at x.scene site) i f c h.4))
+    (Contains-append_left (unwound x.prologue (unwinding_at x.flow_graph site) (is_call i) f)
+    (shown (pads_out x.flow_graph site) PadDepth ++ shown (throws_in_leaf x.flow_graph site (is_call i) f) ThrowInLeafScope) c
+    (is_unwound x.prologue (unwinding_at x.flow_graph site) i f c h.4))
 
 is_found : (x : Framed) (p : ℕ) (f : Fact) (c : FrameCause) → Holds x p f c → Contains (found x p f) c
 unfolding found
 is_found x p f Undecodable h =
-    Contains-append_left (shown (is_undecodable x.scene p) Undecodable)
-    (shown (branches_out x.scene p) BranchOut ++ (shown (calls_nothing x.scene p) CallNotFunction ++ option_map_or (instruction_causes x p f) (instruction_at x.scene p) []))
-    Undecodable (is_shown (is_undecodable x.scene p) Undecodable h)
+    Contains-append_left (shown (is_undecodable x.flow_graph p) Undecodable)
+    (shown (branches_out x.flow_graph p) BranchOut ++ (shown (calls_nothing x.flow_graph p) CallNotFunction ++ option_map_or (instruction_causes x p f) (instruction_at x.flow_graph p) []))
+    Undecodable (is_shown (is_undecodable x.flow_graph p) Undecodable h)
 is_found x p f BranchOut h =
-    let more = shown (calls_nothing x.scene p) CallNotFunction ++ option_map_or (instruction_causes x p f) (instruction_at x.scene p) [] in
-    Contains-append_right (shown (is_undecodable x.scene p) Undecodable) (shown (branches_out x.scene p) BranchOut ++ more) BranchOut
-    (Contains-append_left (shown (branches_out x.scene p) BranchOut) more BranchOut (is_shown (branches_out x.scene p) BranchOut h))
+    let more = shown (calls_nothing x.flow_graph p) CallNotFunction ++ option_map_or (instruction_causes x p f) (instruction_at x.flow_graph p) [] in
+    Contains-append_right (shown (is_undecodable x.flow_graph p) Undecodable) (shown (branches_out x.flow_graph p) BranchOut ++ more) BranchOut
+    (Contains-append_left (shown (branches_out x.flow_graph p) BranchOut) more BranchOut (is_shown (branches_out x.flow_graph p) BranchOut h))
 is_found x p f IndirectBranch h = by_effect x p f IndirectBranch h
 is_found x p f CallNotFunction h =
-    let four = option_map_or (instruction_causes x p f) (instruction_at x.scene p) [] in
-    let three = shown (calls_nothing x.scene p) CallNotFunction in
-    let two = shown (branches_out x.scene p) BranchOut in
-    Contains-append_right (shown (is_undecodable x.scene p) Undecodable) (two ++ (three ++ four)) CallNotFunction
+    let four = option_map_or (instruction_causes x p f) (instruction_at x.flow_graph p) [] in
+    let three = shown (calls_nothing x.flow_graph p) CallNotFunction in
+    let two = shown (branches_out x.flow_graph p) BranchOut in
+    Contains-append_right (shown (is_undecodable x.flow_graph p) Undecodable) (two ++ (three ++ four)) CallNotFunction
     (Contains-append_right two (three ++ four) CallNotFunction
-    (Contains-append_left three four CallNotFunction (is_shown (calls_nothing x.scene p) CallNotFunction h)))
+    (Contains-append_left three four CallNotFunction (is_shown (calls_nothing x.flow_graph p) CallNotFunction h)))
 is_found x p f SpWrite h = by_effect x p f SpWrite h
 is_found x p f JoinDepth h = absurd h
 is_found x p f ReturnState h = by_effect x p f ReturnState h
@@ -247,17 +247,17 @@ is_found x p f BadBytecode h = absurd h
 is_found x p f BadDescriptor h = absurd h
 is_found x p f PadDepth h =
     let i = h.0 in let site = h.1 in
-    let one = unwound x.prologue (unwinding_at x.scene site) (is_call i) f in
-    let two = shown (pads_out x.scene site) PadDepth in
-    let three = shown (throws_in_leaf x.scene site (is_call i) f) ThrowInLeafScope in
-    at_the_site x p f PadDepth i site h.2 h.3 (Contains-append_right one (two ++ three) PadDepth (Contains-append_left two three PadDepth (is_shown (pads_out x.scene site) PadDepth h.4)))
+    let one = unwound x.prologue (unwinding_at x.flow_graph site) (is_call i) f in
+    let two = shown (pads_out x.flow_graph site) PadDepth in
+    let three = shown (throws_in_leaf x.flow_graph site (is_call i) f) ThrowInLeafScope in
+    at_the_site x p f PadDepth i site h.2 h.3 (Contains-append_right one (two ++ three) PadDepth (Contains-append_left two three PadDepth (is_shown (pads_out x.flow_graph site) PadDepth h.4)))
 is_found x p f ThrowInLeafScope h =
     let i = h.0 in let site = h.1 in
-    let one = unwound x.prologue (unwinding_at x.scene site) (is_call i) f in
-    let two = shown (pads_out x.scene site) PadDepth in
-    let three = shown (throws_in_leaf x.scene site (is_call i) f) ThrowInLeafScope in
+    let one = unwound x.prologue (unwinding_at x.flow_graph site) (is_call i) f in
+    let two = shown (pads_out x.flow_graph site) PadDepth in
+    let three = shown (throws_in_leaf x.flow_graph site (is_call i) f) ThrowInLeafScope in
     at_the_site x p f ThrowInLeafScope i site h.2 h.3 (Contains-append_right one (two ++ three) ThrowInLeafScope (Contains-append_right two three ThrowInLeafScope
-    (is_shown (throws_in_leaf x.scene site (is_call i) f) ThrowInLeafScope (is_throw x site (is_call i) f h.4.0 h.4.1 h.4.2))))
+    (is_shown (throws_in_leaf x.flow_graph site (is_call i) f) ThrowInLeafScope (is_throw x site (is_call i) f h.4.0 h.4.1 h.4.2))))
 is_found x p f SplitEntry h = absurd h
 is_found x p f GenericModel h = absurd h
 is_found x p f TooLong h = absurd h
@@ -267,14 +267,14 @@ causes_are_conditions x c p f =
     let m = found_are_met x c p f in
     (λ h. holds x p f c (from x p f c (m.0 h)), λ h. m.1 (is_found x p f c h))
 
-pub edges_are_ways : EdgesAreWays
-edges_are_ways x p f q g = (
+pub transfer_follows_edges : TransferFollowsEdges
+transfer_follows_edges x p f q g = (
   λ h.
-      let e = edge_is x p f q g h in
-      let i = behind_is x p f e.0 e.1 in
+      let e = transfer_is x p f q g h in
+      let i = after_is x p f e.0 e.1 in
       (e.0, e.2.0, i, e.2.1, sym (ap (λ (y : ℕ × Fact). y.0) e.2.2), sym (ap (λ (y : ℕ × Fact). y.1) e.2.2)),
   λ h.
       let k = h.0 in let w = h.1 in let l = h.2 in
-      let c = is_edge x p f k w (is_behind x p f k l.0 l.1 l.2) h.3 in
-      subst (λ (y : ℕ). Contains (edges x p f) (y, g)) (sym h.4) (subst (λ (y : Fact). Contains (edges x p f) (w.to, y)) (sym h.5) c),
+      let c = is_transfer x p f k w (is_after x p f k l.0 l.1 l.2) h.3 in
+      subst (λ (y : ℕ). Contains (transfer x p f) (y, g)) (sym h.4) (subst (λ (y : Fact). Contains (transfer x p f) (w.to, y)) (sym h.5) c),
 )

@@ -8,5 +8,5 @@ pub mod Rising
 pub mod Conditions
 pub mod Pads
 pub mod Standing
-pub mod Edges
+pub mod Transfers
 pub mod Slots

@@ -3,16 +3,16 @@ use Rattle.std.proofs.Common.{ℕ, ◌≡◌, ◌<◌, ◌+◌, map, List, [], �
 use Rattle.thumb_core.specs.Words.{listed}
 use Rattle.frame_facts.specs.declared.cause.FrameCause.{FrameCause}
 use Rattle.frame_facts.specs.declared.facts.Fact.{Fact}
-use Rattle.frame_facts.specs.Facts.{join_of, height, forgotten, IsAtMost}
+use Rattle.frame_facts.specs.Facts.{join_of, height, clobbered, IsAtMost}
 use Rattle.frame_facts.proofs.Vaguer.{join_falls}
-use Rattle.frame_scene.specs.declared.ways.Way.{Way}
+use Rattle.frame_graph.specs.declared.edges.Edge.{Edge}
 use Rattle.flow.specs.Flow.{fact_at}
 use Rattle.flow.proofs.Work.{contains_head}
 use Rattle.flow.proofs.Ends.{merge_new, merge_vaguer, merge_same, merge_apart}
 use Rattle.frame_flow.specs.declared.work.FrameFault.{FrameFault}
 use Rattle.frame_flow.specs.declared.work.FrameFault.TheVariants.{Stands, OutOfMemory}
 use Rattle.frame_flow.specs.Framed.{Framed}
-use Rattle.frame_flow.specs.Flows.{edge_of, parting, flow_of, count_of}
+use Rattle.frame_flow.specs.Flows.{along_edge, parting, flow_of, count_of}
 use Rattle.frame_flow.specs.Work.{IsSound, top_of, Keeps, Merged, fresh, same, vaguer, parts, spent}
 use Rattle.frame_flow.proofs.Instance.{laws, falls, inside, parting_is}
 
@@ -37,23 +37,23 @@ less_from h g k met ne = ⊎_elim (λ (e : k ≡ h). absurd (ne e)) (λ (l : hei
 pub merged_keeps : (x : Framed) (facts : List (Option Fact)) (work : List ℕ) (q : ℕ) (g : Fact) (facts' : List (Option Fact)) (work' : List ℕ) (todo : List (ℕ × Fact)) (r : Result (Unit {0}) FrameFault)
     → Merged x facts work q g facts' work' r → IsSound x facts work ((q, g) ∷ todo) → Keeps x facts work facts' work' todo r
 merged_keeps x facts work q g facts' work' todo _ (fresh none is more) s =
-    let m = merge_new Fact FrameCause (flow_of x) IsAtMost (laws x) (count_of x.scene) (inside x) height (top_of x) (falls x) facts work todo q g s none in
+    let m = merge_new Fact FrameCause (flow_of x) IsAtMost (laws x) (count_of x.flow_graph) (inside x) height (top_of x) (falls x) facts work todo q g s none in
     rw (is, more) (m.0, omega (arith, m.1))
 merged_keeps x facts work q g facts' work' todo _ (same h k held met one is more) s =
-    rw (is, more) (merge_same Fact FrameCause (flow_of x) IsAtMost (laws x) (count_of x.scene) (inside x) height (top_of x) (falls x) facts work todo q g h k s held met one, omega arith)
+    rw (is, more) (merge_same Fact FrameCause (flow_of x) IsAtMost (laws x) (count_of x.flow_graph) (inside x) height (top_of x) (falls x) facts work todo q g h k s held met one, omega arith)
 merged_keeps x facts work q g facts' work' todo _ (vaguer h k held met ne is more) s =
-    let m = merge_vaguer Fact FrameCause (flow_of x) IsAtMost (laws x) (count_of x.scene) (inside x) height (top_of x) (falls x) facts work todo q g h k s held met (less_from h g k met ne) in
+    let m = merge_vaguer Fact FrameCause (flow_of x) IsAtMost (laws x) (count_of x.flow_graph) (inside x) height (top_of x) (falls x) facts work todo q g h k s held met (less_from h g k met ne) in
     rw (is, more) (m.0, omega (arith, m.1))
 merged_keeps x facts work q g facts' work' todo _ (parts h held met) s =
-    merge_apart Fact FrameCause (flow_of x) IsAtMost (laws x) (count_of x.scene) (inside x) height (top_of x) (falls x) facts work todo q g h (parting x q) s held met (parting_is x q)
+    merge_apart Fact FrameCause (flow_of x) IsAtMost (laws x) (count_of x.flow_graph) (inside x) height (top_of x) (falls x) facts work todo q g h (parting x q) s held met (parting_is x q)
 merged_keeps x facts work q g facts' work' todo _ spent s = tt
 
 -- the next edge comes in hand
-pub next_edge : (x : Framed) (facts : List (Option Fact)) (work : List ℕ) (f : Fact) (ways : List Way) (i : ℕ) (d : Way) (g : Fact) → i < length ways → g ≡ forgotten (listed (get_or ways i d).forgets) f
-    → IsSound x facts work (map (edge_of f) (drop i ways)) → IsSound x facts work (((get_or ways i d).to, g) ∷ map (edge_of f) (drop (i + 1) ways))
-next_edge x facts work f ways i d g l e s =
-    let cut : drop i ways ≡ get_or ways i d ∷ drop (i + 1) ways = rw (add-one) (drop-cons ways i d l) in
-    subst (λ k. IsSound x facts work (((get_or ways i d).to, k) ∷ map (edge_of f) (drop (i + 1) ways))) (sym e) (subst (λ ws. IsSound x facts work (map (edge_of f) ws)) cut s)
+pub next_transfer : (x : Framed) (facts : List (Option Fact)) (work : List ℕ) (f : Fact) (edges : List Edge) (i : ℕ) (d : Edge) (g : Fact) → i < length edges → g ≡ clobbered (listed (get_or edges i d).clobbers) f
+    → IsSound x facts work (map (along_edge f) (drop i edges)) → IsSound x facts work (((get_or edges i d).to, g) ∷ map (along_edge f) (drop (i + 1) edges))
+next_transfer x facts work f edges i d g l e s =
+    let cut : drop i edges ≡ get_or edges i d ∷ drop (i + 1) edges = rw (add-one) (drop-cons edges i d l) in
+    subst (λ k. IsSound x facts work (((get_or edges i d).to, k) ∷ map (along_edge f) (drop (i + 1) edges))) (sym e) (subst (λ ws. IsSound x facts work (map (along_edge f) ws)) cut s)
 
-pub edge_within : (x : Framed) (facts : List (Option Fact)) (work : List ℕ) (q : ℕ) (g : Fact) (todo : List (ℕ × Fact)) → IsSound x facts work ((q, g) ∷ todo) → q < length facts
-edge_within x facts work q g todo s = omega (arith, s.long, (s.ahead q g (contains_head (q, g) todo)).1)
+pub transfer_within : (x : Framed) (facts : List (Option Fact)) (work : List ℕ) (q : ℕ) (g : Fact) (todo : List (ℕ × Fact)) → IsSound x facts work ((q, g) ∷ todo) → q < length facts
+transfer_within x facts work q g todo s = omega (arith, s.long, (s.ahead q g (contains_head (q, g) todo)).1)

@@ -15,11 +15,11 @@ use Rattle.frame_facts.specs.declared.saves.Prologue.{Prologue}
 use Rattle.frame_facts.specs.Branches.{is_indirect, return_to, returns_well}
 use Rattle.frame_facts.specs.After.{effect, returned, gone_on, after_of}
 use Rattle.frame_facts.specs.Agrees.{at_site, is_lost, fails, has_no_room, answer, agreed}
-use Rattle.frame_scene.specs.declared.unwinding.Unwinding.{Unwinding}
-use Rattle.frame_scene.specs.declared.unwinding.Unwinding.TheVariants.{Finds, Refused, BadBytecode as BadCodes, GenericModel as Generic}
-use Rattle.frame_scene.specs.Places.{address_of}
-use Rattle.frame_scene.specs.Ways.{is_undecodable, branches_out, calls_nothing, instruction_at, call_target}
-use Rattle.frame_scene.specs.Sites.{site_at, unwinding_at, pads_out}
+use Rattle.frame_graph.specs.declared.unwinding.Unwinding.{Unwinding}
+use Rattle.frame_graph.specs.declared.unwinding.Unwinding.TheVariants.{Finds, Refused, BadBytecode as BadCodes, GenericModel as Generic}
+use Rattle.frame_graph.specs.Places.{address_of}
+use Rattle.frame_graph.specs.Edges.{is_undecodable, branches_out, calls_nothing, instruction_at, call_target}
+use Rattle.frame_graph.specs.Sites.{site_at, unwinding_at, pads_out}
 use Rattle.thumb_core.specs.declared.regs.TheConstants.{LR}
 use Rattle.flow.proofs.Work.{contains_none, contains_cons}
 use Rattle.frame_flow.specs.Framed.{Framed}
@@ -98,43 +98,43 @@ shown_alone low false c le = tt
 site_rises : (x : Framed) (call : Bool) (f : Fact) (o : Option ℕ) → Rising 7 (option_map_or (site_causes x call f) o [])
 site_rises x call f None = tt
 site_rises x call f (Some site) =
-    unwound_rises x.prologue (unwinding_at x.scene site) call f (shown (pads_out x.scene site) PadDepth ++ shown (throws_in_leaf x.scene site call f) ThrowInLeafScope)
-    (shown_rises 9 (pads_out x.scene site) PadDepth (shown (throws_in_leaf x.scene site call f) ThrowInLeafScope) (omega arith)
-    (shown_alone 12 (throws_in_leaf x.scene site call f) ThrowInLeafScope (omega arith)))
+    unwound_rises x.prologue (unwinding_at x.flow_graph site) call f (shown (pads_out x.flow_graph site) PadDepth ++ shown (throws_in_leaf x.flow_graph site call f) ThrowInLeafScope)
+    (shown_rises 9 (pads_out x.flow_graph site) PadDepth (shown (throws_in_leaf x.flow_graph site call f) ThrowInLeafScope) (omega arith)
+    (shown_alone 12 (throws_in_leaf x.flow_graph site call f) ThrowInLeafScope (omega arith)))
 
 -- ---- places
 
 instruction_rises : (x : Framed) (p : ℕ) (f : Fact) (i : Instr) → Rising 2 (instruction_causes x p f i)
-instruction_rises x p f i = answered_rises 2 7 (after_at x p f i) (option_map_or (site_causes x (is_call i) f) (site_at x.scene p) []) (omega arith)
-    (after_between x.prologue (address_of x.scene p) i f) (site_rises x (is_call i) f (site_at x.scene p))
+instruction_rises x p f i = answered_rises 2 7 (after_at x p f i) (option_map_or (site_causes x (is_call i) f) (site_at x.flow_graph p) []) (omega arith)
+    (after_between x.prologue (address_of x.flow_graph p) i f) (site_rises x (is_call i) f (site_at x.flow_graph p))
 
 -- BL shows no cause by its effect
-call_is_fine : (x : Framed) (p : ℕ) (f : Fact) (i : Instr) (t : ℕ) → call_target (address_of x.scene p) i ≡ Some t → answered (after_at x p f i) ≡ []
+call_is_fine : (x : Framed) (p : ℕ) (f : Fact) (i : Instr) (t : ℕ) → call_target (address_of x.flow_graph p) i ≡ Some t → answered (after_at x p f i) ≡ []
 call_is_fine x p f (Bl off) t h = refl
 call_is_fine x p f i t h = absurd cc
 
 -- what no function is called by, and then what the instruction shows
 abbrev calls : Framed → Option ℕ → Bool
-calls x o = option_map_or (λ a. not (begins_function x.scene.image.functions a)) o false
+calls x o = option_map_or (λ a. not (begins_function x.flow_graph.image.functions a)) o false
 
-call_rises : (x : Framed) (p : ℕ) (f : Fact) (i : Instr) (o : Option ℕ) → call_target (address_of x.scene p) i ≡ o → Rising 2 (shown (calls x o) CallNotFunction ++ instruction_causes x p f i)
+call_rises : (x : Framed) (p : ℕ) (f : Fact) (i : Instr) (o : Option ℕ) → call_target (address_of x.flow_graph p) i ≡ o → Rising 2 (shown (calls x o) CallNotFunction ++ instruction_causes x p f i)
 call_rises x p f i None e = instruction_rises x p f i
 call_rises x p f i (Some t) e =
-    let sites = option_map_or (site_causes x (is_call i) f) (site_at x.scene p) [] in
+    let sites = option_map_or (site_causes x (is_call i) f) (site_at x.flow_graph p) [] in
     subst (λ l. Rising 2 (shown (calls x (Some t)) CallNotFunction ++ (l ++ sites))) (sym (call_is_fine x p f i t e))
-    (shown_rises 2 (calls x (Some t)) CallNotFunction sites (omega arith) (lower 4 7 sites (omega arith) (site_rises x (is_call i) f (site_at x.scene p))))
+    (shown_rises 2 (calls x (Some t)) CallNotFunction sites (omega arith) (lower 4 7 sites (omega arith) (site_rises x (is_call i) f (site_at x.flow_graph p))))
 
 place_rises : (x : Framed) (p : ℕ) (f : Fact) (o : Option Instr)
-    → Rising 2 (shown (calls x (option_and_then (call_target (address_of x.scene p)) o)) CallNotFunction ++ option_map_or (instruction_causes x p f) o [])
+    → Rising 2 (shown (calls x (option_and_then (call_target (address_of x.flow_graph p)) o)) CallNotFunction ++ option_map_or (instruction_causes x p f) o [])
 place_rises x p f None = tt
-place_rises x p f (Some i) = call_rises x p f i (call_target (address_of x.scene p) i) refl
+place_rises x p f (Some i) = call_rises x p f i (call_target (address_of x.flow_graph p) i) refl
 
 found_rises : (x : Framed) (p : ℕ) (f : Fact) → Rising 0 (found x p f)
 unfolding found
 found_rises x p f =
-    let more = shown (calls_nothing x.scene p) CallNotFunction ++ option_map_or (instruction_causes x p f) (instruction_at x.scene p) [] in
-    shown_rises 0 (is_undecodable x.scene p) Undecodable (shown (branches_out x.scene p) BranchOut ++ more) (omega arith)
-    (shown_rises 1 (branches_out x.scene p) BranchOut more (omega arith) (place_rises x p f (instruction_at x.scene p)))
+    let more = shown (calls_nothing x.flow_graph p) CallNotFunction ++ option_map_or (instruction_causes x p f) (instruction_at x.flow_graph p) [] in
+    shown_rises 0 (is_undecodable x.flow_graph p) Undecodable (shown (branches_out x.flow_graph p) BranchOut ++ more) (omega arith)
+    (shown_rises 1 (branches_out x.flow_graph p) BranchOut more (omega arith) (place_rises x p f (instruction_at x.flow_graph p)))
 
 pub lowest_is_first : LowestIsFirst
 lowest_is_first x p f c d more e h = above (number c) more d (subst (λ l. Rising 0 l) e (found_rises x p f)).1 h

@@ -7,8 +7,8 @@ use Rattle.frame_facts.specs.declared.cause.FrameCause.{FrameCause}
 use Rattle.frame_facts.specs.declared.cause.FrameCause.TheVariants.{JoinDepth, PadDepth}
 use Rattle.frame_facts.specs.declared.facts.Fact.{Fact}
 use Rattle.frame_facts.specs.Facts.{join_of}
-use Rattle.frame_scene.specs.Places.{address_of}
-use Rattle.frame_scene.specs.Sites.{site_of}
+use Rattle.frame_graph.specs.Places.{address_of}
+use Rattle.frame_graph.specs.Sites.{site_of}
 use Rattle.flow.specs.Flow.{at_entry, met, apart}
 use Rattle.frame_flow.specs.Framed.{Framed}
 use Rattle.frame_flow.specs.Causes.{is_call}
@@ -64,4 +64,4 @@ call_or_gate a site (Svc imm) h = inr (refl, (imm, refl))
 call_or_gate a site i h = absurd cc
 
 pub sites_are_calls_or_gates : SitesAreCallsOrGates
-sites_are_calls_or_gates x p i site e s = call_or_gate (address_of x.scene p) site i (sym (ap (λ o. option_and_then (site_of (address_of x.scene p)) o) e) ∙ s)
+sites_are_calls_or_gates x p i site e s = call_or_gate (address_of x.flow_graph p) site i (sym (ap (λ o. option_and_then (site_of (address_of x.flow_graph p)) o) e) ∙ s)

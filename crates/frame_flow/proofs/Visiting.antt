@@ -7,9 +7,9 @@ use Rattle.std.specs.List.{Contains}
 use Rattle.frame_facts.specs.declared.cause.FrameCause.{FrameCause}
 use Rattle.frame_facts.specs.declared.facts.Fact.{Fact}
 use Rattle.frame_facts.specs.Facts.{entered, height, IsAtMost}
-use Rattle.frame_scene.specs.declared.ways.Way.{Way}
-use Rattle.frame_scene.specs.Sites.{ways_of}
-use Rattle.frame_scene.specs.Stretch.{HaveSame}
+use Rattle.frame_graph.specs.declared.edges.Edge.{Edge}
+use Rattle.frame_graph.specs.Sites.{edges_of}
+use Rattle.frame_graph.specs.Stretch.{HaveSame}
 use Rattle.flow.specs.Flow.{fact_at}
 use Rattle.flow.proofs.Law.{none_stand}
 use Rattle.flow.proofs.Work.{take_up, unasked, over, contains_head}
@@ -18,11 +18,11 @@ use Rattle.frame_flow.specs.declared.work.FrameFault.{FrameFault}
 use Rattle.frame_flow.specs.declared.work.FrameFault.TheVariants.{Stands, OutOfMemory}
 use Rattle.frame_flow.specs.Framed.{Framed}
 use Rattle.frame_flow.specs.Causes.{found}
-use Rattle.frame_flow.specs.Flows.{behind, edge_of, edges_from, edges, flow_of, count_of, StandsIn, HasFacts, NoneStands}
+use Rattle.frame_flow.specs.Flows.{fact_after, along_edge, along_edges, transfer, flow_of, count_of, StandsIn, HasFacts, NoneStands}
 use Rattle.frame_flow.specs.Work.{by_first, passed, IsSound, top_of, load, FaultStands, LacksFacts}
 use Rattle.frame_flow.proofs.Causing.{found_passes, head_met}
 use Rattle.frame_flow.proofs.Instance.{laws, falls, inside}
-use Rattle.frame_flow.proofs.Edges.{same_edges}
+use Rattle.frame_flow.proofs.Transfers.{same_transfer}
 
 -- what `passed` answers
 err_is : {X : Type 0} (l : List FrameCause) (o x : X) (c : FrameCause) → by_first l o ≡ Err c → (more : List FrameCause) × (l ≡ c ∷ more)
@@ -33,34 +33,34 @@ ok_is : (l : List FrameCause) (o k : Option Fact) → by_first l o ≡ Ok k → 
 ok_is [] o k h = (refl, cc)
 ok_is (d ∷ more) o k h = absurd cc
 
-edges_are : (x : Framed) (p : ℕ) (f : Fact) (o : Option Fact) → behind x p f ≡ o → edges x p f ≡ edges_from o (ways_of x.scene p)
-unfolding edges
-edges_are x p f o e = ap (λ o. edges_from o (ways_of x.scene p)) e
+transfer_by : (x : Framed) (p : ℕ) (f : Fact) (o : Option Fact) → fact_after x p f ≡ o → transfer x p f ≡ along_edges o (edges_of x.flow_graph p)
+unfolding transfer
+transfer_by x p f o e = ap (λ o. along_edges o (edges_of x.flow_graph p)) e
 
 pub visit_none : (x : Framed) (facts : List (Option Fact)) (work : List ℕ) (p : ℕ) → IsSound x facts (work ++ p ∷ []) [] → fact_at facts p ≡ None → IsSound x facts work []
-visit_none x facts work p s none = unasked Fact FrameCause (flow_of x) IsAtMost (laws x) (count_of x.scene) (inside x) facts work p s none
+visit_none x facts work p s none = unasked Fact FrameCause (flow_of x) IsAtMost (laws x) (count_of x.flow_graph) (inside x) facts work p s none
 
 pub visit_cause : (x : Framed) (facts : List (Option Fact)) (work : List ℕ) (p : ℕ) (f : Fact) (c : FrameCause)
     → IsSound x facts (work ++ p ∷ []) [] → fact_at facts p ≡ Some f → passed x p f ≡ Err c → StandsIn x p c
 visit_cause x facts work p f c s is h =
-    let w = err_is (found x p f) (behind x p f) (behind x p f) c h in
-    refused Fact FrameCause (flow_of x) IsAtMost (laws x) (count_of x.scene) (inside x) height (top_of x) (falls x) facts (work ++ p ∷ []) [] p f c s is (head_met x p f c w.0 w.1)
+    let w = err_is (found x p f) (fact_after x p f) (fact_after x p f) c h in
+    refused Fact FrameCause (flow_of x) IsAtMost (laws x) (count_of x.flow_graph) (inside x) height (top_of x) (falls x) facts (work ++ p ∷ []) [] p f c s is (head_met x p f c w.0 w.1)
 
 -- the edges of the place come in hand
 visit_on : (x : Framed) (facts : List (Option Fact)) (work : List ℕ) (p : ℕ) (f : Fact) (o : Option Fact)
-    → IsSound x facts (work ++ p ∷ []) [] → fact_at facts p ≡ Some f → passed x p f ≡ Ok o → IsSound x facts work (edges_from o (ways_of x.scene p))
+    → IsSound x facts (work ++ p ∷ []) [] → fact_at facts p ≡ Some f → passed x p f ≡ Ok o → IsSound x facts work (along_edges o (edges_of x.flow_graph p))
 visit_on x facts work p f o s is h =
-    let w = ok_is (found x p f) (behind x p f) o h in
-    let t = take_up Fact FrameCause (flow_of x) IsAtMost (laws x) (count_of x.scene) (inside x) facts work p f s is (found_passes x p f w.0) in
-    subst (λ l. IsSound x facts work l) (edges_are x p f o w.1) t
+    let w = ok_is (found x p f) (fact_after x p f) o h in
+    let t = take_up Fact FrameCause (flow_of x) IsAtMost (laws x) (count_of x.flow_graph) (inside x) facts work p f s is (found_passes x p f w.0) in
+    subst (λ l. IsSound x facts work l) (transfer_by x p f o w.1) t
 
 pub visit_ends : (x : Framed) (facts : List (Option Fact)) (work : List ℕ) (p : ℕ) (f : Fact)
     → IsSound x facts (work ++ p ∷ []) [] → fact_at facts p ≡ Some f → passed x p f ≡ Ok None → IsSound x facts work []
 visit_ends x facts work p f s is h = visit_on x facts work p f None s is h
 
-pub visit_leads : (x : Framed) (facts : List (Option Fact)) (work : List ℕ) (p : ℕ) (f g : Fact) (ways : List Way)
-    → IsSound x facts (work ++ p ∷ []) [] → fact_at facts p ≡ Some f → passed x p f ≡ Ok (Some g) → HaveSame ways (ways_of x.scene p) → IsSound x facts work (map (edge_of g) ways)
-visit_leads x facts work p f g ways s is h same = same_edges x facts work g ways (ways_of x.scene p) same (visit_on x facts work p f (Some g) s is h)
+pub visit_leads : (x : Framed) (facts : List (Option Fact)) (work : List ℕ) (p : ℕ) (f g : Fact) (edges : List Edge)
+    → IsSound x facts (work ++ p ∷ []) [] → fact_at facts p ≡ Some f → passed x p f ≡ Ok (Some g) → HaveSame edges (edges_of x.flow_graph p) → IsSound x facts work (map (along_edge g) edges)
+visit_leads x facts work p f g edges s is h same = same_transfer x facts work g edges (edges_of x.flow_graph p) same (visit_on x facts work p f (Some g) s is h)
 
 last_in : (work : List ℕ) (p : ℕ) → Contains (work ++ p ∷ []) p
 last_in work p = Contains-append_right work (p ∷ []) p (contains_head p [])
@@ -69,8 +69,8 @@ whole : (start end p : ℕ) → p < (end - start + 1) / 2 → start + 2 * p < en
 whole start end p l = omega (arith, l)
 
 -- the last place of the work list has its slot in the table, and its address lies below the function's end
-pub place_within : (x : Framed) (facts : List (Option Fact)) (work : List ℕ) (p : ℕ) → IsSound x facts (work ++ p ∷ []) [] → (x.scene.start + 2 * p < x.scene.end) × (p < length facts)
-place_within x facts work p s = let l = s.within p (last_in work p) in (whole x.scene.start x.scene.end p l, omega (arith, s.long, l))
+pub place_within : (x : Framed) (facts : List (Option Fact)) (work : List ℕ) (p : ℕ) → IsSound x facts (work ++ p ∷ []) [] → (x.flow_graph.start + 2 * p < x.flow_graph.end) × (p < length facts)
+place_within x facts work p s = let l = s.within p (last_in work p) in (whole x.flow_graph.start x.flow_graph.end p l, omega (arith, s.long, l))
 
 nil_from : (xs : List ℕ) → length xs ≡ 0 → xs ≡ []
 nil_from [] h = refl
@@ -80,11 +80,11 @@ nil_from (x ∷ xs) h = absurd (omega (arith, h))
 pub halves : (start end s e n : ℕ) → s ≡ start → e ≡ end → n ≡ div_ceil (e - s) 2 → n ≡ (end - start + 1) / 2
 halves start end s e n x y h = let up : n ≡ (e - s) / 2 + min 1 ((e - s) % 2) = h in omega (arith, up, x, y)
 
-pub begun : (x : Framed) (facts : List (Option Fact)) (work : List ℕ) (none : List (Option Fact)) (n : ℕ) → n ≡ count_of x.scene → none ≡ replicate n None → facts ≡ set none 0 (Some entered) → work ≡ [] ++ 0 ∷ []
-    → x.scene.start < x.scene.end → IsSound x facts work []
+pub begun : (x : Framed) (facts : List (Option Fact)) (work : List ℕ) (none : List (Option Fact)) (n : ℕ) → n ≡ count_of x.flow_graph → none ≡ replicate n None → facts ≡ set none 0 (Some entered) → work ≡ [] ++ 0 ∷ []
+    → x.flow_graph.start < x.flow_graph.end → IsSound x facts work []
 begun x facts work none n c e is w l =
-    rw (is, w, e, c) (starts Fact FrameCause (flow_of x) IsAtMost (laws x) (count_of x.scene) (inside x) height (top_of x) (falls x)
-    (replicate (count_of x.scene) None) (length-replicate (count_of x.scene) None) (blank (count_of x.scene)) (some x.scene.start x.scene.end l))
+    rw (is, w, e, c) (starts Fact FrameCause (flow_of x) IsAtMost (laws x) (count_of x.flow_graph) (inside x) height (top_of x) (falls x)
+    (replicate (count_of x.flow_graph) None) (length-replicate (count_of x.flow_graph) None) (blank (count_of x.flow_graph)) (some x.flow_graph.start x.flow_graph.end l))
   where
     some : (start end : ℕ) → start < end → 0 < (end - start + 1) / 2
     some start end l = omega (arith, l)
@@ -93,7 +93,7 @@ pub load_popped : (x : Framed) (facts : List (Option Fact)) (work : List ℕ) (p
 load_popped x facts work p = popped height (top_of x) facts work p
 
 pub valid_over : (x : Framed) (facts : List (Option Fact)) (work : List ℕ) → length work ≡ 0 → IsSound x facts work [] → HasFacts x
-valid_over x facts work e s = (facts, over Fact FrameCause (flow_of x) IsAtMost (laws x) (count_of x.scene) (inside x) facts (subst (λ w. IsSound x facts w []) (nil_from work e) s))
+valid_over x facts work e s = (facts, over Fact FrameCause (flow_of x) IsAtMost (laws x) (count_of x.flow_graph) (inside x) facts (subst (λ w. IsSound x facts w []) (nil_from work e) s))
 
 -- valid facts leave no cause that stands
 pub clear : (x : Framed) → HasFacts x → NoneStands x

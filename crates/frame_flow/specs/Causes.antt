@@ -11,12 +11,12 @@ use Rattle.frame_facts.specs.declared.facts.Fact.{Fact}
 use Rattle.frame_facts.specs.declared.saves.Prologue.{Prologue}
 use Rattle.frame_facts.specs.After.{after_of}
 use Rattle.frame_facts.specs.Agrees.{has_no_room, agreed}
-use Rattle.frame_scene.specs.declared.unwinding.Unwinding.{Unwinding}
-use Rattle.frame_scene.specs.declared.unwinding.Unwinding.TheVariants.{Finds, Refused, BadBytecode as BadCodes, GenericModel as Generic}
-use Rattle.frame_scene.specs.Scene.{Scene}
-use Rattle.frame_scene.specs.Places.{address_of}
-use Rattle.frame_scene.specs.Ways.{is_undecodable, branches_out, calls_nothing, instruction_at}
-use Rattle.frame_scene.specs.Sites.{site_at, unwinding_at, is_scoped, pads_out}
+use Rattle.frame_graph.specs.declared.unwinding.Unwinding.{Unwinding}
+use Rattle.frame_graph.specs.declared.unwinding.Unwinding.TheVariants.{Finds, Refused, BadBytecode as BadCodes, GenericModel as Generic}
+use Rattle.frame_graph.specs.FlowGraph.{FlowGraph}
+use Rattle.frame_graph.specs.Places.{address_of}
+use Rattle.frame_graph.specs.Edges.{is_undecodable, branches_out, calls_nothing, instruction_at}
+use Rattle.frame_graph.specs.Sites.{site_at, unwinding_at, is_scoped, pads_out}
 use Rattle.frame_flow.specs.Framed.{Framed}
 
 -- ---- what a test and an answer show
@@ -45,27 +45,27 @@ unwound p BadCodes call f = shown (has_no_room call f LR) (CallState LR)
 unwound p Generic call f = shown (has_no_room call f LR) (CallState LR)
 
 -- a gate in the scope of a descriptor, with nothing on the stack
-abbrev pub throws_in_leaf : Scene → ℕ → Bool → Fact → Bool
+abbrev pub throws_in_leaf : FlowGraph → ℕ → Bool → Fact → Bool
 throws_in_leaf s site call f = not call && (f.depth == 0) && is_scoped s site
 
 abbrev pub site_causes : Framed → Bool → Fact → ℕ → List FrameCause
 site_causes x call f site =
-    unwound x.prologue (unwinding_at x.scene site) call f ++ (shown (pads_out x.scene site) PadDepth ++ shown (throws_in_leaf x.scene site call f) ThrowInLeafScope)
+    unwound x.prologue (unwinding_at x.flow_graph site) call f ++ (shown (pads_out x.flow_graph site) PadDepth ++ shown (throws_in_leaf x.flow_graph site call f) ThrowInLeafScope)
 
 -- ---- places
 
 -- what the instruction at a place does to the fact; no address is a place where sp is lowered by an unknown amount
 abbrev pub after_at : Framed → ℕ → Fact → Instr → Result Fact FrameCause
-after_at x p f i = after_of x.prologue false (address_of x.scene p) i f
+after_at x p f i = after_of x.prologue false (address_of x.flow_graph p) i f
 
 abbrev pub instruction_causes : Framed → ℕ → Fact → Instr → List FrameCause
-instruction_causes x p f i = answered (after_at x p f i) ++ option_map_or (site_causes x (is_call i) f) (site_at x.scene p) []
+instruction_causes x p f i = answered (after_at x p f i) ++ option_map_or (site_causes x (is_call i) f) (site_at x.flow_graph p) []
 
 -- The causes that a fact meets at a place, the lowest first. Only BL can call what is no function, and it shows no cause by its effect.
 unfoldable pub found : Framed → ℕ → Fact → List FrameCause
 found x p f =
-    shown (is_undecodable x.scene p) Undecodable ++ (shown (branches_out x.scene p) BranchOut
-    ++ (shown (calls_nothing x.scene p) CallNotFunction ++ option_map_or (instruction_causes x p f) (instruction_at x.scene p) []))
+    shown (is_undecodable x.flow_graph p) Undecodable ++ (shown (branches_out x.flow_graph p) BranchOut
+    ++ (shown (calls_nothing x.flow_graph p) CallNotFunction ++ option_map_or (instruction_causes x p f) (instruction_at x.flow_graph p) []))
 
 -- ---- one cause and another
 

@@ -9,29 +9,29 @@ use Rattle.frame_facts.specs.declared.cause.FrameCause.{FrameCause}
 use Rattle.frame_facts.specs.declared.cause.FrameCause.TheVariants.{Undecodable, BranchOut, IndirectBranch, CallNotFunction, SpWrite, JoinDepth, ReturnState, CallState, FramePointerLost, BadBytecode, BadDescriptor, PadDepth, ThrowInLeafScope, SplitEntry, GenericModel, TooLong}
 use Rattle.frame_facts.specs.declared.facts.Fact.{Fact}
 use Rattle.frame_facts.specs.declared.saves.Prologue.{Prologue}
-use Rattle.frame_facts.specs.Facts.{entered, forgotten}
+use Rattle.frame_facts.specs.Facts.{entered, clobbered}
 use Rattle.frame_facts.specs.After.{after_of}
 use Rattle.frame_facts.specs.Agrees.{agreed}
-use Rattle.frame_scene.specs.declared.unwinding.Unwinding.{Unwinding}
-use Rattle.frame_scene.specs.declared.unwinding.Unwinding.TheVariants.{Finds, Refused, BadBytecode as BadCodes, GenericModel as Generic}
-use Rattle.frame_scene.specs.declared.ways.Way.{Way}
-use Rattle.frame_scene.specs.Places.{address_of}
-use Rattle.frame_scene.specs.Ways.{is_undecodable, branches_out, calls_nothing, instruction_at}
-use Rattle.frame_scene.specs.Sites.{site_at, unwinding_at, is_scoped, pads_out, ways_of}
+use Rattle.frame_graph.specs.declared.unwinding.Unwinding.{Unwinding}
+use Rattle.frame_graph.specs.declared.unwinding.Unwinding.TheVariants.{Finds, Refused, BadBytecode as BadCodes, GenericModel as Generic}
+use Rattle.frame_graph.specs.declared.edges.Edge.{Edge}
+use Rattle.frame_graph.specs.Places.{address_of}
+use Rattle.frame_graph.specs.Edges.{is_undecodable, branches_out, calls_nothing, instruction_at}
+use Rattle.frame_graph.specs.Sites.{site_at, unwinding_at, is_scoped, pads_out, edges_of}
 use Rattle.frame_flow.specs.Framed.{Framed}
 use Rattle.frame_flow.specs.Causes.{is_call, meets}
-use Rattle.frame_flow.specs.Flows.{edges, IsStateOf, StandsIn}
+use Rattle.frame_flow.specs.Flows.{transfer, IsStateOf, StandsIn}
 
 -- the effect of the instruction at a place
 abbrev pub Leaves : Framed → ℕ → Fact → Fact → Type 0
-Leaves x p f g = (i : Instr) × (instruction_at x.scene p ≡ Some i) × (after_of x.prologue false (address_of x.scene p) i f ≡ Ok g)
+Leaves x p f g = (i : Instr) × (instruction_at x.flow_graph p ≡ Some i) × (after_of x.prologue false (address_of x.flow_graph p) i f ≡ Ok g)
 
 abbrev pub Shows : Framed → ℕ → Fact → FrameCause → Type 0
-Shows x p f c = (i : Instr) × (instruction_at x.scene p ≡ Some i) × (after_of x.prologue false (address_of x.scene p) i f ≡ Err c)
+Shows x p f c = (i : Instr) × (instruction_at x.flow_graph p ≡ Some i) × (after_of x.prologue false (address_of x.flow_graph p) i f ≡ Err c)
 
 -- a site at a place
 abbrev pub AtSite : Framed → ℕ → (Instr → ℕ → Type 0) → Type 0
-AtSite x p P = (i : Instr) × (site : ℕ) × (instruction_at x.scene p ≡ Some i) × (site_at x.scene p ≡ Some site) × P i site
+AtSite x p P = (i : Instr) × (site : ℕ) × (instruction_at x.flow_graph p ≡ Some i) × (site_at x.flow_graph p ≡ Some site) × P i site
 
 -- a recipe that doesn't agree; or, without one, a call with no word on the stack
 abbrev pub Disagrees : Prologue → Unwinding → Instr → Fact → FrameCause → Type 0
@@ -43,19 +43,19 @@ Disagrees p Generic i f c = (is_call i ≡ true) × (f.depth < 4) × (c ≡ Call
 -- The condition of each cause. JoinDepth is a matter of two facts; those about the covering entry of the function's start, about all of
 -- its sites and about all places that are reached are none of a fact.
 abbrev pub Holds : Framed → ℕ → Fact → FrameCause → Type 0
-Holds x p f Undecodable = is_undecodable x.scene p ≡ true
-Holds x p f BranchOut = branches_out x.scene p ≡ true
+Holds x p f Undecodable = is_undecodable x.flow_graph p ≡ true
+Holds x p f BranchOut = branches_out x.flow_graph p ≡ true
 Holds x p f IndirectBranch = Shows x p f IndirectBranch
-Holds x p f CallNotFunction = calls_nothing x.scene p ≡ true
+Holds x p f CallNotFunction = calls_nothing x.flow_graph p ≡ true
 Holds x p f SpWrite = Shows x p f SpWrite
 Holds x p f JoinDepth = ⊥
 Holds x p f ReturnState = Shows x p f ReturnState
-Holds x p f (CallState reg) = AtSite x p (λ i site. Disagrees x.prologue (unwinding_at x.scene site) i f (CallState reg))
-Holds x p f (FramePointerLost reg) = AtSite x p (λ i site. Disagrees x.prologue (unwinding_at x.scene site) i f (FramePointerLost reg))
+Holds x p f (CallState reg) = AtSite x p (λ i site. Disagrees x.prologue (unwinding_at x.flow_graph site) i f (CallState reg))
+Holds x p f (FramePointerLost reg) = AtSite x p (λ i site. Disagrees x.prologue (unwinding_at x.flow_graph site) i f (FramePointerLost reg))
 Holds x p f BadBytecode = ⊥
 Holds x p f BadDescriptor = ⊥
-Holds x p f PadDepth = AtSite x p (λ i site. pads_out x.scene site ≡ true)
-Holds x p f ThrowInLeafScope = AtSite x p (λ i site. (is_call i ≡ false) × (f.depth ≡ 0) × (is_scoped x.scene site ≡ true))
+Holds x p f PadDepth = AtSite x p (λ i site. pads_out x.flow_graph site ≡ true)
+Holds x p f ThrowInLeafScope = AtSite x p (λ i site. (is_call i ≡ false) × (f.depth ≡ 0) × (is_scoped x.flow_graph site ≡ true))
 Holds x p f SplitEntry = ⊥
 Holds x p f GenericModel = ⊥
 Holds x p f TooLong = ⊥
@@ -64,9 +64,9 @@ Holds x p f TooLong = ⊥
 abbrev pub CausesAreConditions : Type 0
 CausesAreConditions = (x : Framed) (c : FrameCause) (p : ℕ) (f : Fact) → (meets x c p f ≡ true) ↔ Holds x p f c
 
--- a fact leads along the ways of its place, with what its instruction leaves and the way doesn't forget, and nowhere else
-abbrev pub EdgesAreWays : Type 0
-EdgesAreWays = (x : Framed) (p : ℕ) (f : Fact) (q : ℕ) (g : Fact) → Contains (edges x p f) (q, g) ↔ ((k : Fact) × (w : Way) × Leaves x p f k × Contains (ways_of x.scene p) w × (q ≡ w.to) × (g ≡ forgotten (listed w.forgets) k))
+-- a fact leads along the edges of its place, with what its instruction leaves and the edge doesn't clobber, and nowhere else
+abbrev pub TransferFollowsEdges : Type 0
+TransferFollowsEdges = (x : Framed) (p : ℕ) (f : Fact) (q : ℕ) (g : Fact) → Contains (transfer x p f) (q, g) ↔ ((k : Fact) × (w : Edge) × Leaves x p f k × Contains (edges_of x.flow_graph p) w × (q ≡ w.to) × (g ≡ clobbered (listed w.clobbers) k))
 
 -- two states of a place with different depths
 abbrev pub HasTwoDepths : Framed → ℕ → Type 0
@@ -88,5 +88,5 @@ EntryIsAState = (x : Framed) → IsStateOf x 0 entered
 
 -- the instruction of a site is a call, or a gate and no call
 abbrev pub SitesAreCallsOrGates : Type 0
-SitesAreCallsOrGates = (x : Framed) (p : ℕ) (i : Instr) (site : ℕ) → instruction_at x.scene p ≡ Some i → site_at x.scene p ≡ Some site
+SitesAreCallsOrGates = (x : Framed) (p : ℕ) (i : Instr) (site : ℕ) → instruction_at x.flow_graph p ≡ Some i → site_at x.flow_graph p ≡ Some site
     → (is_call i ≡ true) ⊎ ((is_call i ≡ false) × ((imm : ℕ) × (i ≡ Svc imm)))

@@ -4,11 +4,11 @@ use Rattle.thumb_core.specs.Words.{listed}
 use Rattle.frame_facts.specs.declared.cause.FrameCause.{FrameCause}
 use Rattle.frame_facts.specs.declared.cause.FrameCause.TheVariants.{JoinDepth, PadDepth}
 use Rattle.frame_facts.specs.declared.facts.Fact.{Fact}
-use Rattle.frame_facts.specs.Facts.{entered, forgotten, join_of, IsAtMost}
-use Rattle.frame_scene.specs.declared.ways.Way.{Way}
-use Rattle.frame_scene.specs.Scene.{Scene}
-use Rattle.frame_scene.specs.Ways.{instruction_at}
-use Rattle.frame_scene.specs.Sites.{ways_of}
+use Rattle.frame_facts.specs.Facts.{entered, clobbered, join_of, IsAtMost}
+use Rattle.frame_graph.specs.declared.edges.Edge.{Edge}
+use Rattle.frame_graph.specs.FlowGraph.{FlowGraph}
+use Rattle.frame_graph.specs.Edges.{instruction_at}
+use Rattle.frame_graph.specs.Sites.{edges_of}
 use Rattle.flow.specs.Flow.{Flow, IsState, Stands}
 use Rattle.flow.specs.Laws as law
 use Rattle.frame_flow.specs.Framed.{Framed}
@@ -19,21 +19,21 @@ abbrev pub fact_of : Result Fact FrameCause → Option Fact
 fact_of (Ok g) = Some g
 fact_of (Err c) = None
 
--- the fact behind the instruction at a place; there is none where no instruction stands or its effect shows a cause
-unfoldable pub behind : Framed → ℕ → Fact → Option Fact
-behind x p f = option_and_then (λ i. fact_of (after_at x p f i)) (instruction_at x.scene p)
+-- the fact after the instruction at a place; there is none where no instruction stands or its effect shows a cause
+unfoldable pub fact_after : Framed → ℕ → Fact → Option Fact
+fact_after x p f = option_and_then (λ i. fact_of (after_at x p f i)) (instruction_at x.flow_graph p)
 
--- on a way some registers are forgotten
-abbrev pub edge_of : Fact → Way → ℕ × Fact
-edge_of g w = (w.to, forgotten (listed w.forgets) g)
+-- on an edge some registers are clobbered
+abbrev pub along_edge : Fact → Edge → ℕ × Fact
+along_edge g w = (w.to, clobbered (listed w.clobbers) g)
 
-abbrev pub edges_from : Option Fact → List Way → List (ℕ × Fact)
-edges_from None ways = []
-edges_from (Some g) ways = map (edge_of g) ways
+abbrev pub along_edges : Option Fact → List Edge → List (ℕ × Fact)
+along_edges None edges = []
+along_edges (Some g) edges = map (along_edge g) edges
 
 -- the places that a fact at a place leads to, each with the fact there
-unfoldable pub edges : Framed → ℕ → Fact → List (ℕ × Fact)
-edges x p f = edges_from (behind x p f) (ways_of x.scene p)
+unfoldable pub transfer : Framed → ℕ → Fact → List (ℕ × Fact)
+transfer x p f = along_edges (fact_after x p f) (edges_of x.flow_graph p)
 
 -- the causes of two paths that reach a place with different depths
 abbrev pub parted : Framed → ℕ → FrameCause → Bool
@@ -45,12 +45,12 @@ parted x p c = false
 abbrev pub parting : Framed → ℕ → FrameCause
 parting x p = if x.pad p then PadDepth else JoinDepth
 
--- At the entry nothing is on the stack and each register holds its own value; from there facts flow along the ways.
+-- At the entry nothing is on the stack and each register holds its own value; from there facts flow along the edges.
 abbrev pub flow_of : Framed → Flow Fact FrameCause
-flow_of x = record { entry = 0; start = entered; edges = edges x; meets = meets x; join = join_of; parted = parted x }
+flow_of x = record { entry = 0; start = entered; transfer = transfer x; meets = meets x; join = join_of; parted = parted x }
 
 -- how many places a function has
-abbrev pub count_of : Scene → ℕ
+abbrev pub count_of : FlowGraph → ℕ
 count_of s = (s.end - s.start + 1) / 2
 
 -- ---- what flows in a function

@@ -1,20 +1,20 @@
 -- A function of an image with what its facts rest on beside its code.
 use Rattle.std.specs.Prelude.{ℕ, Bool, false, List, slice_index_or}
 use Rattle.frame_facts.specs.declared.saves.Prologue.{Prologue}
-use Rattle.frame_scene.specs.Scene.{Scene}
+use Rattle.frame_graph.specs.FlowGraph.{FlowGraph}
 
 -- a function, its prologue, and which of its places are landing pads
 pub record Framed : Type 0 where
-  pub scene : Scene
+  pub flow_graph : FlowGraph
   pub prologue : Prologue
   pub pad : ℕ → Bool
 
 -- the same with its pads as a list of marks, one a place
 pub record Parts : Type 0 where
-  pub scene : Scene
+  pub flow_graph : FlowGraph
   pub prologue : Prologue
   pub pads : List Bool
 
 -- past the last mark there are none
 abbrev pub framed_of : Parts → Framed
-framed_of a = record { scene = a.scene; prologue = a.prologue; pad = λ p. slice_index_or a.pads p false }
+framed_of a = record { flow_graph = a.flow_graph; prologue = a.prologue; pad = λ p. slice_index_or a.pads p false }

@@ -4,7 +4,7 @@ use Rattle.std.specs.List.{Contains}
 use Rattle.frame_facts.specs.declared.cause.FrameCause.{FrameCause}
 use Rattle.frame_facts.specs.declared.facts.Fact.{Fact}
 use Rattle.frame_facts.specs.Facts.{IsAtMost}
-use Rattle.frame_scene.specs.Reach.{IsReached}
+use Rattle.frame_graph.specs.Reach.{IsReached}
 use Rattle.flow.specs.Flow.{AreValid, fact_at}
 use Rattle.flow.specs.Laws as law
 use Rattle.frame_flow.specs.Framed.{Framed}
@@ -17,7 +17,7 @@ FlowsKeepLaws = (x : Framed) → law.Laws Fact FrameCause (flow_of x) IsAtMost
 
 -- a function with an entry has valid facts exactly where no cause stands
 abbrev pub FactsDecide : Type 0
-FactsDecide = (x : Framed) → x.scene.start < x.scene.end → HasFacts x ↔ NoneStands x
+FactsDecide = (x : Framed) → x.flow_graph.start < x.flow_graph.end → HasFacts x ↔ NoneStands x
 
 -- a fact meets the causes that are found, and no other
 abbrev pub FoundAreMet : Type 0
@@ -29,6 +29,6 @@ LowestIsFirst = (x : Framed) (p : ℕ) (f : Fact) (c d : FrameCause) (more : Lis
 
 -- Where a function has valid facts, the places that have a state are those that are reached, and each of them has a fact.
 pub record FactsReach : Type 0 where
-  pub states : (x : Framed) → HasFacts x → (p : ℕ) → IsReached x.scene p ↔ ((f : Fact) × IsStateOf x p f)
-  pub facts : (x : Framed) (facts : List (Option Fact)) → AreValid Fact FrameCause (flow_of x) IsAtMost facts → (p : ℕ) → IsReached x.scene p
+  pub states : (x : Framed) → HasFacts x → (p : ℕ) → IsReached x.flow_graph p ↔ ((f : Fact) × IsStateOf x p f)
+  pub facts : (x : Framed) (facts : List (Option Fact)) → AreValid Fact FrameCause (flow_of x) IsAtMost facts → (p : ℕ) → IsReached x.flow_graph p
       → (f : Fact) × (fact_at facts p ≡ Some f)

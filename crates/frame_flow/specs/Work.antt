@@ -9,7 +9,7 @@ use Rattle.frame_flow.specs.declared.work.FrameFault.{FrameFault}
 use Rattle.frame_flow.specs.declared.work.FrameFault.TheVariants.{Stands, OutOfMemory}
 use Rattle.frame_flow.specs.Framed.{Framed}
 use Rattle.frame_flow.specs.Causes.{found}
-use Rattle.frame_flow.specs.Flows.{behind, parting, flow_of, count_of, StandsIn, HasFacts}
+use Rattle.frame_flow.specs.Flows.{fact_after, parting, flow_of, count_of, StandsIn, HasFacts}
 
 -- ---- a place
 
@@ -18,14 +18,14 @@ abbrev pub by_first : {X : Type 0} → List FrameCause → X → Result X FrameC
 by_first [] x = Ok x
 by_first (c ∷ more) x = Err c
 
--- the fact behind a place, where it meets no cause there; else the lowest
+-- the fact after a place, where it meets no cause there; else the lowest
 abbrev pub passed : Framed → ℕ → Fact → Result (Option Fact) FrameCause
-passed x p f = by_first (found x p f) (behind x p f)
+passed x p f = by_first (found x p f) (fact_after x p f)
 
 -- ---- the work list
 
 abbrev pub IsSound : Framed → List (Option Fact) → List ℕ → List (ℕ × Fact) → Type 0
-IsSound x = Sound Fact FrameCause (flow_of x) IsAtMost (count_of x.scene)
+IsSound x = Sound Fact FrameCause (flow_of x) IsAtMost (count_of x.flow_graph)
 
 -- a height above that of every state: the saves that are kept count, and what is known beside them is less than 32
 abbrev pub top_of : Framed → ℕ

@@ -2,14 +2,14 @@
 ghost use Rattle.std.specs.Prelude.{◌≡◌, ◌+◌, ◌*◌, ◌<◌, ◌^◌};
 ghost use Rattle.frame_flow.specs.Framed.{framed_of};
 ghost use Rattle.frame_flow.specs.Causes.{is_call, unwound, throws_in_leaf, site_causes, found};
-ghost use Rattle.frame_flow.specs.Flows.{behind, parting};
+ghost use Rattle.frame_flow.specs.Flows.{fact_after, parting};
 ghost use Rattle.frame_flow.specs.Work.{by_first, passed};
-ghost use Rattle.frame_scene.specs.Sites.{unwinding_at, pads_out};
-ghost use Rattle.frame_scene.specs.Stretch.{Tells, TellsOn};
+ghost use Rattle.frame_graph.specs.Sites.{unwinding_at, pads_out};
+ghost use Rattle.frame_graph.specs.Stretch.{Tells, TellsOn};
 
 use crate::framed::Framed;
 use frame_facts::{Fact, FrameCause, after, agrees};
-use frame_scene::{Standing, Stretch, Unwinding};
+use frame_graph::{Standing, Stretch, Unwinding};
 use thumb_core::regs::LR;
 use thumb_isa::instr::Instr;
 
@@ -23,9 +23,9 @@ fn is_call(i: &Instr) -> bool
 impl<'f, 's, 'i, 'a> Framed<'f, 's, 'i, 'a> {
     /// Whether a site agrees with the entry that covers it: by its recipe, and where there is none by the room of a call alone.
     fn unwound(&self, site: u32, call: bool, fact: &Fact) -> Result<(), FrameCause>
-        ensures { result ≡ by_first (unwound self.now.prologue (unwinding_at self.now.scene site) call fact.now) tt }
+        ensures { result ≡ by_first (unwound self.now.prologue (unwinding_at self.now.flow_graph site) call fact.now) tt }
     {
-        match self.scene.unwinding_at(site) {
+        match self.flow_graph.unwinding_at(site) {
             Unwinding::Finds(recipe) => agrees(fact, &self.prologue, &recipe, call),
             Unwinding::Refused | Unwinding::BadBytecode | Unwinding::GenericModel => {
                 if call && fact.depth < 4 {
@@ -39,16 +39,16 @@ impl<'f, 's, 'i, 'a> Framed<'f, 's, 'i, 'a> {
 
     /// Whether a gate stands in the scope of a descriptor with nothing on the stack.
     fn throws_in_leaf(&self, stretch: &Stretch, site: u32, call: bool, fact: &Fact) -> bool
-        requires { Tells self.now.scene stretch.now site }
-        ensures { result ≡ throws_in_leaf self.now.scene site call fact.now }
+        requires { Tells self.now.flow_graph stretch.now site }
+        ensures { result ≡ throws_in_leaf self.now.flow_graph site call fact.now }
     {
         !call && fact.depth == 0 && stretch.is_scoped()
     }
 
     /// Whether a landing pad of a site isn't code of the function.
     fn pads_out(&self, stretch: &Stretch, site: u32) -> bool
-        requires { Tells self.now.scene stretch.now site }
-        ensures { result ≡ pads_out self.now.scene site }
+        requires { Tells self.now.flow_graph stretch.now site }
+        ensures { result ≡ pads_out self.now.flow_graph site }
     {
         stretch.pads_out()
     }
@@ -61,7 +61,7 @@ impl<'f, 's, 'i, 'a> Framed<'f, 's, 'i, 'a> {
         call: bool,
         fact: &Fact,
     ) -> Result<(), FrameCause>
-        requires { Tells self.now.scene stretch.now site }
+        requires { Tells self.now.flow_graph stretch.now site }
         ensures { result ≡ by_first (site_causes (framed_of self.now) call fact.now site) tt }
     {
         self.unwound(site, call, fact)?;
@@ -74,7 +74,7 @@ impl<'f, 's, 'i, 'a> Framed<'f, 's, 'i, 'a> {
         Ok(())
     }
 
-    /// The fact behind a place, none where nothing leads on; or the lowest cause that the fact before it meets there. The stretch is
+    /// The fact after a place, none where nothing leads on; or the lowest cause that the fact before it meets there. The stretch is
     /// that of its site.
     pub(crate) fn passed(
         &self,
@@ -82,31 +82,32 @@ impl<'f, 's, 'i, 'a> Framed<'f, 's, 'i, 'a> {
         place: u32,
         fact: &Fact,
     ) -> Result<Option<Fact>, FrameCause>
-        requires low { self.now.scene.start + 2 * place < 2 ^ 32 }
-        requires tells { TellsOn self.now.scene stretch.now place }
+        requires low { self.now.flow_graph.start + 2 * place < 2 ^ 32 }
+        requires tells { TellsOn self.now.flow_graph stretch.now place }
         ensures { result ≡ passed (framed_of self.now) place fact.now }
     {
-        if self.scene.is_undecodable(place) {
+        let standing = self.flow_graph.standing_at(place);
+        if self.flow_graph.is_undecodable(place) {
             return Err(FrameCause::Undecodable);
         }
-        if self.scene.branches_out(place) {
+        if self.flow_graph.branches_out(place, standing) {
             return Err(FrameCause::BranchOut);
         }
-        if self.scene.calls_nothing(place) {
+        if self.flow_graph.calls_nothing(place, standing) {
             return Err(FrameCause::CallNotFunction);
         }
-        let Standing::Instruction(i, _) = self.scene.standing_at(place) else {
+        let Standing::Instruction(i, _) = standing else {
             return Ok(None);
         };
         match after(
             fact,
             &i,
-            self.scene.address_of(place),
+            self.flow_graph.address_of(place),
             &self.prologue,
             false,
         ) {
             Err(cause) => Err(cause),
-            Ok(next) => match self.scene.site_at(place) {
+            Ok(next) => match self.flow_graph.site_by(place, standing) {
                 None => Ok(Some(next)),
                 Some(site) => match self.agrees_at(stretch, site, is_call(&i), fact) {
                     Err(cause) => Err(cause),

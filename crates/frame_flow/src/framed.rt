@@ -3,13 +3,13 @@ ghost use Rattle.std.specs.Prelude.{◌≡◌};
 ghost use Rattle.frame_flow.specs.Framed.{Parts};
 
 use frame_facts::Prologue;
-use frame_scene::Scene;
+use frame_graph::FlowGraph;
 use std::marker::Model;
 
 /// A function, its prologue, and a mark for each of its places that says whether it is a landing pad; a place without a mark is none.
 #[derive(Drop)]
 pub struct Framed<'f, 's, 'i, 'a> {
-    pub(crate) scene: &'f Scene<'s, 'i, 'a>,
+    pub(crate) flow_graph: &'f FlowGraph<'s, 'i, 'a>,
     pub(crate) prologue: Prologue,
     pub(crate) pads: &'f [bool],
 }
@@ -19,20 +19,20 @@ impl<'f, 's, 'i, 'a> Model for Framed<'f, 's, 'i, 'a> {
 
     ghost Value = { Parts };
 
-    ghost view = { λ f. record { scene = f.scene.now; prologue = f.prologue; pads = f.pads.now } };
+    ghost view = { λ f. record { flow_graph = f.flow_graph.now; prologue = f.prologue; pads = f.pads.now } };
 }
 
 impl<'f, 's, 'i, 'a> Framed<'f, 's, 'i, 'a> {
-    /// The function of a scene with its prologue and its pads.
+    /// The function of a flow graph with its prologue and its pads.
     pub fn new(
-        scene: &'f Scene<'s, 'i, 'a>,
+        flow_graph: &'f FlowGraph<'s, 'i, 'a>,
         prologue: Prologue,
         pads: &'f [bool],
     ) -> Framed<'f, 's, 'i, 'a>
-        ensures { result ≡ record { scene = scene.entry.now; prologue = prologue; pads = pads.entry.now } }
+        ensures { result ≡ record { flow_graph = flow_graph.entry.now; prologue = prologue; pads = pads.entry.now } }
     {
         Framed {
-            scene,
+            flow_graph,
             prologue,
             pads,
         }

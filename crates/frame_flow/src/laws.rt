@@ -1,5 +1,5 @@
 //! What the facts of a function show, whatever the function. docs/acceptance.md, "The facts of a function".
-ghost use Rattle.frame_flow.specs.Conditions.{CausesAreConditions, CausesStand, EdgesAreWays, EntryIsAState, SitesAreCallsOrGates};
+ghost use Rattle.frame_flow.specs.Conditions.{CausesAreConditions, CausesStand, TransferFollowsEdges, EntryIsAState, SitesAreCallsOrGates};
 ghost use Rattle.frame_flow.specs.Laws.{FlowsKeepLaws, FactsDecide, FoundAreMet, LowestIsFirst, FactsReach};
 
 /// Facts of frames flow as flows have to: vagueness is an order, meetings are least, and a fact that is less vague meets no more causes
@@ -34,9 +34,9 @@ pub fn sites_are_calls_or_gates()
     ensures { SitesAreCallsOrGates }
 {}
 
-/// A fact leads along the ways of its place and nowhere else, with what the instruction leaves and the way doesn't forget.
-pub fn edges_are_ways()
-    ensures { EdgesAreWays }
+/// A fact leads along the edges of its place and nowhere else, with what the instruction leaves and the edge doesn't clobber.
+pub fn transfer_follows_edges()
+    ensures { TransferFollowsEdges }
 {}
 
 /// A fact meets exactly the causes that are found.

@@ -9,4 +9,4 @@ pub mod laws;
 pub mod work;
 
 pub use framed::Framed;
-pub use work::{FrameFault, settle};
+pub use work::{FrameFault, solve};

@@ -1,20 +1,20 @@
 //! A work list that finds the facts of a function. docs/acceptance.md, "The facts of a function".
 ghost use Rattle.std.specs.Prelude.{◌≡◌, ℕ, ◌+◌, ◌*◌, ◌<◌, ◌≤◌, ◌^◌, ◌++◌, ◌∷◌, [], List, Option, map, length, IfOk, IfErr, slice_set};
-ghost use Rattle.frame_scene.specs.Stretch.{TellsOn};
+ghost use Rattle.frame_graph.specs.Stretch.{TellsOn};
 ghost use Rattle.frame_flow.specs.Framed.{framed_of};
-ghost use Rattle.frame_flow.specs.Flows.{edge_of, count_of, HasFacts, NoneStands};
+ghost use Rattle.frame_flow.specs.Flows.{along_edge, count_of, HasFacts, NoneStands};
 ghost use Rattle.frame_flow.specs.Work.{IsSound, FaultStands, LacksFacts, Keeps, Merged};
 
 use crate::facts::Facts;
 use crate::framed::Framed;
-use frame_facts::{Fact, FrameCause, entry_fact, forget, is_same, join};
-use frame_scene::{Stretch, Way};
+use frame_facts::{Fact, FrameCause, clobber, entry_fact, is_same, join};
+use frame_graph::{Edge, Stretch};
 use std::alloc::Global;
 
 /// Why a function has no valid facts, or why none were found.
 #[derive(Clone, Copy, PartialEq, Eq, Debug)]
 pub enum FrameFault {
-    /// A cause stands at a place, which is told by how many halfwords it lies behind the entry.
+    /// A cause stands at a place, which is told by how many halfwords it lies after the entry.
     Stands(u32, FrameCause),
     /// There is no memory left.
     OutOfMemory,
@@ -63,20 +63,20 @@ fn merge(
     }
 }
 
-/// Takes all edges of a place, where `fact` stands behind it.
+/// Takes all edges of a place, where `fact` stands after it.
 fn spread(
     x: &Framed,
     facts: &mut Facts,
     work: &mut Vec<u32>,
-    ways: &[Way],
+    edges: &[Edge],
     fact: &Fact,
 ) -> Result<(), FrameFault>
-    requires { IsSound (framed_of x.now) facts.old work.old.items (map (edge_of fact.now) ways.now) }
+    requires { IsSound (framed_of x.now) facts.old work.old.items (map (along_edge fact.now) edges.now) }
     ensures { Keeps (framed_of x.now) facts.old work.old.items facts.new work.new.items [] result }
 {
-    for way in ways {
-        let next = forget(fact, way.forgets);
-        match merge(x, facts, work, way.to, &next) {
+    for edge in edges {
+        let next = clobber(fact, edge.clobbers);
+        match merge(x, facts, work, edge.to, &next) {
             Ok(()) => {}
             Err(fault) => return Err(fault),
         }
@@ -93,9 +93,9 @@ fn visit(
     stretch: &Stretch,
     place: u32,
 ) -> Result<(), FrameFault>
-    requires short { x.now.scene.end < 2 ^ 32 }
+    requires short { x.now.flow_graph.end < 2 ^ 32 }
     requires sound { IsSound (framed_of x.now) facts.old (work.old.items ++ place ∷ []) [] }
-    requires tells { TellsOn x.now.scene stretch.now place }
+    requires tells { TellsOn x.now.flow_graph stretch.now place }
     ensures { Keeps (framed_of x.now) facts.old work.old.items facts.new work.new.items [] result }
 {
     match facts.get(place) {
@@ -103,8 +103,8 @@ fn visit(
         Some(fact) => match x.passed(stretch, place, &fact) {
             Err(cause) => Err(FrameFault::Stands(place, cause)),
             Ok(None) => Ok(()),
-            Ok(Some(next)) => match x.scene.ways_on(alloc, stretch, place) {
-                Ok(ways) => spread(x, facts, work, &ways, &next),
+            Ok(Some(next)) => match x.flow_graph.edges_on(alloc, stretch, place) {
+                Ok(edges) => spread(x, facts, work, &edges, &next),
                 Err(_) => Err(FrameFault::OutOfMemory),
             },
         },
@@ -115,14 +115,14 @@ fn visit(
 ///
 /// `Ok` where it has valid facts, so that no cause stands at any place of it; `Stands` with a place and a cause that stands there, so that
 /// it has none. Only `OutOfMemory` leaves that open.
-pub fn settle(alloc: Global, x: &Framed) -> Result<(), FrameFault>
-    requires { x.now.scene.start < x.now.scene.end }
+pub fn solve(alloc: Global, x: &Framed) -> Result<(), FrameFault>
+    requires { x.now.flow_graph.start < x.now.flow_graph.end }
     ensures accepted { IfOk result (λ _. HasFacts (framed_of x.now)) }
     ensures clear { IfOk result (λ _. NoneStands (framed_of x.now)) }
     ensures refused { IfErr result (FaultStands (framed_of x.now)) }
     ensures lacks { IfErr result (LacksFacts (framed_of x.now)) }
 {
-    let count = (x.scene.end() - x.scene.start()).div_ceil(2);
+    let count = (x.flow_graph.end() - x.flow_graph.start()).div_ceil(2);
     let Ok(mut facts) = Facts::new(alloc, count) else {
         return Err(FrameFault::OutOfMemory);
     };
@@ -130,7 +130,7 @@ pub fn settle(alloc: Global, x: &Framed) -> Result<(), FrameFault>
     put(&mut facts, &mut work, 0, entry_fact())?;
     let mut stretch = Stretch::new(alloc);
     while let Some(place) = work.pop() {
-        stretch = match x.scene.stretch_on(alloc, stretch, place) {
+        stretch = match x.flow_graph.stretch_on(alloc, stretch, place) {
             Ok(next) => next,
             Err(_) => return Err(FrameFault::OutOfMemory),
         };

@@ -9,14 +9,14 @@ use Rattle.flow.specs.Flow.{Flow, IsState, at_entry, meeting, Stands, met, apart
 use Rattle.flow.specs.Flow.{along as moves}
 use Rattle.flow.specs.Laws.{Laws, IsFinite}
 use Rattle.flow.proofs.Law.{below}
-use Rattle.flow.proofs.Ends.{settles}
+use Rattle.flow.proofs.Ends.{solves}
 use Rattle.flow.proofs.Work.{contains_none, contains_head, contains_tail, contains_cons}
-use Rattle.frame_scene.specs.declared.ways.Way.{Way}
-use Rattle.frame_scene.specs.Scene.{Scene}
-use Rattle.frame_scene.specs.Ways.{branched_to}
-use Rattle.frame_scene.specs.Sites.{site_at, ways_from, ways_of}
-use Rattle.frame_scene.specs.Reach.{IsReached, entry, along}
-use Rattle.frame_scene.proofs.Inside.{ways_stay_inside}
+use Rattle.frame_graph.specs.declared.edges.Edge.{Edge}
+use Rattle.frame_graph.specs.FlowGraph.{FlowGraph}
+use Rattle.frame_graph.specs.Edges.{branched_to}
+use Rattle.frame_graph.specs.Sites.{site_at, edges_from, edges_of}
+use Rattle.frame_graph.specs.Reach.{IsReached, entry, along}
+use Rattle.frame_graph.proofs.Inside.{edges_stay_inside}
 use Rattle.frame_reach.specs.Marks.{IsPad, IsBranched, IsTarget, IsTooLong, Marks, AreMarks}
 use Rattle.frame_reach.specs.Prologue.{places}
 use Rattle.frame_reach.specs.Laws.{MarksExist, MarksAgree, PlacesAreCounted}
@@ -33,30 +33,30 @@ both_hold false b g h = absurd cc
 
 -- ---- what is reached, as a flow whose facts say nothing
 
-abbrev edge : Way → ℕ × Unit {0}
-edge w = (w.to, tt)
+abbrev along_edge : Edge → ℕ × Unit {0}
+along_edge w = (w.to, tt)
 
-to_edge : (ws : List Way) (w : Way) → Contains ws w → Contains (map edge ws) (w.to, tt)
-to_edge [] w h = absurd (contains_none w h)
-to_edge (x ∷ more) w h = ⊎_elim
-    (λ (e : w ≡ x). subst (λ (y : Way). Contains (edge y ∷ map edge more) (w.to, tt)) e (contains_head (w.to, tt) (map edge more)))
-    (λ (c : Contains more w). contains_tail (w.to, tt) (x.to, tt) (map edge more) (to_edge more w c))
+to_along_edge : (ws : List Edge) (w : Edge) → Contains ws w → Contains (map along_edge ws) (w.to, tt)
+to_along_edge [] w h = absurd (contains_none w h)
+to_along_edge (x ∷ more) w h = ⊎_elim
+    (λ (e : w ≡ x). subst (λ (y : Edge). Contains (along_edge y ∷ map along_edge more) (w.to, tt)) e (contains_head (w.to, tt) (map along_edge more)))
+    (λ (c : Contains more w). contains_tail (w.to, tt) (x.to, tt) (map along_edge more) (to_along_edge more w c))
     (contains_cons w x more h)
 
-from_edge : (ws : List Way) (q : ℕ) (g : Unit {0}) → Contains (map edge ws) (q, g) → (w : Way) × Contains ws w × (w.to ≡ q)
-from_edge [] q g h = absurd (contains_none (q, g) h)
-from_edge (x ∷ more) q g h = ⊎_elim
-    (λ (e : (q, g) ≡ edge x). (x, contains_head x more, sym (ap (λ (y : ℕ × Unit {0}). y.0) e)))
-    (λ (c : Contains (map edge more) (q, g)). let r = from_edge more q g c in (r.0, contains_tail r.0 x more r.1, r.2))
-    (contains_cons (q, g) (edge x) (map edge more) h)
+from_along_edge : (ws : List Edge) (q : ℕ) (g : Unit {0}) → Contains (map along_edge ws) (q, g) → (w : Edge) × Contains ws w × (w.to ≡ q)
+from_along_edge [] q g h = absurd (contains_none (q, g) h)
+from_along_edge (x ∷ more) q g h = ⊎_elim
+    (λ (e : (q, g) ≡ along_edge x). (x, contains_head x more, sym (ap (λ (y : ℕ × Unit {0}). y.0) e)))
+    (λ (c : Contains (map along_edge more) (q, g)). let r = from_along_edge more q g c in (r.0, contains_tail r.0 x more r.1, r.2))
+    (contains_cons (q, g) (along_edge x) (map along_edge more) h)
 
-abbrev flow_of : Scene → Flow (Unit {0}) (Unit {0})
-flow_of s = record { entry = 0; start = tt; edges = λ p f. map edge (ways_of s p); meets = λ c p f. false; join = λ f g. Some f; parted = λ p c. true }
+abbrev flow_of : FlowGraph → Flow (Unit {0}) (Unit {0})
+flow_of s = record { entry = 0; start = tt; transfer = λ p f. map along_edge (edges_of s p); meets = λ c p f. false; join = λ f g. Some f; parted = λ p c. true }
 
 abbrev at_most : Unit {0} → Unit {0} → Type 0
 at_most f g = Unit {0}
 
-laws_of : (s : Scene) → Laws (Unit {0}) (Unit {0}) (flow_of s) at_most
+laws_of : (s : FlowGraph) → Laws (Unit {0}) (Unit {0}) (flow_of s) at_most
 laws_of s = record {
   same = λ f. tt;
   via = λ f g h a b. tt;
@@ -65,16 +65,16 @@ laws_of s = record {
   least = λ f g h k e a b. tt;
   joins = λ f g k a b e. none-some f (sym e);
   passes = λ p f g a h c. refl;
-  edges = λ p f g a h q f' c. (f', c, tt);
+  transfer = λ p f g a h q f' c. (f', c, tt);
 }
 
-finite : (s : Scene) → IsFinite (Unit {0}) (Unit {0}) (flow_of s)
+finite : (s : FlowGraph) → IsFinite (Unit {0}) (Unit {0}) (flow_of s)
 finite s = record {
   count = places s;
   begins = omega arith;
   inside = λ p f q g c.
-      let r = from_edge (ways_of s p) q g c in
-      let l : r.0.to < places s = omega (arith, ways_stay_inside s p r.0 r.1) in
+      let r = from_along_edge (edges_of s p) q g c in
+      let l : r.0.to < places s = omega (arith, edges_stay_inside s p r.0 r.1) in
       subst (λ (x : ℕ). x < places s) r.2 l;
   height = λ f. 0;
   top = 1;
@@ -86,31 +86,31 @@ finite s = record {
   named_is = λ q. refl;
 }
 
-none_stand : (s : Scene) (p : ℕ) (c : Unit {0}) → Stands (Unit {0}) (Unit {0}) (flow_of s) p c → ⊥
+none_stand : (s : FlowGraph) (p : ℕ) (c : Unit {0}) → Stands (Unit {0}) (Unit {0}) (flow_of s) p c → ⊥
 none_stand s _ _ (met state m) = true≢false (sym m)
 none_stand s _ _ (apart {p} {f} state other e m) = none-some f (sym e)
 
-state_reached : (s : Scene) (p : ℕ) (f : Unit {0}) → IsState (Unit {0}) (Unit {0}) (flow_of s) p f → IsReached s p
+state_reached : (s : FlowGraph) (p : ℕ) (f : Unit {0}) → IsState (Unit {0}) (Unit {0}) (flow_of s) p f → IsReached s p
 state_reached s _ _ at_entry = entry
 state_reached s _ _ (moves {p} {q} {f} {g} state e) =
-    let r = from_edge (ways_of s p) q g e in
+    let r = from_along_edge (edges_of s p) q g e in
     subst (λ (x : ℕ). IsReached s x) r.2 (along (state_reached s p f state) r.1)
 state_reached s _ _ (meeting {p} {f} state other e) = state_reached s p f state
 
-reached_state : (s : Scene) (p : ℕ) → IsReached s p → IsState (Unit {0}) (Unit {0}) (flow_of s) p tt
+reached_state : (s : FlowGraph) (p : ℕ) → IsReached s p → IsState (Unit {0}) (Unit {0}) (flow_of s) p tt
 reached_state s _ entry = at_entry
-reached_state s _ (along {p} {w} r h) = moves (reached_state s p r) (to_edge (ways_of s p) w h)
+reached_state s _ (along {p} {w} r h) = moves (reached_state s p r) (to_along_edge (edges_of s p) w h)
 
-abbrev Table : Scene → (ℕ → Bool) → Type 0
+abbrev Table : FlowGraph → (ℕ → Bool) → Type 0
 Table s test = (p : ℕ) → (test p ≡ true) ↔ IsReached s p
 
 has_fact : (o : Option (Unit {0})) → is_some o ≡ true → (f : Unit {0}) × (o ≡ Some f)
 has_fact None h = absurd (true≢false (sym h))
 has_fact (Some f) h = (f, refl)
 
-table : (s : Scene) → (test : ℕ → Bool) × Table s test
+table : (s : FlowGraph) → (test : ℕ → Bool) × Table s test
 table s =
-    let t = settles (Unit {0}) (Unit {0}) at_most (flow_of s) (laws_of s) (finite s) (none_stand s) in (
+    let t = solves (Unit {0}) (Unit {0}) at_most (flow_of s) (laws_of s) (finite s) (none_stand s) in (
       λ p. is_some (fact_at t.0 p),
       λ p. (
         λ h. let f = has_fact (fact_at t.0 p) h in state_reached s p f.0 (t.2 p f.0 f.1),
@@ -165,40 +165,40 @@ leads_there (Some p) q h = ap (λ (x : ℕ). Some x) (eqb-true p q h)
 there_leads : (o : Option ℕ) (q : ℕ) → o ≡ Some q → leads o q ≡ true
 there_leads o q e = ap (λ (x : Option ℕ). leads x q) e ∙ eq-eqb q q refl
 
-abbrev some_way : List Way → ℕ → Bool
-some_way [] q = false
-some_way (w ∷ more) q = (w.to == q) || some_way more q
+abbrev some_edge : List Edge → ℕ → Bool
+some_edge [] q = false
+some_edge (w ∷ more) q = (w.to == q) || some_edge more q
 
-way_there : (ws : List Way) (q : ℕ) → some_way ws q ≡ true → (w : Way) × Contains ws w × (w.to ≡ q)
-way_there [] q h = absurd (true≢false (sym h))
-way_there (x ∷ more) q h = ⊎_elim
+edge_there : (ws : List Edge) (q : ℕ) → some_edge ws q ≡ true → (w : Edge) × Contains ws w × (w.to ≡ q)
+edge_there [] q h = absurd (true≢false (sym h))
+edge_there (x ∷ more) q h = ⊎_elim
     (λ (e : (x.to == q) ≡ true). (x, contains_head x more, eqb-true x.to q e))
-    (λ (m : some_way more q ≡ true). let r = way_there more q m in (r.0, contains_tail r.0 x more r.1, r.2))
-    (or_cases (x.to == q) (some_way more q) h)
+    (λ (m : some_edge more q ≡ true). let r = edge_there more q m in (r.0, contains_tail r.0 x more r.1, r.2))
+    (or_cases (x.to == q) (some_edge more q) h)
 
-there_way : (ws : List Way) (q : ℕ) (w : Way) → Contains ws w → w.to ≡ q → some_way ws q ≡ true
-there_way [] q w c e = absurd (contains_none w c)
-there_way (x ∷ more) q w c e = ⊎_elim
-    (λ (is : w ≡ x). or_left (x.to == q) (some_way more q) (eq-eqb x.to q (ap (λ (y : Way). y.to) (sym is) ∙ e)))
-    (λ (m : Contains more w). or_right (x.to == q) (some_way more q) (there_way more q w m e))
+there_edge : (ws : List Edge) (q : ℕ) (w : Edge) → Contains ws w → w.to ≡ q → some_edge ws q ≡ true
+there_edge [] q w c e = absurd (contains_none w c)
+there_edge (x ∷ more) q w c e = ⊎_elim
+    (λ (is : w ≡ x). or_left (x.to == q) (some_edge more q) (eq-eqb x.to q (ap (λ (y : Edge). y.to) (sym is) ∙ e)))
+    (λ (m : Contains more w). or_right (x.to == q) (some_edge more q) (there_edge more q w m e))
     (contains_cons w x more c)
 
-module _ (s : Scene) (test : ℕ → Bool) (t : Table s test) where
+module _ (s : FlowGraph) (test : ℕ → Bool) (t : Table s test) where
   abbrev branches : ℕ → ℕ → Bool
   branches q p = test p && leads (branched_to s p) q
 
   abbrev lands : ℕ → ℕ → Bool
-  lands q p = test p && some_way (ways_from s (site_at s p)) q
+  lands q p = test p && some_edge (edges_from s (site_at s p)) q
 
   pads : (q : ℕ) → (some_below (places s) (lands q) ≡ true) ↔ IsPad s q
   pads q = (
     λ h.
         let p = some_holds (places s) (lands q) h in
-        let w = both (test p.0) (some_way (ways_from s (site_at s p.0)) q) p.1 in
-        let r = way_there (ways_from s (site_at s p.0)) q w.1 in
+        let w = both (test p.0) (some_edge (edges_from s (site_at s p.0)) q) p.1 in
+        let r = edge_there (edges_from s (site_at s p.0)) q w.1 in
         (p.0, r.0, (t p.0).0 w.0, r.1, r.2),
     λ (d : IsPad s q). some_found (places s) (lands q) d.0 (place_below s d.0 d.2)
-        (both_hold (test d.0) (some_way (ways_from s (site_at s d.0)) q) ((t d.0).1 d.2) (there_way (ways_from s (site_at s d.0)) q d.1 d.3 d.4)),
+        (both_hold (test d.0) (some_edge (edges_from s (site_at s d.0)) q) ((t d.0).1 d.2) (there_edge (edges_from s (site_at s d.0)) q d.1 d.3 d.4)),
   )
 
   branched : (q : ℕ) → (some_below (places s) (branches q) ≡ true) ↔ IsBranched s q

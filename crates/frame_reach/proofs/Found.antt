@@ -1,4 +1,4 @@
--- What a search finds: the places of the function that are reached, once all ways are followed.
+-- What a search finds: the places of the function that are reached, once all edges are followed.
 use Rattle.std.proofs.Common.{ℕ, ◌≡◌, ◌<◌, ◌≤◌, ◌+◌, ◌*◌, ◌^◌, ◌⊎◌, inl, inr, Bool, true, false, List, [], length, get_or, take, Option, Some, None, sym, ◌∙◌, ap, subst, refl, ⊎_elim, arith, zero, suc, replicate}
 use Rattle.std.proofs.lemmas.Grind.{get_or_default_zero}
 use Rattle.std.proofs.lemmas.List.Elements.{Contains-append_left, Contains-append_right, Contains-append_cases, Contains-push_cases, Contains-get_or}
@@ -7,18 +7,18 @@ use Rattle.std.specs.Option.{option_map_or}
 use Rattle.std.proofs.lemmas.List.{take_more, take_all, length-replicate}
 use Rattle.std.specs.Prelude.{nat_eq, slice_index}
 use Rattle.std.specs.List.{Contains, IsDistinct}
-use Rattle.frame_scene.specs.declared.ways.Way.{Way}
-use Rattle.frame_scene.specs.Scene.{Scene}
-use Rattle.frame_scene.specs.declared.places.Standing.{Standing}
-use Rattle.frame_scene.specs.declared.places.Standing.TheVariants.{Instruction, Udf, Nothing}
-use Rattle.frame_scene.specs.Places.{address_of, place_of, standing_at}
-use Rattle.frame_scene.specs.Ways.{branch_target, ways_to, onward, straight_by, straight_ways, instruction_of, branched_to}
+use Rattle.frame_graph.specs.declared.edges.Edge.{Edge}
+use Rattle.frame_graph.specs.FlowGraph.{FlowGraph}
+use Rattle.frame_graph.specs.declared.places.Standing.{Standing}
+use Rattle.frame_graph.specs.declared.places.Standing.TheVariants.{Instruction, Udf, Nothing}
+use Rattle.frame_graph.specs.Places.{address_of, place_of, standing_at}
+use Rattle.frame_graph.specs.Edges.{branch_target, edges_to, onward, straight_by, straight_edges, instruction_of, branched_to}
 use Rattle.std.proofs.lemmas.Option.{none-some}
 use Rattle.std.specs.Prelude.{option_and_then}
 use Rattle.flow.proofs.Work.{contains_head}
-use Rattle.frame_scene.specs.Sites.{site_at, ways_from, ways_of, is_split}
-use Rattle.frame_scene.specs.Reach.{IsReached, entry, along}
-use Rattle.frame_scene.proofs.Inside.{ways_stay_inside}
+use Rattle.frame_graph.specs.Sites.{site_at, edges_from, edges_of, is_split}
+use Rattle.frame_graph.specs.Reach.{IsReached, entry, along}
+use Rattle.frame_graph.proofs.Inside.{edges_stay_inside}
 use Rattle.frame_reach.specs.Marks.{IsPad, IsBranched, IsTarget, IsTooLong, IsSplit, Marks, AreMarks, AreThePlaces}
 use Rattle.frame_reach.specs.Held.{Held, is_set, marks_of, splits_at}
 use Rattle.frame_reach.specs.Prologue.{places}
@@ -28,38 +28,38 @@ use Rattle.frame_reach.proofs.Marking.{no_more}
 
 -- ---- places that are reached lie inside
 
-pub inside : (s : Scene) (p : ℕ) → IsReached s p → (p ≡ 0) ⊎ (s.start + 2 * p < s.end)
+pub inside : (s : FlowGraph) (p : ℕ) → IsReached s p → (p ≡ 0) ⊎ (s.start + 2 * p < s.end)
 inside s _ entry = inl refl
-inside s _ (along {p} {w} r h) = inr (ways_stay_inside s p w h)
+inside s _ (along {p} {w} r h) = inr (edges_stay_inside s p w h)
 
-pub below : (s : Scene) (p : ℕ) → IsReached s p → p < places s
+pub below : (s : FlowGraph) (p : ℕ) → IsReached s p → p < places s
 below s p r = ⊎_elim
     (λ (e : p ≡ 0). omega (arith, e))
     (λ (l : s.start + 2 * p < s.end). omega (arith, l))
     (inside s p r)
 
-pub low : (s : Scene) (p : ℕ) → IsReached s p → s.start < 2 ^ 32 → s.end < 2 ^ 32 → s.start + 2 * p < 2 ^ 32
+pub low : (s : FlowGraph) (p : ℕ) → IsReached s p → s.start < 2 ^ 32 → s.end < 2 ^ 32 → s.start + 2 * p < 2 ^ 32
 low s p r a b = ⊎_elim
     (λ (e : p ≡ 0). omega (arith, e, a))
     (λ (l : s.start + 2 * p < s.end). omega (arith, l, b))
     (inside s p r)
 
--- ---- ways lead to places that are reached
+-- ---- edges lead to places that are reached
 
-pub straight_reached : (s : Scene) (p : ℕ) (w : Way) → IsReached s p → Contains (straight_ways s p) w → IsReached s w.to
-unfolding ways_of
-straight_reached s p w r h = along r (Contains-append_left (straight_ways s p) (ways_from s (site_at s p)) w h)
+pub straight_reached : (s : FlowGraph) (p : ℕ) (w : Edge) → IsReached s p → Contains (straight_edges s p) w → IsReached s w.to
+unfolding edges_of
+straight_reached s p w r h = along r (Contains-append_left (straight_edges s p) (edges_from s (site_at s p)) w h)
 
-pub landing_reached : (s : Scene) (p : ℕ) (w : Way) → IsReached s p → Contains (ways_from s (site_at s p)) w → IsReached s w.to
-unfolding ways_of
-landing_reached s p w r h = along r (Contains-append_right (straight_ways s p) (ways_from s (site_at s p)) w h)
+pub landing_reached : (s : FlowGraph) (p : ℕ) (w : Edge) → IsReached s p → Contains (edges_from s (site_at s p)) w → IsReached s w.to
+unfolding edges_of
+landing_reached s p w r h = along r (Contains-append_right (straight_edges s p) (edges_from s (site_at s p)) w h)
 
-pub pad_reached : (s : Scene) (q : ℕ) → IsPad s q → IsReached s q
+pub pad_reached : (s : FlowGraph) (q : ℕ) → IsPad s q → IsReached s q
 pad_reached s q d = subst (λ (x : ℕ). IsReached s x) d.4 (landing_reached s d.0 d.1 d.2 d.3)
 
--- ---- all ways are followed
+-- ---- all edges are followed
 
-module _ (s : Scene) (h : Held) (a : AreSound s h) (begins : is_set h.reached 0 ≡ true)
+module _ (s : FlowGraph) (h : Held) (a : AreSound s h) (begins : is_set h.reached 0 ≡ true)
     (followed : (k : ℕ) → k < length h.places → AreFollowed s h (slice_index h.places k)) where
   follow : (p : ℕ) → is_set h.reached p ≡ true → AreFollowed s h p
   follow p e =
@@ -67,13 +67,13 @@ module _ (s : Scene) (h : Held) (a : AreSound s h) (begins : is_set h.reached 0 
       subst (λ (x : ℕ). AreFollowed s h x) (sym (get_or_default_zero h.places c.0 p c.1) ∙ c.2) (followed c.0 c.1)
 
   every : (p : ℕ) → IsReached s p → is_set h.reached p ≡ true
-  unfolding ways_of
+  unfolding edges_of
   every _ entry = begins
   every _ (along {p} {w} r e) =
       let f = follow p (every p r) in ⊎_elim
-      (λ (c : Contains (straight_ways s p) w). f.straight w c)
-      (λ (c : Contains (ways_from s (site_at s p)) w). (f.landings w c).0)
-      (Contains-append_cases (straight_ways s p) (ways_from s (site_at s p)) w e)
+      (λ (c : Contains (straight_edges s p) w). f.straight w c)
+      (λ (c : Contains (edges_from s (site_at s p)) w). (f.landings w c).0)
+      (Contains-append_cases (straight_edges s p) (edges_from s (site_at s p)) w e)
 
   pad_marked : (q : ℕ) → IsPad s q → IsLandedIn h q
   pad_marked q d = subst (λ (x : ℕ). IsLandedIn h x) d.4 ((follow d.0 (every d.0 d.2)).landings d.1 d.3)
@@ -94,22 +94,22 @@ module _ (s : Scene) (h : Held) (a : AreSound s h) (begins : is_set h.reached 0 
   pub not_too_long : IsTooLong s → ⊥
   not_too_long t = omega (arith, t.3, a.few, no_more t.0 h.places t.1 (λ p c. (a.listed.all p).1 (every p (t.2 p c))))
 
-branch_way : (s : Scene) (a : ℕ) (t : Standing) (q : ℕ) → option_and_then (place_of s) (option_and_then (branch_target a) (instruction_of t)) ≡ Some q
-    → Contains (straight_by s a t) (record { to = q; forgets = 0 })
-branch_way s a (Instruction i size) q e =
-    let w : Way = record { to = q; forgets = 0 } in
+branch_edge : (s : FlowGraph) (a : ℕ) (t : Standing) (q : ℕ) → option_and_then (place_of s) (option_and_then (branch_target a) (instruction_of t)) ≡ Some q
+    → Contains (straight_by s a t) (record { to = q; clobbers = 0 })
+branch_edge s a (Instruction i size) q e =
+    let w : Edge = record { to = q; clobbers = 0 } in
     let to = option_and_then (place_of s) (branch_target a i) in
-    Contains-append_right (onward s a i size) (ways_to 0 to) w (subst (λ (o : Option ℕ). Contains (ways_to 0 o) w) (sym e) (contains_head w []))
-branch_way s a Udf q e = absurd (none-some q e)
-branch_way s a Nothing q e = absurd (none-some q e)
+    Contains-append_right (onward s a i size) (edges_to 0 to) w (subst (λ (o : Option ℕ). Contains (edges_to 0 o) w) (sym e) (contains_head w []))
+branch_edge s a Udf q e = absurd (none-some q e)
+branch_edge s a Nothing q e = absurd (none-some q e)
 
-branch_reached : (s : Scene) (q : ℕ) → IsBranched s q → IsReached s q
-branch_reached s q b = straight_reached s b.0 (record { to = q; forgets = 0 }) b.1 (branch_way s (address_of s b.0) (standing_at s b.0) q b.2)
+branch_reached : (s : FlowGraph) (q : ℕ) → IsBranched s q → IsReached s q
+branch_reached s q b = straight_reached s b.0 (record { to = q; clobbers = 0 }) b.1 (branch_edge s (address_of s b.0) (standing_at s b.0) q b.2)
 
 pub targets_are_reached : TargetsAreReached
 targets_are_reached s q t = ⊎_elim (λ (b : IsBranched s q). branch_reached s q b) (λ (d : IsPad s q). pad_reached s q d) t
 
-pub target_below : (s : Scene) (q : ℕ) → IsTarget s q → q < places s
+pub target_below : (s : FlowGraph) (q : ℕ) → IsTarget s q → q < places s
 target_below s q t = below s q (targets_are_reached s q t)
 
 -- ---- nothing is found yet
@@ -126,7 +126,7 @@ none_twice : IsDistinct nat_eq []
 unfolding IsDistinct
 none_twice = tt
 
-blank_sound : (s : Scene) (n : ℕ) → n ≡ places s → AreSound s (record { reached = replicate n false; target = replicate n false; pad = replicate n false; places = [] })
+blank_sound : (s : FlowGraph) (n : ℕ) → n ≡ places s → AreSound s (record { reached = replicate n false; target = replicate n false; pad = replicate n false; places = [] })
 blank_sound s n e = record {
   reached_long = length-replicate n false ∙ e;
   target_long = length-replicate n false ∙ e;
@@ -138,7 +138,7 @@ blank_sound s n e = record {
   pad = λ p h. absurd (true≢false (sym h ∙ unmarked n p));
 }
 
-pub blanks_sound : (s : Scene) (n : ℕ) (a b c : List Bool) (ps : List ℕ) → n ≡ places s → a ≡ replicate n false → b ≡ replicate n false → c ≡ replicate n false → ps ≡ []
+pub blanks_sound : (s : FlowGraph) (n : ℕ) (a b c : List Bool) (ps : List ℕ) → n ≡ places s → a ≡ replicate n false → b ≡ replicate n false → c ≡ replicate n false → ps ≡ []
     → AreSound s (record { reached = a; target = b; pad = c; places = ps })
 blanks_sound s n a b c ps e x y z w =
     let blank = replicate n false in
@@ -147,29 +147,29 @@ blanks_sound s n a b c ps e x y z w =
     (subst (λ (u : List Bool). AreSound s (record { reached = blank; target = blank; pad = u; places = ps })) (sym z)
     (subst (λ (u : List ℕ). AreSound s (record { reached = blank; target = blank; pad = blank; places = u })) (sym w) (blank_sound s n e))))
 
--- ---- the ways of one place
+-- ---- the edges of one place
 
 -- what is followed stays so
-pub followed_grow : (s : Scene) (h g : Held) (p : ℕ) → Grow h g → AreFollowed s h p → AreFollowed s g p
+pub followed_grow : (s : FlowGraph) (h g : Held) (p : ℕ) → Grow h g → AreFollowed s h p → AreFollowed s g p
 followed_grow s h g p more f = record {
   straight = λ w c. more.reached w.to (f.straight w c);
   landings = λ w c. let l = f.landings w c in (more.reached w.to l.0, more.target w.to l.1, more.pad w.to l.2);
   branch = λ q e. more.target q (f.branch q e);
 }
 
-pub followed : (s : Scene) (a b c : Held) (p : ℕ) (ways : List Way) (target : Option ℕ) → ways ≡ straight_ways s p → target ≡ branched_to s p
-    → Grow a b → Grow b c → ((w : Way) → Contains ways w → IsPutIn a w.to) → ((w : Way) → Contains (ways_from s (site_at s p)) w → IsLandedIn b w.to) → ((q : ℕ) → target ≡ Some q → is_set c.target q ≡ true) → AreFollowed s c p
-followed s a b c p ways target is_ways is_target g h put landed aimed = record {
-  straight = λ w e. h.reached w.to (g.reached w.to (put w (subst (λ (ws : List Way). Contains ws w) (sym is_ways) e)));
+pub followed : (s : FlowGraph) (a b c : Held) (p : ℕ) (edges : List Edge) (target : Option ℕ) → edges ≡ straight_edges s p → target ≡ branched_to s p
+    → Grow a b → Grow b c → ((w : Edge) → Contains edges w → IsPutIn a w.to) → ((w : Edge) → Contains (edges_from s (site_at s p)) w → IsLandedIn b w.to) → ((q : ℕ) → target ≡ Some q → is_set c.target q ≡ true) → AreFollowed s c p
+followed s a b c p edges target is_edges is_target g h put landed aimed = record {
+  straight = λ w e. h.reached w.to (g.reached w.to (put w (subst (λ (ws : List Edge). Contains ws w) (sym is_edges) e)));
   landings = λ w e. let l = landed w e in (h.reached w.to l.0, h.target w.to l.1, h.pad w.to l.2);
   branch = λ q e. aimed q (is_target ∙ e);
 }
 
-pub straight_all : (s : Scene) (p : ℕ) (ways : List Way) → IsReached s p → ways ≡ straight_ways s p → (w : Way) → Contains ways w → IsReached s w.to
-straight_all s p ways r e w c = straight_reached s p w r (subst (λ (ws : List Way). Contains ws w) e c)
+pub straight_all : (s : FlowGraph) (p : ℕ) (edges : List Edge) → IsReached s p → edges ≡ straight_edges s p → (w : Edge) → Contains edges w → IsReached s w.to
+straight_all s p edges r e w c = straight_reached s p w r (subst (λ (ws : List Edge). Contains ws w) e c)
 
 -- a place more is followed
-pub followed_more : (s : Scene) (h g : Held) (n p : ℕ) → Grow h g → n < length h.places → p ≡ slice_index h.places n → ((k : ℕ) → k < n → AreFollowed s h (slice_index h.places k)) → AreFollowed s g p
+pub followed_more : (s : FlowGraph) (h g : Held) (n p : ℕ) → Grow h g → n < length h.places → p ≡ slice_index h.places n → ((k : ℕ) → k < n → AreFollowed s h (slice_index h.places k)) → AreFollowed s g p
     → (k : ℕ) → k < n + 1 → AreFollowed s g (slice_index g.places k)
 followed_more s h g n p more l is before now k m = ⊎_elim
     (λ (e : k ≡ n). subst (λ (x : ℕ). AreFollowed s g x) (is ∙ (sym (more.kept n l) ∙ ap (λ (x : ℕ). slice_index g.places x) (sym e))) now)
@@ -181,19 +181,19 @@ followed_more s h g n p more l is before now k m = ⊎_elim
 -- ---- lists of places
 
 -- the place at an index
-pub at_index : (s : Scene) (places : List ℕ) (n p : ℕ) → n < length places → p ≡ get_or places n p → p ≡ slice_index places n
+pub at_index : (s : FlowGraph) (places : List ℕ) (n p : ℕ) → n < length places → p ≡ get_or places n p → p ≡ slice_index places n
 at_index s places n p l e = e ∙ get_or_default_zero places n p l
 
-pub listed_reached : (s : Scene) (h : Held) (n : ℕ) → AreSound s h → n < length h.places → IsReached s (slice_index h.places n)
+pub listed_reached : (s : FlowGraph) (h : Held) (n : ℕ) → AreSound s h → n < length h.places → IsReached s (slice_index h.places n)
 listed_reached s h n a l = a.reached (slice_index h.places n) ((a.listed.all (slice_index h.places n)).0 (Contains-get_or h.places n 0 l))
 
 -- ---- whether a function is split
 
-found_split : (s : Scene) (o : Option ℕ) → option_map_or (is_split s) o false ≡ true → (site : ℕ) × (o ≡ Some site) × (is_split s site ≡ true)
+found_split : (s : FlowGraph) (o : Option ℕ) → option_map_or (is_split s) o false ≡ true → (site : ℕ) × (o ≡ Some site) × (is_split s site ≡ true)
 found_split s None h = absurd (true≢false (sym h))
 found_split s (Some site) h = (site, refl, h)
 
-module _ (s : Scene) (m : Marks) (places : List ℕ) (marks : AreMarks s m) (a : AreThePlaces m places) where
+module _ (s : FlowGraph) (m : Marks) (places : List ℕ) (marks : AreMarks s m) (a : AreThePlaces m places) where
   pub index_reached : (k : ℕ) → k < length places → IsReached s (slice_index places k)
   index_reached k l = (marks.reached (slice_index places k)).0 ((a.all (slice_index places k)).0 (Contains-get_or places k 0 l))
 
@@ -209,16 +209,16 @@ module _ (s : Scene) (m : Marks) (places : List ℕ) (marks : AreMarks s m) (a :
       let is : slice_index places c.0 ≡ p = sym (get_or_default_zero places c.0 p c.1) ∙ c.2 in
       true≢false (sym here ∙ (ap (splits_at s) (sym is) ∙ none c.0 (omega (arith, c.1, l))))
 
--- ---- steps of a loop over ways
+-- ---- steps of a loop over edges
 
--- one way more
-pub contains_next : (P : Way → Type 0) (ways : List Way) (i : ℕ) (d : Way) → i < length ways → ((w : Way) → Contains (take i ways) w → P w) → P (get_or ways i d)
-    → (w : Way) → Contains (take (i + 1) ways) w → P w
-contains_next P ways i d l before now w c = ⊎_elim
-    (λ (old : Contains (take i ways) w). before w old)
-    (λ (new : get_or ways i d ≡ w). subst (λ (x : Way). P x) new now)
-    (Contains-push_cases (take i ways) (get_or ways i d) w (subst (λ (xs : List Way). Contains xs w) (take_more ways i d l) c))
+-- one edge more
+pub contains_next : (P : Edge → Type 0) (edges : List Edge) (i : ℕ) (d : Edge) → i < length edges → ((w : Edge) → Contains (take i edges) w → P w) → P (get_or edges i d)
+    → (w : Edge) → Contains (take (i + 1) edges) w → P w
+contains_next P edges i d l before now w c = ⊎_elim
+    (λ (old : Contains (take i edges) w). before w old)
+    (λ (new : get_or edges i d ≡ w). subst (λ (x : Edge). P x) new now)
+    (Contains-push_cases (take i edges) (get_or edges i d) w (subst (λ (xs : List Edge). Contains xs w) (take_more edges i d l) c))
 
 -- all of them
-pub contains_all : (P : Way → Type 0) (ways : List Way) (i : ℕ) → length ways ≤ i → ((w : Way) → Contains (take i ways) w → P w) → (w : Way) → Contains ways w → P w
-contains_all P ways i l all w c = all w (subst (λ (xs : List Way). Contains xs w) (sym (take_all i ways l)) c)
+pub contains_all : (P : Edge → Type 0) (edges : List Edge) (i : ℕ) → length edges ≤ i → ((w : Edge) → Contains (take i edges) w → P w) → (w : Edge) → Contains edges w → P w
+contains_all P edges i l all w c = all w (subst (λ (xs : List Edge). Contains xs w) (sym (take_all i edges l)) c)

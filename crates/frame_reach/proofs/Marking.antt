@@ -9,8 +9,8 @@ use Rattle.std.proofs.lemmas.Map.Keys.{IsDistinct-push}
 use Rattle.std.proofs.lemmas.Map.Made.{is_member-Decides, length-le_from_is_member}
 use Rattle.std.specs.Prelude.{nat_eq}
 use Rattle.std.specs.List.{Contains, IsDistinct, list_any}
-use Rattle.frame_scene.specs.Scene.{Scene}
-use Rattle.frame_scene.specs.Reach.{IsReached}
+use Rattle.frame_graph.specs.FlowGraph.{FlowGraph}
+use Rattle.frame_graph.specs.Reach.{IsReached}
 use Rattle.frame_reach.specs.declared.marks.TheConstants.{MOST_REACHED}
 use Rattle.frame_reach.specs.Marks.{IsPad, IsTarget, IsTooLong}
 use Rattle.frame_reach.specs.Held.{Held, is_set}
@@ -63,7 +63,7 @@ back xs p P here before q h = ⊎_elim
     (λ (n : q ≡ p → ⊥). before q (sym (get_or-set_other xs p q true false n) ∙ h))
     (cases_eq q p)
 
-module _ (s : Scene) (h : Held) (p : ℕ) (a : AreSound s h) where
+module _ (s : FlowGraph) (h : Held) (p : ℕ) (a : AreSound s h) where
   -- ---- a place is put on the list
 
   abbrev pub with_place : List ℕ → Held

@@ -14,15 +14,15 @@ use Rattle.frame_facts.specs.declared.saves.Prologue.{Prologue}
 use Rattle.frame_facts.specs.declared.straight.Straight.{Straight}
 use Rattle.frame_facts.specs.After.{effect}
 use Rattle.frame_facts.specs.Prologues.{is_callers, may_stand, pushed_by, ended, taken, begun, run_on}
-use Rattle.frame_scene.specs.declared.places.Standing.{Standing}
-use Rattle.frame_scene.specs.declared.places.Standing.TheVariants.{Instruction, Udf, Nothing}
-use Rattle.frame_scene.specs.declared.ways.Way.{Way}
-use Rattle.frame_scene.specs.Scene.{Scene}
-use Rattle.frame_scene.specs.Places.{address_of, place_of, is_place, standing_at}
-use Rattle.frame_scene.specs.Ways.{goes_on, branch_target, ways_to, onward, straight_by, straight_ways}
-use Rattle.frame_scene.specs.Sites.{site_at, ways_from, ways_of}
-use Rattle.frame_scene.specs.Reach.{IsReached, entry, along}
-use Rattle.frame_scene.proofs.Inside.{places_have_their_address}
+use Rattle.frame_graph.specs.declared.places.Standing.{Standing}
+use Rattle.frame_graph.specs.declared.places.Standing.TheVariants.{Instruction, Udf, Nothing}
+use Rattle.frame_graph.specs.declared.edges.Edge.{Edge}
+use Rattle.frame_graph.specs.FlowGraph.{FlowGraph}
+use Rattle.frame_graph.specs.Places.{address_of, place_of, is_place, standing_at}
+use Rattle.frame_graph.specs.Edges.{reaches_next, branch_target, edges_to, onward, straight_by, straight_edges}
+use Rattle.frame_graph.specs.Sites.{site_at, edges_from, edges_of}
+use Rattle.frame_graph.specs.Reach.{IsReached, entry, along}
+use Rattle.frame_graph.proofs.Inside.{places_have_their_address}
 use Rattle.flow.proofs.Work.{contains_head}
 use Rattle.frame_reach.specs.Marks.{Marks}
 use Rattle.frame_reach.specs.Prologue.{places, is_led_to, line_by, line_at, lines, prologue}
@@ -39,8 +39,8 @@ some_or_none (Some x) = inr (x, refl)
 
 -- ---- what an instruction of a prologue is
 
--- it is followed by the one behind it
-stands_goes : (i : Instr) → may_stand i ≡ true → goes_on i ≡ true
+-- it is followed by the one after it
+stands_goes : (i : Instr) → may_stand i ≡ true → reaches_next i ≡ true
 stands_goes (ShiftImm op d m n) h = refl
 stands_goes (AddSubReg sub d n m) h = refl
 stands_goes (AddSubImm3 sub d n imm) h = refl
@@ -88,7 +88,7 @@ pushed_ended : (r next : Straight) (i : Instr) (size : ℕ) (o : Option Prologue
 pushed_ended r next i size None e = absurd (none-some next e)
 pushed_ended r next i size (Some p) e = ended_by r next i size p e
 
--- it may stand there, and the run ends behind it
+-- it may stand there, and the run ends after it
 taken_well : (r next : Straight) (i : Instr) (size : ℕ) → taken r i size ≡ Some next → (may_stand i ≡ true) × (next.prologue.end ≡ (r.prologue.end + size) % 2 ^ 32)
 taken_well r next i size e =
     let w = if_some (nat_le r.fact.depth DEEPEST && may_stand i) (option_and_then (ended r i size) (pushed_by r i)) next e in
@@ -96,24 +96,24 @@ taken_well r next i size e =
 
 -- ---- each is reached
 
-pub onward_way : (s : Scene) (a : ℕ) (i : Instr) (size q : ℕ) → goes_on i ≡ true → place_of s (a + size) ≡ Some q → Contains (onward s a i size) (record { to = q; forgets = 0 })
-onward_way s a i size q g e =
-    let w : Way = record { to = q; forgets = 0 } in
-    subst (λ (b : Bool). Contains (if b then ways_to 0 (place_of s (a + size)) else []) w) (sym g)
-    (subst (λ (o : Option ℕ). Contains (ways_to 0 o) w) (sym e) (contains_head w []))
+pub onward_edge : (s : FlowGraph) (a : ℕ) (i : Instr) (size q : ℕ) → reaches_next i ≡ true → place_of s (a + size) ≡ Some q → Contains (onward s a i size) (record { to = q; clobbers = 0 })
+onward_edge s a i size q g e =
+    let w : Edge = record { to = q; clobbers = 0 } in
+    subst (λ (b : Bool). Contains (if b then edges_to 0 (place_of s (a + size)) else []) w) (sym g)
+    (subst (λ (o : Option ℕ). Contains (edges_to 0 o) w) (sym e) (contains_head w []))
 
--- from an instruction that goes on to a place behind it that is code
-pub next_reached : (s : Scene) (p : ℕ) (i : Instr) (size : ℕ) → IsReached s p → standing_at s p ≡ Instruction i size → goes_on i ≡ true → is_place s (p + size / 2) ≡ true
+-- from an instruction that goes on to a place after it that is code
+pub next_reached : (s : FlowGraph) (p : ℕ) (i : Instr) (size : ℕ) → IsReached s p → standing_at s p ≡ Instruction i size → reaches_next i ≡ true → is_place s (p + size / 2) ≡ true
     → IsReached s (p + size / 2)
-unfolding ways_of
+unfolding edges_of
 next_reached s p i size r e g h =
     let q = p + size / 2 in
-    let w : Way = record { to = q; forgets = 0 } in
+    let w : Edge = record { to = q; clobbers = 0 } in
     let a : s.start + 2 * q ≡ address_of s p + size = ⊎_elim (λ (two : size ≡ 2). omega (arith, two)) (λ (four : size ≡ 4). omega (arith, four)) (stands_size s p i size e) in
     let to : place_of s (address_of s p + size) ≡ Some q = subst (λ (x : ℕ). place_of s x ≡ Some q) a (places_have_their_address s q h) in
-    let on = Contains-append_left (onward s (address_of s p) i size) (ways_to 0 (option_and_then (place_of s) (branch_target (address_of s p) i))) w (onward_way s (address_of s p) i size q g to) in
-    let straight : Contains (straight_ways s p) w = subst (λ (t : Standing). Contains (straight_by s (address_of s p) t) w) (sym e) on in
-    along r (Contains-append_left (straight_ways s p) (ways_from s (site_at s p)) w straight)
+    let on = Contains-append_left (onward s (address_of s p) i size) (edges_to 0 (option_and_then (place_of s) (branch_target (address_of s p) i))) w (onward_edge s (address_of s p) i size q g to) in
+    let straight : Contains (straight_edges s p) w = subst (λ (t : Standing). Contains (straight_by s (address_of s p) t) w) (sym e) on in
+    along r (Contains-append_left (straight_edges s p) (edges_from s (site_at s p)) w straight)
 
 pub runs_are_reached : RunsAreReached
 runs_are_reached s m _ _ begins h = entry
@@ -123,7 +123,7 @@ runs_are_reached s m _ _ (takes {p} {run} {next} {i} {size} r e off t) h =
 -- ---- no target lies in it
 
 -- where a run ends, and that no place before is a target
-abbrev Ends : Scene → Marks → ℕ → Straight → Type 0
+abbrev Ends : FlowGraph → Marks → ℕ → Straight → Type 0
 Ends s m p run = ((run.prologue.end ≡ s.start + 2 * p) ⊎ ((run.prologue.end ≡ 0) × (s.end ≤ s.start + 2 * p))) × ((q : ℕ) → q < p → m.target q ≡ false)
 
 or_false : (a b : Bool) → (a || b) ≡ false → (a ≡ false) × (b ≡ false)
@@ -153,8 +153,8 @@ wrapped x l = elim (cases_lt x (2 ^ 32)) [
   | inr more ↦ inr (let e : x ≡ 2 ^ 32 = omega (arith, l, more) in (ap (λ (y : ℕ). y % 2 ^ 32) e, e))
 ]
 
--- behind an instruction more
-stepped : (s : Scene) (p size end next : ℕ) → s.end < 2 ^ 32 → (size ≡ 2) ⊎ (size ≡ 4) → s.start + 2 * p + size ≤ s.end + 1 → next ≡ (end + size) % 2 ^ 32
+-- after an instruction more
+stepped : (s : FlowGraph) (p size end next : ℕ) → s.end < 2 ^ 32 → (size ≡ 2) ⊎ (size ≡ 4) → s.start + 2 * p + size ≤ s.end + 1 → next ≡ (end + size) % 2 ^ 32
     → (end ≡ s.start + 2 * p) ⊎ ((end ≡ 0) × (s.end ≤ s.start + 2 * p)) → (next ≡ s.start + 2 * (p + size / 2)) ⊎ ((next ≡ 0) × (s.end ≤ s.start + 2 * (p + size / 2)))
 stepped s p size end next small even inside e (inl is) =
     let half : 2 * (p + size / 2) ≡ 2 * p + size = ⊎_elim (λ (two : size ≡ 2). omega (arith, two)) (λ (four : size ≡ 4). omega (arith, four)) even in
@@ -167,7 +167,7 @@ stepped s p size end next small even inside e (inr is) = absurd (⊎_elim
     (λ (four : size ≡ 4). omega (arith, four, is.1, inside))
     even)
 
-run_ends : (s : Scene) (m : Marks) (p : ℕ) (run : Straight) → s.end < 2 ^ 32 → IsRun s m p run → Ends s m p run
+run_ends : (s : FlowGraph) (m : Marks) (p : ℕ) (run : Straight) → s.end < 2 ^ 32 → IsRun s m p run → Ends s m p run
 run_ends s m _ _ small begins = (inl (omega arith), λ q l. absurd (omega (arith, l)))
 run_ends s m _ _ small (takes {p} {run} {next} {i} {size} r e off t) =
     let before = run_ends s m p run small r in
@@ -194,10 +194,10 @@ stands_line : (target : ℕ → Bool) (p : ℕ) (t : Standing) (i : Instr) (size
 stands_line target p t i size e off =
     ap (line_by target p) e ∙ ap (λ (b : Bool). if b then None else Some (i, size)) off
 
-abbrev Longest : Scene → Marks → Straight → Type 0
+abbrev Longest : FlowGraph → Marks → Straight → Type 0
 Longest s m last = (p : ℕ) × (run : Straight) × IsRun s m p run × (Continues s m p run → ⊥) × (last.prologue ≡ run.prologue)
 
-walk : (s : Scene) (m : Marks) (fuel p : ℕ) (run : Straight) → IsRun s m p run → places s ≤ p + fuel → Longest s m (run_on run (lines s m.target fuel p))
+walk : (s : FlowGraph) (m : Marks) (fuel p : ℕ) (run : Straight) → IsRun s m p run → places s ≤ p + fuel → Longest s m (run_on run (lines s m.target fuel p))
 walk s m zero p run r l = (p, run, r, λ c. omega (arith, l, stands_below s p c.0 c.1 c.3), refl)
 walk s m (suc fuel) p run r l = ⊎_elim
     (λ (none : line_at s m.target p ≡ None). (
@@ -248,14 +248,14 @@ no_target_in_the_prologue s m small marks q t l =
 
 -- ---- the run of the code
 
-pub walk_start : (s : Scene) (m : Marks) (run : Straight) → run ≡ begun s.start → (run_on run (lines s m.target (places s - 0) 0)).prologue ≡ prologue s m
+pub walk_start : (s : FlowGraph) (m : Marks) (run : Straight) → run ≡ begun s.start → (run_on run (lines s m.target (places s - 0) 0)).prologue ≡ prologue s m
 unfolding prologue
 walk_start s m run e =
     let all : places s - 0 ≡ places s = omega arith in
     ap (λ (n : ℕ). (run_on run (lines s m.target n 0)).prologue) all ∙ ap (λ (x : Straight). (run_on x (lines s m.target (places s) 0)).prologue) e
 
 -- an instruction more
-pub walk_next : (s : Scene) (m : Marks) (run next : Straight) (k p : ℕ) (i : Instr) (size : ℕ) (all : Prologue) → k < places s → line_at s m.target p ≡ Some (i, size) → taken run i size ≡ Some next
+pub walk_next : (s : FlowGraph) (m : Marks) (run next : Straight) (k p : ℕ) (i : Instr) (size : ℕ) (all : Prologue) → k < places s → line_at s m.target p ≡ Some (i, size) → taken run i size ≡ Some next
     → (run_on run (lines s m.target (places s - k) p)).prologue ≡ all → (run_on next (lines s m.target (places s - (k + 1)) (p + size / 2))).prologue ≡ all
 walk_next s m run next k p i size all l line t e =
     let fuel = places s - (k + 1) in
@@ -267,7 +267,7 @@ walk_next s m run next k p i size all l line t e =
     ∙ (ap (λ (ls : List (Instr × ℕ)). (run_on run ls).prologue) (sym is)
     ∙ (ap (λ (n : ℕ). (run_on run (lines s m.target n p)).prologue) (sym one) ∙ e))
 
-pub line_fits : (s : Scene) (target : ℕ → Bool) (p : ℕ) (i : Instr) (size : ℕ) → line_at s target p ≡ Some (i, size) → (p < places s) × (size ≤ 4)
+pub line_fits : (s : FlowGraph) (target : ℕ → Bool) (p : ℕ) (i : Instr) (size : ℕ) → line_at s target p ≡ Some (i, size) → (p < places s) × (size ≤ 4)
 line_fits s target p i size e =
     let w = line_stands target p (standing_at s p) (i, size) e in (
       stands_below s p i size w.0,

@@ -10,9 +10,9 @@ use Rattle.thumb_isa.specs.Range.{size_of, IsOfSize}
 use Rattle.thumb_isa.specs.Rows.{Row, fits, rows, first_fit, decoded_of}
 use Rattle.thumb_isa.proofs.Laws.{sized}
 use Rattle.elf_image.specs.Image.{is_code_in}
-use Rattle.frame_scene.specs.declared.places.Standing.TheVariants.{Instruction, Udf}
-use Rattle.frame_scene.specs.Scene.{Scene}
-use Rattle.frame_scene.specs.Places.{address_of, is_place, halfword_at, is_udf, of_decoded, wide_of, standing_by, standing_at}
+use Rattle.frame_graph.specs.declared.places.Standing.TheVariants.{Instruction, Udf}
+use Rattle.frame_graph.specs.FlowGraph.{FlowGraph}
+use Rattle.frame_graph.specs.Places.{address_of, is_place, halfword_at, is_udf, of_decoded, wide_of, standing_by, standing_at}
 use Rattle.frame_reach.specs.Prologue.{places}
 
 both : (a b : Bool) → (a && b) ≡ true → (a ≡ true) × (b ≡ true)
@@ -100,30 +100,30 @@ by_halfwords false second h g i size e = absurd cc
 by_halfwords true second None g i size e = absurd cc
 by_halfwords true second (Some halfword) g i size e = (refl, by_size (is_udf halfword) (size_of halfword == 2) halfword second g i size refl e)
 
-pub stands : (s : Scene) (p : ℕ) (i : Instr) (size : ℕ) → standing_at s p ≡ Instruction i size → (is_place s p ≡ true) × IsWhole size (is_place s (p + 1))
+pub stands : (s : FlowGraph) (p : ℕ) (i : Instr) (size : ℕ) → standing_at s p ≡ Instruction i size → (is_place s p ≡ true) × IsWhole size (is_place s (p + 1))
 unfolding standing_at
 stands s p i size e = by_halfwords (is_place s p) (is_place s (p + 1)) (halfword_at s.image (address_of s p)) (halfword_at s.image (address_of s (p + 1))) i size e
 
 -- ---- inside the function
 
-place_inside : (s : Scene) (p : ℕ) → is_place s p ≡ true → s.start + 2 * p < s.end
+place_inside : (s : FlowGraph) (p : ℕ) → is_place s p ≡ true → s.start + 2 * p < s.end
 place_inside s p h =
     let a = address_of s p in
     let low = both (nat_le s.start a && nat_lt a s.end) ((a == s.start) || is_code_in s.image a) h in
     ltb-true a s.end (both (nat_le s.start a) (nat_lt a s.end) low.0).1
 
-pub stands_inside : (s : Scene) (p : ℕ) (i : Instr) (size : ℕ) → standing_at s p ≡ Instruction i size → s.start + 2 * p + size ≤ s.end + 1
+pub stands_inside : (s : FlowGraph) (p : ℕ) (i : Instr) (size : ℕ) → standing_at s p ≡ Instruction i size → s.start + 2 * p + size ≤ s.end + 1
 stands_inside s p i size e =
     let w = stands s p i size e in ⊎_elim
     (λ (two : size ≡ 2). omega (arith, two, place_inside s p w.0))
     (λ (four : (size ≡ 4) × (is_place s (p + 1) ≡ true)). omega (arith, four.0, place_inside s (p + 1) four.1))
     w.1
 
-pub stands_size : (s : Scene) (p : ℕ) (i : Instr) (size : ℕ) → standing_at s p ≡ Instruction i size → (size ≡ 2) ⊎ (size ≡ 4)
+pub stands_size : (s : FlowGraph) (p : ℕ) (i : Instr) (size : ℕ) → standing_at s p ≡ Instruction i size → (size ≡ 2) ⊎ (size ≡ 4)
 stands_size s p i size e = ⊎_elim
     (λ (two : size ≡ 2). inl two)
     (λ (four : (size ≡ 4) × (is_place s (p + 1) ≡ true)). inr four.0)
     (stands s p i size e).1
 
-pub stands_below : (s : Scene) (p : ℕ) (i : Instr) (size : ℕ) → standing_at s p ≡ Instruction i size → p < places s
+pub stands_below : (s : FlowGraph) (p : ℕ) (i : Instr) (size : ℕ) → standing_at s p ≡ Instruction i size → p < places s
 stands_below s p i size e = omega (arith, place_inside s p (stands s p i size e).0)

@@ -1,8 +1,8 @@
 -- Marks of places as lists, and what a site of a place tells.
 use Rattle.std.specs.Prelude.{ℕ, Bool, false, List, slice_index_or}
 use Rattle.std.specs.Option.{option_map_or}
-use Rattle.frame_scene.specs.Scene.{Scene}
-use Rattle.frame_scene.specs.Sites.{site_at, is_split}
+use Rattle.frame_graph.specs.FlowGraph.{FlowGraph}
+use Rattle.frame_graph.specs.Sites.{site_at, is_split}
 use Rattle.frame_reach.specs.Marks.{Marks}
 
 -- a mark for each place, of each of the three kinds, and the places that are marked as reached
@@ -19,6 +19,6 @@ is_set marks p = slice_index_or marks p false
 abbrev pub marks_of : Held → Marks
 marks_of h = record { reached = is_set h.reached; target = is_set h.target; pad = is_set h.pad }
 
--- a site stands at the place whose covering entry begins behind the function's start
-abbrev pub splits_at : Scene → ℕ → Bool
+-- a site stands at the place whose covering entry begins after the function's start
+abbrev pub splits_at : FlowGraph → ℕ → Bool
 splits_at s p = option_map_or (is_split s) (site_at s p) false

@@ -1,12 +1,12 @@
 -- The landing pads of the site of a place, in the search for what is reached.
 use Rattle.std.specs.Prelude.{ℕ}
 use Rattle.std.specs.List.{Contains}
-use Rattle.frame_scene.specs.declared.ways.Way.{Way}
-use Rattle.frame_scene.specs.Scene.{Scene}
-use Rattle.frame_scene.specs.Sites.{site_at, ways_from}
+use Rattle.frame_graph.specs.declared.edges.Edge.{Edge}
+use Rattle.frame_graph.specs.FlowGraph.{FlowGraph}
+use Rattle.frame_graph.specs.Sites.{site_at, edges_from}
 use Rattle.frame_reach.specs.declared.search.Found.{Found}
 use Rattle.frame_reach.specs.Search.{held, IsLandedIn}
 
 -- each landing pad of the site of a place is found, where a site stands there
-abbrev pub ArePadsOf : Scene → Found → ℕ → Type 0
-ArePadsOf s f p = (w : Way) → Contains (ways_from s (site_at s p)) w → IsLandedIn (held f) w.to
+abbrev pub ArePadsOf : FlowGraph → Found → ℕ → Type 0
+ArePadsOf s f p = (w : Edge) → Contains (edges_from s (site_at s p)) w → IsLandedIn (held f) w.to

@@ -3,11 +3,11 @@ use Rattle.std.specs.Prelude.{ℕ, ◌≡◌, ◌↔◌, ◌+◌, ◌*◌, ◌/�
 use Rattle.thumb_isa.specs.declared.instr.Instr.{Instr}
 use Rattle.frame_facts.specs.declared.straight.Straight.{Straight}
 use Rattle.frame_facts.specs.Prologues.{begun, taken}
-use Rattle.frame_scene.specs.declared.places.Standing.TheVariants.{Instruction}
-use Rattle.frame_scene.specs.Scene.{Scene}
-use Rattle.frame_scene.specs.Places.{standing_at}
-use Rattle.frame_scene.specs.Ways.{goes_on}
-use Rattle.frame_scene.specs.Reach.{IsReached}
+use Rattle.frame_graph.specs.declared.places.Standing.TheVariants.{Instruction}
+use Rattle.frame_graph.specs.FlowGraph.{FlowGraph}
+use Rattle.frame_graph.specs.Places.{standing_at}
+use Rattle.frame_graph.specs.Edges.{reaches_next}
+use Rattle.frame_graph.specs.Reach.{IsReached}
 use Rattle.frame_reach.specs.declared.marks.TheConstants.{MOST_REACHED}
 use Rattle.frame_reach.specs.Marks.{Marks, AreMarks, AreThePlaces, IsTarget, IsTooLong}
 use Rattle.frame_reach.specs.Prologue.{is_led_to, prologue}
@@ -16,54 +16,54 @@ use Rattle.frame_reach.specs.Prologue.{is_led_to, prologue}
 
 -- every function has marks
 abbrev pub MarksExist : Type 0
-MarksExist = (s : Scene) → (m : Marks) × AreMarks s m
+MarksExist = (s : FlowGraph) → (m : Marks) × AreMarks s m
 
 -- and no others
 abbrev pub MarksAgree : Type 0
-MarksAgree = (s : Scene) (m n : Marks) → AreMarks s m → AreMarks s n → m ≡ n
+MarksAgree = (s : FlowGraph) (m n : Marks) → AreMarks s m → AreMarks s n → m ≡ n
 
 -- how many places are reached tells whether they are too many
 abbrev pub PlacesAreCounted : Type 0
-PlacesAreCounted = (s : Scene) (m : Marks) (ps : List ℕ) → AreMarks s m → AreThePlaces m ps → IsTooLong s ↔ (MOST_REACHED < length ps)
+PlacesAreCounted = (s : FlowGraph) (m : Marks) (ps : List ℕ) → AreMarks s m → AreThePlaces m ps → IsTooLong s ↔ (MOST_REACHED < length ps)
 
 -- ---- targets
 
 -- every target is reached itself
 abbrev pub TargetsAreReached : Type 0
-TargetsAreReached = (s : Scene) (q : ℕ) → IsTarget s q → IsReached s q
+TargetsAreReached = (s : FlowGraph) (q : ℕ) → IsTarget s q → IsReached s q
 
--- the place stands behind an instruction that is reached and goes on
-abbrev pub IsBehind : Scene → ℕ → Type 0
-IsBehind s q = (p : ℕ) × (i : Instr) × (size : ℕ) × IsReached s p × (standing_at s p ≡ Instruction i size) × (goes_on i ≡ true) × (q ≡ p + size / 2)
+-- the place stands after an instruction that is reached and goes on
+abbrev pub IsAfter : FlowGraph → ℕ → Type 0
+IsAfter s q = (p : ℕ) × (i : Instr) × (size : ℕ) × IsReached s p × (standing_at s p ≡ Instruction i size) × (reaches_next i ≡ true) × (q ≡ p + size / 2)
 
--- and what else is reached is the entry, or stands behind an instruction
-abbrev pub OthersAreBehind : Type 0
-OthersAreBehind = (s : Scene) (q : ℕ) → IsReached s q → (q ≡ 0) ⊎ (IsTarget s q ⊎ IsBehind s q)
+-- and what else is reached is the entry, or stands after an instruction
+abbrev pub OthersAreAfter : Type 0
+OthersAreAfter = (s : FlowGraph) (q : ℕ) → IsReached s q → (q ≡ 0) ⊎ (IsTarget s q ⊎ IsAfter s q)
 
 -- ---- the prologue
 
--- A run has come to a place: at the entry it has no instruction, and then it has taken one behind the other, of which no halfword is a
+-- A run has come to a place: at the entry it has no instruction, and then it has taken one after the other, of which no halfword is a
 -- target.
-pub data IsRun (s : Scene) (m : Marks) : ℕ → Straight → Type 0 where
+pub data IsRun (s : FlowGraph) (m : Marks) : ℕ → Straight → Type 0 where
   begins : IsRun s m 0 (begun s.start)
   takes : {p : ℕ} {run next : Straight} {i : Instr} {size : ℕ} → IsRun s m p run → standing_at s p ≡ Instruction i size → is_led_to m.target p size ≡ false
       → taken run i size ≡ Some next → IsRun s m (p + size / 2) next
 
 -- it takes the instruction at this place too
-abbrev pub Continues : Scene → Marks → ℕ → Straight → Type 0
+abbrev pub Continues : FlowGraph → Marks → ℕ → Straight → Type 0
 Continues s m p run =
     (i : Instr) × (size : ℕ) × (next : Straight) × (standing_at s p ≡ Instruction i size) × (is_led_to m.target p size ≡ false) × (taken run i size ≡ Some next)
 
 -- the prologue is a run that takes no instruction more
 abbrev pub PrologueIsTheLongestRun : Type 0
 PrologueIsTheLongestRun =
-    (s : Scene) (m : Marks) → (p : ℕ) × (run : Straight) × IsRun s m p run × (Continues s m p run → ⊥) × (prologue s m ≡ run.prologue)
+    (s : FlowGraph) (m : Marks) → (p : ℕ) × (run : Straight) × IsRun s m p run × (Continues s m p run → ⊥) × (prologue s m ≡ run.prologue)
 
 -- each instruction that a run takes stands at a place that is reached
 abbrev pub RunsAreReached : Type 0
-RunsAreReached = (s : Scene) (m : Marks) (p : ℕ) (run : Straight) → IsRun s m p run → Continues s m p run → IsReached s p
+RunsAreReached = (s : FlowGraph) (m : Marks) (p : ℕ) (run : Straight) → IsRun s m p run → Continues s m p run → IsReached s p
 
 -- no target lies in the prologue
 abbrev pub NoTargetInThePrologue : Type 0
 NoTargetInThePrologue =
-    (s : Scene) (m : Marks) → s.end < 2 ^ 32 → AreMarks s m → (q : ℕ) → IsTarget s q → s.start + 2 * q < (prologue s m).end → ⊥
+    (s : FlowGraph) (m : Marks) → s.end < 2 ^ 32 → AreMarks s m → (q : ℕ) → IsTarget s q → s.start + 2 * q < (prologue s m).end → ⊥

@@ -1,23 +1,23 @@
--- Which places of a function are reached, and to which of them a branch or a landing pad leads. docs/scenes.md, "Reached places".
+-- Which places of a function are reached, and to which of them a branch or a landing pad leads. docs/flow-graphs.md, "Reached places".
 use Rattle.std.specs.Prelude.{ℕ, ◌≡◌, ◌↔◌, ◌⊎◌, ◌<◌, nat_eq, Bool, true, List, length, Some}
 use Rattle.std.specs.List.{Contains, IsDistinct}
-use Rattle.frame_scene.specs.declared.ways.Way.{Way}
-use Rattle.frame_scene.specs.Scene.{Scene}
-use Rattle.frame_scene.specs.Ways.{branched_to}
-use Rattle.frame_scene.specs.Sites.{site_at, ways_from, is_split}
-use Rattle.frame_scene.specs.Reach.{IsReached}
+use Rattle.frame_graph.specs.declared.edges.Edge.{Edge}
+use Rattle.frame_graph.specs.FlowGraph.{FlowGraph}
+use Rattle.frame_graph.specs.Edges.{branched_to}
+use Rattle.frame_graph.specs.Sites.{site_at, edges_from, is_split}
+use Rattle.frame_graph.specs.Reach.{IsReached}
 use Rattle.frame_reach.specs.declared.marks.TheConstants.{MOST_REACHED}
 
--- a landing pad: a way leads there from a site that is reached
-abbrev pub IsPad : Scene → ℕ → Type 0
-IsPad s q = (p : ℕ) × (w : Way) × IsReached s p × Contains (ways_from s (site_at s p)) w × (w.to ≡ q)
+-- a landing pad: an edge leads there from a site that is reached
+abbrev pub IsPad : FlowGraph → ℕ → Type 0
+IsPad s q = (p : ℕ) × (w : Edge) × IsReached s p × Contains (edges_from s (site_at s p)) w × (w.to ≡ q)
 
 -- a branch that is reached leads there
-abbrev pub IsBranched : Scene → ℕ → Type 0
+abbrev pub IsBranched : FlowGraph → ℕ → Type 0
 IsBranched s q = (p : ℕ) × IsReached s p × (branched_to s p ≡ Some q)
 
 -- a target: a branch that is reached leads there, or it is a landing pad. What a call leads to is none
-abbrev pub IsTarget : Scene → ℕ → Type 0
+abbrev pub IsTarget : FlowGraph → ℕ → Type 0
 IsTarget s q = IsBranched s q ⊎ IsPad s q
 
 -- for each place whether it is reached, a target, and a landing pad
@@ -27,7 +27,7 @@ pub record Marks : Type 0 where
   pub pad : ℕ → Bool
 
 -- marks of a function: each is true exactly where it says what is so
-pub record AreMarks (s : Scene) (m : Marks) : Type 0 where
+pub record AreMarks (s : FlowGraph) (m : Marks) : Type 0 where
   pub reached : (p : ℕ) → (m.reached p ≡ true) ↔ IsReached s p
   pub target : (p : ℕ) → (m.target p ≡ true) ↔ IsTarget s p
   pub pad : (p : ℕ) → (m.pad p ≡ true) ↔ IsPad s p
@@ -40,9 +40,9 @@ pub record AreThePlaces (m : Marks) (places : List ℕ) : Type 0 where
 -- ---- what is refused of a function as a whole
 
 -- more different places are reached than a function may have
-abbrev pub IsTooLong : Scene → Type 0
+abbrev pub IsTooLong : FlowGraph → Type 0
 IsTooLong s = (ps : List ℕ) × IsDistinct nat_eq ps × ((p : ℕ) → Contains ps p → IsReached s p) × (MOST_REACHED < length ps)
 
--- the entry of the exception index that covers a reached site begins behind the function's start
-abbrev pub IsSplit : Scene → Type 0
+-- the entry of the exception index that covers a reached site begins after the function's start
+abbrev pub IsSplit : FlowGraph → Type 0
 IsSplit s = (p : ℕ) × (site : ℕ) × IsReached s p × (site_at s p ≡ Some site) × (is_split s site ≡ true)

@@ -4,14 +4,14 @@ use Rattle.std.specs.Option.{option_map_or}
 use Rattle.thumb_isa.specs.declared.instr.Instr.{Instr}
 use Rattle.frame_facts.specs.declared.saves.Prologue.{Prologue}
 use Rattle.frame_facts.specs.Prologues.{prologue_of}
-use Rattle.frame_scene.specs.declared.places.Standing.{Standing}
-use Rattle.frame_scene.specs.declared.places.Standing.TheVariants.{Instruction, Udf, Nothing}
-use Rattle.frame_scene.specs.Scene.{Scene}
-use Rattle.frame_scene.specs.Places.{standing_at}
+use Rattle.frame_graph.specs.declared.places.Standing.{Standing}
+use Rattle.frame_graph.specs.declared.places.Standing.TheVariants.{Instruction, Udf, Nothing}
+use Rattle.frame_graph.specs.FlowGraph.{FlowGraph}
+use Rattle.frame_graph.specs.Places.{standing_at}
 use Rattle.frame_reach.specs.Marks.{Marks}
 
 -- how many places there are from the entry to the function's end; the entry is one always
-abbrev pub places : Scene → ℕ
+abbrev pub places : FlowGraph → ℕ
 places s = max 1 ((s.end - s.start + 1) / 2)
 
 -- one of the halfwords of an instruction at a place is a target
@@ -24,15 +24,15 @@ line_by target place (Instruction i size) = if is_led_to target place size then 
 line_by target place Udf = None
 line_by target place Nothing = None
 
-abbrev pub line_at : Scene → (ℕ → Bool) → ℕ → Option (Instr × ℕ)
+abbrev pub line_at : FlowGraph → (ℕ → Bool) → ℕ → Option (Instr × ℕ)
 line_at s target place = line_by target place (standing_at s place)
 
--- the instructions from a place on, each behind the one before it, up to the first place where none stands or one of whose halfwords
+-- the instructions from a place on, each after the one before it, up to the first place where none stands or one of whose halfwords
 -- is a target; so many at most
-abbrev pub lines : Scene → (ℕ → Bool) → ℕ → ℕ → List (Instr × ℕ)
+abbrev pub lines : FlowGraph → (ℕ → Bool) → ℕ → ℕ → List (Instr × ℕ)
 lines s target zero place = []
 lines s target (suc fuel) place = option_map_or (λ line. line ∷ lines s target fuel (place + line.1 / 2)) (line_at s target place) []
 
 -- the prologue
-unfoldable pub prologue : Scene → Marks → Prologue
+unfoldable pub prologue : FlowGraph → Marks → Prologue
 prologue s m = prologue_of s.start (lines s m.target (places s) 0)

@@ -1,11 +1,11 @@
 -- The search for what is reached: what it keeps while it goes on.
 use Rattle.std.specs.Prelude.{ℕ, ◌≡◌, ◌<◌, ◌≤◌, true, List, length, slice_index, Option, Some, Result, Ok, Err}
 use Rattle.std.specs.List.{Contains}
-use Rattle.frame_scene.specs.declared.ways.Way.{Way}
-use Rattle.frame_scene.specs.Scene.{Scene}
-use Rattle.frame_scene.specs.Ways.{straight_ways, branched_to}
-use Rattle.frame_scene.specs.Sites.{site_at, ways_from}
-use Rattle.frame_scene.specs.Reach.{IsReached}
+use Rattle.frame_graph.specs.declared.edges.Edge.{Edge}
+use Rattle.frame_graph.specs.FlowGraph.{FlowGraph}
+use Rattle.frame_graph.specs.Edges.{straight_edges, branched_to}
+use Rattle.frame_graph.specs.Sites.{site_at, edges_from}
+use Rattle.frame_graph.specs.Reach.{IsReached}
 use Rattle.frame_reach.specs.declared.marks.TheConstants.{MOST_REACHED}
 use Rattle.frame_reach.specs.declared.search.Found.{Found}
 use Rattle.frame_reach.specs.declared.search.ReachFault.{ReachFault}
@@ -15,7 +15,7 @@ use Rattle.frame_reach.specs.Held.{Held, is_set, marks_of}
 use Rattle.frame_reach.specs.Prologue.{places}
 
 -- marks and places of a function, of which each says what is so; and there aren't too many
-pub record AreSound (s : Scene) (h : Held) : Type 0 where
+pub record AreSound (s : FlowGraph) (h : Held) : Type 0 where
   pub reached_long : length h.reached ≡ places s
   pub target_long : length h.target ≡ places s
   pub pad_long : length h.pad ≡ places s
@@ -36,14 +36,14 @@ pub record Grow (h g : Held) : Type 0 where
 abbrev pub held : Found → Held
 held f = record { reached = f.reached.items; target = f.targets.items; pad = f.pads.items; places = f.places.items }
 
-abbrev pub IsSound : Scene → Found → Type 0
+abbrev pub IsSound : FlowGraph → Found → Type 0
 IsSound s f = AreSound s (held f)
 
 abbrev pub Grows : Found → Found → Type 0
 Grows f g = Grow (held f) (held g)
 
 -- a step keeps all this and does its work, or too many places are reached
-abbrev pub Steps : Scene → Found → Found → Type 0 → Result (Unit {0}) ReachFault → Type 0
+abbrev pub Steps : FlowGraph → Found → Found → Type 0 → Result (Unit {0}) ReachFault → Type 0
 Steps s f g done (Ok u) = IsSound s g × Grows f g × done
 Steps s f g done (Err TooLong) = IsTooLong s
 Steps s f g done (Err OutOfMemory) = Unit {0}
@@ -59,45 +59,45 @@ IsLandedIn h p = (is_set h.reached p ≡ true) × (is_set h.target p ≡ true) �
 abbrev pub IsPut : Found → ℕ → Type 0
 IsPut f p = IsPutIn (held f) p
 
-abbrev pub ArePut : Found → List Way → Type 0
-ArePut f ways = (w : Way) → Contains ways w → IsPutIn (held f) w.to
+abbrev pub ArePut : Found → List Edge → Type 0
+ArePut f edges = (w : Edge) → Contains edges w → IsPutIn (held f) w.to
 
 abbrev pub IsLanded : Found → ℕ → Type 0
 IsLanded f p = IsLandedIn (held f) p
 
-abbrev pub AreLanded : Found → List Way → Type 0
-AreLanded f ways = (w : Way) → Contains ways w → IsLandedIn (held f) w.to
+abbrev pub AreLanded : Found → List Edge → Type 0
+AreLanded f edges = (w : Edge) → Contains edges w → IsLandedIn (held f) w.to
 
-abbrev pub AllTargets : Scene → Option ℕ → Type 0
+abbrev pub AllTargets : FlowGraph → Option ℕ → Type 0
 AllTargets s target = (q : ℕ) → target ≡ Some q → IsTarget s q
 
-pub record Aims (s : Scene) (f g : Found) (target : Option ℕ) : Type 0 where
+pub record Aims (s : FlowGraph) (f g : Found) (target : Option ℕ) : Type 0 where
   pub sound : IsSound s g
   pub grows : Grows f g
   pub aimed : (q : ℕ) → target ≡ Some q → is_set g.targets.items q ≡ true
 
--- a place whose ways are followed
-pub record AreFollowed (s : Scene) (h : Held) (p : ℕ) : Type 0 where
-  pub straight : (w : Way) → Contains (straight_ways s p) w → IsPutIn h w.to
-  pub landings : (w : Way) → Contains (ways_from s (site_at s p)) w → IsLandedIn h w.to
+-- a place whose edges are followed
+pub record AreFollowed (s : FlowGraph) (h : Held) (p : ℕ) : Type 0 where
+  pub straight : (w : Edge) → Contains (straight_edges s p) w → IsPutIn h w.to
+  pub landings : (w : Edge) → Contains (edges_from s (site_at s p)) w → IsLandedIn h w.to
   pub branch : (q : ℕ) → branched_to s p ≡ Some q → is_set h.target q ≡ true
 
-abbrev pub IsVisited : Scene → Found → ℕ → Type 0
+abbrev pub IsVisited : FlowGraph → Found → ℕ → Type 0
 IsVisited s f p = AreFollowed s (held f) p
 
 -- ---- the whole search
 
 -- the entry is found
-abbrev pub Begins : Scene → Found → Type 0
+abbrev pub Begins : FlowGraph → Found → Type 0
 Begins s f = IsSound s f × IsPut f 0
 
-abbrev pub Starts : Scene → Result Found ReachFault → Type 0
+abbrev pub Starts : FlowGraph → Result Found ReachFault → Type 0
 Starts s (Ok f) = Begins s f
 Starts s (Err TooLong) = IsTooLong s
 Starts s (Err OutOfMemory) = Unit {0}
 
 -- all is found, or too many places are reached
-abbrev pub Follows : Scene → Found → Result (Unit {0}) ReachFault → Type 0
+abbrev pub Follows : FlowGraph → Found → Result (Unit {0}) ReachFault → Type 0
 Follows s f (Ok u) = AreMarks s (marks_of (held f)) × AreThePlaces (marks_of (held f)) f.places.items × (IsTooLong s → ⊥)
 Follows s f (Err TooLong) = IsTooLong s
 Follows s f (Err OutOfMemory) = Unit {0}

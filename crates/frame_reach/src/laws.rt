@@ -1,5 +1,5 @@
-//! What holds of the marks and of the prologue of every function. docs/scenes.md, "Reached places"; docs/acceptance.md, "The prologue".
-ghost use Rattle.frame_reach.specs.Laws.{MarksExist, MarksAgree, PlacesAreCounted, TargetsAreReached, OthersAreBehind, PrologueIsTheLongestRun, RunsAreReached, NoTargetInThePrologue};
+//! What holds of the marks and of the prologue of every function. docs/flow-graphs.md, "Reached places"; docs/acceptance.md, "The prologue".
+ghost use Rattle.frame_reach.specs.Laws.{MarksExist, MarksAgree, PlacesAreCounted, TargetsAreReached, OthersAreAfter, PrologueIsTheLongestRun, RunsAreReached, NoTargetInThePrologue};
 
 /// Every function has marks, however large it is.
 pub fn marks_exist()
@@ -21,13 +21,13 @@ pub fn targets_are_reached()
     ensures { TargetsAreReached }
 {}
 
-/// A place that is reached is the entry, or a target, or stands behind an instruction that is reached and goes on.
-pub fn others_are_behind()
-    ensures { OthersAreBehind }
+/// A place that is reached is the entry, or a target, or stands after an instruction that is reached and goes on.
+pub fn others_are_after()
+    ensures { OthersAreAfter }
 {}
 
-/// The prologue is a run of instructions one behind the other from the entry on, none of them a target, each of which may stand in it; and
-/// the one behind it may not, or is a target, or isn't there.
+/// The prologue is a run of instructions one after the other from the entry on, none of them a target, each of which may stand in it; and
+/// the one after it may not, or is a target, or isn't there.
 pub fn prologue_is_the_longest_run()
     ensures { PrologueIsTheLongestRun }
 {}

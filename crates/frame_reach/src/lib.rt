@@ -1,4 +1,4 @@
-//! Which places of a function are reached, which of them are targets of branches or landing pads, and the prologue. docs/scenes.md,
+//! Which places of a function are reached, which of them are targets of branches or landing pads, and the prologue. docs/flow-graphs.md,
 //! "Reached places", and docs/acceptance.md, "The prologue", state the rules.
 #![tactic(auto)]
 

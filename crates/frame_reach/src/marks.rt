@@ -1,9 +1,9 @@
-//! The marks of a function's places. docs/scenes.md, "Reached places".
+//! The marks of a function's places. docs/flow-graphs.md, "Reached places".
 ghost use Rattle.std.specs.Prelude.{◌≡◌, ◌+◌, ◌*◌, ◌<◌, ◌^◌, ◌↔◌, IsTrue};
 ghost use Rattle.frame_reach.specs.Marks.{AreMarks, AreThePlaces, IsSplit};
 ghost use Rattle.frame_reach.specs.Held.{is_set, marks_of, splits_at};
 
-use frame_scene::Scene;
+use frame_graph::FlowGraph;
 use std::marker::Model;
 
 /// The most places of a function that may be reached.
@@ -37,14 +37,14 @@ pub(crate) fn is_set(marks: &[bool], place: usize) -> bool
     place < marks.len() && marks[place]
 }
 
-/// Whether a site stands at a place whose covering entry begins behind the function's start.
-fn splits_at(scene: &Scene, place: u32) -> bool
-    requires { scene.now.start + 2 * place < 2 ^ 32 }
-    ensures { result ≡ splits_at scene.now place }
+/// Whether a site stands at a place whose covering entry begins after the function's start.
+fn splits_at(flow_graph: &FlowGraph, place: u32) -> bool
+    requires { flow_graph.now.start + 2 * place < 2 ^ 32 }
+    ensures { result ≡ splits_at flow_graph.now place }
 {
-    match scene.site_at(place) {
+    match flow_graph.site_at(place) {
         None => false,
-        Some(site) => scene.is_split(site),
+        Some(site) => flow_graph.is_split(site),
     }
 }
 
@@ -85,17 +85,17 @@ impl Reached {
         &self.places
     }
 
-    /// Whether the entry that covers a reached site of the function begins behind the function's start. The marks have to be those of
-    /// the scene.
-    pub fn splits(&self, scene: &Scene) -> bool
-        requires { AreMarks scene.now (marks_of self.now) }
-        ensures { IsTrue result ↔ IsSplit scene.now }
+    /// Whether the entry that covers a reached site of the function begins after the function's start. The marks have to be those of
+    /// the flow graph.
+    pub fn splits(&self, flow_graph: &FlowGraph) -> bool
+        requires { AreMarks flow_graph.now (marks_of self.now) }
+        ensures { IsTrue result ↔ IsSplit flow_graph.now }
     {
         // read here, since both are then known to have 32 bits
-        let _start = scene.start();
-        let _end = scene.end();
+        let _start = flow_graph.start();
+        let _end = flow_graph.end();
         for place in self.places() {
-            if splits_at(scene, *place) {
+            if splits_at(flow_graph, *place) {
                 return true;
             }
         }

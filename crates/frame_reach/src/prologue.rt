@@ -5,15 +5,15 @@ ghost use Rattle.frame_reach.specs.Prologue.{places, is_led_to, line_at, prologu
 
 use crate::marks::{Reached, is_set};
 use frame_facts::{Prologue, Straight};
-use frame_scene::{Scene, Standing};
+use frame_graph::{FlowGraph, Standing};
 use thumb_isa::instr::Instr;
 
 /// How many places there are from the entry to the function's end; the entry is one always.
-pub fn places(scene: &Scene) -> u32
-    ensures count { result ≡ places scene.now }
+pub fn places(flow_graph: &FlowGraph) -> u32
+    ensures count { result ≡ places flow_graph.now }
     ensures few { result ≤ 2 ^ 31 }
 {
-    let size = scene.end().saturating_sub(scene.start());
+    let size = flow_graph.end().saturating_sub(flow_graph.start());
     (size / 2 + size % 2).max(1)
 }
 
@@ -33,10 +33,10 @@ impl Reached {
     }
 
     /// The instruction at a place with its size, where no halfword of it is a target.
-    pub fn line_at(&self, scene: &Scene, place: u32) -> Option<(Instr, u32)>
-        ensures { result ≡ line_at scene.now (marks_of self.now).target place }
+    pub fn line_at(&self, flow_graph: &FlowGraph, place: u32) -> Option<(Instr, u32)>
+        ensures { result ≡ line_at flow_graph.now (marks_of self.now).target place }
     {
-        match scene.standing_at(place) {
+        match flow_graph.standing_at(place) {
             Standing::Instruction(i, size) => {
                 if self.is_led_to(place, size) {
                     None
@@ -50,13 +50,13 @@ impl Reached {
 
     /// The prologue: the run of instructions from the entry on that ends before the first which is a target, or isn't one of a
     /// prologue.
-    pub fn prologue(&self, scene: &Scene) -> Prologue
-        ensures { result ≡ prologue scene.now (marks_of self.now) }
+    pub fn prologue(&self, flow_graph: &FlowGraph) -> Prologue
+        ensures { result ≡ prologue flow_graph.now (marks_of self.now) }
     {
-        let mut run = Straight::begin(scene.start());
+        let mut run = Straight::begin(flow_graph.start());
         let mut place = 0;
-        for step in 0..places(scene) {
-            let Some((i, size)) = self.line_at(scene, place) else {
+        for step in 0..places(flow_graph) {
+            let Some((i, size)) = self.line_at(flow_graph, place) else {
                 return run.prologue;
             };
             let Some(longer) = run.taken(&i, size) else {

@@ -1,9 +1,9 @@
-//! The search for what is reached: a list of places that grows while their ways are followed. docs/scenes.md, "Reached places".
+//! The search for what is reached: a list of places that grows while their edges are followed. docs/flow-graphs.md, "Reached places".
 ghost use Rattle.std.specs.Prelude.{◌≡◌, ◌+◌, ◌*◌, ◌<◌, ◌^◌, IfOk, OnOk, Err, false, replicate};
 ghost use Rattle.std.specs.List.{Contains};
-ghost use Rattle.frame_scene.specs.declared.ways.Way.{Way as AWay};
-ghost use Rattle.frame_scene.specs.Reach.{IsReached};
-ghost use Rattle.frame_scene.specs.Stretch.{IsStretch, TellsOn};
+ghost use Rattle.frame_graph.specs.declared.edges.Edge.{Edge as AnEdge};
+ghost use Rattle.frame_graph.specs.Reach.{IsReached};
+ghost use Rattle.frame_graph.specs.Stretch.{IsStretch, TellsOn};
 ghost use Rattle.frame_reach.specs.Marks.{AreMarks, IsPad, IsTooLong};
 ghost use Rattle.frame_reach.specs.Held.{marks_of};
 ghost use Rattle.frame_reach.specs.Landed.{ArePadsOf};
@@ -11,7 +11,7 @@ ghost use Rattle.frame_reach.specs.Search.{IsSound, Steps, AllTargets, Aims, IsP
 
 use crate::marks::{MOST_REACHED, Reached, is_set};
 use crate::prologue::places;
-use frame_scene::{Scene, Stretch, Way};
+use frame_graph::{Edge, FlowGraph, Stretch};
 use std::alloc::{AllocError, Global};
 
 /// Why it isn't told which places are reached.
@@ -44,10 +44,10 @@ struct Found {
 }
 
 /// Puts a place on the list, if it isn't there.
-fn put(scene: &Scene, found: &mut Found, place: u32) -> Result<(), ReachFault>
-    requires sound { IsSound scene.now found.old }
-    requires reached { IsReached scene.now place }
-    ensures { Steps scene.now found.old found.new (IsPut found.new place) result }
+fn put(flow_graph: &FlowGraph, found: &mut Found, place: u32) -> Result<(), ReachFault>
+    requires sound { IsSound flow_graph.now found.old }
+    requires reached { IsReached flow_graph.now place }
+    ensures { Steps flow_graph.now found.old found.new (IsPut found.new place) result }
 {
     if is_set(&found.reached, place as usize) {
         return Ok(());
@@ -63,47 +63,47 @@ fn put(scene: &Scene, found: &mut Found, place: u32) -> Result<(), ReachFault>
     Ok(())
 }
 
-/// Puts the places on the list that ways lead to.
-fn put_all(scene: &Scene, found: &mut Found, ways: &[Way]) -> Result<(), ReachFault>
-    requires sound { IsSound scene.now found.old }
-    requires reached { (w : AWay) → Contains ways.now w → IsReached scene.now w.to }
-    ensures { Steps scene.now found.old found.new (ArePut found.new ways.now) result }
+/// Puts the places on the list that edges lead to.
+fn put_all(flow_graph: &FlowGraph, found: &mut Found, edges: &[Edge]) -> Result<(), ReachFault>
+    requires sound { IsSound flow_graph.now found.old }
+    requires reached { (w : AnEdge) → Contains edges.now w → IsReached flow_graph.now w.to }
+    ensures { Steps flow_graph.now found.old found.new (ArePut found.new edges.now) result }
 {
-    for way in ways {
-        put(scene, found, way.to)?;
+    for edge in edges {
+        put(flow_graph, found, edge.to)?;
     }
     Ok(())
 }
 
 /// Puts a landing pad on the list, and marks it.
-fn land(scene: &Scene, found: &mut Found, place: u32) -> Result<(), ReachFault>
-    requires sound { IsSound scene.now found.old }
-    requires pad { IsPad scene.now place }
-    ensures { Steps scene.now found.old found.new (IsLanded found.new place) result }
+fn land(flow_graph: &FlowGraph, found: &mut Found, place: u32) -> Result<(), ReachFault>
+    requires sound { IsSound flow_graph.now found.old }
+    requires pad { IsPad flow_graph.now place }
+    ensures { Steps flow_graph.now found.old found.new (IsLanded found.new place) result }
 {
-    put(scene, found, place)?;
+    put(flow_graph, found, place)?;
     found.targets[place as usize] = true;
     found.pads[place as usize] = true;
     Ok(())
 }
 
-/// The same for the landing pads that ways lead to.
-fn land_all(scene: &Scene, found: &mut Found, ways: &[Way]) -> Result<(), ReachFault>
-    requires sound { IsSound scene.now found.old }
-    requires pads { (w : AWay) → Contains ways.now w → IsPad scene.now w.to }
-    ensures { Steps scene.now found.old found.new (AreLanded found.new ways.now) result }
+/// The same for the landing pads that edges lead to.
+fn land_all(flow_graph: &FlowGraph, found: &mut Found, edges: &[Edge]) -> Result<(), ReachFault>
+    requires sound { IsSound flow_graph.now found.old }
+    requires pads { (w : AnEdge) → Contains edges.now w → IsPad flow_graph.now w.to }
+    ensures { Steps flow_graph.now found.old found.new (AreLanded found.new edges.now) result }
 {
-    for way in ways {
-        land(scene, found, way.to)?;
+    for edge in edges {
+        land(flow_graph, found, edge.to)?;
     }
     Ok(())
 }
 
 /// Marks the place that a branch leads to, where there is one.
-fn aim(scene: &Scene, found: &mut Found, target: Option<u32>)
-    requires sound { IsSound scene.now found.old }
-    requires target { AllTargets scene.now target }
-    ensures { Aims scene.now found.old found.new target }
+fn aim(flow_graph: &FlowGraph, found: &mut Found, target: Option<u32>)
+    requires sound { IsSound flow_graph.now found.old }
+    requires target { AllTargets flow_graph.now target }
+    ensures { Aims flow_graph.now found.old found.new target }
 {
     let Some(place) = target else {
         return;
@@ -113,41 +113,41 @@ fn aim(scene: &Scene, found: &mut Found, target: Option<u32>)
 
 /// Puts the landing pads on the list to which the site of a place leads, where there is one.
 fn land_on(
-    scene: &Scene,
+    flow_graph: &FlowGraph,
     found: &mut Found,
     stretch: &Stretch,
     place: u32,
 ) -> Result<(), ReachFault>
-    requires low { scene.now.start + 2 * place < 2 ^ 32 }
-    requires sound { IsSound scene.now found.old }
-    requires reached { IsReached scene.now place }
-    requires tells { TellsOn scene.now stretch.now place }
-    ensures { Steps scene.now found.old found.new (ArePadsOf scene.now found.new place) result }
+    requires low { flow_graph.now.start + 2 * place < 2 ^ 32 }
+    requires sound { IsSound flow_graph.now found.old }
+    requires reached { IsReached flow_graph.now place }
+    requires tells { TellsOn flow_graph.now stretch.now place }
+    ensures { Steps flow_graph.now found.old found.new (ArePadsOf flow_graph.now found.new place) result }
 {
-    match scene.site_at(place) {
+    match flow_graph.site_at(place) {
         None => Ok(()),
-        Some(_) => land_all(scene, found, stretch.ways()),
+        Some(_) => land_all(flow_graph, found, stretch.edges()),
     }
 }
 
-/// Follows the ways of a place that is reached, by the stretch of its site.
+/// Follows the edges of a place that is reached, by the stretch of its site.
 fn visit(
     alloc: Global,
-    scene: &Scene,
+    flow_graph: &FlowGraph,
     found: &mut Found,
     stretch: &Stretch,
     place: u32,
 ) -> Result<(), ReachFault>
-    requires low { scene.now.start + 2 * place < 2 ^ 32 }
-    requires sound { IsSound scene.now found.old }
-    requires reached { IsReached scene.now place }
-    requires tells { TellsOn scene.now stretch.now place }
-    ensures { Steps scene.now found.old found.new (IsVisited scene.now found.new place) result }
+    requires low { flow_graph.now.start + 2 * place < 2 ^ 32 }
+    requires sound { IsSound flow_graph.now found.old }
+    requires reached { IsReached flow_graph.now place }
+    requires tells { TellsOn flow_graph.now stretch.now place }
+    ensures { Steps flow_graph.now found.old found.new (IsVisited flow_graph.now found.new place) result }
 {
-    let ways = scene.straight_ways(alloc, place)?;
-    put_all(scene, found, &ways)?;
-    land_on(scene, found, stretch, place)?;
-    aim(scene, found, scene.branched_to(place));
+    let edges = flow_graph.straight_edges(alloc, place)?;
+    put_all(flow_graph, found, &edges)?;
+    land_on(flow_graph, found, stretch, place)?;
+    aim(flow_graph, found, flow_graph.branched_to(place));
     Ok(())
 }
 
@@ -159,34 +159,34 @@ fn unmarked(alloc: Global, count: usize) -> Result<Vec<bool>, AllocError>
 }
 
 /// The entry alone is found.
-fn begin(alloc: Global, scene: &Scene) -> Result<Found, ReachFault>
-    ensures { Starts scene.now result }
+fn begin(alloc: Global, flow_graph: &FlowGraph) -> Result<Found, ReachFault>
+    ensures { Starts flow_graph.now result }
 {
-    let count = places(scene) as usize;
+    let count = places(flow_graph) as usize;
     let mut found = Found {
         reached: unmarked(alloc, count)?,
         targets: unmarked(alloc, count)?,
         pads: unmarked(alloc, count)?,
         places: Vec::new(alloc),
     };
-    put(scene, &mut found, 0)?;
+    put(flow_graph, &mut found, 0)?;
     Ok(found)
 }
 
-/// Follows the ways of all places on the list, which grows meanwhile.
-fn follow(alloc: Global, scene: &Scene, found: &mut Found) -> Result<(), ReachFault>
-    requires { Begins scene.now found.old }
-    ensures { Follows scene.now found.new result }
+/// Follows the edges of all places on the list, which grows meanwhile.
+fn follow(alloc: Global, flow_graph: &FlowGraph, found: &mut Found) -> Result<(), ReachFault>
+    requires { Begins flow_graph.now found.old }
+    ensures { Follows flow_graph.now found.new result }
 {
     // read here, since both are then known to have 32 bits
-    let _start = scene.start();
-    let _end = scene.end();
+    let _start = flow_graph.start();
+    let _end = flow_graph.end();
     let mut next = 0;
     let mut stretch = Stretch::new(alloc);
     while next < found.places.len() {
         let place = found.places[next];
-        stretch = scene.stretch_on(alloc, stretch, place)?;
-        visit(alloc, scene, found, &stretch, place)?;
+        stretch = flow_graph.stretch_on(alloc, stretch, place)?;
+        visit(alloc, flow_graph, found, &stretch, place)?;
         next += 1;
     }
     Ok(())
@@ -194,13 +194,13 @@ fn follow(alloc: Global, scene: &Scene, found: &mut Found) -> Result<(), ReachFa
 
 /// Which places of a function are reached, which of them are targets, and which are landing pads; or that more are reached than a
 /// function may have. Where the function's start isn't below its end the entry alone is reached. Each place is looked at once.
-pub fn reach(alloc: Global, scene: &Scene) -> Result<Reached, ReachFault>
-    ensures marks { IfOk result (λ reached. AreMarks scene.now (marks_of reached)) }
-    ensures few { OnOk result (IsTooLong scene.now → ⊥) }
-    ensures too_long { result ≡ Err ReachFault.TooLong → IsTooLong scene.now }
+pub fn reach(alloc: Global, flow_graph: &FlowGraph) -> Result<Reached, ReachFault>
+    ensures marks { IfOk result (λ reached. AreMarks flow_graph.now (marks_of reached)) }
+    ensures few { OnOk result (IsTooLong flow_graph.now → ⊥) }
+    ensures too_long { result ≡ Err ReachFault.TooLong → IsTooLong flow_graph.now }
 {
-    let mut found = begin(alloc, scene)?;
-    follow(alloc, scene, &mut found)?;
+    let mut found = begin(alloc, flow_graph)?;
+    follow(alloc, flow_graph, &mut found)?;
     Ok(Reached {
         reached: found.reached,
         targets: found.targets,

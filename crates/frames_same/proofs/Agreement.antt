@@ -8,9 +8,9 @@ use Rattle.std.proofs.lemmas.List.{get_or_append_left, get_or-append_right, get_
 use Rattle.accesses_keep.specs.eh_bus.Map.{AreSegments}
 use Rattle.accesses_keep.specs.eh_bus.Segment.{Segment}
 use Rattle.accesses_keep.specs.eh_phase.Frames.{site_of, Stack, frames_of}
-use Rattle.accesses_keep.specs.frame_scene.Sites.{site_at}
+use Rattle.accesses_keep.specs.frame_graph.Sites.{site_at}
 use Rattle.accesses_keep.specs.frame_check.Accepts.{Accepted}
-use Rattle.accesses_keep.specs.frame_check.Roots.{scene_of}
+use Rattle.accesses_keep.specs.frame_check.Roots.{flow_graph_of}
 use Rattle.accesses_keep.specs.two_machines.Activations.{Caller, Activation, registers_of, frames_at, Recorded, first_place, reg_in, memory_of, heads, lists_of, cleanups_in, InProgress}
 use Rattle.accesses_keep.specs.eh_bus.declared.map.TheConstants.{STACK_START, STACK_END, POOL_START, SLOT_SIZE}
 use Rattle.accesses_keep.specs.eh_phase.Phases.{Frames}
@@ -35,13 +35,13 @@ use Rattle.accesses_keep.specs.thumb_core.Registers.{all_of, reg}
 use Rattle.accesses_keep.proofs.eh_cxa.Pools.{all_is_map}
 use Rattle.accesses_keep.specs.thumb_core.declared.regs.TheConstants.{SP}
 use Rattle.accesses_keep.specs.eh_phase.Calls.{stack_of}
-use Rattle.accesses_keep.specs.frame_scene.Places.{address_of}
+use Rattle.accesses_keep.specs.frame_graph.Places.{address_of}
 use Rattle.accesses_keep.specs.frame_flow.Causes.{is_call}
 use Rattle.accesses_keep.proofs.two_machines.FirstEvent.{segments_alone}
 use Rattle.accesses_keep.specs.eh_cxa.Cleanup.{innermost_of}
-use Rattle.accesses_keep.specs.eh_gates.State.{Guide}
+use Rattle.accesses_keep.specs.eh_gates.State.{Tables}
 use Rattle.accesses_keep.proofs.two_machines.CallEvents.{knows}
-use Rattle.accesses_keep.specs.frame_scene.Sites as scene_site
+use Rattle.accesses_keep.specs.frame_graph.Sites as flow_graph_site
 use Rattle.accesses_keep.specs.stands_for.Holds.{IsWhole, AreKept, Holds, AreWithin}
 use Rattle.accesses_keep.specs.stands_for.Chain.{StandsAtCall, Chain, code}
 use Rattle.accesses_keep.specs.stands_for.Stands.{IsProgram, Keeps}
@@ -54,7 +54,7 @@ use Rattle.frames_same.specs.Frames.{IsSiteOf}
 
 -- the site of a call that was recorded
 pub called_site : (x : Accepted) → IsProgram x → CodesAreRecipes x → (ss : List Segment) → AreSegments ss → (c : Caller) (a : Activation) (out : StandsAtCall x ss c a) → IsWhole c
-    → site_at (scene_of x.image out.function) out.place ≡ Some (site_of (registers_of c))
+    → site_at (flow_graph_of x.image out.function) out.place ≡ Some (site_of (registers_of c))
 called_site x is recipes ss are c a out whole = site_there x is recipes ss are c a out (at_pc c whole.count)
 
 -- ---- from a frame that unwinds
@@ -163,7 +163,7 @@ pool_stack (w ∷ more) m h g low = pool_stack more (put m w.slot w.place w.valu
 
 -- ---- at a site of the first activation
 
-pub site_low : (a site : ℕ) (i : Instr) → a + 2 < 2 ^ 32 → scene_site.site_of a i ≡ Some site → a ≤ site
+pub site_low : (a site : ℕ) (i : Instr) → a + 2 < 2 ^ 32 → flow_graph_site.site_of a i ≡ Some site → a ≤ site
 site_low a site (Bl off) l e = let n : (a + 2) % 2 ^ 32 ≡ site = cc in omega (arith, n, l)
 site_low a site (Blx k) l e = let n : a ≡ site = cc in omega (arith, n)
 site_low a site (Svc imm) l e = let n : a ≡ site = cc in omega (arith, n)
@@ -198,8 +198,8 @@ module _ (x : Accepted) (is : IsProgram x) (recipes : CodesAreRecipes x) (s : Re
   below_roof = let a = chain_top x s.segments s.home s.first.caller s.outer k.chain in let b = roof in omega (arith, a, b)
 
   low_site : here.at.function.start ≤ site
-  low_site = let l = site_low (address_of (scene_of x.image here.at.function) here.at.place) site here.instr here.below
-      (ap (option_and_then (scene_site.site_of (address_of (scene_of x.image here.at.function) here.at.place))) (sym here.stands) ∙ here.is_site) in omega (arith, l)
+  low_site = let l = site_low (address_of (flow_graph_of x.image here.at.function) here.at.place) site here.instr here.below
+      (ap (option_and_then (flow_graph_site.site_of (address_of (flow_graph_of x.image here.at.function) here.at.place))) (sym here.stands) ∙ here.is_site) in omega (arith, l)
 
   -- what becomes of the first frame, with segments that give the stack's words alike
   pub first_unwinds : (segments : List Segment) → AreSegments segments → ((g : ℕ) → STACK_START ≤ g → g + 4 ≤ STACK_END → loads 4 segments g ≡ loads 4 s.segments g)
@@ -231,18 +231,18 @@ module _ (x : Accepted) (is : IsProgram x) (recipes : CodesAreRecipes x) (s : Re
     agree s.segments k.corresponds.map.segments (λ g l h. refl) None None (none_stop s.first.caller s.outer),
   )
 
-  -- behind words that the runtime wrote into the pool
-  pub frames_same_behind : (ws : List Write) → AreInPool ws
+  -- after words that the runtime wrote into the pool
+  pub frames_same_after : (ws : List Write) → AreInPool ws
       → Agree (frames_of x.image (stack_of (put_all ws (memory_of s))) None site (all_of s.regs)) (frames_at x.image None site (all_of s.regs) s.first s.outer)
-  frames_same_behind ws h =
+  frames_same_after ws h =
       subst (λ (m : Memory). Agree (frames_of x.image (stack_of m) None site (all_of s.regs)) (frames_at x.image None site (all_of s.regs) s.first s.outer)) (sym (segments_alone ws (memory_of s)))
       (agree (put_all ws (memory_of s)).segments (all_is_map ws (memory_of s) k.corresponds.map).segments (λ g l t. pool_stack ws (memory_of s) h g l) None None (none_stop s.first.caller s.outer))
 
-abbrev frames_limit : Guide → Recorded → Option ℕ
+abbrev frames_limit : Tables → Recorded → Option ℕ
 frames_limit g s = innermost_of (word (memory_of s)) (heads (lists_of s))
 
 -- At a gate throws and rethrows see alike.
-pub sees_alike : (x : Accepted) → IsProgram x → CodesAreRecipes x → (g : Guide) → g.image ≡ x.image → (s : Recorded) → Keeps x s → IsSiteOf x s s.regs.pc → SeesAlike g s
+pub sees_alike : (x : Accepted) → IsProgram x → CodesAreRecipes x → (g : Tables) → g.image ≡ x.image → (s : Recorded) → Keeps x s → IsSiteOf x s s.regs.pc → SeesAlike g s
 sees_alike x is recipes g same s k here = record {
   search =
       subst (λ i. Agree (frames_of i (stack_of (memory_of s)) (frames_limit g s) s.regs.pc (all_of s.regs)) (frames_at i (first_place s.cleanups) s.regs.pc (all_of s.regs) s.first s.outer)) (sym same)
@@ -250,5 +250,5 @@ sees_alike x is recipes g same s k here = record {
       (sym (knows s k.corresponds)) (frames_same x is recipes s k s.regs.pc here).0);
   advance = λ ws h.
       subst (λ i. Agree (frames_of i (stack_of (put_all ws (memory_of s))) None s.regs.pc (all_of s.regs)) (frames_at i None s.regs.pc (all_of s.regs) s.first s.outer)) (sym same)
-      (frames_same_behind x is recipes s k s.regs.pc here ws h);
+      (frames_same_after x is recipes s k s.regs.pc here ws h);
 }

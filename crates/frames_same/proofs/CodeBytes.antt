@@ -8,7 +8,7 @@ use Rattle.std.specs.Result.{result_ok}
 use Rattle.std.proofs.lemmas.Option.{same_Some, none-some}
 use Rattle.accesses_keep.specs.byteorder.Endian.{little_number}
 use Rattle.accesses_keep.specs.eh_bytecode.Codes.{words_in, is_reserved, inline_codes, codes_of_words, table_codes}
-use Rattle.accesses_keep.specs.unwind_codes.Words.{bytes_of_word, personality_of_word, code_in_first, code_words_behind, code_of_words}
+use Rattle.accesses_keep.specs.unwind_codes.Words.{bytes_of_word, personality_of_word, code_in_first, code_words_after, code_of_words}
 use Rattle.accesses_keep.specs.unwind_codes.declared.words.TheConstants.{COMPACT_MARK}
 use Rattle.accesses_keep.specs.eh_bytecode.declared.codes.CodesFault.TheVariants.{Generic, Reserved, Short}
 use Rattle.accesses_keep.specs.elf_image.Image.{Image}
@@ -83,10 +83,10 @@ first_bytes w = go (personality_of_word w == 0)
     go true = (omega arith, (omega arith, (omega arith, tt)))
     go false = (omega arith, (omega arith, tt))
 
-behind_bytes : (n : ℕ) (ws : List ℕ) → Words ws → Bytes (flat_map bytes_of_word (take n ws))
-behind_bytes zero ws h = tt
-behind_bytes (suc n) [] h = tt
-behind_bytes (suc n) (w ∷ more) h = bytes_both (bytes_of_word w) (flat_map bytes_of_word (take n more)) (word_bytes w h.0) (behind_bytes n more h.1)
+after_bytes : (n : ℕ) (ws : List ℕ) → Words ws → Bytes (flat_map bytes_of_word (take n ws))
+after_bytes zero ws h = tt
+after_bytes (suc n) [] h = tt
+after_bytes (suc n) (w ∷ more) h = bytes_both (bytes_of_word w) (flat_map bytes_of_word (take n more)) (word_bytes w h.0) (after_bytes n more h.1)
 
 -- ---- codes
 
@@ -100,7 +100,7 @@ inline_bytes word codes e = go (nat_lt word COMPACT_MARK) (is_reserved word || n
 
 words_bytes : (ws codes : List ℕ) → Words ws → codes_of_words ws ≡ Ok codes → Bytes codes
 words_bytes [] codes h e = absurd cc
-words_bytes (first ∷ more) codes h e = go (nat_lt first COMPACT_MARK) (is_reserved first) (nat_lt (length more) (code_words_behind first)) e
+words_bytes (first ∷ more) codes h e = go (nat_lt first COMPACT_MARK) (is_reserved first) (nat_lt (length more) (code_words_after first)) e
   where
     go : (a b c : Bool) → cond a (Err Generic) (cond b (Err Reserved) (cond c (Err Short) (Ok (code_of_words (first ∷ more))))) ≡ Ok codes → Bytes codes
     go true b c e = absurd cc
@@ -108,7 +108,7 @@ words_bytes (first ∷ more) codes h e = go (nat_lt first COMPACT_MARK) (is_rese
     go false false true e = absurd cc
     go false false false e =
         let same : code_of_words (first ∷ more) ≡ codes = cc in
-        subst Bytes same (bytes_both (code_in_first first) (flat_map bytes_of_word (take (code_words_behind first) more)) (first_bytes first) (behind_bytes (code_words_behind first) more h.1))
+        subst Bytes same (bytes_both (code_in_first first) (flat_map bytes_of_word (take (code_words_after first) more)) (first_bytes first) (after_bytes (code_words_after first) more h.1))
 
 table_bytes : (bytes codes : List ℕ) → Bytes bytes → table_codes bytes ≡ Ok codes → Bytes codes
 unfolding table_codes

@@ -15,7 +15,7 @@ use Rattle.accesses_keep.specs.frame_facts.Facts.{is_entry}
 use Rattle.accesses_keep.specs.frame_facts.declared.facts.Fact.{Fact}
 use Rattle.accesses_keep.specs.frame_facts.declared.saves.Prologue.{Prologue}
 use Rattle.accesses_keep.specs.frame_facts.Saves.{saves_of, lies_at}
-use Rattle.accesses_keep.specs.frame_facts.Agrees.{word_from, found, answer}
+use Rattle.accesses_keep.specs.frame_facts.Agrees.{word_from, source_found, answer}
 use Rattle.accesses_keep.specs.thumb_core.Words.{numbers}
 
 -- ---- places
@@ -103,7 +103,7 @@ in_numbers (suc (suc (suc (suc (suc (suc (suc (suc (suc (suc (suc (suc (suc (suc
 in_numbers (suc (suc (suc (suc (suc (suc (suc (suc (suc (suc (suc (suc (suc (suc (suc zero))))))))))))))) h = inr (inr (inr (inr (inr (inr (inr (inr (inr (inr (inr (inr (inr (inr (inr (inl refl)))))))))))))))
 in_numbers (suc (suc (suc (suc (suc (suc (suc (suc (suc (suc (suc (suc (suc (suc (suc (suc k)))))))))))))))) h = absurd (omega (arith, h))
 
-pub agrees_so : (found : Option ℕ) (lost : Bool) (base : ℕ) → answer found lost base ≡ Ok tt → (found ≡ None) × (lost ≡ false)
+pub agrees_so : (source_found : Option ℕ) (lost : Bool) (base : ℕ) → answer source_found lost base ≡ Ok tt → (source_found ≡ None) × (lost ≡ false)
 agrees_so (Some k) lost base e = absurd cc
 agrees_so None true base e = absurd cc
 agrees_so None false base e = (refl, refl)

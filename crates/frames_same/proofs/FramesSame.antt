@@ -2,16 +2,16 @@
 use Rattle.std.proofs.Common.{◌≡◌, inl, inr, ℕ, ◌+◌, ◌^◌, ◌<◌, Some, ap, subst, ◌∙◌, arith, ◌%◌, sym, false, refl, true, ◌≤◌}
 use Rattle.std.specs.Prelude.{option_and_then}
 use Rattle.accesses_keep.specs.thumb_isa.declared.instr.Instr.{Instr}
-use Rattle.accesses_keep.specs.frame_scene.Places.{address_of}
+use Rattle.accesses_keep.specs.frame_graph.Places.{address_of}
 use Rattle.accesses_keep.proofs.frame_reach.Stands.{stands_inside, stands_size}
 use Rattle.accesses_keep.specs.frame_check.Accepts.{Accepted}
 use Rattle.accesses_keep.specs.frame_check.Judged.{IsPlaced}
-use Rattle.accesses_keep.specs.frame_check.Roots.{scene_of}
+use Rattle.accesses_keep.specs.frame_check.Roots.{flow_graph_of}
 use Rattle.accesses_keep.proofs.frame_check.Wells.{placed_at}
 use Rattle.accesses_keep.specs.two_machines.Activations.{Recorded}
 use Rattle.accesses_keep.specs.thumb_isa.declared.instr.Instr.TheVariants.{Svc, Bl, Blx}
 use Rattle.accesses_keep.specs.frame_flow.Causes.{is_call}
-use Rattle.accesses_keep.specs.frame_scene.Sites as scene_site
+use Rattle.accesses_keep.specs.frame_graph.Sites as flow_graph_site
 use Rattle.accesses_keep.specs.stands_for.Stands.{IsProgram, DoesAt}
 use Rattle.frames_same.specs.Frames.{IsSiteOf, ThrowsAt, FramesSame, ThrowsSeeAlike}
 use Rattle.accesses_keep.proofs.stands_for.Flows.{stands_instruction}
@@ -22,22 +22,22 @@ module _ (x : Accepted) (is : IsProgram x) (s : Recorded) (i : Instr) (does : Do
   placed : IsPlaced does.at.function
   placed = subst IsPlaced does.at.of.among.2 (placed_at x.image does.at.of.among.0 does.at.function is.image does.at.of.among.1)
 
-  below : address_of (scene_of x.image does.at.function) does.at.place + 2 < 2 ^ 32
+  below : address_of (flow_graph_of x.image does.at.function) does.at.place + 2 < 2 ^ 32
   below =
-      let inside = stands_inside (scene_of x.image does.at.function) does.at.place i does.size does.stands in
-      elim (stands_size (scene_of x.image does.at.function) does.at.place i does.size does.stands) [
+      let inside = stands_inside (flow_graph_of x.image does.at.function) does.at.place i does.size does.stands in
+      elim (stands_size (flow_graph_of x.image does.at.function) does.at.place i does.size does.stands) [
         | inl two ↦ omega (arith, inside, two, placed.low)
         | inr four ↦ omega (arith, inside, four, placed.low)
       ]
 
-  pub at_site : (site : ℕ) → scene_site.site_of (address_of (scene_of x.image does.at.function) does.at.place) i ≡ Some site → IsSiteOf x s site
+  pub at_site : (site : ℕ) → flow_graph_site.site_of (address_of (flow_graph_of x.image does.at.function) does.at.place) i ≡ Some site → IsSiteOf x s site
   at_site site e =
-      let there = stands_instruction (scene_of x.image does.at.function) does.at.place i does.size does.stands in
+      let there = stands_instruction (flow_graph_of x.image does.at.function) does.at.place i does.size does.stands in
       record {
         at = does.at;
         instr = i;
         stands = there;
-        is_site = ap (option_and_then (scene_site.site_of (address_of (scene_of x.image does.at.function) does.at.place))) there ∙ e;
+        is_site = ap (option_and_then (flow_graph_site.site_of (address_of (flow_graph_of x.image does.at.function) does.at.place))) there ∙ e;
         below = below;
       }
 
@@ -47,7 +47,7 @@ site_is x s site is (inr (inl (m, does, e))) = at_site x is s (Blx m) does site 
 site_is x s site is (inr (inr (off, does, e))) =
     let low = below x is s (Bl off) does in
     let at = does.at.address in
-    at_site x is s (Bl off) does site (ap Some (let n : (address_of (scene_of x.image does.at.function) does.at.place + 2) % 2 ^ 32 ≡ site = omega (arith, low, at, e) in n))
+    at_site x is s (Bl off) does site (ap Some (let n : (address_of (flow_graph_of x.image does.at.function) does.at.place + 2) % 2 ^ 32 ≡ site = omega (arith, low, at, e) in n))
 
 -- no gate is a call
 pub gate_site : (x : Accepted) (s : Recorded) (is : IsProgram x) (imm : ℕ) (does : DoesAt x s (Svc imm)) → is_call (site_is x s s.regs.pc is (inl (imm, does, refl))).instr ≡ false

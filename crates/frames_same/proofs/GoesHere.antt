@@ -1,4 +1,4 @@
--- After a cleanup of a frame the barrier is within reach behind it.
+-- After a cleanup of a frame the barrier is within reach after it.
 use Rattle.std.proofs.Common.{◌≡◌, ℕ, true, List, ◌∷◌, ◌++◌, Result, Ok, [], sym, ◌∙◌, ap, subst, Some, None, refl, ◌<◌, ◌≤◌, Err, arith, Bool, false, cond, nat_eq, append_assoc}
 use Rattle.std.specs.List.{cons_option}
 use Rattle.std.specs.Prelude.{◌==◌}
@@ -7,7 +7,7 @@ use Rattle.accesses_keep.specs.eh_bytecode.declared.frame.Vrs.{Vrs}
 use Rattle.accesses_keep.specs.eh_desc.declared.descriptor.Desc.{Desc}
 use Rattle.accesses_keep.specs.eh_desc.declared.descriptor.DescFault.{DescFault}
 use Rattle.accesses_keep.specs.eh_phase.declared.phase2.Goal.{Goal}
-use Rattle.accesses_keep.specs.eh_phase.Phases.{Frame, Place, placed, vrs_of, entered_item, behind, from_address, stands_at, places}
+use Rattle.accesses_keep.specs.eh_phase.Phases.{Frame, Place, placed, vrs_of, entered_item, from_descriptor, from_address, stands_at, places}
 use Rattle.accesses_keep.specs.eh_phase.Cleanups.{due_in, is_reached_in, can_be_read}
 use Rattle.accesses_keep.specs.eh_phase.declared.phase2.Entered.{Entered}
 use Rattle.accesses_keep.proofs.eh_phase.Due.{Stops, Sort, Unread, Quiet, Clean, Stop, due_past, reached_past, sort}
@@ -110,7 +110,7 @@ pub passes : (g : Goal) (f : Frame) (items : List (Result Desc DescFault)) (qs :
 passes g f [] qs e = record { due = refl; reach = refl }
 passes g f (i ∷ more) qs e = passes_by g f i more qs (passes g f more qs) e (sort g f i)
 
--- ---- the address behind a descriptor leads to the items behind it
+-- ---- the address after a descriptor leads to the items after it
 
 at_least : (a : ℕ) (before : List (Result Desc DescFault)) (d : Desc) (later : List (Result Desc DescFault))
     → Follow a (before ++ (Ok d ∷ later)) → Rise (before ++ (Ok d ∷ later)) → (a ≤ d.at) × (d.at < d.next)
@@ -119,38 +119,38 @@ at_least a (Ok x ∷ before) d later h k = let m = at_least x.next before d late
 at_least a (Err fault ∷ []) d later h k = absurd cc
 at_least a (Err fault ∷ y ∷ before) d later h k = absurd cc
 
-not_there : (x : Desc) (at : ℕ) (more : List (Result Desc DescFault)) → x.at < at → behind at (Ok x ∷ more) ≡ behind at more
-unfolding behind
+not_there : (x : Desc) (at : ℕ) (more : List (Result Desc DescFault)) → x.at < at → from_descriptor at (Ok x ∷ more) ≡ from_descriptor at more
+unfolding from_descriptor
 not_there x at more h = go (x.at == at) refl
   where
-    go : (b : Bool) → nat_eq x.at at ≡ b → cond b (Ok x ∷ more) (behind at more) ≡ behind at more
+    go : (b : Bool) → nat_eq x.at at ≡ b → cond b (Ok x ∷ more) (from_descriptor at more) ≡ from_descriptor at more
     go true e = absurd (grind (arith, nat_tests))
     go false e = refl
 
-right_there : (at : ℕ) (items : List (Result Desc DescFault)) → Follow at items → behind at items ≡ items
-unfolding behind
+right_there : (at : ℕ) (items : List (Result Desc DescFault)) → Follow at items → from_descriptor at items ≡ items
+unfolding from_descriptor
 right_there at [] h = refl
 right_there at (Err fault ∷ more) h = refl
 right_there at (Ok x ∷ more) h = go (x.at == at) refl
   where
-    go : (b : Bool) → nat_eq x.at at ≡ b → cond b (Ok x ∷ more) (behind at more) ≡ Ok x ∷ more
+    go : (b : Bool) → nat_eq x.at at ≡ b → cond b (Ok x ∷ more) (from_descriptor at more) ≡ Ok x ∷ more
     go true e = refl
     go false e = absurd (let k = h.0 in grind (arith, nat_tests))
 
-behind_next : (a : ℕ) (before : List (Result Desc DescFault)) (d : Desc) (later : List (Result Desc DescFault))
-    → Follow a (before ++ (Ok d ∷ later)) → Rise (before ++ (Ok d ∷ later)) → behind d.next (before ++ (Ok d ∷ later)) ≡ later
-behind_next a [] d later h k = not_there d d.next later k.0 ∙ right_there d.next later h.1
-behind_next a (Ok x ∷ before) d later h k =
+after_next : (a : ℕ) (before : List (Result Desc DescFault)) (d : Desc) (later : List (Result Desc DescFault))
+    → Follow a (before ++ (Ok d ∷ later)) → Rise (before ++ (Ok d ∷ later)) → from_descriptor d.next (before ++ (Ok d ∷ later)) ≡ later
+after_next a [] d later h k = not_there d d.next later k.0 ∙ right_there d.next later h.1
+after_next a (Ok x ∷ before) d later h k =
     let m = at_least x.next before d later h.1 k.1 in
-    not_there x d.next (before ++ (Ok d ∷ later)) (omega (arith, k.0, m.0, m.1)) ∙ behind_next x.next before d later h.1 k.1
-behind_next a (Err fault ∷ []) d later h k = absurd cc
-behind_next a (Err fault ∷ y ∷ before) d later h k = absurd cc
+    not_there x d.next (before ++ (Ok d ∷ later)) (omega (arith, k.0, m.0, m.1)) ∙ after_next x.next before d later h.1 k.1
+after_next a (Err fault ∷ []) d later h k = absurd cc
+after_next a (Err fault ∷ y ∷ before) d later h k = absurd cc
 
 -- the address isn't 0
-from_next : (at : ℕ) (items : List (Result Desc DescFault)) → 0 < at → from_address at items ≡ behind at items
+from_next : (at : ℕ) (items : List (Result Desc DescFault)) → 0 < at → from_address at items ≡ from_descriptor at items
 from_next at items h = go (at == 0) refl
   where
-    go : (b : Bool) → nat_eq at 0 ≡ b → cond b items (behind at items) ≡ behind at items
+    go : (b : Bool) → nat_eq at 0 ≡ b → cond b items (from_descriptor at items) ≡ from_descriptor at items
     go true e = absurd (grind (arith, nat_tests))
     go false e = refl
 
@@ -159,21 +159,21 @@ pub record Tail (items left : List (Result Desc DescFault)) : Type 0 where
   pub front : List (Result Desc DescFault)
   pub parts : items ≡ front ++ left
 
-behind_tail : (at : ℕ) (items : List (Result Desc DescFault)) → Tail items (behind at items)
-unfolding behind
-behind_tail at [] = record { front = []; parts = refl }
-behind_tail at (i ∷ more) = go (stands_at at i) (behind_tail at more)
+after_tail : (at : ℕ) (items : List (Result Desc DescFault)) → Tail items (from_descriptor at items)
+unfolding from_descriptor
+after_tail at [] = record { front = []; parts = refl }
+after_tail at (i ∷ more) = go (stands_at at i) (after_tail at more)
   where
-    go : (b : Bool) → Tail more (behind at more) → Tail (i ∷ more) (cond b (i ∷ more) (behind at more))
+    go : (b : Bool) → Tail more (from_descriptor at more) → Tail (i ∷ more) (cond b (i ∷ more) (from_descriptor at more))
     go true t = record { front = []; parts = refl }
     go false t = record { front = i ∷ t.front; parts = ap (λ l. i ∷ l) t.parts }
 
 from_tail : (at : ℕ) (items : List (Result Desc DescFault)) → Tail items (from_address at items)
 from_tail at items = go (at == 0)
   where
-    go : (b : Bool) → Tail items (cond b items (behind at items))
+    go : (b : Bool) → Tail items (cond b items (from_descriptor at items))
     go true = record { front = []; parts = refl }
-    go false = behind_tail at items
+    go false = after_tail at items
 
 -- ---- frames
 
@@ -181,23 +181,23 @@ pub places-from : (from : ℕ) (f : Frame) (more : List Frame) → places from (
 unfolding places
 places-from from f more = ap (λ l. placed f (from_address from f.items) ++ l) (all_places more)
 
--- the items behind a cleanup, as they are looked at from its next address on
-pub left_behind : (f : Frame) (from : ℕ) (before : List (Result Desc DescFault)) (d : Desc) (later : List (Result Desc DescFault))
+-- the items after a cleanup, as they are looked at from its next address on
+pub left_after : (f : Frame) (from : ℕ) (before : List (Result Desc DescFault)) (d : Desc) (later : List (Result Desc DescFault))
     → IsInOrder f → from_address from f.items ≡ before ++ (Ok d ∷ later) → from_address d.next f.items ≡ later
-left_behind f from before d later o e =
+left_after f from before d later o e =
     let t = from_tail from f.items in
     let whole : f.items ≡ (t.front ++ before) ++ (Ok d ∷ later) = t.parts ∙ ap (λ l. t.front ++ l) e ∙ sym (append_assoc t.front before (Ok d ∷ later)) in
     let follow = subst (Follow o.address) whole o.follow in
     let rise = subst Rise whole o.rise in
     let m = at_least o.address (t.front ++ before) d later follow rise in
-    ap (from_address d.next) whole ∙ from_next d.next _ (omega (arith, m.1)) ∙ behind_next o.address (t.front ++ before) d later follow rise
+    ap (from_address d.next) whole ∙ from_next d.next _ (omega (arith, m.1)) ∙ after_next o.address (t.front ++ before) d later follow rise
 
--- where the frame's own cleanup is entered, the barrier is within reach behind it
+-- where the frame's own cleanup is entered, the barrier is within reach after it
 pub here_reach : (g : Goal) (from : ℕ) (f : Frame) (more : List Frame) (vrs : Vrs) (pad next site : ℕ) → IsInOrder f → first_some (entered_item g f) (from_address from f.items) ≡ Some (enters.Cleanup vrs pad next site)
     → is_reached_in g (places from (f ∷ more)) ≡ true → is_reached_in g (places next (f ∷ more)) ≡ true
 here_reach g from f more vrs pad next site o e t =
     let c = cleans g f (from_address from f.items) (places 0 more) vrs pad next site e in
-    let left : from_address next f.items ≡ c.later = ap (λ a. from_address a f.items) (sym c.next_is) ∙ left_behind f from c.before c.desc c.later o c.parts in
+    let left : from_address next f.items ≡ c.later = ap (λ a. from_address a f.items) (sym c.next_is) ∙ left_after f from c.before c.desc c.later o c.parts in
     let here : places next (f ∷ more) ≡ placed f c.later ++ places 0 more = places-from next f more ∙ ap (λ l. placed f l ++ places 0 more) left in
     ap (is_reached_in g) here ∙ c.reach (sym (ap (is_reached_in g) (places-from from f more)) ∙ t)
 

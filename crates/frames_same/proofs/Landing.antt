@@ -8,11 +8,11 @@ use Rattle.accesses_keep.specs.eh_desc.declared.descriptor.Desc.{Desc}
 use Rattle.accesses_keep.specs.eh_desc.declared.descriptor.DescFault.{DescFault}
 use Rattle.accesses_keep.specs.eh_desc.declared.descriptor.DescKind.{DescKind}
 use Rattle.accesses_keep.specs.eh_phase.Firsts.{first_some, or_next}
-use Rattle.accesses_keep.specs.eh_phase.Phases.{Frame, placed, behind, stands_at, from_address, is_goal, vrs_of, spec_entered, entered_by, entered_item, entered_at, places, Frames}
+use Rattle.accesses_keep.specs.eh_phase.Phases.{Frame, placed, from_descriptor, stands_at, from_address, is_goal, vrs_of, spec_entered, entered_by, entered_item, entered_at, places, Frames}
 use Rattle.accesses_keep.specs.eh_phase.Verdict.{in_scope}
 use Rattle.accesses_keep.specs.eh_phase.declared.phase2.Entered.{Entered}
 use Rattle.accesses_keep.specs.eh_phase.declared.phase2.Goal.{Goal}
-use Rattle.accesses_keep.specs.frame_scene.Sites.{pad_of}
+use Rattle.accesses_keep.specs.frame_graph.Sites.{pad_of}
 use Rattle.accesses_keep.specs.eh_phase.Cleanups.{is_reached_in}
 use Rattle.accesses_keep.specs.eh_phase.Laws.{IsInOrder}
 use Rattle.accesses_keep.specs.eh_bus.Lists.{Has}
@@ -75,21 +75,21 @@ module _ (g : Goal) (f : Frame) where
     pub before : List (Result Desc DescFault)
     pub is : f.items ≡ before ++ items
 
-  behind_ends : (at : ℕ) (before items : List (Result Desc DescFault)) → f.items ≡ before ++ items → Ends (behind at items)
-  unfolding behind
-  behind_ends at before [] e = record { before = before; is = e }
-  behind_ends at before (i ∷ more) e = go (stands_at at i) (behind_ends at (before ++ i ∷ []) more (e ∙ sym (append_assoc before (i ∷ []) more)))
+  after_ends : (at : ℕ) (before items : List (Result Desc DescFault)) → f.items ≡ before ++ items → Ends (from_descriptor at items)
+  unfolding from_descriptor
+  after_ends at before [] e = record { before = before; is = e }
+  after_ends at before (i ∷ more) e = go (stands_at at i) (after_ends at (before ++ i ∷ []) more (e ∙ sym (append_assoc before (i ∷ []) more)))
     where
-      go : (b : Bool) → Ends (behind at more) → Ends (cond b (i ∷ more) (behind at more))
+      go : (b : Bool) → Ends (from_descriptor at more) → Ends (cond b (i ∷ more) (from_descriptor at more))
       go true later = record { before = before; is = e }
       go false later = later
 
   from_ends : (at : ℕ) → Ends (from_address at f.items)
   from_ends at = go (at == 0)
     where
-      go : (b : Bool) → Ends (cond b f.items (behind at f.items))
+      go : (b : Bool) → Ends (cond b f.items (from_descriptor at f.items))
       go true = record { before = []; is = refl }
-      go false = behind_ends at [] f.items refl
+      go false = after_ends at [] f.items refl
 
   own : (from : ℕ) (e : Entered) → first_some (entered_item g f) (from_address from f.items) ≡ Some e → OfFrame g f e
   own from e is = let s = from_ends from in of_items s.before (from_address from f.items) e s.is is

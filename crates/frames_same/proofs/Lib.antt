@@ -19,7 +19,7 @@ pub mod FramesSame
 pub mod GoesHere
 pub mod Landing
 pub mod Located
-pub mod Forgets
+pub mod Clobbers
 pub mod Pads
 pub mod PadStands
 pub mod ReachBySp

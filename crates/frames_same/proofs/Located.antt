@@ -6,8 +6,8 @@ use Rattle.accesses_keep.specs.unwind_codes.declared.row.Entry.{Entry}
 use Rattle.accesses_keep.specs.eh_index.Places.{table_of}
 use Rattle.accesses_keep.specs.eh_phase.Frames.{codes_of, with_items, covered_by, covered_at, site_of, ended, framed, frame_of}
 use Rattle.accesses_keep.specs.eh_phase.declared.walk.Covered.{Covered}
-use Rattle.accesses_keep.specs.frame_scene.Scene.{Scene}
-use Rattle.accesses_keep.specs.frame_scene.Sites.{entry_at, items_by, items_at}
+use Rattle.accesses_keep.specs.frame_graph.FlowGraph.{FlowGraph}
+use Rattle.accesses_keep.specs.frame_graph.Sites.{entry_at, items_by, items_at}
 use Rattle.accesses_keep.specs.eh_phase.Phases.{Frame, Frames}
 use Rattle.accesses_keep.specs.two_machines.Activations.{Activation, Caller, registers_of, ends_at, where_unwound, framed_at, outside, frames_at}
 use Rattle.accesses_keep.specs.unwind_codes.Cut.{cut}
@@ -21,7 +21,7 @@ use Rattle.accesses_keep.specs.stands_for.Holds.{IsWhole}
 use Rattle.accesses_keep.specs.stands_for.Chain.{Chain}
 use Rattle.frames_same.specs.Landings.{AtCall, AtFirst, Located, Rise, Fit}
 
-pub covered_items : (s : Scene) (site : ℕ) (c : Covered) → covered_at s.image site ≡ Some c → items_at s site ≡ c.descs
+pub covered_items : (s : FlowGraph) (site : ℕ) (c : Covered) → covered_at s.image site ≡ Some c → items_at s site ≡ c.descs
 unfolding covered_at items_at
 covered_items s site c e = go (entry_at s site) refl e
   where
@@ -85,10 +85,10 @@ module _ (x : Accepted) (segments : List Segment) (home : ℕ × ℕ) (place : O
 
 -- ---- what lies outside an activation
 
-pub chain_behind : (x : Accepted) (segments : List Segment) (home : ℕ × ℕ) (c : Caller) (cut : List Activation) (a : Activation) (more : List Activation) → Chain x segments home c (cut ++ a ∷ more)
+pub chain_after : (x : Accepted) (segments : List Segment) (home : ℕ × ℕ) (c : Caller) (cut : List Activation) (a : Activation) (more : List Activation) → Chain x segments home c (cut ++ a ∷ more)
     → IsWhole a.caller × Chain x segments home a.caller more
-chain_behind x segments home c [] a more h = (h.0.whole, h.1)
-chain_behind x segments home c (b ∷ cut) a more h = chain_behind x segments home b.caller cut a more h.1
+chain_after x segments home c [] a more h = (h.0.whole, h.1)
+chain_after x segments home c (b ∷ cut) a more h = chain_after x segments home b.caller cut a more h.1
 
 pub chain_from : (x : Accepted) (segments : List Segment) (home : ℕ × ℕ) (first : Activation) (outer cut : List Activation) (a : Activation) (more : List Activation) → first ∷ outer ≡ cut ++ a ∷ more
     → IsWhole first.caller → Chain x segments home first.caller outer → IsWhole a.caller × Chain x segments home a.caller more
@@ -98,7 +98,7 @@ chain_from x segments home first outer [] a more e whole h =
     (subst (λ (b : Activation). IsWhole b.caller) same whole, subst (λ (b : Activation). Chain x segments home b.caller more) same (subst (Chain x segments home first.caller) rest h))
 chain_from x segments home first outer (b ∷ cut) a more e whole h =
     let rest : outer ≡ cut ++ a ∷ more = cc in
-    chain_behind x segments home first.caller cut a more (subst (Chain x segments home first.caller) rest h)
+    chain_after x segments home first.caller cut a more (subst (Chain x segments home first.caller) rest h)
 
 -- those inside recorded no sp above where it stands
 abbrev pub AllUnder : ℕ → List Activation → Type 0

@@ -27,7 +27,7 @@ use Rattle.accesses_keep.specs.eh_bytecode.declared.recipe.RecipeFault.{RecipeFa
 use Rattle.accesses_keep.proofs.eh_phase.Whole.{frames_are_whole}
 use Rattle.accesses_keep.specs.frame_check.Accepts.{Accepted}
 use Rattle.accesses_keep.specs.frame_check.Judged.{IsPlaced}
-use Rattle.accesses_keep.specs.frame_check.Roots.{scene_of}
+use Rattle.accesses_keep.specs.frame_check.Roots.{flow_graph_of}
 use Rattle.accesses_keep.proofs.frame_check.Wells.{placed_at}
 use Rattle.accesses_keep.proofs.frame_reach.Stands.{stands_inside}
 use Rattle.accesses_keep.specs.stands_for.Holds.{recorded, IsWhole}
@@ -162,7 +162,7 @@ module _ (x : Accepted) (is : IsProgram x) (segments : List Segment) (home : ℕ
   called : (c : Caller) (a : Activation) → StandsAtCall x segments c a → (c.back == NO_CALLER) ≡ false
   called c a out =
       let placed : IsPlaced out.function = subst IsPlaced out.of.among.2 (placed_at x.image out.of.among.0 out.function is.image out.of.among.1) in
-      let inside = stands_inside (scene_of x.image out.function) out.place out.instr out.size out.stands in
+      let inside = stands_inside (flow_graph_of x.image out.function) out.place out.instr out.size out.stands in
       differs (c.back == NO_CALLER) refl (λ f. omega (arith, out.back, placed.low, inside, f))
     where
       differs : (b : Bool) → (c.back == NO_CALLER) ≡ b → (c.back ≡ NO_CALLER → ⊥) → b ≡ false
@@ -175,7 +175,7 @@ module _ (x : Accepted) (is : IsProgram x) (segments : List Segment) (home : ℕ
   pub from_first : (sp next : ℕ) → sp ≤ next → next ≤ home.1 → is_no_frame home.1 true sp next ≡ false
   from_first sp next h l = grind (arith, nat_tests)
 
-  -- behind the codes of a frame
+  -- after the codes of a frame
   pub out : (c : Caller) (acts : List Activation) → Chain x segments home c acts → IsWhole c → STACK_START ≤ c.sp → StopAlike limit place c acts → (innermost : Bool) (sp : ℕ)
       → is_no_frame home.1 innermost sp c.sp ≡ false → (new : List ℕ) → IsNew c new
       → Agree (then_outer further (checked home.1 limit innermost sp (Some (record { r = new })))) (outside x.image place c acts)

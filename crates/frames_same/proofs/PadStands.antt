@@ -1,4 +1,4 @@
--- Behind the landing of a throw the activation that is entered stands at the pad.
+-- After the landing of a throw the activation that is entered stands at the pad.
 use Rattle.std.proofs.Common.{◌≡◌, ℕ, ◌+◌, ◌≤◌, List, suc, ◌<◌, [], ◌∷◌, length, sym, ◌∙◌, arith, zero, inl, inr, Bool, ◌++◌, Some, refl, ap, subst}
 use Rattle.std.specs.Prelude.{slice_index, Ok}
 use Rattle.std.proofs.lemmas.List.{get_or_append_left, get_or-append_right}
@@ -13,9 +13,9 @@ use Rattle.accesses_keep.specs.thumb_core.declared.regs.TheConstants.{SP}
 use Rattle.accesses_keep.specs.eh_gates.Landing.{landed}
 use Rattle.accesses_keep.specs.eh_phase.Phases.{Frame}
 use Rattle.accesses_keep.specs.frame_facts.Agrees.{at_site}
-use Rattle.accesses_keep.specs.frame_scene.Sites.{site_at, items_at}
+use Rattle.accesses_keep.specs.frame_graph.Sites.{site_at, items_at}
 use Rattle.accesses_keep.specs.frame_flow.Causes.{is_call}
-use Rattle.accesses_keep.specs.frame_check.Roots.{scene_of}
+use Rattle.accesses_keep.specs.frame_check.Roots.{flow_graph_of}
 use Rattle.accesses_keep.specs.stands_for.Holds.{AreWithin, Holds}
 use Rattle.accesses_keep.specs.stands_for.Chain.{code, StandsAt, regs_at}
 use Rattle.frames_same.proofs.Agreement.{holds_there, called_site, same_registers}
@@ -70,9 +70,9 @@ module _ (x : Accepted) (is : IsProgram x) (s : Recorded) (k : Keeps x s) (site 
       at_first : AtFirst site (all_of s.regs) s.first f a → StandsAt x a s.segments (landed s.regs f.r pad first) (landed s.regs f.r pad first).pc
       at_first one =
           let at = here.at in
-          let items : items_at (scene_of x.image at.function) f.site ≡ o.before ++ Ok o.desc ∷ o.after =
-          covered_items (scene_of x.image at.function) f.site reads.covered reads.covers ∙ sym reads.items ∙ o.items in
-          let there : site_at (scene_of x.image at.function) at.place ≡ Some f.site = here.is_site ∙ ap Some (sym one.site) in
+          let items : items_at (flow_graph_of x.image at.function) f.site ≡ o.before ++ Ok o.desc ∷ o.after =
+          covered_items (flow_graph_of x.image at.function) f.site reads.covered reads.covers ∙ sym reads.items ∙ o.items in
+          let there : site_at (flow_graph_of x.image at.function) at.place ≡ Some f.site = here.is_site ∙ ap Some (sym one.site) in
           subst (λ (b : Activation). StandsAt x b s.segments (landed s.regs f.r pad first) (landed s.regs f.r pad first).pc) (sym one.is)
           (stands_at_pad x is at.function at.marks s.first.function at.of at.place at.fact at.state here.instr here.stands f.site there o.before o.desc o.after items o.scope pad o.kind
           s.first s.segments s.regs s.regs f.r first refl (site_holds (code x at.function at.marks).prologue (is_call here.instr) at.fact s.first s.segments s.regs at.holds)
@@ -82,11 +82,11 @@ module _ (x : Accepted) (is : IsProgram x) (s : Recorded) (k : Keeps x s) (site 
       at_call : AtCall x s.segments f a → StandsAt x a s.segments (landed s.regs f.r pad first) (landed s.regs f.r pad first).pc
       at_call two =
           let out = two.stands in
-          let items : items_at (scene_of x.image out.function) f.site ≡ o.before ++ Ok o.desc ∷ o.after =
-          covered_items (scene_of x.image out.function) f.site reads.covered reads.covers ∙ sym reads.items ∙ o.items in
-          let there : site_at (scene_of x.image out.function) out.place ≡ Some f.site =
+          let items : items_at (flow_graph_of x.image out.function) f.site ≡ o.before ++ Ok o.desc ∷ o.after =
+          covered_items (flow_graph_of x.image out.function) f.site reads.covered reads.covers ∙ sym reads.items ∙ o.items in
+          let there : site_at (flow_graph_of x.image out.function) out.place ≡ Some f.site =
           called_site x is (codes_are_recipes x is) s.segments k.corresponds.map.segments two.inside a out two.whole ∙ ap Some (sym two.site) in
-          stands_at_pad x is out.function out.marks a.function out.of out.place out.fact out.state out.instr (stands_instruction (scene_of x.image out.function) out.place out.instr out.size out.stands) f.site there
+          stands_at_pad x is out.function out.marks a.function out.of out.place out.fact out.state out.instr (stands_instruction (flow_graph_of x.image out.function) out.place out.instr out.size out.stands) f.site there
           o.before o.desc o.after items o.scope pad o.kind a s.segments (regs_at two.inside) s.regs f.r first refl
           (subst (λ (b : Bool). Holds (code x out.function out.marks).prologue (at_site b out.fact) a s.segments (regs_at two.inside)) (sym out.call) out.holds)
           (λ j low high. inr (ap (λ (r : List ℕ). slice_index r j) two.registers ∙ saved_same two.inside j two.whole.count low high))

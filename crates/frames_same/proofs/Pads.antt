@@ -1,5 +1,5 @@
--- An activation that a landing enters stands at the pad: there is a way from the site to each pad of its descriptors in scope, which forgets
--- r0 to r3, r12 and lr, and behind a cleanup those of r4 to r11 that its resume may change.
+-- An activation that a landing enters stands at the pad: there is an edge from the site to each pad of its descriptors in scope, which clobbers
+-- r0 to r3, r12 and lr, and after a cleanup those of r4 to r11 that its resume may change.
 use Rattle.std.proofs.Common.{◌≡◌, ℕ, length, get_or, ap, ◌∙◌, arith, ◌<◌, ◌≤◌, ◌⊎◌, List, slice_index, ◌==◌, nat_lt, Bool, true, false, cond, refl, zero, suc, inl, inr, ◌%◌, ◌&&◌, ◌||◌, sym, subst, [], ◌∷◌, ◌++◌, ◌-◌, ◌/◌, ◌^◌, nat_le, not, Option, Some, None, Ok}
 use Rattle.std.proofs.lemmas.List.{get_or_past}
 use Rattle.std.proofs.lemmas.Bool.{eqb-true, ltb-true, and_parts, leb-true}
@@ -8,7 +8,7 @@ use Rattle.std.specs.Prelude.{Contains, option_and_then}
 use Rattle.std.specs.Option.{option_map_or}
 use Rattle.std.proofs.lemmas.List.Elements.{Contains-append_left, Contains-append_right}
 use Rattle.std.proofs.lemmas.Option.{none-some}
-use Rattle.accesses_keep.specs.frame_facts.Facts.{source, slot, forgotten}
+use Rattle.accesses_keep.specs.frame_facts.Facts.{source, slot, clobbered}
 use Rattle.accesses_keep.specs.frame_facts.declared.facts.Fact.{Fact}
 use Rattle.accesses_keep.specs.frame_facts.declared.facts.Source.TheVariants.{Other}
 use Rattle.accesses_keep.specs.thumb_core.Registers.{reg}
@@ -18,13 +18,13 @@ use Rattle.accesses_keep.specs.eh_gates.Landing.{landed}
 use Rattle.accesses_keep.specs.thumb_core.Words.{listed}
 use Rattle.accesses_keep.specs.thumb_core.declared.regs.TheConstants.{SP}
 use Rattle.accesses_keep.specs.frame_facts.declared.saves.Prologue.{Prologue}
-use Rattle.accesses_keep.specs.frame_scene.declared.unwinding.Unwinding.{Unwinding}
-use Rattle.accesses_keep.specs.frame_scene.Unwinding.{landing_changes}
+use Rattle.accesses_keep.specs.frame_graph.declared.unwinding.Unwinding.{Unwinding}
+use Rattle.accesses_keep.specs.frame_graph.Unwinding.{landing_changes}
 use Rattle.accesses_keep.specs.two_machines.Activations.{Activation}
 use Rattle.accesses_keep.specs.elf_image.Image.{Image, is_code_in}
 use Rattle.accesses_keep.specs.elf_image.Marks.{marked}
 use Rattle.accesses_keep.specs.elf_image.Segments.{holds}
-use Rattle.accesses_keep.specs.frame_scene.Sites.{Item, is_one, cleans, covers, lands_out, pads_out, pad_of, pad_for, pad_ways, site_at, site_of, items_at, unwinding_at, ways_from, ways_of}
+use Rattle.accesses_keep.specs.frame_graph.Sites.{Item, is_one, cleans, covers, lands_out, pads_out, pad_of, pad_for, pad_edges, site_at, site_of, items_at, unwinding_at, edges_from, edges_of}
 use Rattle.accesses_keep.specs.frame_facts.Branches.{gate_changes, call_changes}
 use Rattle.accesses_keep.specs.flow.Flow.{met}
 use Rattle.accesses_keep.proofs.flow.Work.{contains_head}
@@ -36,23 +36,23 @@ use Rattle.accesses_keep.specs.frame_facts.After.{after_of}
 use Rattle.accesses_keep.specs.frame_facts.Agrees.{at_site}
 use Rattle.accesses_keep.specs.frame_facts.declared.cause.FrameCause.{FrameCause}
 use Rattle.accesses_keep.specs.frame_facts.declared.cause.FrameCause.TheVariants.{Undecodable, BranchOut, CallNotFunction, PadDepth, ThrowInLeafScope}
-use Rattle.accesses_keep.specs.frame_scene.declared.ways.Way.{Way}
-use Rattle.accesses_keep.specs.frame_scene.Places.{address_of, place_of, is_code_of}
-use Rattle.accesses_keep.specs.frame_scene.Scene.{Scene}
-use Rattle.accesses_keep.specs.frame_scene.Ways.{is_undecodable, branches_out, calls_nothing, instruction_at, straight_ways, ways_to}
-use Rattle.accesses_keep.proofs.frame_scene.Landings.{landings_follow}
+use Rattle.accesses_keep.specs.frame_graph.declared.edges.Edge.{Edge}
+use Rattle.accesses_keep.specs.frame_graph.Places.{address_of, place_of, is_code_of}
+use Rattle.accesses_keep.specs.frame_graph.FlowGraph.{FlowGraph}
+use Rattle.accesses_keep.specs.frame_graph.Edges.{is_undecodable, branches_out, calls_nothing, instruction_at, straight_edges, edges_to}
+use Rattle.accesses_keep.proofs.frame_graph.Landings.{landings_follow}
 use Rattle.accesses_keep.specs.frame_reach.Marks.{Marks}
 use Rattle.accesses_keep.specs.frame_flow.Causes.{shown, answered, after_at, unwound, throws_in_leaf, site_causes, is_call, instruction_causes, found}
 use Rattle.accesses_keep.specs.frame_flow.Flows.{IsStateOf}
 use Rattle.accesses_keep.proofs.frame_flow.Causing.{found_are_met}
 use Rattle.accesses_keep.specs.frame_check.Accepts.{Accepted}
 use Rattle.accesses_keep.specs.frame_check.Judged.{IsPlaced}
-use Rattle.accesses_keep.specs.frame_check.Roots.{scene_of}
+use Rattle.accesses_keep.specs.frame_check.Roots.{flow_graph_of}
 use Rattle.accesses_keep.proofs.frame_check.Wells.{placed_at}
 use Rattle.accesses_keep.specs.stands_for.Holds.{Holds}
-use Rattle.frames_same.proofs.Forgets.{landing_keeps_sp, landing_forgets}
-use Rattle.accesses_keep.proofs.stands_for.Moves.{moved_holds, forgotten_here}
-use Rattle.frames_same.proofs.Sites.{forgotten_holds}
+use Rattle.frames_same.proofs.Clobbers.{landing_keeps_sp, landing_clobbers}
+use Rattle.accesses_keep.proofs.stands_for.Moves.{moved_holds, clobbered_here}
+use Rattle.frames_same.proofs.Sites.{clobbered_holds}
 use Rattle.accesses_keep.specs.stands_for.Chain.{IsOf, code, StandsAt}
 use Rattle.accesses_keep.specs.stands_for.Stands.{IsProgram}
 use Rattle.accesses_keep.proofs.stands_for.Flows.{none_stands, goes_along}
@@ -76,17 +76,17 @@ past_lr k h = go (nat_lt k 13) (k == 14) refl refl
     go false false i j = refl
 
 pub pad_holds : (p : Prologue) (u : Unwinding) (resumed : Bool) (g : Fact) (a : Activation) (segments : List Segment) (old regs : Regs) (r : List ℕ) (pad first : ℕ) → Holds p g a segments old
-    → AreAt (forgotten (listed (landing_changes u resumed)) g) r old → slice_index r SP ≡ reg old SP → Holds p (forgotten (listed (landing_changes u resumed)) g) a segments (landed regs r pad first)
+    → AreAt (clobbered (listed (landing_changes u resumed)) g) r old → slice_index r SP ≡ reg old SP → Holds p (clobbered (listed (landing_changes u resumed)) g) a segments (landed regs r pad first)
 pad_holds p u resumed g a segments old regs r pad first h same sp = moved_holds p f a segments old (landed regs r pad first) less each sp
   where
     f : Fact
-    f = forgotten (listed (landing_changes u resumed)) g
+    f = clobbered (listed (landing_changes u resumed)) g
 
     less : Holds p f a segments old
-    less = forgotten_holds p g a segments old (listed (landing_changes u resumed)) (landing_keeps_sp u resumed) h
+    less = clobbered_holds p g a segments old (listed (landing_changes u resumed)) (landing_keeps_sp u resumed) h
 
     lost_here : (k : ℕ) → (k < 4) ⊎ ((k ≡ 12) ⊎ (k ≡ 14)) → source f k ≡ Other
-    lost_here k e = forgotten_here (listed (landing_changes u resumed)) g k (landing_forgets u resumed k e)
+    lost_here k e = clobbered_here (listed (landing_changes u resumed)) g k (landing_clobbers u resumed k e)
 
     each : (k : ℕ) → (source f k ≡ Other) ⊎ (reg (landed regs r pad first) k ≡ reg old k)
     each zero = inl (lost_here 0 (inl (omega arith)))
@@ -131,9 +131,9 @@ gates_keep_sp = refl
 -- ---- a descriptor in scope of a site
 
 module _ (x : Accepted) (is : IsProgram x) (f : Function) (m : Marks) (start : ℕ) (of : IsOf x start f m) (p : ℕ) (fact : Fact) (state : IsStateOf (code x f m) p fact) (i : Instr)
-    (at : instruction_at (scene_of x.image f) p ≡ Some i) (site : ℕ) (site_is : site_at (scene_of x.image f) p ≡ Some site) where
-  abbrev s : Scene
-  s = scene_of x.image f
+    (at : instruction_at (flow_graph_of x.image f) p ≡ Some i) (site : ℕ) (site_is : site_at (flow_graph_of x.image f) p ≡ Some site) where
+  abbrev s : FlowGraph
+  s = flow_graph_of x.image f
 
   not_found : (cause : FrameCause) → Contains (found (code x f m) p fact) cause → ⊥
   not_found cause h = none_stands x f m is.sound of.among of.are p cause (met state ((found_are_met (code x f m) cause p fact).1 h))
@@ -162,26 +162,26 @@ module _ (x : Accepted) (is : IsProgram x) (f : Function) (m : Marks) (start : �
 
   -- what a call or a gate leaves
   pub record Leaves : Type 0 where
-    pub fact_behind : Fact
-    pub is_behind : after_of (code x f m).prologue false (address_of s p) i fact ≡ Ok fact_behind
-    pub holds_behind : (a : Activation) (segments : List Segment) (regs : Regs) → Holds (code x f m).prologue (at_site (is_call i) fact) a segments regs → Holds (code x f m).prologue fact_behind a segments regs
+    pub fact_after : Fact
+    pub is_after : after_of (code x f m).prologue false (address_of s p) i fact ≡ Ok fact_after
+    pub holds_after : (a : Activation) (segments : List Segment) (regs : Regs) → Holds (code x f m).prologue (at_site (is_call i) fact) a segments regs → Holds (code x f m).prologue fact_after a segments regs
 
   leaves_by : (j : Instr) → i ≡ j → site_of (address_of s p) j ≡ Some site → Leaves
   leaves_by (Bl off) e h = record {
-    fact_behind = forgotten call_changes fact;
-    is_behind = ap (λ (j : Instr). after_of (code x f m).prologue false (address_of s p) j fact) e;
-    holds_behind = λ a segments regs w. subst (λ (j : Instr). Holds (code x f m).prologue (at_site (is_call j) fact) a segments regs) e w;
+    fact_after = clobbered call_changes fact;
+    is_after = ap (λ (j : Instr). after_of (code x f m).prologue false (address_of s p) j fact) e;
+    holds_after = λ a segments regs w. subst (λ (j : Instr). Holds (code x f m).prologue (at_site (is_call j) fact) a segments regs) e w;
   }
   leaves_by (Blx n) e h = record {
-    fact_behind = forgotten call_changes fact;
-    is_behind = ap (λ (j : Instr). after_of (code x f m).prologue false (address_of s p) j fact) e;
-    holds_behind = λ a segments regs w. subst (λ (j : Instr). Holds (code x f m).prologue (at_site (is_call j) fact) a segments regs) e w;
+    fact_after = clobbered call_changes fact;
+    is_after = ap (λ (j : Instr). after_of (code x f m).prologue false (address_of s p) j fact) e;
+    holds_after = λ a segments regs w. subst (λ (j : Instr). Holds (code x f m).prologue (at_site (is_call j) fact) a segments regs) e w;
   }
   leaves_by (Svc imm) e h = record {
-    fact_behind = forgotten gate_changes fact;
-    is_behind = ap (λ (j : Instr). after_of (code x f m).prologue false (address_of s p) j fact) e;
-    holds_behind = λ a segments regs w.
-        forgotten_holds (code x f m).prologue fact a segments regs gate_changes gates_keep_sp (subst (λ (j : Instr). Holds (code x f m).prologue (at_site (is_call j) fact) a segments regs) e w);
+    fact_after = clobbered gate_changes fact;
+    is_after = ap (λ (j : Instr). after_of (code x f m).prologue false (address_of s p) j fact) e;
+    holds_after = λ a segments regs w.
+        clobbered_holds (code x f m).prologue fact a segments regs gate_changes gates_keep_sp (subst (λ (j : Instr). Holds (code x f m).prologue (at_site (is_call j) fact) a segments regs) e w);
   }
   leaves_by j e h = absurd (none-some site h)
 
@@ -229,24 +229,24 @@ module _ (x : Accepted) (is : IsProgram x) (f : Function) (m : Marks) (start : �
     abbrev pub u : Unwinding
     u = unwinding_at s site
 
-    abbrev pub way : Way
-    way = record { to = q; forgets = landing_changes u resumed }
+    abbrev pub edge : Edge
+    edge = record { to = q; clobbers = landing_changes u resumed }
 
-    pub is_way : Contains (ways_of s p) way
-    unfolding ways_of
-    is_way =
-        let here : Contains (ways_to (landing_changes u resumed) (option_and_then (place_of s) (pad_for site d))) way =
-        subst (λ (o : Option ℕ). Contains (ways_to (landing_changes u resumed) o) way) (sym (ap (option_and_then (place_of s)) pad_is ∙ at_place)) (contains_head way []) in
-        let all : Contains (pad_ways s site u false (before ++ Ok d ∷ after)) way =
-        subst (λ (ws : List Way). Contains ws way) (sym (landings_follow s site u before after d))
-        (Contains-append_right (pad_ways s site u false before) _ way (Contains-append_left (ways_to (landing_changes u resumed) (option_and_then (place_of s) (pad_for site d))) _ way here)) in
-        let from_site : Contains (pad_ways s site u false (items_at s site)) way = subst (λ (is : List Item). Contains (pad_ways s site u false is) way) (sym items) all in
-        let from_place : Contains (ways_from s (site_at s p)) way = subst (λ (o : Option ℕ). Contains (ways_from s o) way) (sym site_is) from_site in
-        Contains-append_right (straight_ways s p) (ways_from s (site_at s p)) way from_place
+    pub is_edge : Contains (edges_of s p) edge
+    unfolding edges_of
+    is_edge =
+        let here : Contains (edges_to (landing_changes u resumed) (option_and_then (place_of s) (pad_for site d))) edge =
+        subst (λ (o : Option ℕ). Contains (edges_to (landing_changes u resumed) o) edge) (sym (ap (option_and_then (place_of s)) pad_is ∙ at_place)) (contains_head edge []) in
+        let all : Contains (pad_edges s site u false (before ++ Ok d ∷ after)) edge =
+        subst (λ (ws : List Edge). Contains ws edge) (sym (landings_follow s site u before after d))
+        (Contains-append_right (pad_edges s site u false before) _ edge (Contains-append_left (edges_to (landing_changes u resumed) (option_and_then (place_of s) (pad_for site d))) _ edge here)) in
+        let from_site : Contains (pad_edges s site u false (items_at s site)) edge = subst (λ (is : List Item). Contains (pad_edges s site u false is) edge) (sym items) all in
+        let from_place : Contains (edges_from s (site_at s p)) edge = subst (λ (o : Option ℕ). Contains (edges_from s o) edge) (sym site_is) from_site in
+        Contains-append_right (straight_edges s p) (edges_from s (site_at s p)) edge from_place
 
     -- the fact at the pad
     abbrev pub pad_fact : Fact
-    pad_fact = forgotten (listed (landing_changes u resumed)) leaves.fact_behind
+    pad_fact = clobbered (listed (landing_changes u resumed)) leaves.fact_after
 
     -- The activation stands there, with what the fact at the site says of it at the registers that it has there.
     pub stands_at_pad : (a : Activation) (segments : List Segment) (old regs : Regs) (r : List ℕ) (first : ℕ) → a.function ≡ start → Holds (code x f m).prologue (at_site (is_call i) fact) a segments old
@@ -258,6 +258,6 @@ module _ (x : Accepted) (is : IsProgram x) (f : Function) (m : Marks) (start : �
       place = q;
       address = (let e = even_pad in let same_address = stands in omega (arith, e, same_address));
       fact = pad_fact;
-      state = goes_along (code x f m) p fact (none_stands x f m is.sound of.among of.are) state i leaves.fact_behind way at leaves.is_behind is_way;
-      holds = pad_holds (code x f m).prologue u resumed leaves.fact_behind a segments old regs r pad first (leaves.holds_behind a segments old h) same sp;
+      state = goes_along (code x f m) p fact (none_stands x f m is.sound of.among of.are) state i leaves.fact_after edge at leaves.is_after is_edge;
+      holds = pad_holds (code x f m).prologue u resumed leaves.fact_after a segments old regs r pad first (leaves.holds_after a segments old h) same sp;
     }

@@ -11,16 +11,16 @@ use Rattle.accesses_keep.specs.eh_bytecode.Recipe.{recipe}
 use Rattle.accesses_keep.specs.eh_bytecode.declared.recipe.Recipe.{Recipe}
 use Rattle.accesses_keep.specs.eh_phase.Frames.{covered_at, site_of}
 use Rattle.accesses_keep.specs.eh_phase.declared.walk.Covered.{Covered}
-use Rattle.accesses_keep.specs.frame_scene.Unwinding.{pop_once}
+use Rattle.accesses_keep.specs.frame_graph.Unwinding.{pop_once}
 use Rattle.accesses_keep.specs.frame_check.Accepts.{Accepted, IsWell}
 use Rattle.accesses_keep.specs.frame_facts.declared.facts.Fact.{Fact}
-use Rattle.accesses_keep.specs.frame_facts.Facts.{lost, forgotten}
+use Rattle.accesses_keep.specs.frame_facts.Facts.{lost, clobbered}
 use Rattle.accesses_keep.specs.eh_bus.Segment.{Segment}
 use Rattle.accesses_keep.specs.frame_facts.declared.saves.Prologue.{Prologue}
 use Rattle.accesses_keep.specs.frame_facts.Saves.{saves_of}
 use Rattle.accesses_keep.specs.two_machines.Activations.{Activation, Caller, registers_of}
 use Rattle.accesses_keep.specs.thumb_core.declared.regs.Regs.{Regs}
-use Rattle.accesses_keep.proofs.frame_facts.Described.{forgetting_described}
+use Rattle.accesses_keep.proofs.frame_facts.Described.{clobbering_described}
 use Rattle.accesses_keep.specs.thumb_core.Words.{listed}
 use Rattle.accesses_keep.specs.frame_facts.Branches.{call_changes}
 use Rattle.accesses_keep.specs.frame_facts.Agrees.{at_site, agreed}
@@ -29,10 +29,10 @@ use Rattle.accesses_keep.specs.thumb_isa.declared.instr.Instr.TheVariants.{Bl, B
 use Rattle.accesses_keep.specs.thumb_isa.declared.instr.Decoded.{Decoded}
 use Rattle.accesses_keep.specs.thumb_isa.declared.instr.Decoded.TheVariants.{Is, Undefined, Unpredictable, NotInProfile}
 use Rattle.accesses_keep.specs.thumb_isa.Rows.{Row, fits, first_fit, rows, decoded_of}
-use Rattle.accesses_keep.specs.frame_scene.declared.places.Standing.TheVariants.{Instruction, Udf}
-use Rattle.accesses_keep.specs.frame_scene.Places.{of_decoded, halfword_of, is_udf, wide_of, standing_by, standing_at, address_of}
+use Rattle.accesses_keep.specs.frame_graph.declared.places.Standing.TheVariants.{Instruction, Udf}
+use Rattle.accesses_keep.specs.frame_graph.Places.{of_decoded, halfword_of, is_udf, wide_of, standing_by, standing_at, address_of}
 use Rattle.accesses_keep.specs.thumb_isa.Range.{size_of}
-use Rattle.accesses_keep.specs.frame_scene.Scene.{Scene}
+use Rattle.accesses_keep.specs.frame_graph.FlowGraph.{FlowGraph}
 use Rattle.accesses_keep.specs.elf_image.Functions.{Function}
 use Rattle.accesses_keep.specs.eh_bus.Map.{AreSegments}
 use Rattle.accesses_keep.specs.eh_bus.declared.map.TheConstants.{STACK_START, STACK_END}
@@ -41,21 +41,21 @@ use Rattle.accesses_keep.proofs.flow.Work.{contains_head}
 use Rattle.accesses_keep.specs.thumb_core.Registers.{reg}
 use Rattle.accesses_keep.specs.frame_facts.declared.cause.FrameCause.{FrameCause}
 use Rattle.accesses_keep.specs.frame_facts.declared.cause.FrameCause.TheVariants.{Undecodable, BranchOut, CallNotFunction}
-use Rattle.accesses_keep.specs.frame_scene.declared.unwinding.Unwinding.{Unwinding}
-use Rattle.accesses_keep.specs.frame_scene.declared.unwinding.Unwinding.TheVariants.{Finds}
-use Rattle.accesses_keep.specs.frame_scene.Reach.{IsReached}
-use Rattle.accesses_keep.specs.frame_scene.Sites.{site_at, unwinding_at}
-use Rattle.accesses_keep.specs.frame_scene.Ways.{instruction_at, is_undecodable, branches_out, calls_nothing}
+use Rattle.accesses_keep.specs.frame_graph.declared.unwinding.Unwinding.{Unwinding}
+use Rattle.accesses_keep.specs.frame_graph.declared.unwinding.Unwinding.TheVariants.{Finds}
+use Rattle.accesses_keep.specs.frame_graph.Reach.{IsReached}
+use Rattle.accesses_keep.specs.frame_graph.Sites.{site_at, unwinding_at}
+use Rattle.accesses_keep.specs.frame_graph.Edges.{instruction_at, is_undecodable, branches_out, calls_nothing}
 use Rattle.accesses_keep.specs.frame_reach.Marks.{Marks}
 use Rattle.accesses_keep.specs.frame_flow.Causes.{shown, answered, after_at, site_causes, is_call, instruction_causes, found, unwound as unwound_causes}
 use Rattle.accesses_keep.specs.frame_flow.Flows.{IsStateOf}
 use Rattle.accesses_keep.proofs.frame_flow.Causing.{found_are_met}
 use Rattle.accesses_keep.proofs.frame_flow.Reaching.{state_reached}
-use Rattle.accesses_keep.specs.frame_check.Roots.{scene_of}
+use Rattle.accesses_keep.specs.frame_check.Roots.{flow_graph_of}
 use Rattle.accesses_keep.proofs.frame_reach.Stands.{stands_inside}
 use Rattle.accesses_keep.specs.frame_check.Judged.{IsPlaced}
 use Rattle.accesses_keep.proofs.frame_check.Wells.{placed_at}
-use Rattle.accesses_keep.specs.frame_scene.Sites as scene_site
+use Rattle.accesses_keep.specs.frame_graph.Sites as flow_graph_site
 use Rattle.accesses_keep.specs.accepted_code.Recipes.{IsRecipe, AreRegisters}
 use Rattle.accesses_keep.specs.stands_for.Holds.{AreKept, Holds, IsWhole}
 use Rattle.accesses_keep.specs.stands_for.Chain.{IsOf, code, StandsAtCall}
@@ -65,42 +65,42 @@ use Rattle.accesses_keep.proofs.stands_for.Flows.{none_stands, stands_instructio
 use Rattle.frames_same.proofs.Outwards.{Unwinds, GoesOut, IsNew}
 use Rattle.accesses_keep.proofs.accepted_code.Results.{unwound_registers}
 use Rattle.frames_same.proofs.Unwinds.{gives_back, GivesBack}
-use Rattle.accesses_keep.proofs.stands_for.Moves.{behind_call}
+use Rattle.accesses_keep.proofs.stands_for.Moves.{after_call}
 
 -- codes that cover a site of an accepted image, with a recipe, pop each register once, sp never, and load at multiples of 4
 abbrev pub CodesAreRecipes : Accepted → Type 0
 CodesAreRecipes x = (site : ℕ) (covered : Covered) (of : Recipe) → covered_at x.image site ≡ Some covered → recipe (cut covered.codes) ≡ Ok of → pop_once (cut covered.codes) ≡ true
     → IsRecipe (cut covered.codes) of
 
--- ---- what a fact forgets
+-- ---- what a fact clobbers
 
-pub forgotten_depth : (xs : List ℕ) (f : Fact) → (forgotten xs f).depth ≡ f.depth
-forgotten_depth [] f = refl
-forgotten_depth (k ∷ more) f = forgotten_depth more (lost k f)
+pub clobbered_depth : (xs : List ℕ) (f : Fact) → (clobbered xs f).depth ≡ f.depth
+clobbered_depth [] f = refl
+clobbered_depth (k ∷ more) f = clobbered_depth more (lost k f)
 
-pub forgotten_below : (xs : List ℕ) (f : Fact) → (forgotten xs f).below ≡ f.below
-forgotten_below [] f = refl
-forgotten_below (k ∷ more) f = forgotten_below more (lost k f)
+pub clobbered_below : (xs : List ℕ) (f : Fact) → (clobbered xs f).below ≡ f.below
+clobbered_below [] f = refl
+clobbered_below (k ∷ more) f = clobbered_below more (lost k f)
 
-pub forgotten_kept : (xs : List ℕ) (f : Fact) → (forgotten xs f).kept ≡ f.kept
-forgotten_kept [] f = refl
-forgotten_kept (k ∷ more) f = forgotten_kept more (lost k f)
+pub clobbered_kept : (xs : List ℕ) (f : Fact) → (clobbered xs f).kept ≡ f.kept
+clobbered_kept [] f = refl
+clobbered_kept (k ∷ more) f = clobbered_kept more (lost k f)
 
 pub kept_same : (p : Prologue) (f g : Fact) (a : Activation) (segments : List Segment) → g.depth ≡ f.depth → g.kept ≡ f.kept → AreKept segments a p f → AreKept segments a p g
 kept_same p f g a segments d k h s c =
     let w = h s (subst (λ n. Contains (take n (saves_of p)) s) k c) in
     record { low = w.low; deep = subst (λ n. s.offset ≤ n) (sym d) w.deep; holds = w.holds; slot = w.slot }
 
--- what holds of a fact holds of it with registers forgotten
-pub forgotten_holds : (p : Prologue) (f : Fact) (a : Activation) (segments : List Segment) (regs : Regs) (xs : List ℕ) → list_any (λ (j : ℕ). j == 13) xs ≡ false → Holds p f a segments regs
-    → Holds p (forgotten xs f) a segments regs
-forgotten_holds p f a segments regs xs no_sp h = record {
+-- what holds of a fact holds of it with registers clobbered
+pub clobbered_holds : (p : Prologue) (f : Fact) (a : Activation) (segments : List Segment) (regs : Regs) (xs : List ℕ) → list_any (λ (j : ℕ). j == 13) xs ≡ false → Holds p f a segments regs
+    → Holds p (clobbered xs f) a segments regs
+clobbered_holds p f a segments regs xs no_sp h = record {
   entry = h.entry;
   saved = h.saved;
   link = h.link;
-  describes = forgetting_described h.entry a.caller.sp xs f regs regs h.describes (λ k e. refl) no_sp;
-  lower = let d = forgotten_depth xs f in omega (arith, h.lower, d);
-  saves = kept_same p f (forgotten xs f) a segments (forgotten_depth xs f) (forgotten_kept xs f) h.saves;
+  describes = clobbering_described h.entry a.caller.sp xs f regs regs h.describes (λ k e. refl) no_sp;
+  lower = let d = clobbered_depth xs f in omega (arith, h.lower, d);
+  saves = kept_same p f (clobbered xs f) a segments (clobbered_depth xs f) (clobbered_kept xs f) h.saves;
 }
 
 calls_keep_sp : list_any (λ (j : ℕ). j == 13) call_changes ≡ false
@@ -108,7 +108,7 @@ unfolding listed
 calls_keep_sp = refl
 
 pub site_holds : (p : Prologue) (call : Bool) (f : Fact) (a : Activation) (segments : List Segment) (regs : Regs) → Holds p f a segments regs → Holds p (at_site call f) a segments regs
-site_holds p true f a segments regs h = forgotten_holds p f a segments regs call_changes calls_keep_sp h
+site_holds p true f a segments regs h = clobbered_holds p f a segments regs call_changes calls_keep_sp h
 site_holds p false f a segments regs h = h
 
 -- ---- sizes of calls
@@ -144,7 +144,7 @@ of_decoded_sized Undefined i size h e = absurd cc
 of_decoded_sized Unpredictable i size h e = absurd cc
 of_decoded_sized NotInProfile i size h e = absurd cc
 
-stands_sized : (s : Scene) (p : ℕ) (i : Instr) (size : ℕ) → standing_at s p ≡ Instruction i size → call_sized i size ≡ true
+stands_sized : (s : FlowGraph) (p : ℕ) (i : Instr) (size : ℕ) → standing_at s p ≡ Instruction i size → call_sized i size ≡ true
 unfolding standing_at
 stands_sized s p i size e = by_halves (halfword_of s p) (halfword_of s (p + 1)) e
   where
@@ -164,16 +164,16 @@ stands_sized s p i size e = by_halves (halfword_of s p) (halfword_of s (p + 1)) 
 -- ---- a place with a site
 
 module _ (x : Accepted) (is : IsProgram x) (recipes : CodesAreRecipes x) (f : Function) (m : Marks) (start : ℕ) (of : IsOf x start f m) (p : ℕ) (fact : Fact)
-    (state : IsStateOf (code x f m) p fact) (i : Instr) (at : instruction_at (scene_of x.image f) p ≡ Some i) (site : ℕ) (site_is : site_at (scene_of x.image f) p ≡ Some site)
+    (state : IsStateOf (code x f m) p fact) (i : Instr) (at : instruction_at (flow_graph_of x.image f) p ≡ Some i) (site : ℕ) (site_is : site_at (flow_graph_of x.image f) p ≡ Some site)
     (low : f.start ≤ site) where
-  abbrev s : Scene
-  s = scene_of x.image f
+  abbrev s : FlowGraph
+  s = flow_graph_of x.image f
 
   reached : IsReached s p
   reached = state_reached (code x f m) p fact state
 
   well : IsWell s
-  well = All-contains (λ (g : Function). IsWell (scene_of x.image g)) x.image.functions f is.sound.functions of.among
+  well = All-contains (λ (g : Function). IsWell (flow_graph_of x.image g)) x.image.functions f is.sound.functions of.among
 
   not_found : (cause : FrameCause) → Contains (found (code x f m) p fact) cause → ⊥
   not_found cause h = none_stands x f m is.sound of.among of.are p cause (met state ((found_are_met (code x f m) cause p fact).1 h))
@@ -230,19 +230,19 @@ module _ (x : Accepted) (is : IsProgram x) (recipes : CodesAreRecipes x) (f : Fu
 -- ---- at the call that the activation inside recorded
 
 call_site : (a back : ℕ) (i : Instr) (size : ℕ) → is_call i ≡ true → call_sized i size ≡ true → a % 2 ≡ 0 → a + size < 2 ^ 31 → back ≡ a + size + 1
-    → scene_site.site_of a i ≡ Some ((back - back % 2 + (2 ^ 32 - 2)) % 2 ^ 32)
+    → flow_graph_site.site_of a i ≡ Some ((back - back % 2 + (2 ^ 32 - 2)) % 2 ^ 32)
 call_site a back (Bl off) size c z even low e = let four : size ≡ 4 = eqb-true size 4 z in ap Some (let n : (a + 2) % 2 ^ 32 ≡ (back - back % 2 + (2 ^ 32 - 2)) % 2 ^ 32 = omega (arith, four, even, low, e) in n)
 call_site a back (Blx k) size c z even low e = let two : size ≡ 2 = eqb-true size 2 z in ap Some (let n : a ≡ (back - back % 2 + (2 ^ 32 - 2)) % 2 ^ 32 = omega (arith, two, even, low, e) in n)
 call_site a back i size c z even low e = absurd cc
 
-low_site : (a site : ℕ) (i : Instr) → is_call i ≡ true → a + 2 < 2 ^ 32 → scene_site.site_of a i ≡ Some site → a ≤ site
+low_site : (a site : ℕ) (i : Instr) → is_call i ≡ true → a + 2 < 2 ^ 32 → flow_graph_site.site_of a i ≡ Some site → a ≤ site
 low_site a site (Bl off) c l e = let n : (a + 2) % 2 ^ 32 ≡ site = cc in omega (arith, n, l)
 low_site a site (Blx k) c l e = let n : a ≡ site = cc in omega (arith, n)
 low_site a site i c l e = absurd cc
 
 module _ (x : Accepted) (is : IsProgram x) (recipes : CodesAreRecipes x) (ss : List Segment) (segments : AreSegments ss) (c : Caller) (a : Activation) (out : StandsAtCall x ss c a) where
-  abbrev there : Scene
-  there = scene_of x.image out.function
+  abbrev there : FlowGraph
+  there = flow_graph_of x.image out.function
 
   placed : IsPlaced out.function
   placed = subst IsPlaced out.of.among.2 (placed_at x.image out.of.among.0 out.function is.image out.of.among.1)
@@ -256,7 +256,7 @@ module _ (x : Accepted) (is : IsProgram x) (recipes : CodesAreRecipes x) (ss : L
   pub site_there : slice_index (registers_of c) 15 ≡ c.back → site_at there out.place ≡ Some (site_of (registers_of c))
   site_there e =
       let inside = stands_inside there out.place out.instr out.size out.stands in
-      ap (option_and_then (scene_site.site_of (address_of there out.place))) instr_there
+      ap (option_and_then (flow_graph_site.site_of (address_of there out.place))) instr_there
       ∙ call_site (address_of there out.place) c.back out.instr out.size out.call (stands_sized there out.place out.instr out.size out.stands) (omega (arith, placed.even)) (omega (arith, inside, placed.low)) out.back
       ∙ ap Some (sym (back_is e))
 
@@ -283,7 +283,7 @@ module _ (x : Accepted) (is : IsProgram x) (recipes : CodesAreRecipes x) (ss : L
           by_number false e = ap (λ k. slice_index c.saved k) (let k : j + 4 - 4 ≡ j = omega arith in k)
 
       moved : Holds (code x out.function out.marks).prologue (at_site true out.fact) a ss regs
-      moved = behind_call (code x out.function out.marks).prologue out.fact a ss c regs whole.count fifteen out.holds saved_there sp_there
+      moved = after_call (code x out.function out.marks).prologue out.fact a ss c regs whole.count fifteen out.holds saved_there sp_there
 
       low_there : out.function.start ≤ site_of (registers_of c)
       low_there =
@@ -291,7 +291,7 @@ module _ (x : Accepted) (is : IsProgram x) (recipes : CodesAreRecipes x) (ss : L
           let two = placed.low in
           let b = back_is e in
           let l = low_site (address_of there out.place) (site_of (registers_of c)) out.instr out.call (omega (arith, inside, two, sized out.instr out.size out.call (stands_sized there out.place out.instr out.size out.stands)))
-          (ap (option_and_then (scene_site.site_of (address_of there out.place))) (sym instr_there) ∙ site_there e) in
+          (ap (option_and_then (flow_graph_site.site_of (address_of there out.place))) (sym instr_there) ∙ site_there e) in
           omega (arith, l)
         where
           sized : (i : Instr) (size : ℕ) → is_call i ≡ true → call_sized i size ≡ true → 2 ≤ size

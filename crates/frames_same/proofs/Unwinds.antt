@@ -28,7 +28,7 @@ use Rattle.accesses_keep.specs.frame_facts.declared.facts.Fact.{Fact}
 use Rattle.accesses_keep.specs.frame_facts.declared.facts.Source.{Source}
 use Rattle.accesses_keep.specs.frame_facts.declared.facts.Source.TheVariants.{Entry, SpAt, Other}
 use Rattle.accesses_keep.specs.frame_facts.declared.saves.Prologue.{Prologue}
-use Rattle.accesses_keep.specs.frame_facts.Agrees.{at_site, place_of, base_at, is_lost, word_from, found, lies_whole, in_frame, gives_cfa, gives, has_no_room, fails, agreed}
+use Rattle.accesses_keep.specs.frame_facts.Agrees.{at_site, stack_place, base_at, is_lost, word_from, source_found, lies_whole, in_frame, gives_cfa, gives, has_no_room, fails, agreed}
 use Rattle.accesses_keep.specs.frame_facts.Facts.{source, is_entry}
 use Rattle.accesses_keep.specs.frame_facts.Machine.{Means}
 use Rattle.accesses_keep.specs.stands_for.Holds.{recorded, Holds, IsWhole}
@@ -69,12 +69,12 @@ module _ (p : Prologue) (r : Recipe) (is_call : Bool) (f : Fact) (a : Activation
       sp_place true i n w = absurd cc
       sp_place false i n w = let d : g.depth ≡ at = same_Some g.depth at w in omega (arith, same b l, ap (reg regs) n, h.describes.sp i, d)
 
-      reg_place : (s : Source) → source g b ≡ s → place_of s ≡ Some at → slice_index old b + at ≡ cfa
+      reg_place : (s : Source) → source g b ≡ s → stack_place s ≡ Some at → slice_index old b + at ≡ cfa
       reg_place (SpAt n) i w = let m : n ≡ at = same_Some n at w in let means : reg regs b + n ≡ cfa = subst (λ (t : Source). Means h.entry cfa t (reg regs b)) i (h.describes.sources b) in omega (arith, same b l, means, m)
       reg_place (Entry n) i w = absurd cc
       reg_place Other i w = absurd cc
 
-      go : (c : Bool) → (b == 13) ≡ c → cond c (cond g.below None (Some g.depth)) (place_of (source g b)) ≡ Some at → slice_index old b + at ≡ cfa
+      go : (c : Bool) → (b == 13) ≡ c → cond c (cond g.below None (Some g.depth)) (stack_place (source g b)) ≡ Some at → slice_index old b + at ≡ cfa
       go true i w = sp_place g.below refl (eqb-true b 13 i) w
       go false i w = reg_place (source g b) refl w
 
@@ -155,11 +155,11 @@ module _ (p : Prologue) (r : Recipe) (is_call : Bool) (f : Fact) (a : Activation
       go (FromSp o) i other e =
           word_reads 13 o (omega arith) sp_aligned (codes.from_sp k o i)
           (by_word k (word_from p g (base_at g 13) o) (lies_whole g (base_at g 13) o) other
-          (subst (λ (s : Src). cond (k == 13) (gives_cfa r g) (cond (k == 15) (is_entry 14 (found p r g k s)) (cond (nat_le 4 k && nat_lt k 12) (is_entry k (found p r g k s)) (in_frame r g s))) ≡ true) i e))
+          (subst (λ (s : Src). cond (k == 13) (gives_cfa r g) (cond (k == 15) (is_entry 14 (source_found p r g k s)) (cond (nat_le 4 k && nat_lt k 12) (is_entry k (source_found p r g k s)) (in_frame r g s))) ≡ true) i e))
       go (FromBase o) i other e =
           word_reads r.base o codes.base base_aligned (codes.from_base k o i)
           (by_word k (word_from p g (base_at g r.base) o) (lies_whole g (base_at g r.base) o) other
-          (subst (λ (s : Src). cond (k == 13) (gives_cfa r g) (cond (k == 15) (is_entry 14 (found p r g k s)) (cond (nat_le 4 k && nat_lt k 12) (is_entry k (found p r g k s)) (in_frame r g s))) ≡ true) i e))
+          (subst (λ (s : Src). cond (k == 13) (gives_cfa r g) (cond (k == 15) (is_entry 14 (source_found p r g k s)) (cond (nat_le 4 k && nat_lt k 12) (is_entry k (source_found p r g k s)) (in_frame r g s))) ≡ true) i e))
 
   small_recorded : (n : ℕ) → recorded a.caller n < 2 ^ 32
   small_recorded n = go (n == 14)
@@ -178,10 +178,10 @@ module _ (p : Prologue) (r : Recipe) (is_call : Bool) (f : Fact) (a : Activation
       same_ok x y q = cc
 
   -- a register whose source is known to be what was recorded for n is given that
-  is_recorded : (n k own v : ℕ) (s : Src) → (own == 13) ≡ false → is_entry n (found p r g k s) ≡ true → (s ≡ Same → (own < 15) × (source g own ≡ found p r g k Same))
+  is_recorded : (n k own v : ℕ) (s : Src) → (own == 13) ≡ false → is_entry n (source_found p r g k s) ≡ true → (s ≡ Same → (own < 15) × (source g own ≡ source_found p r g k Same))
       → ((n ≡ 14) ⊎ ((4 ≤ n) × (n < 12))) → Says ss old r.base own s v → v ≡ recorded a.caller n
   is_recorded n k own v Same plain e at which is =
-      let known : source g own ≡ Entry n = (at refl).1 ∙ entry_is n (found p r g k Same) e in
+      let known : source g own ≡ Entry n = (at refl).1 ∙ entry_is n (source_found p r g k Same) e in
       let means : reg regs own ≡ h.entry n = subst (λ (t : Source). Means h.entry cfa t (reg regs own)) known (h.describes.sources own) in
       is ∙ same own (at refl).0 ∙ means ∙ elim which [
         | inl lr ↦ ap h.entry lr ∙ h.link ∙ sym (ap (recorded a.caller) lr)
@@ -205,13 +205,13 @@ module _ (p : Prologue) (r : Recipe) (is_call : Bool) (f : Fact) (a : Activation
   asked false false false one two three four e i = (λ u. absurd cc, λ u v. absurd cc)
 
   -- the sources of r4 to r11, and of pc, give what was recorded
-  own_source : (k : ℕ) → 4 ≤ k → k < 12 → is_entry k (found p r g k (slice_index_or r.src k Same)) ≡ true
+  own_source : (k : ℕ) → 4 ≤ k → k < 12 → is_entry k (source_found p r g k (slice_index_or r.src k Same)) ≡ true
   own_source k least most =
-      (asked (k == 13) (k == 15) (nat_le 4 k && nat_lt k 12) (gives_cfa r g) (is_entry 14 (found p r g k (slice_index_or r.src k Same))) (is_entry k (found p r g k (slice_index_or r.src k Same)))
+      (asked (k == 13) (k == 15) (nat_le 4 k && nat_lt k 12) (gives_cfa r g) (is_entry 14 (source_found p r g k (slice_index_or r.src k Same))) (is_entry k (source_found p r g k (slice_index_or r.src k Same)))
       (in_frame r g (slice_index_or r.src k Same)) (each k (omega (arith, most))) (differs k 13 (λ i. absurd (omega (arith, i, most))))).1
       (differs k 15 (λ i. absurd (omega (arith, i, most)))) (ap (λ b. b && nat_lt k 12) (le-leb 4 k least) ∙ lt-ltb k 12 most)
 
-  back_source : is_entry 14 (found p r g 15 (slice_index_or r.src 15 Same)) ≡ true
+  back_source : is_entry 14 (source_found p r g 15 (slice_index_or r.src 15 Same)) ≡ true
   back_source = each 15 (omega arith)
 
   -- what unwinding gives is what was recorded
@@ -230,9 +230,9 @@ module _ (p : Prologue) (r : Recipe) (is_call : Bool) (f : Fact) (a : Activation
       }
     where
       of_pc : (s : Src) → slice_index_or r.src 15 Same ≡ s → (v : ℕ) → Says ss old r.base (cond (is_same (slice_index_or r.src 15 Same)) 14 15) (slice_index_or r.src 15 Same) v → v ≡ a.caller.back
-      of_pc s i v w = by s v (subst (λ (t : Src). is_entry 14 (found p r g 15 t) ≡ true) i back_source) (subst (λ (t : Src). Says ss old r.base (cond (is_same t) 14 15) t v) i w)
+      of_pc s i v w = by s v (subst (λ (t : Src). is_entry 14 (source_found p r g 15 t) ≡ true) i back_source) (subst (λ (t : Src). Says ss old r.base (cond (is_same t) 14 15) t v) i w)
         where
-          by : (s : Src) (v : ℕ) → is_entry 14 (found p r g 15 s) ≡ true → Says ss old r.base (cond (is_same s) 14 15) s v → v ≡ a.caller.back
+          by : (s : Src) (v : ℕ) → is_entry 14 (source_found p r g 15 s) ≡ true → Says ss old r.base (cond (is_same s) 14 15) s v → v ≡ a.caller.back
           by Same v e w = is_recorded 14 15 14 v Same refl e (λ i. (omega arith, refl)) (inl refl) w
           by (FromSp o) v e w = is_recorded 14 15 15 v (FromSp o) refl e (λ i. absurd cc) (inl refl) w
           by (FromBase o) v e w = is_recorded 14 15 15 v (FromBase o) refl e (λ i. absurd cc) (inl refl) w

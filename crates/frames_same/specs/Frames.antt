@@ -8,13 +8,13 @@ use Rattle.accesses_keep.specs.eh_phase.Calls.{stack_of}
 use Rattle.accesses_keep.specs.eh_phase.Frames.{frames_of}
 use Rattle.accesses_keep.specs.thumb_core.Registers.{all_of}
 use Rattle.accesses_keep.specs.two_machines.Agreeing.{Agree}
-use Rattle.accesses_keep.specs.eh_gates.State.{Guide}
+use Rattle.accesses_keep.specs.eh_gates.State.{Tables}
 use Rattle.accesses_keep.specs.two_machines.Throws.{SeesAlike}
 use Rattle.accesses_keep.specs.thumb_isa.declared.instr.Instr.{Instr}
-use Rattle.accesses_keep.specs.frame_scene.Places.{address_of}
-use Rattle.accesses_keep.specs.frame_scene.Sites.{site_at}
-use Rattle.accesses_keep.specs.frame_scene.Ways.{instruction_at}
-use Rattle.accesses_keep.specs.frame_check.Roots.{scene_of}
+use Rattle.accesses_keep.specs.frame_graph.Places.{address_of}
+use Rattle.accesses_keep.specs.frame_graph.Sites.{site_at}
+use Rattle.accesses_keep.specs.frame_graph.Edges.{instruction_at}
+use Rattle.accesses_keep.specs.frame_check.Roots.{flow_graph_of}
 use Rattle.accesses_keep.specs.stands_for.Stands.{DoesAt, Keeps, IsProgram}
 use Rattle.accesses_keep.specs.stands_for.Chain.{StandsAt}
 
@@ -35,12 +35,12 @@ FramesSame = (x : Accepted) (s : Recorded) (site : ℕ) → IsProgram x → Keep
 
 -- So a throw and a rethrow at a gate see the same in both machines.
 abbrev pub ThrowsSeeAlike : Type 0
-ThrowsSeeAlike = (x : Accepted) (s : Recorded) (g : Guide) (imm : ℕ) → IsProgram x → Keeps x s → DoesAt x s (Svc imm) → g.image ≡ x.image → SeesAlike g s
+ThrowsSeeAlike = (x : Accepted) (s : Recorded) (g : Tables) (imm : ℕ) → IsProgram x → Keeps x s → DoesAt x s (Svc imm) → g.image ≡ x.image → SeesAlike g s
 
 -- a site where the first activation stands
 pub record IsSiteOf (x : Accepted) (s : Recorded) (site : ℕ) : Type 0 where
   pub at : StandsAt x s.first s.segments s.regs s.regs.pc
   pub instr : Instr
-  pub stands : instruction_at (scene_of x.image at.function) at.place ≡ Some instr
-  pub is_site : site_at (scene_of x.image at.function) at.place ≡ Some site
-  pub below : address_of (scene_of x.image at.function) at.place + 2 < 2 ^ 32
+  pub stands : instruction_at (flow_graph_of x.image at.function) at.place ≡ Some instr
+  pub is_site : site_at (flow_graph_of x.image at.function) at.place ≡ Some site
+  pub below : address_of (flow_graph_of x.image at.function) at.place + 2 < 2 ^ 32

@@ -4,7 +4,7 @@ use Rattle.accesses_keep.specs.eh_desc.declared.descriptor.Desc.{Desc}
 use Rattle.accesses_keep.specs.eh_desc.declared.descriptor.DescFault.{DescFault}
 use Rattle.accesses_keep.specs.eh_phase.Phases.{Frame, vrs_of, places, from_address, entered_item}
 use Rattle.accesses_keep.specs.eh_phase.Verdict.{in_scope}
-use Rattle.accesses_keep.specs.frame_scene.Sites.{pad_of}
+use Rattle.accesses_keep.specs.frame_graph.Sites.{pad_of}
 use Rattle.accesses_keep.specs.eh_phase.declared.phase2.Entered.{Entered}
 use Rattle.accesses_keep.specs.eh_phase.declared.phase2.Goal.{Goal}
 use Rattle.accesses_keep.specs.thumb_core.declared.regs.TheConstants.{SP}

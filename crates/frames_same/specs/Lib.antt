@@ -2,7 +2,7 @@ pub use Rattle.accesses_keep.specs.two_machines
 pub use Rattle.accesses_keep.specs.frame_check
 pub use Rattle.accesses_keep.specs.frame_flow
 pub use Rattle.accesses_keep.specs.frame_reach
-pub use Rattle.accesses_keep.specs.frame_scene
+pub use Rattle.accesses_keep.specs.frame_graph
 pub use Rattle.accesses_keep.specs.frame_facts
 pub use Rattle.accesses_keep.specs.eh_gates
 pub use Rattle.accesses_keep.specs.eh_phase

@@ -9,12 +9,12 @@ use Rattle.eh_cxa.specs.Words.{word, put_all}
 use Rattle.eh_cxa.specs.declared.globals.Globals.{Globals}
 use Rattle.eh_cxa.specs.declared.globals.CxaFault.{CxaFault}
 use Rattle.eh_gates.specs.declared.state.Turned.TheVariants.{Went, Ended}
-use Rattle.eh_gates.specs.State.{State, Guide, Outcome, reg}
+use Rattle.eh_gates.specs.State.{State, Tables, Outcome, reg}
 use Rattle.eh_gates.specs.CallGates.{allocated, dropped}
 use Rattle.eh_gates.specs.Gates.{gate_of}
 use Rattle.gate_laws.specs.CallAnswers.{CallsAnswer}
 
-module _ (g : Guide) (next : ℕ) (s : State) (some : 1 < length s.regs.r) where
+module _ (g : Tables) (next : ℕ) (s : State) (some : 1 < length s.regs.r) where
   -- of an outcome that goes on
   abbrev HasOne : ℕ → Outcome → Type 0
   HasOne x (Went, t) = reg t 0 ≡ x

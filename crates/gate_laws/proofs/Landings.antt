@@ -29,13 +29,13 @@ use Rattle.thumb_core.specs.declared.regs.Regs.{Regs}
 use Rattle.thumb_core.specs.declared.ends.End.{End}
 use Rattle.eh_gates.specs.declared.state.Turned.TheVariants.{Went, Ended}
 use Rattle.eh_gates.specs.declared.gates.TheConstants.{ALLOCATE_GATE, FREE_GATE, THROW_GATE, BEGIN_CATCH_GATE, END_CATCH_GATE, RETHROW_GATE, END_CLEANUP_GATE, UNEXPECTED_GATE, TERMINATE_GATE, UNCAUGHT_GATE}
-use Rattle.eh_gates.specs.State.{State, Guide, Outcome, reg}
+use Rattle.eh_gates.specs.State.{State, Tables, Outcome, reg}
 use Rattle.eh_gates.specs.CallGates.{allocated, freed, caught, dropped}
 use Rattle.eh_gates.specs.Landing.{landed, entered}
 use Rattle.eh_gates.specs.Throwing.{frames_from, barrier_words, with_barrier, handed, throw_to, sought, from_barrier, flies_to, flies, first_flight, throws, thrown_first, thrown_of_block, second_flight, rethrows}
 use Rattle.eh_gates.specs.Resuming.{goes_on, resumes_in, resumes}
 use Rattle.eh_gates.specs.Gates.{gate_of}
-use Rattle.gate_laws.specs.Landings.{AreLanded, LandingsAreAsTold, Lands, ThrowsLand, GoesBehind, GatesGoBehind}
+use Rattle.gate_laws.specs.Landings.{AreLanded, LandingsAreAsTold, Lands, ThrowsLand, GoesAfter, GatesGoAfter}
 
 -- ---- registers
 
@@ -109,13 +109,13 @@ enters_land s u block object (enters.Spec vrs pad) q = in_frame u.regs s _ vrs.r
 enters_land s u block object enters.Unexpected q = tt
 enters_land s u block object (enters.Terminate why) q = tt
 
-flights_land : (g : Guide) (s t : State) (site block : ℕ) (b : Barrier) → t.regs ≡ s.regs → LandsIn s (throw_to g t site block b)
+flights_land : (g : Tables) (s t : State) (site block : ℕ) (b : Barrier) → t.regs ≡ s.regs → LandsIn s (throw_to g t site block b)
 unfolding throw_to
 flights_land g s t site block b q =
     let u = with_barrier t block (barrier_words block b) in
     enters_land s u block (handed block b.hit) (phase2 (goal_of b) 0 (frames_from g u None site)) q
 
-flies_land : (g : Guide) (s t : State) (given : ℕ) (b : Barrier) (r : Result ℕ CxaFault) → t.regs ≡ s.regs → LandsIn s (flies_to g t given b r)
+flies_land : (g : Tables) (s t : State) (given : ℕ) (b : Barrier) (r : Result ℕ CxaFault) → t.regs ≡ s.regs → LandsIn s (flies_to g t given b r)
 flies_land g s t given b (Ok block) q = flights_land g s t t.regs.pc block b q
 flies_land g s t given b (Err why) q = tt
 
@@ -124,45 +124,45 @@ from_lands : (further : Barrier → State → Outcome) (s : State) (p : Result B
 from_lands further s (Ok b, t) q f = f b t q
 from_lands further s (Err end, t) q f = tt
 
-sought_regs : (g : Guide) (s : State) (what : EventKind) (thrown : Thrown) → (sought g s what thrown).1.regs ≡ s.regs
+sought_regs : (g : Tables) (s : State) (what : EventKind) (thrown : Thrown) → (sought g s what thrown).1.regs ≡ s.regs
 unfolding sought
 sought_regs g s what thrown = either (λ (p : Result Barrier End × State). p.1.regs ≡ s.regs) (is_some (row_of g.types thrown.ty)) _ _ refl refl
 
-throw_lands : (g : Guide) (s : State) (r : Result (Unit {0}) CxaFault) → LandsIn s (throws g s r)
+throw_lands : (g : Tables) (s : State) (r : Result (Unit {0}) CxaFault) → LandsIn s (throws g s r)
 throw_lands g s (Err why) = tt
 throw_lands g s (Ok may) =
     from_lands (λ b t. flies g t (reg s 0) (first_flight t) b) s (sought g s kind.Throw (thrown_first s)) (sought_regs g s kind.Throw (thrown_first s))
     (λ b t q. flies_land g s (record t { globals = (first_flight t).globals; memory = put_all (first_flight t).writes t.memory }) (reg s 0) b (first_flight t).answer q)
 
-rethrow_lands : (g : Guide) (s : State) (r : Result ℕ CxaFault) → LandsIn s (rethrows g s r)
+rethrow_lands : (g : Tables) (s : State) (r : Result ℕ CxaFault) → LandsIn s (rethrows g s r)
 rethrow_lands g s (Err why) = tt
 rethrow_lands g s (Ok block) =
     from_lands (λ b t. flies g t block (second_flight t) b) s (sought g s kind.Rethrow (thrown_of_block s block)) (sought_regs g s kind.Rethrow (thrown_of_block s block))
     (λ b t q. flies_land g s (record t { globals = (second_flight t).globals; memory = put_all (second_flight t).writes t.memory }) block b (second_flight t).answer q)
 
-goes_land : (g : Guide) (s t : State) (vrs : Vrs) (r : Result (ℕ × CleanupWords) CxaFault) → t.regs ≡ s.regs → LandsIn s (goes_on g t vrs r)
+goes_land : (g : Tables) (s t : State) (vrs : Vrs) (r : Result (ℕ × CleanupWords) CxaFault) → t.regs ≡ s.regs → LandsIn s (goes_on g t vrs r)
 goes_land g s t vrs (Ok (block, w)) q = enters_land s t block _ _ q
 goes_land g s t vrs (Err why) q = tt
 
-resumes_in_land : (g : Guide) (s : State) (o : Option Vrs) → LandsIn s (resumes_in g s o)
+resumes_in_land : (g : Tables) (s : State) (o : Option Vrs) → LandsIn s (resumes_in g s o)
 resumes_in_land g s None = tt
 resumes_in_land g s (Some vrs) =
     let d = end_cleanup_of (word s.memory) s.globals (slice_index vrs.r SP) in
     goes_land g s (record s { globals = d.globals; memory = put_all d.writes s.memory }) vrs d.answer refl
 
-resumes_land : (g : Guide) (s : State) (o : Option ℕ) → LandsIn s (resumes g s o)
+resumes_land : (g : Tables) (s : State) (o : Option ℕ) → LandsIn s (resumes g s o)
 resumes_land g s None = tt
 resumes_land g s (Some sp) = resumes_in_land g s (caller_at g.image s.memory.segments s.regs.pc (all_of s.regs))
 
-at_throw : (g : Guide) (next : ℕ) (s : State) → LandsIn s (gate_of g 18 next s)
+at_throw : (g : Tables) (next : ℕ) (s : State) → LandsIn s (gate_of g 18 next s)
 unfolding gate_of
 at_throw g next s = throw_lands g s (throw_fault (word s.memory) (object_slot (reg s 0)))
 
-at_rethrow : (g : Guide) (next : ℕ) (s : State) → LandsIn s (gate_of g 21 next s)
+at_rethrow : (g : Tables) (next : ℕ) (s : State) → LandsIn s (gate_of g 21 next s)
 unfolding gate_of
 at_rethrow g next s = rethrow_lands g s (second_flight s).answer
 
-at_end : (g : Guide) (next : ℕ) (s : State) → LandsIn s (gate_of g 22 next s)
+at_end : (g : Tables) (next : ℕ) (s : State) → LandsIn s (gate_of g 22 next s)
 unfolding gate_of
 at_end g next s = resumes_land g s (innermost_of (word s.memory) s.globals)
 
@@ -177,11 +177,11 @@ throws_land g number next s t which e = subst (λ (o : Outcome). LandsIn s o) e 
     by (inr (inl q)) = to 21 q (at_rethrow g next s)
     by (inr (inr q)) = to 22 q (at_end g next s)
 
--- ---- gates that go on behind their instruction
+-- ---- gates that go on after their instruction
 
-abbrev pub BehindIn : ℕ → State → Outcome → Type 0
-BehindIn next s (Went, t) = GoesBehind next s t
-BehindIn next s (Ended end, t) = Unit {0}
+abbrev pub AfterIn : ℕ → State → Outcome → Type 0
+AfterIn next s (Went, t) = GoesAfter next s t
+AfterIn next s (Ended end, t) = Unit {0}
 
 unless : {A : Type 0} (P : A → Type 0) (b : Bool) (x y : A) → (b ≡ true → ⊥) → P y → P (cond b x y)
 unless P true x y never py = absurd (never refl)
@@ -196,26 +196,26 @@ other_register r x k h = get_or-set_other r 0 k x 0 (λ e. absurd (omega arith))
 other_registers : (r : List ℕ) (x y k : ℕ) → 2 ≤ k → slice_index (slice_set (slice_set r 0 x) 1 y) k ≡ slice_index r k
 other_registers r x y k h = get_or-set_other (slice_set r 0 x) 1 k y 0 (λ e. absurd (omega arith)) ∙ other_register r x k h
 
-allocates : (next : ℕ) (s : State) (p : Result ℕ CxaFault × Memory) → BehindIn next s (allocated next s p)
+allocates : (next : ℕ) (s : State) (p : Result ℕ CxaFault × Memory) → AfterIn next s (allocated next s p)
 allocates next s (Ok x, m) = record { pc = refl; others = λ k h. other_register s.regs.r x k h; flags = record { n = refl; z = refl; c = refl; v = refl } }
 allocates next s (Err why, m) = tt
 
-frees : (next : ℕ) (s : State) (p : Result (Unit {0}) CxaFault × Memory) → BehindIn next s (freed next s p)
+frees : (next : ℕ) (s : State) (p : Result (Unit {0}) CxaFault × Memory) → AfterIn next s (freed next s p)
 frees next s (Ok x, m) = record { pc = refl; others = λ k h. refl; flags = record { n = refl; z = refl; c = refl; v = refl } }
 frees next s (Err why, m) = tt
 
-catches : (next : ℕ) (s : State) (p : Result ℕ CxaFault × Globals × Memory) → BehindIn next s (caught next s p)
+catches : (next : ℕ) (s : State) (p : Result ℕ CxaFault × Globals × Memory) → AfterIn next s (caught next s p)
 catches next s (Ok x, g, m) = record { pc = refl; others = λ k h. other_register s.regs.r x k h; flags = record { n = refl; z = refl; c = refl; v = refl } }
 catches next s (Err why, g, m) = tt
 
-drops : (next : ℕ) (s : State) (p : Result (ℕ × ℕ) CxaFault × Globals × Memory) → BehindIn next s (dropped next s p)
+drops : (next : ℕ) (s : State) (p : Result (ℕ × ℕ) CxaFault × Globals × Memory) → AfterIn next s (dropped next s p)
 drops next s (Ok (x, y), g, m) = record { pc = refl; others = λ k h. other_registers s.regs.r x y k h; flags = record { n = refl; z = refl; c = refl; v = refl } }
 drops next s (Err why, g, m) = tt
 
-pub behind_in : (g : Guide) (number next : ℕ) (s : State) → number ≢ 18 → number ≢ 21 → number ≢ 22 → BehindIn next s (gate_of g number next s)
+pub after_in : (g : Tables) (number next : ℕ) (s : State) → number ≢ 18 → number ≢ 21 → number ≢ 22 → AfterIn next s (gate_of g number next s)
 unfolding gate_of
-behind_in g number next s no_throw no_rethrow no_end =
-    let P : Outcome → Type 0 = λ o. BehindIn next s o in
+after_in g number next s no_throw no_rethrow no_end =
+    let P : Outcome → Type 0 = λ o. AfterIn next s o in
     either P (number == ALLOCATE_GATE) _ _ (allocates next s (wrote (allocate_of (word s.memory) (reg s 0)) s.memory)) (
     either P (number == FREE_GATE) _ _ (frees next s (wrote (free_of (word s.memory) (object_slot (reg s 0))) s.memory)) (
     unless P (number == THROW_GATE) _ _ (is_number number 18 no_throw) (
@@ -228,5 +228,5 @@ behind_in g number next s no_throw no_rethrow no_end =
     either P (number == UNCAUGHT_GATE) _ _
     (record { pc = refl; others = λ k h. other_register s.regs.r s.globals.uncaught k h; flags = record { n = refl; z = refl; c = refl; v = refl } }) tt)))))))))
 
-pub go_behind : GatesGoBehind
-go_behind g number next s t no_throw no_rethrow no_end e = subst (λ (o : Outcome). BehindIn next s o) e (behind_in g number next s no_throw no_rethrow no_end)
+pub go_after : GatesGoAfter
+go_after g number next s t no_throw no_rethrow no_end e = subst (λ (o : Outcome). AfterIn next s o) e (after_in g number next s no_throw no_rethrow no_end)

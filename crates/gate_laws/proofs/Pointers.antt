@@ -27,7 +27,7 @@ use Rattle.eh_phase.specs.Phases.{phase2}
 use Rattle.eh_phase.specs.Laws.{goal_of}
 use Rattle.thumb_core.specs.declared.regs.TheConstants.{SP}
 use Rattle.eh_gates.specs.declared.state.Turned.TheVariants.{Went, Ended}
-use Rattle.eh_gates.specs.State.{State, Guide, Outcome, reg}
+use Rattle.eh_gates.specs.State.{State, Tables, Outcome, reg}
 use Rattle.eh_gates.specs.CallGates.{caught}
 use Rattle.eh_gates.specs.Landing.{entered, words_of}
 use Rattle.eh_gates.specs.Throwing.{frames_from, barrier_words, with_barrier, handed, pointed, throw_to}
@@ -97,7 +97,7 @@ module _ (slot object pointer : ℕ) where
     enters_hold u answer enters.Unexpected h = h
     enters_hold u answer (enters.Terminate why) h = h
 
-    throw_holds : (g : Guide) (s : State) (site : ℕ) (b : Barrier) → Holds (with_barrier s block (barrier_words block b)).memory slot object pointer
+    throw_holds : (g : Tables) (s : State) (site : ℕ) (b : Barrier) → Holds (with_barrier s block (barrier_words block b)).memory slot object pointer
         → Holds (throw_to g s site block b).1.memory slot object pointer
     unfolding throw_to
     throw_holds g s site b h =
@@ -124,7 +124,7 @@ written m slot w map inside object_small pointer_small =
       at_21 = put_same three slot 21 w.pointer map_three inside (omega arith) pointer_small;
     }))
 
-module _ (g : Guide) (s : State) (site block slot : ℕ) (b : Barrier) (map : IsMap s.memory) (is : block_slot block ≡ Some slot) where
+module _ (g : Tables) (s : State) (site block slot : ℕ) (b : Barrier) (map : IsMap s.memory) (is : block_slot block ≡ Some slot) where
   after : handed block b.hit < 2 ^ 32 → pointed b.hit < 2 ^ 32 → Holds (throw_to g s site block b).1.memory slot (handed block b.hit) (pointed b.hit)
   after object_small pointer_small =
       throw_holds slot (handed block b.hit) (pointed b.hit) block is g s site b
@@ -178,7 +178,7 @@ module _ (next : ℕ) (s : State) (slot : ℕ) (some : 0 < length s.regs.r) wher
       subst (λ (o : Option ℕ). Answers (catch_in (word s.memory) s.globals (reg s 0) o).answer) (sym is)
       (at_answers (catch_fault (named (word s.memory slot STATE)) (word s.memory slot COUNT == 0) (s.globals.caught == reg s 0)) s.globals (reg s 0))
 
-  at_gate : (g : Guide) → block_slot (reg s 0) ≡ Some slot → GivesIn (gate_of g 19 next s)
+  at_gate : (g : Tables) → block_slot (reg s 0) ≡ Some slot → GivesIn (gate_of g 19 next s)
   unfolding gate_of
   at_gate g is =
       let d = begin_catch_of (word s.memory) s.globals (reg s 0) in

@@ -27,7 +27,7 @@ use Rattle.thumb_core.specs.declared.ends.End.{End}
 use Rattle.thumb_core.specs.declared.ends.End.TheVariants.{Trap, Terminate}
 use Rattle.eh_gates.specs.declared.state.Turned.TheVariants.{Went, Ended}
 use Rattle.eh_gates.specs.declared.gates.TheConstants.{ALLOCATE_GATE, FREE_GATE, THROW_GATE, BEGIN_CATCH_GATE, END_CATCH_GATE, RETHROW_GATE, END_CLEANUP_GATE, UNEXPECTED_GATE, TERMINATE_GATE, UNCAUGHT_GATE}
-use Rattle.eh_gates.specs.State.{State, Guide, Outcome, reg, logged}
+use Rattle.eh_gates.specs.State.{State, Tables, Outcome, reg, logged}
 use Rattle.eh_gates.specs.CallGates.{fault_end, allocated, freed, caught, dropped}
 use Rattle.eh_gates.specs.Landing.{entered}
 use Rattle.eh_gates.specs.Throwing.{frames_from, frames_seen, barrier_words, with_barrier, handed, throw_to, throw_event, size_of, barrier_in, searched, sought, from_barrier, flies_to, flies, first_flight, throws, thrown_first, thrown_of_block, second_flight, rethrow_end, rethrows}
@@ -79,17 +79,17 @@ module _ (P : End → Type 0) (terminate : (why : Cause) → P (Terminate why)) 
   lands s block object enters.Unexpected = terminate cause.Unexpected
   lands s block object (enters.Terminate why) = terminate why
 
-  throws_to : (g : Guide) (s : State) (site block : ℕ) (b : Barrier) → EndIs P (throw_to g s site block b)
+  throws_to : (g : Tables) (s : State) (site block : ℕ) (b : Barrier) → EndIs P (throw_to g s site block b)
   unfolding throw_to
   throws_to g s site block b =
       let u = with_barrier s block (barrier_words block b) in
       lands u block (handed block b.hit) (phase2 (goal_of b) 0 (frames_from g u None site))
 
-  flies_by : (g : Guide) (s : State) (given : ℕ) (b : Barrier) (r : Result ℕ CxaFault) → ErrIs (By P given s) r → EndIs P (flies_to g s given b r)
+  flies_by : (g : Tables) (s : State) (given : ℕ) (b : Barrier) (r : Result ℕ CxaFault) → ErrIs (By P given s) r → EndIs P (flies_to g s given b r)
   flies_by g s given b (Ok block) h = throws_to g s s.regs.pc block b
   flies_by g s given b (Err why) h = h
 
-  sought_by : (g : Guide) (s : State) (what : EventKind) (thrown : Thrown) (further : Barrier → State → Outcome)
+  sought_by : (g : Tables) (s : State) (what : EventKind) (thrown : Thrown) (further : Barrier → State → Outcome)
       → P (Trap trap.BadType thrown.ty s.regs.pc) → ((a : ℕ) → NoWord s.memory a → P (Trap trap.ObjectRead a s.regs.pc))
       → ((b : Barrier) → EndIs P (further b (logged s (throw_event what s.memory thrown (size_of s thrown)))))
       → EndIs P (from_barrier further (sought g s what thrown))
@@ -104,14 +104,14 @@ module _ (P : End → Type 0) (terminate : (why : Cause) → P (Terminate why)) 
 
 -- ---- gate by gate
 
-at_allocate : (g : Guide) (next : ℕ) (s : State) → EndIs (λ end. IsTrap s trap.TooBig (reg s 0) end ⊎ (end ≡ Terminate cause.PoolFull)) (gate_of g 16 next s)
+at_allocate : (g : Tables) (next : ℕ) (s : State) → EndIs (λ end. IsTrap s trap.TooBig (reg s 0) end ⊎ (end ≡ Terminate cause.PoolFull)) (gate_of g 16 next s)
 unfolding gate_of
 at_allocate g next s =
     let P : End → Type 0 = λ end. IsTrap s trap.TooBig (reg s 0) end ⊎ (end ≡ Terminate cause.PoolFull) in
     let d = allocate_of (word s.memory) (reg s 0) in
     allocates P next s d.answer (put_all d.writes s.memory) (allocate_err (By P (reg s 0) s) (word s.memory) (reg s 0) (inl refl) (inr refl))
 
-at_free : (g : Guide) (next : ℕ) (s : State) → EndIs (λ end. IsTrap s trap.BadObject (reg s 0) end) (gate_of g 17 next s)
+at_free : (g : Tables) (next : ℕ) (s : State) → EndIs (λ end. IsTrap s trap.BadObject (reg s 0) end) (gate_of g 17 next s)
 unfolding gate_of
 at_free g next s =
     let P : End → Type 0 = λ end. IsTrap s trap.BadObject (reg s 0) end in
@@ -121,7 +121,7 @@ at_free g next s =
 abbrev ThrowEnd : State → End → Type 0
 ThrowEnd s end = IsTrap s trap.BadObject (reg s 0) end ⊎ (IsTrap s trap.BadType (reg s 1) end ⊎ (IsUnread s end ⊎ Terminates end))
 
-throw_by : (g : Guide) (s : State) (r : Result (Unit {0}) CxaFault) → ErrIs (By (ThrowEnd s) (reg s 0) s) r → EndIs (ThrowEnd s) (throws g s r)
+throw_by : (g : Tables) (s : State) (r : Result (Unit {0}) CxaFault) → ErrIs (By (ThrowEnd s) (reg s 0) s) r → EndIs (ThrowEnd s) (throws g s r)
 throw_by g s (Err why) h = h
 throw_by g s (Ok may) h =
     let terminate : (why : Cause) → ThrowEnd s (Terminate why) = λ why. inr (inr (inr (why, refl))) in
@@ -131,19 +131,19 @@ throw_by g s (Ok may) h =
     flies_by (ThrowEnd s) terminate g (record t { globals = (first_flight t).globals; memory = put_all (first_flight t).writes t.memory }) (reg s 0) b (first_flight t).answer
     (throw_err (By (ThrowEnd s) (reg s 0) s) (word t.memory) t.globals (object_slot (reg t 0)) _ (inl refl)))
 
-at_throw : (g : Guide) (next : ℕ) (s : State) → EndIs (ThrowEnd s) (gate_of g 18 next s)
+at_throw : (g : Tables) (next : ℕ) (s : State) → EndIs (ThrowEnd s) (gate_of g 18 next s)
 unfolding gate_of
 at_throw g next s =
     throw_by g s (throw_fault (word s.memory) (object_slot (reg s 0))) (may_throw_err (By (ThrowEnd s) (reg s 0) s) (word s.memory) (object_slot (reg s 0)) (inl refl))
 
-at_begin_catch : (g : Guide) (next : ℕ) (s : State) → EndIs (λ end. IsTrap s trap.BadUcb (reg s 0) end ⊎ IsTrap s trap.CaughtOrder (reg s 0) end) (gate_of g 19 next s)
+at_begin_catch : (g : Tables) (next : ℕ) (s : State) → EndIs (λ end. IsTrap s trap.BadUcb (reg s 0) end ⊎ IsTrap s trap.CaughtOrder (reg s 0) end) (gate_of g 19 next s)
 unfolding gate_of
 at_begin_catch g next s =
     let P : End → Type 0 = λ end. IsTrap s trap.BadUcb (reg s 0) end ⊎ IsTrap s trap.CaughtOrder (reg s 0) end in
     let d = begin_catch_of (word s.memory) s.globals (reg s 0) in
     catches P next s d.answer d.globals (put_all d.writes s.memory) (catch_err (By P (reg s 0) s) (word s.memory) s.globals (reg s 0) (inl refl) (inr refl))
 
-at_end_catch : (g : Guide) (next : ℕ) (s : State) → EndIs (λ end. IsTrap s trap.NoCaught 0 end) (gate_of g 20 next s)
+at_end_catch : (g : Tables) (next : ℕ) (s : State) → EndIs (λ end. IsTrap s trap.NoCaught 0 end) (gate_of g 20 next s)
 unfolding gate_of
 at_end_catch g next s =
     let P : End → Type 0 = λ end. IsTrap s trap.NoCaught 0 end in
@@ -157,7 +157,7 @@ RethrowEnd s end = IsTrap s trap.CaughtOrder s.globals.caught end ⊎ (IsTrap s 
 top_type : (s : State) (block : ℕ) → (second_flight s).answer ≡ Ok block → (thrown_of_block s block).ty ≡ caught_type s
 top_type s block e = ap (λ (o : Option ℕ). (thrown_of (word s.memory) o).1) (rethrow_top (word s.memory) s.globals block e)
 
-rethrow_by : (g : Guide) (s : State) (r : Result ℕ CxaFault) → (second_flight s).answer ≡ r → ErrIs (λ why. RethrowEnd s (rethrow_end why s.globals.caught s.regs.pc)) r → EndIs (RethrowEnd s) (rethrows g s r)
+rethrow_by : (g : Tables) (s : State) (r : Result ℕ CxaFault) → (second_flight s).answer ≡ r → ErrIs (λ why. RethrowEnd s (rethrow_end why s.globals.caught s.regs.pc)) r → EndIs (RethrowEnd s) (rethrows g s r)
 rethrow_by g s (Err why) e h = h
 rethrow_by g s (Ok block) e h =
     let terminate : (why : Cause) → RethrowEnd s (Terminate why) = λ why. inr (inr (inr (why, refl))) in
@@ -168,21 +168,21 @@ rethrow_by g s (Ok block) e h =
     let u : State = record t { globals = (second_flight s).globals; memory = put_all (second_flight s).writes s.memory } in
     subst (λ (r : Result ℕ CxaFault). EndIs (RethrowEnd s) (flies_to g u block b r)) (sym e) (throws_to (RethrowEnd s) terminate g u u.regs.pc block b))
 
-at_rethrow : (g : Guide) (next : ℕ) (s : State) → EndIs (RethrowEnd s) (gate_of g 21 next s)
+at_rethrow : (g : Tables) (next : ℕ) (s : State) → EndIs (RethrowEnd s) (gate_of g 21 next s)
 unfolding gate_of
 at_rethrow g next s =
     rethrow_by g s (second_flight s).answer refl
     (rethrow_err (λ why. RethrowEnd s (rethrow_end why s.globals.caught s.regs.pc)) (word s.memory) s.globals (inr (inr (inr (cause.NothingCaught, refl)))) (inl refl))
 
-at_unexpected : (g : Guide) (next : ℕ) (s : State) → EndIs (λ end. end ≡ Terminate cause.Unexpected) (gate_of g 23 next s)
+at_unexpected : (g : Tables) (next : ℕ) (s : State) → EndIs (λ end. end ≡ Terminate cause.Unexpected) (gate_of g 23 next s)
 unfolding gate_of
 at_unexpected g next s = refl
 
-at_called : (g : Guide) (next : ℕ) (s : State) → EndIs (λ end. end ≡ Terminate cause.Called) (gate_of g 24 next s)
+at_called : (g : Tables) (next : ℕ) (s : State) → EndIs (λ end. end ≡ Terminate cause.Called) (gate_of g 24 next s)
 unfolding gate_of
 at_called g next s = refl
 
-at_uncaught : (g : Guide) (next : ℕ) (s : State) → EndIs (λ end. ⊥) (gate_of g 25 next s)
+at_uncaught : (g : Tables) (next : ℕ) (s : State) → EndIs (λ end. ⊥) (gate_of g 25 next s)
 unfolding gate_of
 at_uncaught g next s = tt
 

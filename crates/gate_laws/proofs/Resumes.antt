@@ -8,16 +8,16 @@ use Rattle.eh_cxa.specs.Cleanup.{innermost_at, end_cleanup_at, end_cleanup_by}
 use Rattle.eh_cxa.specs.declared.layout.TheConstants.{NEXT_CLEANUP}
 use Rattle.eh_cxa.proofs.Pools.{slot_small, slot_of_block_is}
 use Rattle.thumb_core.specs.declared.regs.TheConstants.{SP}
-use Rattle.eh_gates.specs.State.{State, Guide, Outcome}
+use Rattle.eh_gates.specs.State.{State, Tables, Outcome}
 use Rattle.eh_gates.specs.Resuming.{goes_on_to, ends_cleanup, resumes_in, resumes}
 use Rattle.eh_gates.specs.Gates.{gate_of}
 use Rattle.gate_laws.specs.Resumes.{caller_of, kept, Resumes, CleanupsGoOnFromTheKept}
 
-is_gate : (g : Guide) (next : ℕ) (s : State) → gate_of g 22 next s ≡ resumes g s (innermost_at (word s.memory) (block_slot s.globals.cleanup))
+is_gate : (g : Tables) (next : ℕ) (s : State) → gate_of g 22 next s ≡ resumes g s (innermost_at (word s.memory) (block_slot s.globals.cleanup))
 unfolding gate_of
 is_gate g next s = refl
 
-module _ (g : Guide) (s : State) (slot : ℕ) (vrs : Vrs) (is : block_slot s.globals.cleanup ≡ Some slot) where
+module _ (g : Tables) (s : State) (slot : ℕ) (vrs : Vrs) (is : block_slot s.globals.cleanup ≡ Some slot) where
   the_caller : caller_of g s ≡ Some vrs → resumes g s (innermost_at (word s.memory) (block_slot s.globals.cleanup)) ≡ resumes_in g s (Some vrs)
   the_caller c = ap (λ (o : Option ℕ). resumes g s (innermost_at (word s.memory) o)) is ∙ ap (resumes_in g s) c
 

@@ -24,7 +24,7 @@ use Rattle.thumb_core.specs.Words.{numbers}
 use Rattle.thumb_core.specs.declared.regs.TheConstants.{SP}
 use Rattle.thumb_core.specs.declared.ends.End.TheVariants as the_end
 use Rattle.thumb_core.specs.declared.ends.TrapKind.TheVariants as trap
-use Rattle.eh_gates.specs.State.{State, Guide, Outcome, reg, logged}
+use Rattle.eh_gates.specs.State.{State, Tables, Outcome, reg, logged}
 use Rattle.eh_gates.specs.Landing.{pad_event, entered}
 use Rattle.eh_gates.specs.Throwing.{frames_from, barrier_words, with_barrier, handed, throw_to, byte_of, throw_event, size_of, barrier_in, searched, sought, from_barrier, flies_to, flies, first_flight, throws, second_flight, rethrows}
 use Rattle.eh_gates.specs.Gates.{gate_of}
@@ -61,36 +61,36 @@ event_is s what thrown size = record {
       mapped_at f 0 numbers k numbers_count inside ∙ (ap f same ∙ byte_is s.memory thrown.object (min size 16) k byte h e);
 }
 
--- ---- what comes behind it
+-- ---- what comes after it
 
-enters_behind : (u : State) (block object : ℕ) (e : Entered) (old : Trace) (ev : Event) → u.events ≡ pushed old ev → Begins old ev (entered u block object e).1.events
-enters_behind u block object (enters.Cleanup vrs pad next site) old ev q =
+enters_after : (u : State) (block object : ℕ) (e : Entered) (old : Trace) (ev : Event) → u.events ≡ pushed old ev → Begins old ev (entered u block object e).1.events
+enters_after u block object (enters.Cleanup vrs pad next site) old ev q =
     let later = pad_event Cleanup pad (slice_index vrs.r SP) 0 in inr (later, ap (λ (t : Trace). pushed t later) q)
-enters_behind u block object (enters.Catch vrs pad) old ev q =
+enters_after u block object (enters.Catch vrs pad) old ev q =
     let later = pad_event Catch pad (slice_index vrs.r SP) object in inr (later, ap (λ (t : Trace). pushed t later) q)
-enters_behind u block object (enters.Spec vrs pad) old ev q =
+enters_after u block object (enters.Spec vrs pad) old ev q =
     let later = pad_event Unexpected pad (slice_index vrs.r SP) 0 in inr (later, ap (λ (t : Trace). pushed t later) q)
-enters_behind u block object enters.Unexpected old ev q = inl q
-enters_behind u block object (enters.Terminate why) old ev q = inl q
+enters_after u block object enters.Unexpected old ev q = inl q
+enters_after u block object (enters.Terminate why) old ev q = inl q
 
-flight_behind : (g : Guide) (s : State) (site block : ℕ) (b : Barrier) (old : Trace) (ev : Event) → s.events ≡ pushed old ev → Begins old ev (throw_to g s site block b).1.events
+flight_after : (g : Tables) (s : State) (site block : ℕ) (b : Barrier) (old : Trace) (ev : Event) → s.events ≡ pushed old ev → Begins old ev (throw_to g s site block b).1.events
 unfolding throw_to
-flight_behind g s site block b old ev q =
+flight_after g s site block b old ev q =
     let u = with_barrier s block (barrier_words block b) in
-    enters_behind u block (handed block b.hit) (phase2 (goal_of b) 0 (frames_from g u None site)) old ev q
+    enters_after u block (handed block b.hit) (phase2 (goal_of b) 0 (frames_from g u None site)) old ev q
 
-flies_behind : (g : Guide) (s : State) (given : ℕ) (b : Barrier) (r : Result ℕ CxaFault) (old : Trace) (ev : Event) → s.events ≡ pushed old ev → Begins old ev (flies_to g s given b r).1.events
-flies_behind g s given b (Ok block) old ev q = flight_behind g s s.regs.pc block b old ev q
-flies_behind g s given b (Err why) old ev q = inl q
+flies_after : (g : Tables) (s : State) (given : ℕ) (b : Barrier) (r : Result ℕ CxaFault) (old : Trace) (ev : Event) → s.events ≡ pushed old ev → Begins old ev (flies_to g s given b r).1.events
+flies_after g s given b (Ok block) old ev q = flight_after g s s.regs.pc block b old ev q
+flies_after g s given b (Err why) old ev q = inl q
 
--- ---- the gates, behind their event
+-- ---- the gates, after their event
 
-found_is : (g : Guide) (s : State) (what : EventKind) (thrown : Thrown) → is_some (row_of g.types thrown.ty) ≡ true
+found_is : (g : Tables) (s : State) (what : EventKind) (thrown : Thrown) → is_some (row_of g.types thrown.ty) ≡ true
     → sought g s what thrown ≡ (barrier_in s.regs.pc (searched g s thrown), logged s (throw_event what s.memory thrown (size_of s thrown)))
 unfolding sought
 found_is g s what thrown held = rw held refl
 
-module _ (g : Guide) (s : State) (what : EventKind) (thrown : Thrown) (size : ℕ) (sized : size_of s thrown ≡ size) (further : Barrier → State → Outcome) where
+module _ (g : Tables) (s : State) (what : EventKind) (thrown : Thrown) (size : ℕ) (sized : size_of s thrown ≡ size) (further : Barrier → State → Outcome) where
   abbrev after : State
   after = logged s (throw_event what s.memory thrown (size_of s thrown))
 
@@ -173,7 +173,7 @@ one_more old e = record {
 
 -- ---- gate 18
 
-module _ (g : Guide) (next : ℕ) (s : State) (slot : ℕ) (may : MayThrow g s slot) where
+module _ (g : Tables) (next : ℕ) (s : State) (slot : ℕ) (may : MayThrow g s slot) where
   abbrev onward : Barrier → State → Outcome
   onward b t = flies g t (reg s 0) (first_flight t) b
 
@@ -190,7 +190,7 @@ module _ (g : Guide) (next : ℕ) (s : State) (slot : ℕ) (may : MayThrow g s s
   first_adds : AddsEvent s Throw (first_thrown s) (word s.memory slot 1) (gate_of g 18 next s)
   first_adds =
       subst (λ (o : Outcome). AddsEvent s Throw (first_thrown s) (word s.memory slot 1) o) (sym throw_is)
-      (adds g s Throw (first_thrown s) (word s.memory slot 1) throw_size onward (searched g s (first_thrown s)) (λ b. flies_behind g _ (reg s 0) b _ s.events _ refl))
+      (adds g s Throw (first_thrown s) (word s.memory slot 1) throw_size onward (searched g s (first_thrown s)) (λ b. flies_after g _ (reg s 0) b _ s.events _ refl))
 
   first_only : FindsNone g s (first_thrown s) → OnlyAdds s Throw (first_thrown s) (word s.memory slot 1) (gate_of g 18 next s)
   first_only none =
@@ -199,7 +199,7 @@ module _ (g : Guide) (next : ℕ) (s : State) (slot : ℕ) (may : MayThrow g s s
 
 -- ---- gate 21
 
-module _ (g : Guide) (next : ℕ) (s : State) (block slot : ℕ) (may : MayRethrow g s block slot) where
+module _ (g : Tables) (next : ℕ) (s : State) (block slot : ℕ) (may : MayRethrow g s block slot) where
   abbrev onward_again : Barrier → State → Outcome
   onward_again b t = flies g t block (second_flight t) b
 
@@ -218,7 +218,7 @@ module _ (g : Guide) (next : ℕ) (s : State) (block slot : ℕ) (may : MayRethr
   again_adds : AddsEvent s Rethrow (thrown_again s block) (word s.memory slot 1) (gate_of g 21 next s)
   again_adds =
       subst (λ (o : Outcome). AddsEvent s Rethrow (thrown_again s block) (word s.memory slot 1) o) (sym rethrow_is)
-      (adds g s Rethrow (thrown_again s block) (word s.memory slot 1) rethrow_size onward_again (searched g s (thrown_again s block)) (λ b. flies_behind g _ block b _ s.events _ refl))
+      (adds g s Rethrow (thrown_again s block) (word s.memory slot 1) rethrow_size onward_again (searched g s (thrown_again s block)) (λ b. flies_after g _ block b _ s.events _ refl))
 
   again_only : FindsNone g s (thrown_again s block) → OnlyAdds s Rethrow (thrown_again s block) (word s.memory slot 1) (gate_of g 21 next s)
   again_only none =

@@ -9,8 +9,8 @@ use Rattle.eh_types.specs.declared.kind.Base.{Base}
 use Rattle.eh_types.specs.declared.kind.TypeKind.{TypeKind}
 use Rattle.eh_types.specs.declared.kind.TypeKind.TheVariants.{Other, Fundamental, Class, Si, Vmi, Pointer}
 use Rattle.eh_types.specs.Graph.{Row, kind_of, same_type}
-use Rattle.eh_match.specs.Address.{or_address, read, shifted, by_vtable, moved, address}
-use Rattle.eh_match.specs.Paths.{behind}
+use Rattle.eh_match.specs.Address.{or_address, read, shifted, by_vtable, stepped_to, address}
+use Rattle.eh_match.specs.Paths.{at_offset}
 use Rattle.eh_match.specs.Subobjects.{chosen}
 use Rattle.eh_match.specs.declared.rules.Match.{Match}
 use Rattle.eh_match.specs.declared.rules.Match.TheVariants.{Failed, Object, PointerToBase, Unreadable}
@@ -66,17 +66,17 @@ module _ (segments : List Segment) where
   shifted_says a (Ok distance) h = tt
   shifted_says a (Err refused) h = h
 
-  moved_says : (at : Result ℕ ℕ) (b : Base) → OfAddress at → OfAddress (moved segments at b)
+  moved_says : (at : Result ℕ ℕ) (b : Base) → OfAddress at → OfAddress (stepped_to segments at b)
   moved_says (Err refused) b h = h
   moved_says (Ok a) b h = either OfAddress b.is_virtual _ _ (by (read segments a) (read_says a)) tt
     where
       by : (r : Result ℕ ℕ) → OfAddress r → OfAddress (by_vtable segments a b.offset r)
-      by (Ok vtable) k = shifted_says a (read segments (behind vtable b.offset)) (read_says (behind vtable b.offset))
+      by (Ok vtable) k = shifted_says a (read segments (at_offset vtable b.offset)) (read_says (at_offset vtable b.offset))
       by (Err refused) k = k
 
   address_says : (steps : List Base) (at : Result ℕ ℕ) → OfAddress at → OfAddress (address segments at steps)
   address_says [] at h = h
-  address_says (b ∷ more) at h = address_says more (moved segments at b) (moved_says at b h)
+  address_says (b ∷ more) at h = address_says more (stepped_to segments at b) (moved_says at b h)
 
   -- ---- of matches
 

@@ -4,10 +4,10 @@ use Rattle.eh_cxa.specs.Allocate.{allocate_of}
 use Rattle.eh_cxa.specs.Catch.{end_catch_of}
 use Rattle.eh_cxa.specs.Words.{word}
 use Rattle.eh_gates.specs.declared.state.Turned.TheVariants.{Went}
-use Rattle.eh_gates.specs.State.{State, Guide, reg}
+use Rattle.eh_gates.specs.State.{State, Tables, reg}
 use Rattle.eh_gates.specs.Gates.{gate_of}
 
-pub record Answers (g : Guide) (next : ℕ) (s t : State) : Type 0 where
+pub record Answers (g : Tables) (next : ℕ) (s t : State) : Type 0 where
   -- gate 16 gives the object of a new exception of r0 bytes in r0
   pub allocate : (object : ℕ) → (allocate_of (word s.memory) (reg s 0)).answer ≡ Ok object → gate_of g 16 next s ≡ (Went, t) → reg t 0 ≡ object
   -- gate 20 gives an object to be destroyed in r0 and its destructor in r1
@@ -18,4 +18,4 @@ pub record Answers (g : Guide) (next : ℕ) (s t : State) : Type 0 where
   pub uncaught : gate_of g 25 next s ≡ (Went, t) → reg t 0 ≡ s.globals.uncaught
 
 abbrev pub CallsAnswer : Type 0
-CallsAnswer = (g : Guide) (next : ℕ) (s t : State) → 1 < length s.regs.r → Answers g next s t
+CallsAnswer = (g : Tables) (next : ℕ) (s t : State) → 1 < length s.regs.r → Answers g next s t

@@ -4,7 +4,7 @@ use Rattle.eh_bytecode.specs.declared.frame.Vrs.{Vrs}
 use Rattle.eh_phase.specs.declared.phase2.Entered.TheVariants.{Cleanup, Catch, Spec}
 use Rattle.thumb_core.specs.declared.regs.Regs.{Regs}
 use Rattle.eh_gates.specs.declared.state.Turned.TheVariants.{Went}
-use Rattle.eh_gates.specs.State.{State, Guide}
+use Rattle.eh_gates.specs.State.{State, Tables}
 use Rattle.eh_gates.specs.Landing.{entered}
 use Rattle.eh_gates.specs.Gates.{gate_of}
 
@@ -46,15 +46,15 @@ pub record Lands (s t : State) : Type 0 where
 
 abbrev pub ThrowsLand : Type 0
 ThrowsLand =
-    (g : Guide) (number next : ℕ) (s t : State) → (number ≡ 18) ⊎ ((number ≡ 21) ⊎ (number ≡ 22)) → gate_of g number next s ≡ (Went, t) → Lands s t
+    (g : Tables) (number next : ℕ) (s t : State) → (number ≡ 18) ⊎ ((number ≡ 21) ⊎ (number ≡ 22)) → gate_of g number next s ≡ (Went, t) → Lands s t
 
 -- ---- every other gate that goes on goes on at the next address, and leaves r2 to r14 and the flags
 
-pub record GoesBehind (next : ℕ) (s t : State) : Type 0 where
+pub record GoesAfter (next : ℕ) (s t : State) : Type 0 where
   pub pc : t.regs.pc ≡ next
   pub others : (k : ℕ) → 2 ≤ k → slice_index t.regs.r k ≡ slice_index s.regs.r k
   pub flags : SameFlags s.regs t.regs
 
-abbrev pub GatesGoBehind : Type 0
-GatesGoBehind =
-    (g : Guide) (number next : ℕ) (s t : State) → number ≢ 18 → number ≢ 21 → number ≢ 22 → gate_of g number next s ≡ (Went, t) → GoesBehind next s t
+abbrev pub GatesGoAfter : Type 0
+GatesGoAfter =
+    (g : Tables) (number next : ℕ) (s t : State) → number ≢ 18 → number ≢ 21 → number ≢ 22 → gate_of g number next s ≡ (Went, t) → GoesAfter next s t

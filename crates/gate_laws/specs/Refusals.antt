@@ -10,7 +10,7 @@ use Rattle.thumb_core.specs.declared.ends.TrapKind.TheVariants as kind
 use Rattle.thumb_core.specs.declared.ends.End.{End}
 use Rattle.thumb_core.specs.declared.ends.End.TheVariants.{Trap, Terminate}
 use Rattle.eh_gates.specs.declared.state.Turned.TheVariants.{Ended}
-use Rattle.eh_gates.specs.State.{State, Guide, reg}
+use Rattle.eh_gates.specs.State.{State, Tables, reg}
 use Rattle.eh_gates.specs.Gates.{gate_of}
 
 -- a trap at pc with a value
@@ -33,7 +33,7 @@ abbrev pub caught_type : State → ℕ
 caught_type s = (thrown_of (word s.memory) (block_slot s.globals.caught)).1
 
 -- by which ends each gate may end, whatever the state
-pub record EndAsTold (g : Guide) (next : ℕ) (s t : State) (end : End) : Type 0 where
+pub record EndAsTold (g : Tables) (next : ℕ) (s t : State) (end : End) : Type 0 where
   pub allocate : gate_of g 16 next s ≡ (Ended end, t) → IsTrap s kind.TooBig (reg s 0) end ⊎ (end ≡ Terminate cause.PoolFull)
   pub free : gate_of g 17 next s ≡ (Ended end, t) → IsTrap s kind.BadObject (reg s 0) end
   pub throw :
@@ -49,8 +49,8 @@ pub record EndAsTold (g : Guide) (next : ℕ) (s t : State) (end : End) : Type 0
   pub uncaught : gate_of g 25 next s ≡ (Ended end, t) → ⊥
 
 abbrev pub GatesEndAsTold : Type 0
-GatesEndAsTold = (g : Guide) (next : ℕ) (s t : State) (end : End) → EndAsTold g next s t end
+GatesEndAsTold = (g : Tables) (next : ℕ) (s t : State) (end : End) → EndAsTold g next s t end
 
 -- a gate of no number of these is none
 abbrev pub OtherGatesAreNone : Type 0
-OtherGatesAreNone = (g : Guide) (number next : ℕ) (s : State) → (number < 16) ⊎ (25 < number) → gate_of g number next s ≡ (Ended (Trap kind.UnknownGate number s.regs.pc), s)
+OtherGatesAreNone = (g : Tables) (number next : ℕ) (s : State) → (number < 16) ⊎ (25 < number) → gate_of g number next s ≡ (Ended (Trap kind.UnknownGate number s.regs.pc), s)

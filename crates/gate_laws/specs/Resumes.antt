@@ -11,12 +11,12 @@ use Rattle.thumb_core.specs.Registers.{all_of}
 use Rattle.thumb_core.specs.declared.ends.TrapKind.TheVariants as kind
 use Rattle.thumb_core.specs.declared.ends.End.TheVariants.{Trap}
 use Rattle.eh_gates.specs.declared.state.Turned.TheVariants.{Ended}
-use Rattle.eh_gates.specs.State.{State, Guide, Outcome}
+use Rattle.eh_gates.specs.State.{State, Tables, Outcome}
 use Rattle.eh_gates.specs.Landing.{entered}
 use Rattle.eh_gates.specs.Gates.{gate_of}
 
 -- the frame of the function that asks for it, as its caller was left
-abbrev pub caller_of : Guide → State → Option Vrs
+abbrev pub caller_of : Tables → State → Option Vrs
 caller_of g s = caller_at g.image s.memory.segments s.regs.pc (all_of s.regs)
 
 -- words 18, 19 and 20 of a slot are the barrier's sp, the object of its handler and its descriptor; words 24, 25 and 26 are the cleanup's
@@ -28,17 +28,17 @@ abbrev pub kept_goal : State → ℕ → Goal
 kept_goal s slot = record { sp = kept s slot 18; desc = kept s slot 20 }
 
 -- what phase 2 enters from the kept site on, with the caller's registers, and of that frame from the kept next descriptor on
-abbrev pub resumed : Guide → State → ℕ → Vrs → Entered
+abbrev pub resumed : Tables → State → ℕ → Vrs → Entered
 resumed g s slot vrs = phase2 (kept_goal s slot) (kept s slot 24) (frames_of g.image (stack_of s.memory) None (kept s slot 26) vrs.r)
 
 -- the state in which it is entered: as before, but that another cleanup is the innermost in progress
-pub record Resumes (g : Guide) (s : State) (slot : ℕ) (vrs : Vrs) (o : Outcome) : Type 0 where
+pub record Resumes (g : Tables) (s : State) (slot : ℕ) (vrs : Vrs) (o : Outcome) : Type 0 where
   pub block : ℕ
   pub is_block : block_slot block ≡ Some slot
   pub outer : ℕ
   pub is : o ≡ entered (record s { globals = record s.globals { cleanup = outer } }) block (kept s slot 19) (resumed g s slot vrs)
 
-pub record EndsCleanups (g : Guide) (next : ℕ) (s : State) : Type 0 where
+pub record EndsCleanups (g : Tables) (next : ℕ) (s : State) : Type 0 where
   -- none is in progress
   pub none : block_slot s.globals.cleanup ≡ None → gate_of g 22 next s ≡ (Ended (Trap kind.NoCleanup 0 s.regs.pc), s)
   -- the function that asks for it can't be unwound
@@ -53,4 +53,4 @@ pub record EndsCleanups (g : Guide) (next : ℕ) (s : State) : Type 0 where
       → Resumes g s slot vrs (gate_of g 22 next s)
 
 abbrev pub CleanupsGoOnFromTheKept : Type 0
-CleanupsGoOnFromTheKept = (g : Guide) (next : ℕ) (s : State) → EndsCleanups g next s
+CleanupsGoOnFromTheKept = (g : Tables) (next : ℕ) (s : State) → EndsCleanups g next s

@@ -14,7 +14,7 @@ use Rattle.eh_trace.specs.declared.event.EventKind.{EventKind}
 use Rattle.eh_trace.specs.declared.event.EventKind.TheVariants.{Throw, Rethrow}
 use Rattle.thumb_core.specs.declared.ends.End.{End}
 use Rattle.eh_gates.specs.declared.state.Turned.TheVariants.{Ended}
-use Rattle.eh_gates.specs.State.{State, Guide, Outcome, reg}
+use Rattle.eh_gates.specs.State.{State, Tables, Outcome, reg}
 use Rattle.eh_gates.specs.Throwing.{searched}
 use Rattle.eh_gates.specs.Gates.{gate_of}
 
@@ -28,7 +28,7 @@ pub record IsOf (s : State) (what : EventKind) (thrown : Thrown) (size : ℕ) (e
   pub count : e.count ≡ min size 16
   pub bytes : (k byte : ℕ) → k < e.count → load 1 s.memory ((thrown.object + k) % 2 ^ 32) ≡ Ok byte → slice_index e.bytes k ≡ byte
 
--- the first event behind some is e; a pad that is entered adds one more
+-- the first event after some is e; a pad that is entered adds one more
 abbrev pub Begins : Trace → Event → Trace → Type 0
 Begins old e new = (new ≡ pushed old e) ⊎ ((later : Event) × (new ≡ pushed (pushed old e) later))
 
@@ -45,21 +45,21 @@ abbrev pub thrown_again : State → ℕ → Thrown
 thrown_again s block = record { object = (thrown_of (word s.memory) (block_slot block)).0; ty = (thrown_of (word s.memory) (block_slot block)).1 }
 
 -- a throw that isn't refused, of a type that the graph holds
-pub record MayThrow (g : Guide) (s : State) (slot : ℕ) : Type 0 where
+pub record MayThrow (g : Tables) (s : State) (slot : ℕ) : Type 0 where
   pub is_slot : object_slot (reg s 0) ≡ Some slot
   pub fresh : throw_fault (word s.memory) (object_slot (reg s 0)) ≡ Ok tt
   pub held : is_some (row_of g.types (reg s 1)) ≡ true
 
 -- .. and a rethrow
-pub record MayRethrow (g : Guide) (s : State) (block slot : ℕ) : Type 0 where
+pub record MayRethrow (g : Tables) (s : State) (block slot : ℕ) : Type 0 where
   pub is_slot : object_slot (thrown_again s block).object ≡ Some slot
   pub caught : (rethrow_of (word s.memory) s.globals).answer ≡ Ok block
   pub held : is_some (row_of g.types (thrown_again s block).ty) ≡ true
 
 pub record ThrowsAddTheirEvent : Type 0 where
-  pub first : (g : Guide) (next : ℕ) (s : State) (slot : ℕ) → MayThrow g s slot → AddsEvent s Throw (first_thrown s) (word s.memory slot 1) (gate_of g 18 next s)
+  pub first : (g : Tables) (next : ℕ) (s : State) (slot : ℕ) → MayThrow g s slot → AddsEvent s Throw (first_thrown s) (word s.memory slot 1) (gate_of g 18 next s)
   pub again :
-      (g : Guide) (next : ℕ) (s : State) (block slot : ℕ) → MayRethrow g s block slot
+      (g : Tables) (next : ℕ) (s : State) (block slot : ℕ) → MayRethrow g s block slot
       → AddsEvent s Rethrow (thrown_again s block) (word s.memory slot 1) (gate_of g 21 next s)
 
 -- ---- a search without a barrier
@@ -82,13 +82,13 @@ pub record OnlyAdds (s : State) (what : EventKind) (thrown : Thrown) (size : ℕ
   pub memory : o.1.memory ≡ s.memory
 
 -- the search finds no barrier
-abbrev pub FindsNone : Guide → State → Thrown → Type 0
+abbrev pub FindsNone : Tables → State → Thrown → Type 0
 FindsNone g s thrown = (b : Barrier) → searched g s thrown ≡ found.Barrier b → ⊥
 
 pub record FailedSearchesAddOne : Type 0 where
   pub first :
-      (g : Guide) (next : ℕ) (s : State) (slot : ℕ) → MayThrow g s slot → FindsNone g s (first_thrown s)
+      (g : Tables) (next : ℕ) (s : State) (slot : ℕ) → MayThrow g s slot → FindsNone g s (first_thrown s)
       → OnlyAdds s Throw (first_thrown s) (word s.memory slot 1) (gate_of g 18 next s)
   pub again :
-      (g : Guide) (next : ℕ) (s : State) (block slot : ℕ) → MayRethrow g s block slot → FindsNone g s (thrown_again s block)
+      (g : Tables) (next : ℕ) (s : State) (block slot : ℕ) → MayRethrow g s block slot → FindsNone g s (thrown_again s block)
       → OnlyAdds s Rethrow (thrown_again s block) (word s.memory slot 1) (gate_of g 21 next s)

@@ -1,7 +1,7 @@
 //! What the gates of exceptions promise, in the words of their users (docs/machine.md, "Gates", "A throw", "Landing", "The end of a cleanup").
 #![tactic(auto)]
 
-ghost use Rattle.gate_laws.specs.Landings.{LandingsAreAsTold, ThrowsLand, GatesGoBehind};
+ghost use Rattle.gate_laws.specs.Landings.{LandingsAreAsTold, ThrowsLand, GatesGoAfter};
 ghost use Rattle.gate_laws.specs.CallAnswers.{CallsAnswer};
 ghost use Rattle.gate_laws.specs.PadEvents.{LandingsHaveTheirEvent};
 ghost use Rattle.gate_laws.specs.Refusals.{GatesEndAsTold, OtherGatesAreNone};
@@ -27,8 +27,8 @@ pub fn throws_land()
 {}
 
 /// Every other gate that goes on goes on at the next address, and leaves r2 to r14 and the flags.
-pub fn gates_go_behind()
-    ensures { GatesGoBehind }
+pub fn gates_go_after()
+    ensures { GatesGoAfter }
 {}
 
 /// Each gate ends the run by these ends alone, each with its value.

@@ -21,7 +21,7 @@ module _ (S E : Type 0) (machine : Machine S E) where
   unfolding led_by
   led_cons bytes more state = refl
 
-  -- one event behind others
+  -- one event after others
   led_more : (given : List (List ℕ)) (bytes : List ℕ) (old : S) (led : Led S) (new : S) (text rest : List ℕ) → led_by machine.event given old ≡ Some led
       → machine.event led.state bytes ≡ Goes new text rest → led_by machine.event (given ++ bytes ∷ []) old ≡ Some (record { text = led.text ++ text; state = new })
   led_more [] bytes old led new text rest e goes =
@@ -35,12 +35,12 @@ module _ (S E : Type 0) (machine : Machine S E) where
       ∙ go (λ (l : Led S) (t : S) (is : led_by machine.event given t ≡ Some l) (there : machine.event l.state bytes ≡ Goes new text rest). led_more given bytes t l new text rest is there)
       (machine.event old first) (sym (led_cons first given old) ∙ e)
     where
-      behind : ((l : Led S) (t : S) → led_by machine.event given t ≡ Some l → machine.event l.state bytes ≡ Goes new text rest
+      after : ((l : Led S) (t : S) → led_by machine.event given t ≡ Some l → machine.event l.state bytes ≡ Goes new text rest
           → led_by machine.event (given ++ bytes ∷ []) t ≡ Some (record { text = l.text ++ text; state = new }))
           → (said : List ℕ) (o : Option (Led S)) (t : S) → led_by machine.event given t ≡ o → option_map (led_on said) o ≡ Some led
           → option_map (led_on said) (led_by machine.event (given ++ bytes ∷ []) t) ≡ Some (record { text = led.text ++ text; state = new })
-      behind more said None t is h = absurd cc
-      behind more said (Some l) t is h =
+      after more said None t is h = absurd cc
+      after more said (Some l) t is h =
           let same : led_on said l ≡ led = same_Some _ _ h in
           let goes_there : machine.event l.state bytes ≡ Goes new text rest = ap (λ (q : Led S). machine.event q.state bytes) same ∙ goes in
           ap (option_map (led_on said)) (more l t is goes_there)
@@ -51,7 +51,7 @@ module _ (S E : Type 0) (machine : Machine S E) where
           → led_by machine.event (given ++ bytes ∷ []) t ≡ Some (record { text = l.text ++ text; state = new }))
           → (v : Event S E) → led_after v (led_by machine.event given) ≡ Some led
           → led_after v (led_by machine.event (given ++ bytes ∷ [])) ≡ Some (record { text = led.text ++ text; state = new })
-      go more (Goes t said left) h = behind more said (led_by machine.event given t) t refl h
+      go more (Goes t said left) h = after more said (led_by machine.event given t) t refl h
       go more (Ends end t) h = absurd cc
 
   -- n events of a run of n0 are left

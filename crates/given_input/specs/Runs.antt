@@ -6,7 +6,7 @@ use Rattle.std.specs.Io.KnownBytes.{Appends}
 use Rattle.eh_bus.specs.Segment.{AreBytes}
 use Rattle.event_runs.specs.Runs.{Event, Goes, Ends, Machine}
 
--- what stands behind some events: their text, and the state
+-- what stands after some events: their text, and the state
 pub record Led (S : Type 0) : Type 0 where
   pub text : List ℕ
   pub state : S

@@ -52,7 +52,7 @@ fn gate_on<O: Sink>(
     guest_gates::gate(number, pc, regs, &mut Given { byte }, out)
 }
 
-/// What a gate does to the registers behind its instruction, whose address is `pc`, as `guest_gates::gate` has it: on the bytes that the source
+/// What a gate does to the registers after its instruction, whose address is `pc`, as `guest_gates::gate` has it: on the bytes that the source
 /// tells, and whatever it tells on bytes that it gave.
 pub fn gate<I: Source, O: Sink>(
     number: u8,

@@ -5,7 +5,7 @@ use Rattle.resumes_keep.specs.eh_bus.declared.fault.BusFault.TheVariants.{SavedS
 use Rattle.resumes_keep.specs.thumb_core.Lists.{words_of}
 use Rattle.resumes_keep.specs.eh_gates.State.{reg}
 use Rattle.resumes_keep.specs.two_machines.Checked.{program_of}
-use Rattle.memory_laws.specs.Runs.{place_of}
+use Rattle.memory_laws.specs.Runs.{word_address}
 use Rattle.event_laws.proofs.Saves.{refused_end}
 use Rattle.guarded_runs.specs.Words.{bytes_at}
 use Rattle.guarded_runs.specs.Stores.{RunsTrapStores}
@@ -17,10 +17,10 @@ trap_stores x n input left list size k is fits =
     record {
       push = λ start stands from r.
           let refused = guard_words x n input is fits start (words_of list s.regs) k r.small r.inside r.before r.slot in
-          (refused_end (program_of x) s left size list (place_of start k) r.checked).push stands
-          (subst (λ (a : ℕ). store_run s.memory a (words_of list s.regs) ≡ (Err (SavedSlot (place_of start k)), s.memory)) from refused);
+          (refused_end (program_of x) s left size list (word_address start k) r.checked).push stands
+          (subst (λ (a : ℕ). store_run s.memory a (words_of list s.regs) ≡ (Err (SavedSlot (word_address start k)), s.memory)) from refused);
       stm = λ base stands r.
           let start = reg s base in
-          (refused_end (program_of x) s left size list (place_of start k) r.checked).stm base stands
+          (refused_end (program_of x) s left size list (word_address start k) r.checked).stm base stands
           (guard_words x n input is fits start (words_of list s.regs) k r.small r.inside r.before r.slot);
     }

@@ -5,7 +5,7 @@ use Rattle.resumes_keep.specs.eh_bus.declared.fault.BusFault.TheVariants.{SavedS
 use Rattle.resumes_keep.specs.eh_gates.State.{State}
 use Rattle.resumes_keep.proofs.two_machines.Saving.{are_guarded}
 use Rattle.machines_agree.proofs.WholeRuns.{runs_same}
-use Rattle.memory_laws.specs.Runs.{place_of, CanStore}
+use Rattle.memory_laws.specs.Runs.{word_address, CanStore}
 use Rattle.memory_laws.proofs.Guarded.{runs_refused}
 use Rattle.guarded_runs.specs.Words.{recorded_at, RunsGuardWords}
 
@@ -13,6 +13,6 @@ pub guard_words : RunsGuardWords
 guard_words x n input is fits a words k low inside before slot =
     let w = (runs_same x n input is fits).state in
     let t = recorded_at x n input in
-    let guarded = ((are_guarded t).guards (place_of a k)).1 (inl slot) in
-    subst (λ (c : State). CanStore c.memory a words k → store_run c.memory a words ≡ (Err (SavedSlot (place_of a k)), c.memory)) (sym w.same)
+    let guarded = ((are_guarded t).guards (word_address a k)).1 (inl slot) in
+    subst (λ (c : State). CanStore c.memory a words k → store_run c.memory a words ≡ (Err (SavedSlot (word_address a k)), c.memory)) (sym w.same)
     (λ can. runs_refused _ a words k w.keeps.corresponds.map low inside can guarded) before

@@ -13,7 +13,7 @@ use Rattle.resumes_keep.specs.two_machines.Checked.{program_of}
 use Rattle.resumes_keep.specs.two_machines.Machine.{machine_event}
 use Rattle.resumes_keep.specs.stands_for.Stands.{IsProgram}
 use Rattle.machines_agree.specs.Turned.{AreBytes}
-use Rattle.memory_laws.specs.Runs.{place_of, CanStore}
+use Rattle.memory_laws.specs.Runs.{word_address, CanStore}
 use Rattle.guarded_runs.specs.Words.{bytes_at, IsSlot}
 
 -- of the registers of a list, which are stored from an address on, the first that can't be stored is to go to a slot of a live activation
@@ -22,7 +22,7 @@ pub record ReachesSlot (x : Accepted) (n : ℕ) (input : List ℕ) (list start k
   pub small : start < 2 ^ 32
   pub inside : k < length (words_of list (bytes_at x n input).regs)
   pub before : CanStore (bytes_at x n input).memory start (words_of list (bytes_at x n input).regs) k
-  pub slot : IsSlot x n input (place_of start k)
+  pub slot : IsSlot x n input (word_address start k)
 
 -- then the event is the trap SavedSlot with that slot's address, whatever input is left, and leaves the state as it was
 pub record EndsThere (x : Accepted) (n : ℕ) (input left : List ℕ) (list size k : ℕ) : Type 0 where
@@ -30,12 +30,12 @@ pub record EndsThere (x : Accepted) (n : ℕ) (input left : List ℕ) (list size
       (start : ℕ) → instr_at (bytes_at x n input).memory (bytes_at x n input).regs.pc ≡ Some (Push list, size)
       → start ≡ (reg (bytes_at x n input) 13 + (2 ^ 32 - 4 * length (listed list))) % 2 ^ 32 → ReachesSlot x n input list start k
       → machine_event (program_of x) (bytes_at x n input) left
-      ≡ Ends (the_end.Trap kind.SavedSlot (place_of start k) (bytes_at x n input).regs.pc) (bytes_at x n input)
+      ≡ Ends (the_end.Trap kind.SavedSlot (word_address start k) (bytes_at x n input).regs.pc) (bytes_at x n input)
   pub stm :
       (base : ℕ) → instr_at (bytes_at x n input).memory (bytes_at x n input).regs.pc ≡ Some (Stm base list, size)
       → ReachesSlot x n input list (reg (bytes_at x n input) base) k
       → machine_event (program_of x) (bytes_at x n input) left
-      ≡ Ends (the_end.Trap kind.SavedSlot (place_of (reg (bytes_at x n input) base) k) (bytes_at x n input).regs.pc) (bytes_at x n input)
+      ≡ Ends (the_end.Trap kind.SavedSlot (word_address (reg (bytes_at x n input) base) k) (bytes_at x n input).regs.pc) (bytes_at x n input)
 
 abbrev pub RunsTrapStores : Type 0
 RunsTrapStores = (x : Accepted) (n : ℕ) (input left : List ℕ) (list size k : ℕ) → IsProgram x → AreBytes input → EndsThere x n input left list size k

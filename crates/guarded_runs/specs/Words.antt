@@ -8,7 +8,7 @@ use Rattle.resumes_keep.specs.eh_gates.State.{State}
 use Rattle.resumes_keep.specs.two_machines.Activations.{Recorded, slots_of}
 use Rattle.resumes_keep.specs.stands_for.Stands.{IsProgram}
 use Rattle.machines_agree.specs.Turned.{AreBytes, byte_run, recorded_run}
-use Rattle.memory_laws.specs.Runs.{place_of, CanStore}
+use Rattle.memory_laws.specs.Runs.{word_address, CanStore}
 
 -- where a run has come to, over bytes and with recorded activations
 abbrev pub bytes_at : Accepted → ℕ → List ℕ → State
@@ -24,5 +24,5 @@ IsSlot x n input g = Has (slots_of ((recorded_at x n input).first ∷ (recorded_
 -- words stored upwards, the first of which that can't be stored is such a slot, are refused with that slot's address, and none is stored
 abbrev pub RunsGuardWords : Type 0
 RunsGuardWords = (x : Accepted) (n : ℕ) (input : List ℕ) → IsProgram x → AreBytes input
-    → (a : ℕ) (words : List ℕ) (k : ℕ) → a < 2 ^ 32 → k < length words → CanStore (bytes_at x n input).memory a words k → IsSlot x n input (place_of a k)
-    → store_run (bytes_at x n input).memory a words ≡ (Err (SavedSlot (place_of a k)), (bytes_at x n input).memory)
+    → (a : ℕ) (words : List ℕ) (k : ℕ) → a < 2 ^ 32 → k < length words → CanStore (bytes_at x n input).memory a words k → IsSlot x n input (word_address a k)
+    → store_run (bytes_at x n input).memory a words ≡ (Err (SavedSlot (word_address a k)), (bytes_at x n input).memory)

@@ -27,7 +27,7 @@ pub record Takes (input : List ℕ) (byte : Option ℕ) (left : Option (List ℕ
 
 -- The exit gate ends the run with r0, the output gate writes the low byte of r0, the input gate reads a byte into r0; any
 -- other number is UnknownGate. A gate leaves the memory, so it is an event of the registers: `old` are those before its
--- instruction, which an end leaves, and `new` those behind it.
+-- instruction, which an end leaves, and `new` those after it.
 abbrev pub gate_event : ℕ → Regs → Regs → List ℕ → Event Regs End
 gate_event number old new input =
     if number == EXIT_GATE then Ends (the_end.Exit (r0 new)) old

@@ -48,7 +48,7 @@ fn next_byte<I: Source>(input: &mut I) -> Result<Option<u8>, Failed>
     }
 }
 
-/// What a gate does to the registers behind its instruction, whose address is `pc`. None where the run goes on; an end puts
+/// What a gate does to the registers after its instruction, whose address is `pc`. None where the run goes on; an end puts
 /// pc back to the instruction. A fault of the input comes at the input gate alone, one of the output at the output gate.
 pub fn gate<I: Source, O: Sink>(
     number: u8,

@@ -1,5 +1,6 @@
 //! Commands over files, and an output in memory.
-use eh_port::{Bytes, FileList, HostFiles, HostSink, MemFile, SureFiles, SureSource};
+use eh_files::{FileList, HostFiles, MemFile, SureFiles};
+use eh_port::{Bytes, HostSink, SureSource};
 use ehabi_top::ehabi_main;
 use std::alloc::{AllocError, Global};
 use std::io::Error;
@@ -51,7 +52,11 @@ pub fn checked(alloc: Global, bytes: &[u8]) -> Result<Came, AllocError> {
 /// What comes of a command over the files of the system.
 pub fn called(host: &HostRuntime, words: &[&str]) -> Came {
     let alloc = host.alloc();
-    let mut files = HostFiles { host, faults: 0 };
+    let mut files = HostFiles {
+        host,
+        faults: 0,
+        asked: 0,
+    };
     let mut input = no_input(alloc);
     let mut out = output(alloc);
     let status = ehabi_main(alloc, words, &mut files, &mut input, &mut out);

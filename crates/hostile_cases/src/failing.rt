@@ -1,7 +1,8 @@
 //! How many calls of files, input and output a command makes, each of which fails in its turn.
 use crate::command::file;
 use case_rows::{Asked, Unanswered};
-use eh_port::{Bytes, CallNumbers, FileList, MemFiles, MemSink, MemSource};
+use eh_files::{FileList, MemFiles};
+use eh_port::{Bytes, CallNumbers, MemSink, MemSource};
 use ehabi_top::ehabi_main;
 use std::alloc::{AllocError, Global};
 use std::fs;

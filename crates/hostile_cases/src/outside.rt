@@ -10,7 +10,7 @@ pub struct Outside<'a> {
 }
 
 impl Asked for Outside<'_> {
-    /// What a command writes, a line behind the other, and its status.
+    /// What a command writes, a line after the other, and its status.
     fn answer(&self, alloc: Global, question: &str) -> Result<String, Unanswered> {
         let words: Vec<&str> = question.split(' ').collect(alloc)?;
         let came = called(self.host, words.as_slice());

@@ -64,7 +64,7 @@ can_build specs segments e h few =
 pub built_of : (specs : List SegmentSpec) (segments : List Loaded) → map placed specs ≡ segments → map segment_of specs ≡ map memory_segment segments
 built_of specs segments e = same_segments specs ∙ ap (map memory_segment) e
 
--- raw code has no zeros behind it
+-- raw code has no zeros after it
 empty : (xs : List ℕ) → length xs ≡ 0 → xs ≡ []
 empty [] h = refl
 empty (x ∷ xs) h = absurd (omega arith)

@@ -41,7 +41,7 @@ fn places<'a>(alloc: Global, segments: &[Segment<'a>]) -> Result<Vec<SegmentSpec
     Ok(all)
 }
 
-/// The memory of an image: its segments, each with zeros behind its bytes of the file, the stack and the pool. It is kept in pages,
+/// The memory of an image: its segments, each with zeros after its bytes of the file, the stack and the pool. It is kept in pages,
 /// since an image may have a thousand segments.
 pub fn image_memory(alloc: Global, image: &Image) -> Result<PagedBus, BusMemory>
     ensures { IfOk result (λ bus. paged_memory_of bus ≡ (image_start image.now).memory) }

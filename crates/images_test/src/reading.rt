@@ -133,7 +133,7 @@ fn refusals(rt: HostRuntime) -> Result<(), Fail> {
     Ok(())
 }
 
-/// The file with its program header and a second one behind it, of this type, address and memory size.
+/// The file with its program header and a second one after it, of this type, address and memory size.
 fn with_second(alloc: Global, kind: u32, address: u32, size: u32) -> Result<Vec<u8>, AllocError> {
     let mut bytes = changed(alloc, &FILE, 28, &[0x78, 1, 0, 0])?;
     if bytes.len() > 44 {

@@ -29,13 +29,13 @@ use Rattle.eh_link.proofs.Images.{image_made, placed_too, code_below}
 use Rattle.eh_link.proofs.Sorting.{Ascending}
 use Rattle.eh_index.specs.Covering.{covering}
 use Rattle.source_laws.specs.Functions.{Function, functions_in, source_of, directives_of, start_at, end_at}
-use Rattle.source_laws.specs.RowLaw.{behind, entry_for, HasItsRow}
+use Rattle.source_laws.specs.RowLaw.{walk_over, entry_for, HasItsRow}
 use Rattle.source_laws.specs.SourceRowLaw.{LiesIn, RowLies}
 use Rattle.source_laws.proofs.SourceRows.{text_offset, law_of_later_rows, law_of_rising, starts_inside}
 use Rattle.source_laws.proofs.Standing.{law_of_rows}
 use Rattle.unwind_codes.specs.Rows.{even, as_read}
 use Rattle.index_laws.specs.SourceIndex.{IsAssembled, rows_to_read, IsIn, body_of, own_entry, later_rows, FunctionsAreFound, end_of, AddressesHaveTheirFunction}
-use Rattle.index_laws.proofs.Rising.{Orderly, all_orderly, asc_back, Stands, all_stand, asc_rows, asc_objects, offsets_from, behind_placed}
+use Rattle.index_laws.proofs.Rising.{Orderly, all_orderly, asc_back, Stands, all_stand, asc_rows, asc_objects, offsets_from, after_placed}
 use Rattle.index_laws.proofs.Reading.{even_rises, entries_are, image_read}
 
 -- ---- the last entry that begins at an address or below it
@@ -105,7 +105,7 @@ all_mid P (y ∷ front) x back h = all_mid P front x back (All-tail P y (front +
 pub record InImage (objects : List Object) (f : Function) (placed : Placed) (given : EntryWords) : Type 0 where
   pub has : HasItsRow f placed.object
   pub same : has.words ≡ given
-  pub offset : has.offset ≡ (behind (source_of f) f.before).at.sizes.text
+  pub offset : has.offset ≡ (walk_over (source_of f) f.before).at.sizes.text
   pub lies : RowLies placed.object (record { offset = has.offset; entry = entry_for has.words has.table })
   pub stands : Stands (layout_of objects).code_end placed
 
@@ -124,7 +124,7 @@ in_image objects f there given all words_given =
     record {
       has = has;
       same = words_same has.words given _ has.given words_given;
-      offset = sym (text_offset (behind (source_of f) f.before) has.offset has.place);
+      offset = sym (text_offset (walk_over (source_of f) f.before) has.offset has.place);
       lies =
           subst (RowLies object) (get_or_from_slice_get object.rows (functions_in f.before) row row has.row)
           (All-get_or (RowLies object) object.rows (functions_in f.before) row (slice_get_within object.rows (functions_in f.before) row has.row) own.lie);
@@ -189,8 +189,8 @@ got_dropped zero j xs x e = let same : 0 + j ≡ j = omega arith in ap (slice_ge
 got_dropped (suc n) j [] x e = absurd (cc)
 got_dropped (suc n) j (y ∷ xs) x e = let same : suc n + j ≡ suc (n + j) = omega arith in ap (slice_get (y ∷ xs)) same ∙ got_dropped n j xs x e
 
-behind_k : (k j : ℕ) → k < k + 1 + j
-behind_k k j = omega arith
+after_k : (k j : ℕ) → k < k + 1 + j
+after_k k j = omega arith
 
 later_le : (k i j : ℕ) → i ≤ j → k + 1 + i ≤ k + 1 + j
 later_le k i j h = omega (arith, h)
@@ -198,7 +198,7 @@ later_le k i j h = omega (arith, h)
 low_text : (a b end : ℕ) → a ≤ b → b ≡ end → end < 2 ^ 30 → a < 2 ^ 32
 low_text a b end h e k = omega (arith, h, e, k)
 
--- the rows behind a function's own begin at its `.fnend` or behind it
+-- the rows after a function's own begin at its `.fnend` or after it
 later_ascend : (objects : List Object) (f : Function) (there : IsIn objects f) → All IsAssembled objects → (layout_of objects).code_end < 2 ^ 30 → Ascending (end_of f there.placed) (later_rows objects f there)
 later_ascend objects f there all low =
     let placed = there.placed in
@@ -206,10 +206,10 @@ later_ascend objects f there all low =
     let k = functions_in f.before in
     let l = layout_of objects in
     let r = rising objects in
-    let own_end = (behind (source_of f) (f.before ++ start_at f.start_line ∷ f.between)).at.sizes.text in
+    let own_end = (walk_over (source_of f) (f.before ++ start_at f.start_line ∷ f.between)).at.sizes.text in
     let O : Placed → Type 0 = λ p. Orderly p.object in
     let own : Orderly object = all_mid O there.front placed there.back (subst (All O) there.split (placed_too Orderly (firsts l) objects (all_orderly objects all))) in
-    let rest = behind_placed (firsts l) objects l.text_end there.front placed there.back (all_orderly objects all) (sym (ends_of objects).text) there.split in
+    let rest = after_placed (firsts l) objects l.text_end there.front placed there.back (all_orderly objects all) (sym (ends_of objects).text) there.split in
     let next = ends placed.at object in
     let text_low : l.text_end < 2 ^ 30 = omega (arith, r.rodata, r.extab, r.index, r.code, low) in
     let end = closing l.text_end ∷ [] in
@@ -217,7 +217,7 @@ later_ascend objects f there all low =
     let others = subst B (sym rest.back_is) (asc_objects next rest.rest l.text_end rest.orderly_rest rest.ends_there (low_text l.text_end l.text_end l.text_end (omega arith) refl text_low)) in
     let offsets =
     offsets_from (drop (k + 1) object.rows) own_end
-    (λ j row e. law_of_later_rows f object (k + 1 + j) row there.unbounded there.few there.accepted (behind_k k j) (got_dropped (k + 1) j object.rows row e))
+    (λ j row e. law_of_later_rows f object (k + 1 + j) row there.unbounded there.few there.accepted (after_k k j) (got_dropped (k + 1) j object.rows row e))
     (λ i j a b le e g. law_of_rising (source_of f) object (k + 1 + i) (k + 1 + j) a b there.few there.accepted (later_le k i j le) (got_dropped (k + 1) i object.rows a e) (got_dropped (k + 1) j object.rows b g)) in
     let inside = All-drop (λ (x : IndexRow). x.offset ≤ length object.text) (k + 1) object.rows (All-weaker (RowLies object) (λ (x : IndexRow). x.offset ≤ length object.text) (λ x h. h.start) object.rows own.lie) in
     let within =

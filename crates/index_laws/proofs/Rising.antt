@@ -112,8 +112,8 @@ asc_objects at (x ∷ xs) end all e fits =
     fits_too : (a b c : ℕ) → a ≤ b → b ≡ c → c < 2 ^ 32 → a < 2 ^ 32
     fits_too a b c h k l = omega (arith, h, k, l)
 
--- the objects behind one of those that are placed
-pub record Behind (end : ℕ) (placed : Placed) (back : List Placed) : Type 0 where
+-- the objects after one of those that are placed
+pub record After (end : ℕ) (placed : Placed) (back : List Placed) : Type 0 where
   pub rest : List Object
   pub back_is : back ≡ placed_from (ends placed.at placed.object) rest
   pub ends_there : end_of Text (ends placed.at placed.object).text rest ≡ end
@@ -122,11 +122,11 @@ pub record Behind (end : ℕ) (placed : Placed) (back : List Placed) : Type 0 wh
 heads : (x y : Placed) (xs ys : List Placed) → x ∷ xs ≡ y ∷ ys → (x ≡ y) × (xs ≡ ys)
 heads x y xs ys e = (cc, cc)
 
-pub behind_placed : (at : Addresses) (objects : List Object) (end : ℕ) (front : List Placed) (placed : Placed) (back : List Placed) → All Orderly objects → end_of Text at.text objects ≡ end
-    → placed_from at objects ≡ front ++ placed ∷ back → Behind end placed back
-behind_placed at [] end [] placed back all e is = absurd (cc)
-behind_placed at [] end (y ∷ front) placed back all e is = absurd (cc)
-behind_placed at (x ∷ xs) end [] placed back all e is =
+pub after_placed : (at : Addresses) (objects : List Object) (end : ℕ) (front : List Placed) (placed : Placed) (back : List Placed) → All Orderly objects → end_of Text at.text objects ≡ end
+    → placed_from at objects ≡ front ++ placed ∷ back → After end placed back
+after_placed at [] end [] placed back all e is = absurd (cc)
+after_placed at [] end (y ∷ front) placed back all e is = absurd (cc)
+after_placed at (x ∷ xs) end [] placed back all e is =
     let p : Placed = record { object = x; at = all_aligned at } in
     let both = heads p placed (placed_from (ends (all_aligned at) x) xs) back is in
     record {
@@ -135,9 +135,9 @@ behind_placed at (x ∷ xs) end [] placed back all e is =
       ends_there = ap (λ (q : Placed). end_of Text (ends q.at q.object).text xs) (sym both.0) ∙ e;
       orderly_rest = All-tail Orderly x xs all;
     }
-behind_placed at (x ∷ xs) end (y ∷ front) placed back all e is =
+after_placed at (x ∷ xs) end (y ∷ front) placed back all e is =
     let p : Placed = record { object = x; at = all_aligned at } in
-    behind_placed (ends (all_aligned at) x) xs end front placed back (All-tail Orderly x xs all) e (heads p y (placed_from (ends (all_aligned at) x) xs) (front ++ placed ∷ back) is).1
+    after_placed (ends (all_aligned at) x) xs end front placed back (All-tail Orderly x xs all) e (heads p y (placed_from (ends (all_aligned at) x) xs) (front ++ placed ∷ back) is).1
 
 pub rows_ascend : (objects : List Object) → All Orderly objects → is_too_large (layout_of objects) ≡ false → Ascending CODE_START (rows_to_read objects)
 rows_ascend objects all fits =

@@ -28,7 +28,7 @@ use Rattle.eh_link.proofs.Holding.{law_of_other_bytes}
 use Rattle.eh_link.proofs.Standing.{extab_sizes, law_of_code}
 use Rattle.eh_index.specs.Places.{holds_byte, bytes_at}
 use Rattle.source_laws.specs.Functions.{Function, source_of}
-use Rattle.source_laws.specs.RowLaw.{behind, entry_for, TableStands}
+use Rattle.source_laws.specs.RowLaw.{walk_over, entry_for, TableStands}
 use Rattle.source_laws.specs.SourceRowLaw.{LiesIn}
 use Rattle.source_laws.proofs.Fields.{FieldsAround, fields_around}
 use Rattle.index_laws.specs.SourceIndex.{table_at, TablesAreThere}
@@ -80,7 +80,7 @@ in_no_field object table end offset around low high =
     let N : List Reloc → Type 0 = NotIn offset in
     from_kept Extab offset object.relocs
     (subst N (sym around.split_there)
-    (not_in_both offset around.front around.back (not_below offset 0 around.front table around.before low) (not_above offset end around.back around.last around.behind_it high)))
+    (not_in_both offset around.front around.back (not_below offset 0 around.front table around.before low) (not_above offset end around.back around.last around.after_it high)))
 
 -- ---- the bytes of the words
 
@@ -174,7 +174,7 @@ law_of_tables objects name parts f there given all linked_to words_given =
     let own = in_image objects f there (words.Table given) all words_given in
     let placed = there.placed in
     let object = placed.object in
-    let table = next_multiple (behind (source_of f) f.before).at.sizes.extab 4 in
+    let table = next_multiple (walk_over (source_of f) f.before).at.sizes.extab 4 in
     let end = (layout_of objects).code_end in
     let part = part_in Extab (filled_of (placed_of objects) placed) in
     let S : Placed → Type 0 = λ p. StandsAt p.at.extab (part_in Extab (filled_of (placed_of objects) p)) CODE_START (linked_code objects) in

@@ -26,7 +26,7 @@ use Rattle.eh_index.specs.Places.{table_of}
 use Rattle.eh_index.specs.Refusal.{index_refusal}
 use Rattle.eh_index.specs.Covering.{covering}
 use Rattle.source_laws.specs.Functions.{HasNoBound, Function, functions_in, source_of, directives_of, start_at}
-use Rattle.source_laws.specs.RowLaw.{behind}
+use Rattle.source_laws.specs.RowLaw.{walk_over}
 use Rattle.source_laws.specs.SourceRowLaw.{HaveShortLists}
 
 -- ---- objects of sources
@@ -70,10 +70,10 @@ pub record IsIn (objects : List Object) (f : Function) : Type 0 where
 
 -- where its `.fnstart` stands in memory, and where its table does
 abbrev pub start_of : Function → Placed → ℕ
-start_of f placed = placed.at.text + (behind (source_of f) f.before).at.sizes.text
+start_of f placed = placed.at.text + (walk_over (source_of f) f.before).at.sizes.text
 
 abbrev pub table_at : Function → Placed → ℕ
-table_at f placed = placed.at.extab + next_multiple (behind (source_of f) f.before).at.sizes.extab 4
+table_at f placed = placed.at.extab + next_multiple (walk_over (source_of f) f.before).at.sizes.extab 4
 
 -- its entry, for the words of its directives
 abbrev pub body_of : EntryWords → ℕ → EntryBody
@@ -84,7 +84,7 @@ body_of (words.Table _) table = body.Table table
 abbrev pub own_entry : Function → Placed → EntryWords → Entry
 own_entry f placed given = record { start = even (start_of f placed); body = body_of given (table_at f placed) }
 
--- the rows behind its own, in its object and in those behind; the closing one last
+-- the rows after its own, in its object and in those after; the closing one last
 abbrev pub later_rows : (objects : List Object) → (f : Function) → IsIn objects f → List Entry
 later_rows objects f there =
     map (row_of there.placed.at) (drop (functions_in f.before + 1) there.placed.object.rows)
@@ -100,7 +100,7 @@ FunctionsAreFound =
 
 -- where its `.fnend` stands in memory, in the text
 abbrev pub end_of : Function → Placed → ℕ
-end_of f placed = placed.at.text + (behind (source_of f) (f.before ++ start_at f.start_line ∷ f.between)).at.sizes.text
+end_of f placed = placed.at.text + (walk_over (source_of f) (f.before ++ start_at f.start_line ∷ f.between)).at.sizes.text
 
 -- so each of its own addresses, from its `.fnstart` to below its `.fnend`, has its entry
 abbrev pub AddressesHaveTheirFunction : Type 0
@@ -112,13 +112,13 @@ AddressesHaveTheirFunction =
 
 -- ---- its table
 
--- the bytes from the table on: its words as the directives give them, then those of its object behind them, with their fields filled
+-- the bytes from the table on: its words as the directives give them, then those of its object after them, with their fields filled
 pub record TableIsThere (objects : List Object) (parts : ImageParts) (f : Function) (placed : Placed) (given : List ℕ) : Type 0 where
   pub after : List ℕ
   pub bytes :
       table_of (image_of_parts parts) (own_entry f placed (words.Table given))
       ≡ Some (flat_map word_bytes given
-      ++ drop (next_multiple (behind (source_of f) f.before).at.sizes.extab 4 + 4 * length given) (part_in Extab (filled_of (placed_of objects) placed))
+      ++ drop (next_multiple (walk_over (source_of f) f.before).at.sizes.extab 4 + 4 * length given) (part_in Extab (filled_of (placed_of objects) placed))
       ++ after)
 
 abbrev pub TablesAreThere : Type 0

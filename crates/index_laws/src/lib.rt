@@ -22,7 +22,7 @@ pub fn functions_are_found()
     ensures own { AddressesHaveTheirFunction }
 {}
 
-/// Where that entry is a table, its bytes are the words of the directives, and behind them those of the object, with their fields filled.
+/// Where that entry is a table, its bytes are the words of the directives, and after them those of the object, with their fields filled.
 pub fn tables_are_there()
     ensures { TablesAreThere }
 {}

@@ -54,7 +54,7 @@ same_goal s t slot same =
     ap (λ (n : ℕ). let g : Goal = record { sp = n; desc = word (memory_of t) slot BARRIER_DESCRIPTOR } in g) (same BARRIER_SP (omega arith) (omega arith))
     ∙ ap (λ (n : ℕ). let g : Goal = record { sp = word (memory_of s) slot BARRIER_SP; desc = n } in g) (same BARRIER_DESCRIPTOR (omega arith) (omega arith))
 
--- behind writes that leave them, whatever else of the state changes
+-- after writes that leave them, whatever else of the state changes
 pub beside_same : (ws : List Write) (s t : Recorded) (slot : ℕ) → AreBeside ws → t.segments ≡ (put_all ws (memory_of s)).segments → SameBarrier s t slot
 beside_same ws s t slot h e k low high = same_segments (put_all ws (memory_of s)) (memory_of t) e slot k ∙ beside_word ws (memory_of s) slot k h low high
 

@@ -1,4 +1,4 @@
--- Behind a cleanup that phase 2 enters, what is due goes on at its frame; and a frame of which nothing is entered leaves it.
+-- After a cleanup that phase 2 enters, what is due goes on at its frame; and a frame of which nothing is entered leaves it.
 use Rattle.std.proofs.Common.{◌≡◌, ℕ, List, [], ◌∷◌, ◌++◌, Some, None, Result, Ok, sym, ◌∙◌, ap, subst}
 use Rattle.std.specs.List.{cons_option}
 use Rattle.eh_bytecode.specs.declared.frame.Vrs.{Vrs}
@@ -13,7 +13,7 @@ use Rattle.eh_phase.specs.Laws.{IsInOrder}
 use Rattle.eh_phase.specs.Phases.{Frame, Place, placed, places, from_address, vrs_of, entered_item}
 use Rattle.eh_phase.proofs.First.{first_past, first_gives, first_none}
 use Rattle.eh_phase.proofs.Due.{Stops, Sort, Unread, Quiet, Clean, Stop, sort, due_past}
-use Rattle.frames_same.proofs.GoesHere.{passes, places-from, left_behind}
+use Rattle.frames_same.proofs.GoesHere.{passes, places-from, left_after}
 
 abbrev Cleanup : Vrs → ℕ → ℕ → ℕ → Entered
 Cleanup vrs pad next site = enters.Cleanup vrs pad next site
@@ -95,7 +95,7 @@ pub here_due : (g : Goal) (from : ℕ) (f : Frame) (more : List Frame) (vrs : Vr
     → GoesHere g from f more vrs pad next site
 here_due g from f more vrs pad next site o e =
     let c = cleans g f (from_address from f.items) (places 0 more) vrs pad next site e in
-    let left : from_address next f.items ≡ c.later = ap (λ a. from_address a f.items) (sym c.next_is) ∙ left_behind f from c.before c.desc c.later o c.parts in
+    let left : from_address next f.items ≡ c.later = ap (λ a. from_address a f.items) (sym c.next_is) ∙ left_after f from c.before c.desc c.later o c.parts in
     let here : places next (f ∷ more) ≡ placed f c.later ++ places 0 more = places-from next f more ∙ ap (λ l. placed f l ++ places 0 more) left in
     record {
       registers = c.registers;

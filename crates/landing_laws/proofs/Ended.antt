@@ -10,7 +10,7 @@ use Rattle.eh_cxa.specs.Throw.{barrier_of}
 use Rattle.eh_cxa.specs.Words.{word, block}
 use Rattle.eh_cxa.specs.declared.layout.TheConstants.{SLOTS, NEXT_CLEANUP}
 use Rattle.eh_cxa.proofs.Pools.{slot_small}
-use Rattle.eh_gates.specs.State.{Guide}
+use Rattle.eh_gates.specs.State.{Tables}
 use Rattle.eh_gates.specs.declared.state.Turned.TheVariants.{Went, Ended}
 use Rattle.eh_phase.specs.Cleanups.{due, is_reached}
 use Rattle.eh_phase.specs.Frames.{covered_at}
@@ -40,12 +40,12 @@ use Rattle.landing_laws.proofs.Beside.{same_goal}
 use Rattle.landing_laws.proofs.FlightDue.{reached_lands, is_landed, flight_due, not_went}
 use Rattle.landing_laws.proofs.Kept.{kept_longer, kept_here, held_length}
 use Rattle.landing_laws.proofs.Landed.{IsLanded}
-use Rattle.landing_laws.proofs.Others.{behind_other, others_kept}
+use Rattle.landing_laws.proofs.Others.{after_other, others_kept}
 use Rattle.landing_laws.proofs.PadsBySp.{pads_by_sp}
 use Rattle.landing_laws.proofs.Walked.{IsTrap}
 
 -- the innermost cleanup ends in the activation that its own one called, and phase 2 goes on
-pub record GoesOnFrom (g : Guide) (s : Recorded) (o : machine.Outcome) : Type 0 where
+pub record GoesOnFrom (g : Tables) (s : Recorded) (o : machine.Outcome) : Type 0 where
   pub ends : InProgress
   pub others : List InProgress
   pub cleanups : s.cleanups ≡ ends ∷ others
@@ -57,10 +57,10 @@ pub record GoesOnFrom (g : Guide) (s : Recorded) (o : machine.Outcome) : Type 0 
   pub goes : machine.goes_on g (record s { cleanups = others }) ends.cleanup s.first.caller first more (barrier_of (word (memory_of s)) (Some ends.cleanup.slot)) ≡ o
 
 -- or the gate traps
-abbrev pub EndsSo : Guide → Recorded → machine.Outcome → Type 0
+abbrev pub EndsSo : Tables → Recorded → machine.Outcome → Type 0
 EndsSo g s o = GoesOnFrom g s o ⊎ ((end : End) × (o ≡ (Ended end, s)) × IsTrap end)
 
-module _ (g : Guide) (s : Recorded) where
+module _ (g : Tables) (s : Recorded) where
   elsewhere : (value : ℕ) → EndsSo g s (Ended (the_end.Trap kind.CleanupElsewhere value s.regs.pc), s)
   elsewhere value = inr (the_end.Trap kind.CleanupElsewhere value s.regs.pc, refl, λ why e. (let w = e in absurd cc))
 
@@ -102,7 +102,7 @@ module _ (g : Guide) (s : Recorded) where
 
 -- ---- phase 2 goes on
 
-module _ (x : Accepted) (is : IsProgram x) (s : Recorded) (k : Keeps x s) (g : Guide) (image : g.image ≡ x.image) (o : machine.Outcome) (r : GoesOnFrom g s o) where
+module _ (x : Accepted) (is : IsProgram x) (s : Recorded) (k : Keeps x s) (g : Tables) (image : g.image ≡ x.image) (o : machine.Outcome) (r : GoesOnFrom g s o) where
   abbrev c : Cleanup
   c = r.ends.cleanup
 
@@ -191,7 +191,7 @@ module _ (x : Accepted) (is : IsProgram x) (s : Recorded) (k : Keeps x s) (g : G
     pub ends_leave : Keeps x t → (u : ℕ) → (r.ends.cleanup.slot ≡ u → ⊥) → left_due x.image t u ≡ left_due x.image s u
     ends_leave kt u differ =
         others_kept x s t ended landing.moved (drop (machine.passed_by (goal_at s r.ends.cleanup.slot) r.ends.cleanup.next fs.frames) (r.first ∷ r.more)) r.ends.cleanup.slot u r.ends.cleanup.sp (reg_in t SP) differ in_progress.3 kt.cleanups (λ h. same_goal s t u (landing.same u)) (phase2 (goal_at s r.ends.cleanup.slot) r.ends.cleanup.next fs) landing.listed
-        ∙ sym (behind_other x.image s u r.ends r.others differ) ∙ sym (ap (due_among x.image s u) r.cleanups)
+        ∙ sym (after_other x.image s u r.ends r.others differ) ∙ sym (ap (due_among x.image s u) r.cleanups)
 
   abbrev Enters : Entered → machine.Outcome
   Enters q = machine.entered ended (drop (machine.passed_by (goal_at s r.ends.cleanup.slot) r.ends.cleanup.next fs.frames) (r.first ∷ r.more)) (block r.ends.cleanup.slot) object q

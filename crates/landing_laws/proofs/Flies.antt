@@ -11,7 +11,7 @@ use Rattle.eh_cxa.specs.declared.globals.CxaFault.{CxaFault}
 use Rattle.eh_cxa.specs.declared.globals.Globals.{Globals}
 use Rattle.eh_cxa.specs.declared.layout.TheConstants.{STATE}
 use Rattle.eh_cxa.specs.declared.state.State.TheVariants.{Flying}
-use Rattle.eh_gates.specs.State.{Guide}
+use Rattle.eh_gates.specs.State.{Tables}
 use Rattle.eh_gates.specs.Throwing.{barrier_in, throw_event}
 use Rattle.eh_gates.specs.declared.state.Turned.TheVariants.{Went}
 use Rattle.eh_phase.specs.declared.phase1.Barrier.{Barrier}
@@ -31,7 +31,7 @@ use Rattle.landing_laws.proofs.Beside.{AreBeside}
 use Rattle.landing_laws.proofs.FlightDue.{not_went}
 
 -- The exception of a slot, which is in no cleanup, flies: other lists, and words beside those of barriers.
-pub record FliesTo (g : Guide) (s t : Recorded) (slot : ℕ) (thrown : Thrown) : Type 0 where
+pub record FliesTo (g : Tables) (s t : Recorded) (slot : ℕ) (thrown : Thrown) : Type 0 where
   pub barrier : Barrier
   pub found : machine.searched g s thrown ≡ found.Barrier barrier
   pub lists : Lists
@@ -41,11 +41,11 @@ pub record FliesTo (g : Guide) (s t : Recorded) (slot : ℕ) (thrown : Thrown) :
   pub idle : state_in (entry (lists_of s) slot) ≡ Some Flying → ⊥
   pub goes : machine.throw_to g s.regs.pc (block slot) barrier (with_lists lists writes (machine.logged s told)) ≡ (Went, t)
 
-module _ (g : Guide) (s t : Recorded) where
+module _ (g : Tables) (s t : Recorded) where
   abbrev Sought : Thrown → (Barrier → Recorded → machine.Outcome) → Type 0
   Sought thrown further = (b : Barrier) × (machine.searched g s thrown ≡ found.Barrier b) × (told : Event) × (further b (machine.logged s told) ≡ (Went, t))
 
-  -- behind the search
+  -- after the search
   sought_so : (what : EventKind) (thrown : Thrown) (further : Barrier → Recorded → machine.Outcome) → machine.from_barrier further (machine.sought g s what thrown) ≡ (Went, t) → Sought thrown further
   unfolding machine.sought
   sought_so what thrown further e = go (throw_event what (memory_of s) thrown (machine.size_of (lists_of s) (object_slot thrown.object))) (is_some (row_of g.types thrown.ty)) e
@@ -95,7 +95,7 @@ thrown_is l slot control words e = by (entry l slot) refl e
     by OutOfUse there q = absurd (refused _ q)
     by (Live r) there q = fresh (is_fresh (Some r.state)) r refl there q
 
-pub throw_flies : (g : Guide) (s t : Recorded) (slot : ℕ) → object_slot (reg_in s 0) ≡ Some slot → machine.throw_gate g s ≡ (Went, t) → FliesTo g s t slot (machine.thrown_first s)
+pub throw_flies : (g : Tables) (s t : Recorded) (slot : ℕ) → object_slot (reg_in s 0) ≡ Some slot → machine.throw_gate g s ≡ (Went, t) → FliesTo g s t slot (machine.thrown_first s)
 throw_flies g s t slot at e = by (machine.first_flight s).answer refl e
   where
     by : (r : Result ℕ CxaFault) → (machine.first_flight s).answer ≡ r → machine.throws g s r ≡ (Went, t) → FliesTo g s t slot (machine.thrown_first s)
@@ -145,7 +145,7 @@ again_is l (top ∷ more) slot control at e = subst (λ (n : ℕ). IsThrown l n 
     by OutOfUse there q = absurd (refused _ q)
     by (Live r) there q = caught (is_caught (Some r.state)) r refl there q
 
-pub rethrow_flies : (g : Guide) (s t : Recorded) (slot : ℕ) → block_slot (block slot) ≡ Some slot → top_of s.caught ≡ Some slot → machine.rethrow_gate g s ≡ (Went, t)
+pub rethrow_flies : (g : Tables) (s t : Recorded) (slot : ℕ) → block_slot (block slot) ≡ Some slot → top_of s.caught ≡ Some slot → machine.rethrow_gate g s ≡ (Went, t)
     → FliesTo g s t slot (machine.thrown_of_slot (lists_of s) (Some slot))
 rethrow_flies g s t slot own at e = by (rethrow_list (lists_of s)).answer refl e
   where

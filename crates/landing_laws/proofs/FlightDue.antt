@@ -1,4 +1,4 @@
--- One landing of an exception that flies: what phase 2 enters is the first that is due, and what is due behind it stays due.
+-- One landing of an exception that flies: what phase 2 enters is the first that is due, and what is due after it stays due.
 use Rattle.std.proofs.Common.{◌≡◌, ℕ, zero, suc, ◌<◌, ◌==◌, Bool, true, cond, List, [], ◌∷◌, ◌++◌, drop, length, Option, Some, None, refl, sym, ◌∙◌, ap, subst, arith}
 use Rattle.std.specs.Prelude.{slice_index, unwrap_or}
 use Rattle.std.specs.List.{cons_option}
@@ -24,7 +24,7 @@ use Rattle.two_machines.specs.Activations.{Activation, Recorded, frames_at, clea
 use Rattle.two_machines.specs.ActivationMachine as machine
 use Rattle.stands_for.specs.Cleanups.{goal_at, by_sp}
 use Rattle.frames_same.specs.Landings.{Fit}
-use Rattle.throws_keep.proofs.FramesBehind.{frames_behind}
+use Rattle.throws_keep.proofs.FramesAfter.{frames_after}
 use Rattle.landing_laws.specs.Landings.{Pad, stands_at, pad_in, pads, AreFirst}
 use Rattle.landing_laws.specs.Due.{kept_frames, due_of, due_among, left_due}
 use Rattle.landing_laws.proofs.Beside.{same_goal}
@@ -109,9 +109,9 @@ module _ (image : Image) (sound : IsSound image) (u t : Recorded) (i : ℕ) (a :
         let c : Cleanup = record { slot = slot; next = next; sp = slice_index vrs.r SP; site = at } in
         let listed : Listed u acts slot (enters.Cleanup vrs pad next at) t = subst (λ (d : Entered). Listed u acts slot d t) is is_landed.listed in
         let stands = is_landed.stands l.first l.more l.passed in
-        let behind : (frames_at image None l.frame.site l.frame.r l.first l.more).frames ≡ l.frame ∷ l.outer = frames_behind image site r a outer l.inner l.frame l.outer l.cut l.first l.more l.frames l.all l.beside in
+        let after : (frames_at image None l.frame.site l.frame.r l.first l.more).frames ≡ l.frame ∷ l.outer = frames_after image site r a outer l.inner l.frame l.outer l.cut l.first l.more l.frames l.all l.beside in
         let at_site : (frames_at image None at vrs.r l.first l.more).frames ≡ l.frame ∷ l.outer =
-        ap (λ (n : ℕ). (frames_at image None n vrs.r l.first l.more).frames) (sym l.stands) ∙ ap (λ (v : Vrs). (frames_at image None l.frame.site v.r l.first l.more).frames) (sym l.registers) ∙ behind in
+        ap (λ (n : ℕ). (frames_at image None n vrs.r l.first l.more).frames) (sym l.stands) ∙ ap (λ (v : Vrs). (frames_at image None l.frame.site v.r l.first l.more).frames) (sym l.registers) ∙ after in
         let listed_there : t.cleanups ≡ record { cleanup = c; place = length l.more } ∷ u.cleanups =
         listed ∙ ap (λ (xs : List Activation). let all : List InProgress = record { cleanup = c; place = machine.outside_of xs } ∷ u.cleanups in all) l.passed in
         let kept : kept_frames image (length l.more) c (t.first ∷ t.outer) ≡ (frames_at image None at (by_sp (slice_index vrs.r SP)) l.first l.more).frames =

@@ -1,4 +1,4 @@
--- What phase 2 enters over the frames of recorded activations is the first that is due; behind a cleanup the rest is due from its frame on.
+-- What phase 2 enters over the frames of recorded activations is the first that is due; after a cleanup the rest is due from its frame on.
 use Rattle.std.proofs.Common.{◌≡◌, ℕ, suc, Bool, cond, List, [], ◌∷◌, ◌++◌, drop, length, Option, Some, None, refl, sym, ◌∙◌, ap}
 use Rattle.std.specs.Prelude.{All, is_some}
 use Rattle.std.proofs.lemmas.List.Elements.{All-head, All-tail}

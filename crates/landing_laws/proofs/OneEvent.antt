@@ -25,7 +25,7 @@ use Rattle.thumb_core.specs.declared.regs.Stepped.TheVariants.{Done, Call, Retur
 use Rattle.thumb_core.specs.declared.ends.End.{End}
 use Rattle.frame_check.specs.Accepts.{Accepted}
 use Rattle.two_machines.specs.Checked.{program_of}
-use Rattle.two_machines.specs.Program.{guide}
+use Rattle.two_machines.specs.Program.{program_tables}
 use Rattle.two_machines.specs.Activations.{Activation, Recorded, reg_in, memory_of, heads, lists_of, cleanups_in, InProgress}
 use Rattle.two_machines.specs.ActivationLaws.{callers}
 use Rattle.two_machines.specs.ActivationMachine as machine
@@ -105,59 +105,59 @@ module _ (x : Accepted) (is : IsProgram x) (s : Recorded) (k : Keeps x s) (t : R
   Next gate = GoesOn slot (left_due x.image s slot) (left_due x.image t slot) (landed_by (stands_at t) (thrown_by s gate) (resumed_by s gate))
 
   -- a throw
-  by_throw : (thrown : Option ℕ) → object_slot (reg_in s 0) ≡ thrown → (resumed : Option ℕ) → machine.throw_gate (guide (program_of x)) s ≡ (Went, t)
+  by_throw : (thrown : Option ℕ) → object_slot (reg_in s 0) ≡ thrown → (resumed : Option ℕ) → machine.throw_gate (program_tables (program_of x)) s ≡ (Went, t)
       → GoesOn slot (left_due x.image s slot) (left_due x.image t slot) (landed_by (stands_at t) thrown resumed)
   by_throw None at resumed e = absurd (no_object (machine.first_flight s).answer (ap (λ (o : Option ℕ). (throw_list (lists_of s) o (machine.thrown_words s)).answer) at) e)
     where
-      no_object : (r : Result ℕ CxaFault) → r ≡ Err BadObject → machine.throws (guide (program_of x)) s r ≡ (Went, t) → ⊥
+      no_object : (r : Result ℕ CxaFault) → r ≡ Err BadObject → machine.throws (program_tables (program_of x)) s r ≡ (Went, t) → ⊥
       no_object (Ok control) f q = absurd cc
       no_object (Err why) f q = not_went _ s t q
   by_throw (Some thrown) at resumed e =
       on_thrown slot (left_due x.image s slot) (left_due x.image t slot) (stands_at t) thrown resumed
-      (λ differ. threw_leaves x is s k t thrown (object_small (reg_in s 0) thrown at) (machine.thrown_first s) (throw_flies (guide (program_of x)) s t thrown at e) kt slot differ)
+      (λ differ. threw_leaves x is s k t thrown (object_small (reg_in s 0) thrown at) (machine.thrown_first s) (throw_flies (program_tables (program_of x)) s t thrown at e) kt slot differ)
 
-  by_rethrow : (thrown : Option ℕ) → top_of s.caught ≡ thrown → (resumed : Option ℕ) → machine.rethrow_gate (guide (program_of x)) s ≡ (Went, t)
+  by_rethrow : (thrown : Option ℕ) → top_of s.caught ≡ thrown → (resumed : Option ℕ) → machine.rethrow_gate (program_tables (program_of x)) s ≡ (Went, t)
       → GoesOn slot (left_due x.image s slot) (left_due x.image t slot) (landed_by (stands_at t) thrown resumed)
   by_rethrow None at resumed e = absurd (go s.caught refl at (rethrow_list (lists_of s)).answer refl e)
     where
-      go : (xs : List ℕ) → s.caught ≡ xs → top_of xs ≡ None → (r : Result ℕ CxaFault) → (rethrow_list (lists_of s)).answer ≡ r → machine.rethrows (guide (program_of x)) s r ≡ (Went, t) → ⊥
+      go : (xs : List ℕ) → s.caught ≡ xs → top_of xs ≡ None → (r : Result ℕ CxaFault) → (rethrow_list (lists_of s)).answer ≡ r → machine.rethrows (program_tables (program_of x)) s r ≡ (Went, t) → ⊥
       go [] f g (Ok control) a q = absurd (let w : ◌≡◌ {A = Result ℕ CxaFault} (Err NoCaught) (Ok control) = sym (ap (λ ys. (rethrow_from (lists_of s) ys).answer) f) ∙ a in cc)
       go [] f g (Err why) a q = not_went _ s t q
       go (y ∷ more) f g r a q = absurd cc
   by_rethrow (Some thrown) at resumed e =
       let small = caught_small s x k thrown at in
       on_thrown slot (left_due x.image s slot) (left_due x.image t slot) (stands_at t) thrown resumed
-      (λ differ. threw_leaves x is s k t thrown small (machine.thrown_of_slot (lists_of s) (Some thrown)) (rethrow_flies (guide (program_of x)) s t thrown (slot_of_block_is thrown small) at e) kt slot differ)
+      (λ differ. threw_leaves x is s k t thrown small (machine.thrown_of_slot (lists_of s) (Some thrown)) (rethrow_flies (program_tables (program_of x)) s t thrown (slot_of_block_is thrown small) at e) kt slot differ)
 
-  by_end : EndsSo (guide (program_of x)) s (machine.end_cleanup_gate (guide (program_of x)) s) → machine.end_cleanup_gate (guide (program_of x)) s ≡ (Went, t)
+  by_end : EndsSo (program_tables (program_of x)) s (machine.end_cleanup_gate (program_tables (program_of x)) s) → machine.end_cleanup_gate (program_tables (program_of x)) s ≡ (Went, t)
       → GoesOn slot (left_due x.image s slot) (left_due x.image t slot) (landed_by (stands_at t) None (innermost s.cleanups))
   by_end (inr (end, f, trap)) e = absurd (not_went end s t (sym f ∙ e))
   by_end (inl r) e =
       subst (λ (cs : List InProgress). GoesOn slot (left_due x.image s slot) (left_due x.image t slot) (landed_by (stands_at t) None (innermost cs))) (sym r.cleanups)
       (on_resumed slot (left_due x.image s slot) (left_due x.image t slot) (stands_at t) r.ends.cleanup.slot
-      (λ own. subst (λ (n : ℕ). AreFirst (stands_at t ∷ left_due x.image t n) (left_due x.image s n)) own (ends_land x is s k (guide (program_of x)) refl _ r t e))
-      (λ differ. ends_leave x is s k (guide (program_of x)) refl _ r t e kt slot differ))
+      (λ own. subst (λ (n : ℕ). AreFirst (stands_at t ∷ left_due x.image t n) (left_due x.image s n)) own (ends_land x is s k (program_tables (program_of x)) refl _ r t e))
+      (λ differ. ends_leave x is s k (program_tables (program_of x)) refl _ r t e kt slot differ))
 
   abbrev AtGate : ℕ → Bool → Bool → Bool → Type 0
   AtGate number a b c =
       GoesOn slot (left_due x.image s slot) (left_due x.image t slot)
       (landed_by (stands_at t) (cond a (object_slot (reg_in s 0)) (cond b (top_of s.caught) None)) (cond c (innermost s.cleanups) None))
 
-  at_gate : (number next : ℕ) → machine.gate_of (guide (program_of x)) number next s ≡ (Went, t) → (a b c : Bool) → (number == THROW_GATE) ≡ a → (number == RETHROW_GATE) ≡ b → (number == END_CLEANUP_GATE) ≡ c → AtGate number a b c
+  at_gate : (number next : ℕ) → machine.gate_of (program_tables (program_of x)) number next s ≡ (Went, t) → (a b c : Bool) → (number == THROW_GATE) ≡ a → (number == RETHROW_GATE) ≡ b → (number == END_CLEANUP_GATE) ≡ c → AtGate number a b c
   unfolding machine.gate_of
   at_gate number next e true b c f g h =
-      by_throw (object_slot (reg_in s 0)) refl (cond c (innermost s.cleanups) None) (subst (λ (n : ℕ). machine.gate_of (guide (program_of x)) n next s ≡ (Went, t)) (eqb-true number THROW_GATE f) e)
+      by_throw (object_slot (reg_in s 0)) refl (cond c (innermost s.cleanups) None) (subst (λ (n : ℕ). machine.gate_of (program_tables (program_of x)) n next s ≡ (Went, t)) (eqb-true number THROW_GATE f) e)
   at_gate number next e false true c f g h =
-      by_rethrow (top_of s.caught) refl (cond c (innermost s.cleanups) None) (subst (λ (n : ℕ). machine.gate_of (guide (program_of x)) n next s ≡ (Went, t)) (eqb-true number RETHROW_GATE g) e)
+      by_rethrow (top_of s.caught) refl (cond c (innermost s.cleanups) None) (subst (λ (n : ℕ). machine.gate_of (program_tables (program_of x)) n next s ≡ (Went, t)) (eqb-true number RETHROW_GATE g) e)
   at_gate number next e false false true f g h =
-      by_end (ends_so (guide (program_of x)) s) (subst (λ (n : ℕ). machine.gate_of (guide (program_of x)) n next s ≡ (Went, t)) (eqb-true number END_CLEANUP_GATE h) e)
+      by_end (ends_so (program_tables (program_of x)) s) (subst (λ (n : ℕ). machine.gate_of (program_tables (program_of x)) n next s ≡ (Went, t)) (eqb-true number END_CLEANUP_GATE h) e)
   at_gate number next e false false false f g h =
       let walks : WalksNone number = record {
         throw = λ q. (let w : (number == THROW_GATE) ≡ true = grind (arith, nat_tests) in let clash : true ≡ false = sym w ∙ f in absurd cc);
         rethrow = λ q. (let w : (number == RETHROW_GATE) ≡ true = grind (arith, nat_tests) in let clash : true ≡ false = sym w ∙ g in absurd cc);
         cleanup = λ q. (let w : (number == END_CLEANUP_GATE) ≡ true = grind (arith, nat_tests) in let clash : true ≡ false = sym w ∙ h in absurd cc);
       } in
-      tamed_stays x s t k kt slot (went_is (IsTamed s) (machine.gate_of (guide (program_of x)) number next s) t (gate_tames s k.corresponds next (guide (program_of x)) number walks) e)
+      tamed_stays x s t k kt slot (went_is (IsTamed s) (machine.gate_of (program_tables (program_of x)) number next s) t (gate_tames s k.corresponds next (program_tables (program_of x)) number walks) e)
 
 module _ (x : Accepted) (is : IsProgram x) (s : Recorded) (k : Keeps x s) (input : List ℕ) (slot : ℕ) where
   abbrev After : Event Recorded End → Type 0

@@ -16,9 +16,9 @@ use Rattle.landing_laws.specs.Due.{due_of, due_among, left_due}
 use Rattle.landing_laws.proofs.Kept.{Moved, among_kept}
 use Rattle.landing_laws.proofs.Landed.{Listed}
 
--- what is due of a slot is that of the cleanups behind one of another slot
-pub behind_other : (image : Image) (t : Recorded) (k : ℕ) (c : InProgress) (cleanups : List InProgress) → (c.cleanup.slot ≡ k → ⊥) → due_among image t k (c ∷ cleanups) ≡ due_among image t k cleanups
-behind_other image t k c cleanups differ = go (c.cleanup.slot == k) refl
+-- what is due of a slot is that of the cleanups after one of another slot
+pub after_other : (image : Image) (t : Recorded) (k : ℕ) (c : InProgress) (cleanups : List InProgress) → (c.cleanup.slot ≡ k → ⊥) → due_among image t k (c ∷ cleanups) ≡ due_among image t k cleanups
+after_other image t k c cleanups differ = go (c.cleanup.slot == k) refl
   where
     go : (b : Bool) → (c.cleanup.slot == k) ≡ b → cond b (due_of image t c.place c.cleanup) (due_among image t k cleanups) ≡ due_among image t k cleanups
     go true e = absurd (differ (eqb-true c.cleanup.slot k e))
@@ -33,14 +33,14 @@ module _ (x : Accepted) (s t u : Recorded) (moved : Moved (s.first ∷ s.outer) 
       ap (due_among x.image t k) l ∙ among_kept x x.image s t k moved low high u.cleanups goal p there
 
   -- .. with one of the slot that landed in front
-  behind : (c : InProgress) → c.cleanup.slot ≡ slot → t.cleanups ≡ c ∷ u.cleanups → left_due x.image t k ≡ due_among x.image s k u.cleanups
-  behind c own l =
+  after : (c : InProgress) → c.cleanup.slot ≡ slot → t.cleanups ≡ c ∷ u.cleanups → left_due x.image t k ≡ due_among x.image s k u.cleanups
+  after c own l =
       let there : AreInProgress x t high (c ∷ u.cleanups) = subst (AreInProgress x t high) l q in
-      ap (due_among x.image t k) l ∙ behind_other x.image t k c u.cleanups (λ e. differ (sym own ∙ e)) ∙ among_kept x x.image s t k moved low c.cleanup.sp u.cleanups goal p there.3
+      ap (due_among x.image t k) l ∙ after_other x.image t k c u.cleanups (λ e. differ (sym own ∙ e)) ∙ among_kept x x.image s t k moved low c.cleanup.sp u.cleanups goal p there.3
 
   pub others_kept : (e : Entered) → Listed u acts slot e t → left_due x.image t k ≡ due_among x.image s k u.cleanups
   others_kept (enters.Cleanup vrs pad next site) l =
-      behind (record { cleanup = record { slot = slot; next = next; sp = slice_index vrs.r SP; site = site }; place = machine.outside_of acts }) refl l
+      after (record { cleanup = record { slot = slot; next = next; sp = slice_index vrs.r SP; site = site }; place = machine.outside_of acts }) refl l
   others_kept (enters.Catch vrs pad) l = kept l
   others_kept (enters.Spec vrs pad) l = kept l
   others_kept enters.Unexpected l = absurd l

@@ -18,10 +18,10 @@ use Rattle.thumb_core.specs.declared.regs.Regs.{Regs}
 use Rattle.thumb_core.specs.declared.regs.Stepped.{Stepped}
 use Rattle.thumb_core.specs.declared.regs.Stepped.TheVariants.{Done, Call, Return, Gate, Trap}
 use Rattle.thumb_core.specs.declared.ends.End.{End}
-use Rattle.two_machines.specs.Program.{Program, guide}
+use Rattle.two_machines.specs.Program.{Program, program_tables}
 use Rattle.two_machines.specs.Activations.{Activation, Caller, Recorded, memory_of, freed_in}
 use Rattle.two_machines.specs.ActivationLaws.{callers}
-use Rattle.two_machines.specs.ActivationMachine.{left_by, settled_at, moved, tested, tests, stepped, checked, passed, onward, gated, in_state, event_of, gate_of, registers_behind, returned, pops_back, trapped_by, recorded_event}
+use Rattle.two_machines.specs.ActivationMachine.{left_by, reguarded_at, moved, tested, tests, stepped, checked, passed, onward, gated, in_state, event_of, gate_of, registers_after, returned, pops_back, trapped_by, recorded_event}
 use Rattle.two_machines.specs.Corresponds.{IsNoCall}
 use Rattle.landing_laws.proofs.Beside.{SameBarrier, same_segments}
 use Rattle.landing_laws.proofs.Kept.{Moved}
@@ -66,7 +66,7 @@ module _ (s : Recorded) where
 
   module _ (p : Program) (input : List ℕ) where
     base_moved : (regs : Regs) (m : Memory)
-        → callers ((settled_at p s regs (record s { regs = regs; segments = m.segments })).first ∷ (settled_at p s regs (record s { regs = regs; segments = m.segments })).outer) ≡ callers (s.first ∷ s.outer)
+        → callers ((reguarded_at p s regs (record s { regs = regs; segments = m.segments })).first ∷ (reguarded_at p s regs (record s { regs = regs; segments = m.segments })).outer) ≡ callers (s.first ∷ s.outer)
     base_moved regs m = ap (λ (cs : List Caller). s.first.caller ∷ cs) (freed_callers s.home _ _ s.outer)
 
     by_left : (acts : List Activation) (u : Recorded) (m : Memory) → KeepsMap (memory_of s) m → u.cleanups ≡ s.cleanups → u.segments ≡ m.segments → u.outer ≡ acts
@@ -81,7 +81,7 @@ module _ (s : Recorded) where
     by_number : (number : ℕ) (regs : Regs) → number ≤ INPUT_GATE → QuietBy (gated p number s regs input)
     by_number number regs h = go (nat_lt INPUT_GATE number) (le-ltb INPUT_GATE number h)
       where
-        go : (b : Bool) → b ≡ false → QuietBy (cond b (event_of (gate_of (guide p) number regs.pc s) input) (in_state s (gate_event number s.regs regs input)))
+        go : (b : Bool) → b ≡ false → QuietBy (cond b (event_of (gate_of (program_tables p) number regs.pc s) input) (in_state s (gate_event number s.regs regs input)))
         go true e = absurd cc
         go false e = by_gate (gate_event number s.regs regs input)
 
@@ -94,7 +94,7 @@ module _ (s : Recorded) where
       moved = inr ((moved p s (Call target ret) regs m).first, (moved p s (Call target ret) regs m).outer, refl, base_moved regs m);
     }
     by_test (Return to) h regs m k None =
-        let base = settled_at p s regs (record s { regs = regs; segments = m.segments }) in
+        let base = reguarded_at p s regs (record s { regs = regs; segments = m.segments }) in
         by_left base.outer base m k refl refl refl (base_moved regs m)
     by_test (Gate number) h regs m k None = by_number number regs h
     by_test (Trap trap) h regs m k None = record { cleanups = refl; same = words_kept (moved p s (Trap trap) regs m) m k refl; moved = inl (0, base_moved regs m) }
@@ -109,7 +109,7 @@ module _ (s : Recorded) where
     by_step (Done, regs, m) h k = by_test Done h regs m k (tests p s Done regs)
     by_step (Call target ret, regs, m) h k = by_test (Call target ret) h regs m k (tests p s (Call target ret) regs)
     by_step (Return to, regs, m) h k =
-        by_test (Return to) h (registers_behind s.first.caller (Return to) regs) m k (tests p s (Return to) (registers_behind s.first.caller (Return to) regs))
+        by_test (Return to) h (registers_after s.first.caller (Return to) regs) m k (tests p s (Return to) (registers_after s.first.caller (Return to) regs))
     by_step (Gate number, regs, m) h k = by_test (Gate number) h regs m k (tests p s (Gate number) regs)
 
     by_check : (b : Bool) → IsNoCall (step_of s.regs (memory_of s)).0 → QuietBy (onward p s (checked p s b) input)

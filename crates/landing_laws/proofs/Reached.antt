@@ -20,7 +20,7 @@ use Rattle.eh_phase.specs.Cleanups.{is_reached, is_reached_in, is_barrier_item, 
 use Rattle.eh_phase.specs.Firsts.{first_some}
 use Rattle.eh_phase.specs.Frames.{Stack, covered_at, site_of, ended, framed, frame_of, frames_in, walked}
 use Rattle.eh_phase.specs.Laws.{IsInOrder, goal_of}
-use Rattle.eh_phase.specs.Phases.{Frame, Frames, Place, phase1, placed, places, behind, from_address, stands_at, is_goal}
+use Rattle.eh_phase.specs.Phases.{Frame, Frames, Place, phase1, placed, places, from_descriptor, from_address, stands_at, is_goal}
 use Rattle.eh_phase.specs.Verdict.{Meeting, verdict_of, in_scope}
 use Rattle.eh_phase.proofs.Due.{reached_none}
 use Rattle.eh_phase.proofs.Reached.{up_to_barrier, whole_reached}
@@ -108,22 +108,22 @@ found_reached m image place site r a outer b e =
 
 -- ---- a goal within reach
 
-small_behind : (at : ℕ) (items : List (Result Desc DescFault)) → AreSmall items → AreSmall (behind at items)
-unfolding behind
-small_behind at [] h = tt
-small_behind at (Ok d ∷ more) h = go (stands_at at (Ok d)) (small_behind at more h.2)
+small_after : (at : ℕ) (items : List (Result Desc DescFault)) → AreSmall items → AreSmall (from_descriptor at items)
+unfolding from_descriptor
+small_after at [] h = tt
+small_after at (Ok d ∷ more) h = go (stands_at at (Ok d)) (small_after at more h.2)
   where
-    go : (b : Bool) → AreSmall (behind at more) → AreSmall (cond b (Ok d ∷ more) (behind at more))
+    go : (b : Bool) → AreSmall (from_descriptor at more) → AreSmall (cond b (Ok d ∷ more) (from_descriptor at more))
     go true w = h
     go false w = w
-small_behind at (Err fault ∷ more) h = h
+small_after at (Err fault ∷ more) h = h
 
 small_from : (at : ℕ) (items : List (Result Desc DescFault)) → AreSmall items → AreSmall (from_address at items)
 small_from at items h = go (at == 0)
   where
-    go : (b : Bool) → AreSmall (cond b items (behind at items))
+    go : (b : Bool) → AreSmall (cond b items (from_descriptor at items))
     go true = h
-    go false = small_behind at items h
+    go false = small_after at items h
 
 abbrev pub IsSmall : Goal → ℕ → Type 0
 IsSmall g top = (g.sp ≤ top) × (g.desc < 2 ^ 32)

@@ -2,7 +2,7 @@
 use Rattle.std.proofs.Common.{◌≡◌, ℕ, zero, suc, ◌<◌, ◌==◌, inl, inr, nat_lt, Bool, true, false, ◌⊎◌, List, [], ◌∷◌, ◌++◌, Option, Some, None, refl, sym, ap, subst, ◌∙◌, append_assoc}
 use Rattle.std.specs.List.{cons_option}
 use Rattle.std.specs.Prelude.{option_map}
-use Rattle.event_runs.specs.Runs.{Event, Goes, Ends, Reached, reached, reached_after, behind}
+use Rattle.event_runs.specs.Runs.{Event, Goes, Ends, Reached, reached, reached_after, prepended}
 use Rattle.eh_cxa.specs.declared.layout.TheConstants.{SLOTS}
 use Rattle.eh_cxa.proofs.Pools.{object_small, slot_of_block_is}
 use Rattle.eh_gates.specs.declared.gates.TheConstants.{THROW_GATE, RETHROW_GATE, END_CLEANUP_GATE}
@@ -30,7 +30,7 @@ use Rattle.thumb_core.specs.declared.ends.End.{End}
 use Rattle.thumb_core.specs.declared.ends.End.TheVariants as the_end
 use Rattle.frame_check.specs.Accepts.{Accepted}
 use Rattle.two_machines.specs.Checked.{program_of}
-use Rattle.two_machines.specs.Program.{guide}
+use Rattle.two_machines.specs.Program.{program_tables}
 use Rattle.two_machines.specs.Activations.{Recorded, reg_in, memory_of, recorded_start, bytes_of, first_place}
 use Rattle.two_machines.specs.Machine.{machine_event}
 use Rattle.thumb_core.specs.Registers.{all_of}
@@ -80,10 +80,10 @@ module _ (x : Accepted) (is : IsProgram x) where
   reached_kept (suc n) s input r k bytes e = go (machine.recorded_event (program_of x) s input) (kept s input k bytes) e (λ t left q h g. reached_kept n t left q h.0 h.1 g)
     where
       by : (text : List ℕ) (t : Recorded) (left : List ℕ) → ((q : Reached Recorded) → reached (machine.recorded_event (program_of x)) n t left ≡ Some q → Keeps x q.state × AreBytes q.left) → (o : Option (Reached Recorded))
-          → reached (machine.recorded_event (program_of x)) n t left ≡ o → option_map (behind text) o ≡ Some r → Keeps x r.state × AreBytes r.left
+          → reached (machine.recorded_event (program_of x)) n t left ≡ o → option_map (prepended text) o ≡ Some r → Keeps x r.state × AreBytes r.left
       by text t left further None f g = absurd cc
       by text t left further (Some q) f g =
-          let same : behind text q ≡ r = cc in
+          let same : prepended text q ≡ r = cc in
           subst (λ (p : Reached Recorded). Keeps x p.state × AreBytes p.left) same (further q f)
 
       go : (d : Event Recorded End) → Kept x d → reached_after d (reached (machine.recorded_event (program_of x)) n) ≡ Some r
@@ -134,8 +134,8 @@ module _ (x : Accepted) (is : IsProgram x) where
   gate_is (Trap trap) number e = absurd cc
 
   abbrev AtGate : Recorded → List ℕ → ℕ → Event Recorded End → Type 0
-  AtGate s input number (Goes t text left) = (next : ℕ) × (machine.gate_of (guide (program_of x)) number next s ≡ (Went, t))
-  AtGate s input number (Ends end t) = ((next : ℕ) × (machine.gate_of (guide (program_of x)) number next s ≡ (Ended end, t))) ⊎ IsTrap end
+  AtGate s input number (Goes t text left) = (next : ℕ) × (machine.gate_of (program_tables (program_of x)) number next s ≡ (Went, t))
+  AtGate s input number (Ends end t) = ((next : ℕ) × (machine.gate_of (program_tables (program_of x)) number next s ≡ (Ended end, t))) ⊎ IsTrap end
 
   at_gate : (s : Recorded) (input : List ℕ) (number : ℕ) → gate_at s ≡ Some number → nat_lt INPUT_GATE number ≡ true → AtGate s input number (machine.recorded_event (program_of x) s input)
   at_gate s input number e high = by (step_of s.regs (memory_of s)) refl
@@ -154,15 +154,15 @@ module _ (x : Accepted) (is : IsProgram x) where
   same_barrier : (f : Found) (a b : Barrier) → f ≡ found.Barrier a → f ≡ found.Barrier b → a ≡ b
   same_barrier f a b e g = let w : found.Barrier a ≡ found.Barrier b = sym e ∙ g in cc
 
-  module _ (s : Recorded) (k : Keeps x s) (slot : ℕ) (thrown : Thrown) (what : ThrowsWhat s slot thrown) (b : Barrier) (search : machine.searched (guide (program_of x)) s thrown ≡ found.Barrier b) where
-    threw_enters : Lands (phase2 (goal_of b) 0 (machine.frames_from (guide (program_of x)) s None s.regs.pc))
+  module _ (s : Recorded) (k : Keeps x s) (slot : ℕ) (thrown : Thrown) (what : ThrowsWhat s slot thrown) (b : Barrier) (search : machine.searched (program_tables (program_of x)) s thrown ≡ found.Barrier b) where
+    threw_enters : Lands (phase2 (goal_of b) 0 (machine.frames_from (program_tables (program_of x)) s None s.regs.pc))
     threw_enters =
         reached_lands (goal_of b) 0 (frames_from x s s.regs.pc)
-        (found_reached (meeting x.image (guide (program_of x)).types s.segments thrown) x.image (first_place s.cleanups) s.regs.pc (all_of s.regs) s.first s.outer b search)
+        (found_reached (meeting x.image (program_tables (program_of x)).types s.segments thrown) x.image (first_place s.cleanups) s.regs.pc (all_of s.regs) s.first s.outer b search)
 
-    by_flight : (t : Recorded) → slot < SLOTS → FliesTo (guide (program_of x)) s t slot thrown → AreFirst (stands_at t ∷ left_due x.image t slot) (pads (due (goal_of b) 0 (frames_from x s s.regs.pc).frames))
+    by_flight : (t : Recorded) → slot < SLOTS → FliesTo (program_tables (program_of x)) s t slot thrown → AreFirst (stands_at t ∷ left_due x.image t slot) (pads (due (goal_of b) 0 (frames_from x s s.regs.pc).frames))
     by_flight t small f =
-        subst (λ (c : Barrier). AreFirst (stands_at t ∷ left_due x.image t slot) (pads (due (goal_of c) 0 (frames_from x s s.regs.pc).frames))) (same_barrier (machine.searched (guide (program_of x)) s thrown) f.barrier b f.found search)
+        subst (λ (c : Barrier). AreFirst (stands_at t ∷ left_due x.image t slot) (pads (due (goal_of c) 0 (frames_from x s s.regs.pc).frames))) (same_barrier (machine.searched (program_tables (program_of x)) s thrown) f.barrier b f.found search)
         (threw_lands x is s k t slot small thrown f)
 
     lands_so : (input : List ℕ) (t : Recorded) (text left : List ℕ) → machine.recorded_event (program_of x) s input ≡ Goes t text left
@@ -171,11 +171,11 @@ module _ (x : Accepted) (is : IsProgram x) where
     lands_so input t text left e = elim what [
       | inl w ↦ (
           let q = subst (AtGate s input THROW_GATE) e (at_gate s input THROW_GATE w.0 refl) in
-          by_flight t (object_small (reg_in s 0) slot w.1) (subst (FliesTo (guide (program_of x)) s t slot) (sym w.2) (throw_flies (guide (program_of x)) s t slot w.1 q.1)))
+          by_flight t (object_small (reg_in s 0) slot w.1) (subst (FliesTo (program_tables (program_of x)) s t slot) (sym w.2) (throw_flies (program_tables (program_of x)) s t slot w.1 q.1)))
       | inr w ↦ (
           let q = subst (AtGate s input RETHROW_GATE) e (at_gate s input RETHROW_GATE w.0 refl) in
           let small = caught_small s x k slot w.1 in
-          by_flight t small (subst (FliesTo (guide (program_of x)) s t slot) (sym w.2) (rethrow_flies (guide (program_of x)) s t slot (slot_of_block_is slot small) w.1 q.1)))
+          by_flight t small (subst (FliesTo (program_tables (program_of x)) s t slot) (sym w.2) (rethrow_flies (program_tables (program_of x)) s t slot (slot_of_block_is slot small) w.1 q.1)))
     ]
 
     thrown_is : thrown_at s ≡ Some slot
@@ -205,12 +205,12 @@ module _ (x : Accepted) (is : IsProgram x) where
   resume_ends : (s : Recorded) (k : Keeps x s) (input : List ℕ) (why : Cause) (t : Recorded) → gate_at s ≡ Some END_CLEANUP_GATE → machine.recorded_event (program_of x) s input ≡ Ends (the_end.Terminate why) t → why ≡ cause.Unexpected
   unfolding machine.gate_of
   resume_ends s k input why t e f = elim (subst (AtGate s input END_CLEANUP_GATE) f (at_gate s input END_CLEANUP_GATE e refl)) [
-    | inl q ↦ by (ends_so (guide (program_of x)) s) q.1
+    | inl q ↦ by (ends_so (program_tables (program_of x)) s) q.1
     | inr trap ↦ absurd (trap why refl)
   ]
     where
-      by : EndsSo (guide (program_of x)) s (machine.end_cleanup_gate (guide (program_of x)) s) → machine.end_cleanup_gate (guide (program_of x)) s ≡ (Ended (the_end.Terminate why), t) → why ≡ cause.Unexpected
-      by (inl r) q = ends_by x is s k (guide (program_of x)) refl _ r why t q
+      by : EndsSo (program_tables (program_of x)) s (machine.end_cleanup_gate (program_tables (program_of x)) s) → machine.end_cleanup_gate (program_tables (program_of x)) s ≡ (Ended (the_end.Terminate why), t) → why ≡ cause.Unexpected
+      by (inl r) q = ends_by x is s k (program_tables (program_of x)) refl _ r why t q
       by (inr (end, g, trap)) q =
           let same : ◌≡◌ {A = Turned} (Ended end) (Ended (the_end.Terminate why)) = ap (λ (o : machine.Outcome). o.0) (sym g ∙ q) in
           absurd (trap why (let w : end ≡ the_end.Terminate why = cc in w))

@@ -11,7 +11,7 @@ use Rattle.eh_cxa.specs.Words.{Write, block_slot, object_slot, put_all}
 use Rattle.eh_cxa.proofs.Pools.{slot_small, object_small}
 use Rattle.eh_gates.specs.declared.gates.TheConstants.{ALLOCATE_GATE, FREE_GATE, THROW_GATE, BEGIN_CATCH_GATE, END_CATCH_GATE, RETHROW_GATE, END_CLEANUP_GATE, UNEXPECTED_GATE, TERMINATE_GATE, UNCAUGHT_GATE}
 use Rattle.eh_gates.specs.Resuming.{goal_in}
-use Rattle.eh_gates.specs.State.{Guide}
+use Rattle.eh_gates.specs.State.{Tables}
 use Rattle.thumb_core.specs.declared.regs.Regs.{Regs}
 use Rattle.two_machines.specs.Activations.{Recorded, reg_in, memory_of, words_in, heads, with_lists, lists_of, cleanups_in}
 use Rattle.two_machines.specs.Corresponds.{Corresponds, WalksNone}
@@ -65,7 +65,7 @@ module _ (s : Recorded) (c : Corresponds s) where
     choose true q q' h k = h refl
     choose false q q' h k = k
 
-    pub gate_tames : (g : Guide) (number : ℕ) → WalksNone number → Tames (machine.gate_of g number next s)
+    pub gate_tames : (g : Tables) (number : ℕ) → WalksNone number → Tames (machine.gate_of g number next s)
     unfolding machine.gate_of
     gate_tames g number w =
         choose (number == ALLOCATE_GATE) _ _ (λ e. allocated_tames (allocate_list l (reg_in s 0)).lists (allocate_of (words_in l) (reg_in s 0)).writes ((allocate_tame s c) (reg_in s 0))

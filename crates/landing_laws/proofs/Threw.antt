@@ -25,7 +25,7 @@ use Rattle.thumb_core.specs.Registers.{all_of}
 use Rattle.thumb_core.specs.declared.regs.TheConstants.{SP}
 use Rattle.frame_check.specs.Accepts.{Accepted}
 use Rattle.two_machines.specs.Checked.{program_of}
-use Rattle.two_machines.specs.Program.{guide}
+use Rattle.two_machines.specs.Program.{program_tables}
 use Rattle.two_machines.specs.Activations.{Activation, Recorded, reg_in, memory_of, with_words, with_lists, first_place, outside, frames_at, cleanups_in, InProgress}
 use Rattle.two_machines.specs.ActivationMachine as machine
 use Rattle.stands_for.specs.Cleanups.{goal_at, AreInProgress}
@@ -126,9 +126,9 @@ module _ (x : Accepted) (is : IsProgram x) (s : Recorded) (k : Keeps x s) (v t :
 
 -- ---- a throw or a rethrow
 
-module _ (x : Accepted) (is : IsProgram x) (s : Recorded) (k : Keeps x s) (t : Recorded) (slot : ℕ) (small : slot < SLOTS) (thrown : Thrown) (f : FliesTo (guide (program_of x)) s t slot thrown) where
+module _ (x : Accepted) (is : IsProgram x) (s : Recorded) (k : Keeps x s) (t : Recorded) (slot : ℕ) (small : slot < SLOTS) (thrown : Thrown) (f : FliesTo (program_tables (program_of x)) s t slot thrown) where
   threw_reached : is_reached (goal_of f.barrier) 0 (frames_from x s s.regs.pc).frames ≡ true
-  threw_reached = found_reached (meeting (guide (program_of x)).image (guide (program_of x)).types s.segments thrown) x.image (first_place s.cleanups) s.regs.pc (all_of s.regs) s.first s.outer f.barrier f.found
+  threw_reached = found_reached (meeting (program_tables (program_of x)).image (program_tables (program_of x)).types s.segments thrown) x.image (first_place s.cleanups) s.regs.pc (all_of s.regs) s.first s.outer f.barrier f.found
 
   same_there : (u : ℕ) → SameBarrier s (with_lists f.lists f.writes (machine.logged s f.told)) u
   same_there u = beside_same f.writes s (with_lists f.lists f.writes (machine.logged s f.told)) u f.beside refl

@@ -18,8 +18,8 @@ use Rattle.thumb_core.specs.declared.ends.TrapKind.{TrapKind}
 use Rattle.thumb_core.specs.declared.ends.TrapKind.TheVariants as kind
 use Rattle.thumb_core.specs.declared.ends.End.{End}
 use Rattle.thumb_core.specs.declared.ends.End.TheVariants as the_end
-use Rattle.two_machines.specs.Machine.{leaves_cleanup, goes_behind}
-use Rattle.two_machines.specs.Program.{Program, guide}
+use Rattle.two_machines.specs.Machine.{leaves_cleanup, goes_after}
+use Rattle.two_machines.specs.Program.{Program, program_tables}
 use Rattle.two_machines.specs.Activations.{Recorded, reg_in, memory_of, cleanups_in}
 use Rattle.two_machines.specs.ActivationMachine as machine
 
@@ -32,18 +32,18 @@ trap_is what value pc why e = absurd cc
 
 module _ (p : Program) (s : Recorded) (input : List ℕ) (number : ℕ) (regs : Regs) (m : Memory) (step : step_of s.regs (memory_of s) ≡ (Gate number, regs, m)) (high : nat_lt INPUT_GATE number ≡ true) where
   abbrev pub ByGate : Event Recorded End → Type 0
-  ByGate (Goes t text left) = (machine.gate_of (guide p) number regs.pc s ≡ (Went, t)) × (left ≡ input)
-  ByGate (Ends end t) = (machine.gate_of (guide p) number regs.pc s ≡ (Ended end, t)) ⊎ IsTrap end
+  ByGate (Goes t text left) = (machine.gate_of (program_tables p) number regs.pc s ≡ (Went, t)) × (left ≡ input)
+  ByGate (Ends end t) = (machine.gate_of (program_tables p) number regs.pc s ≡ (Ended end, t)) ⊎ IsTrap end
 
-  by_outcome : (q : machine.Outcome) → machine.gate_of (guide p) number regs.pc s ≡ q → ByGate (machine.event_of q input)
+  by_outcome : (q : machine.Outcome) → machine.gate_of (program_tables p) number regs.pc s ≡ q → ByGate (machine.event_of q input)
   by_outcome (Went, t) e = (e, refl)
   by_outcome (Ended end, t) e = inl e
 
   by_number : ByGate (machine.gated p number s regs input)
   by_number = go (nat_lt INPUT_GATE number) high
     where
-      go : (b : Bool) → b ≡ true → ByGate (cond b (machine.event_of (machine.gate_of (guide p) number regs.pc s) input) (machine.in_state s (gate_event number s.regs regs input)))
-      go true e = by_outcome (machine.gate_of (guide p) number regs.pc s) refl
+      go : (b : Bool) → b ≡ true → ByGate (cond b (machine.event_of (machine.gate_of (program_tables p) number regs.pc s) input) (machine.in_state s (gate_event number s.regs regs input)))
+      go true e = by_outcome (machine.gate_of (program_tables p) number regs.pc s) refl
       go false e = absurd cc
 
   abbrev Out : Option End → Event Recorded End
@@ -51,7 +51,7 @@ module _ (p : Program) (s : Recorded) (input : List ℕ) (number : ℕ) (regs : 
 
   by_tests : ByGate (machine.onward p s (machine.with_tests p s (Gate number) regs m) input)
   by_tests =
-      go (leaves_cleanup (innermost_in (cleanups_in s.cleanups)) (reg_in s SP) (slice_index regs.r SP)) (nat_lt (slice_index regs.r SP) s.home.0) (goes_behind number) (p.look regs.pc).is_function
+      go (leaves_cleanup (innermost_in (cleanups_in s.cleanups)) (reg_in s SP) (slice_index regs.r SP)) (nat_lt (slice_index regs.r SP) s.home.0) (goes_after number) (p.look regs.pc).is_function
     where
       go : (a b c d : Bool)
           → ByGate (Out (option_or (cond a (Some (the_end.Trap kind.SpInCleanup (slice_index regs.r SP) s.regs.pc)) (cond b (Some (the_end.Trap kind.StackLimit (slice_index regs.r SP) s.regs.pc)) None))

@@ -17,7 +17,7 @@ use Rattle.frame_check.specs.Accepts.{Accepted}
 use Rattle.two_machines.specs.Activations.{Recorded, recorded_start, bytes_of}
 use Rattle.two_machines.specs.ActivationMachine.{recorded_event, searched, frames_from}
 use Rattle.two_machines.specs.Checked.{program_of}
-use Rattle.two_machines.specs.Program.{guide}
+use Rattle.two_machines.specs.Program.{program_tables}
 use Rattle.stands_for.specs.Stands.{Keeps, IsProgram}
 use Rattle.machines_agree.specs.Turned.{AreBytes}
 use Rattle.resumes_keep.specs.Flying.{all_frames, fly_from, CanFly}
@@ -36,7 +36,7 @@ DueGoesOn = (x : Accepted) (s : Recorded) (input : List ℕ) (slot : ℕ) → Is
 
 -- the frames of all live activations, the first at pc
 abbrev pub live_frames : Accepted → Recorded → Frames
-live_frames x s = frames_from (guide (program_of x)) s None s.regs.pc
+live_frames x s = frames_from (program_tables (program_of x)) s None s.regs.pc
 
 -- Where the search of a throw gives a barrier, phase 2 enters a cleanup or the barrier; and the landings of the throw and its resumes, along the
 -- run from there, are the first of its cleanups in order and then its barrier.
@@ -46,7 +46,7 @@ pub record LandsInOrder (x : Accepted) (s : Recorded) (input : List ℕ) (slot m
 
 abbrev pub ThrowsLandInOrder : Type 0
 ThrowsLandInOrder = (x : Accepted) (s : Recorded) (input : List ℕ) (slot m : ℕ) (thrown : Thrown) (b : Barrier) → IsProgram x → Keeps x s → AreBytes input → ThrowsWhat s slot thrown
-    → searched (guide (program_of x)) s thrown ≡ found.Barrier b → LandsInOrder x s input slot m b
+    → searched (program_tables (program_of x)) s thrown ≡ found.Barrier b → LandsInOrder x s input slot m b
 
 -- Nor does the end of a cleanup terminate a run, but by a specification without a pad.
 abbrev pub ResumesLand : Type 0
@@ -59,17 +59,17 @@ ResumesLand = (x : Accepted) (s : Recorded) (input : List ℕ) (why : Cause) (t 
 -- are the first of the cleanups in order and then that barrier.
 abbrev pub FlightsLandInOrder : Type 0
 FlightsLandInOrder = (x : Accepted) (s : Recorded) (site slot : ℕ) (b : Barrier) (t : Recorded) (m : ℕ) (input : List ℕ) → IsProgram x → Keeps x s → CanFly x s site slot b → AreBytes input
-    → fly_from (guide (program_of x)) site (block slot) b s ≡ (Went, t)
+    → fly_from (program_tables (program_of x)) site (block slot) b s ≡ (Went, t)
     → AreFirst (stands_at t ∷ resumes_of slot (landings (program_of x) m t input)) (pads (due (goal_of b) 0 (all_frames x s site).frames))
 
 -- ---- runs from the start
 
--- where a run stands behind so many events
+-- where a run stands after so many events
 abbrev pub Stood : Accepted → ℕ → List ℕ → Reached Recorded → Type 0
 Stood x n input r = reached (recorded_event (program_of x)) n (recorded_start (program_of x)) input ≡ Some r
 
 pub record LandsAt (x : Accepted) (s : Recorded) (input : List ℕ) : Type 0 where
-  pub throws : (slot m : ℕ) (thrown : Thrown) (b : Barrier) → ThrowsWhat s slot thrown → searched (guide (program_of x)) s thrown ≡ found.Barrier b → LandsInOrder x s input slot m b
+  pub throws : (slot m : ℕ) (thrown : Thrown) (b : Barrier) → ThrowsWhat s slot thrown → searched (program_tables (program_of x)) s thrown ≡ found.Barrier b → LandsInOrder x s input slot m b
   pub resumes : (why : Cause) (t : Recorded) → gate_at s ≡ Some END_CLEANUP_GATE → recorded_event (program_of x) s input ≡ Ends (the_end.Terminate why) t → why ≡ cause.Unexpected
 
 abbrev pub RunsLandInOrder : Type 0

@@ -15,7 +15,7 @@ use Rattle.thumb_encode.specs.declared.code.Code.{Code}
 use Rattle.thumb_encode.specs.declared.code.Code.TheVariants as code
 use Rattle.thumb_isa.specs.declared.encode_fault.EncodeFault.TheVariants.{RegisterRange, ImmediateRange, ImmediateAlign}
 use Rattle.asm_object.specs.Bytes.{half_bytes, code_bytes}
-use Rattle.eh_link.specs.EquationLaw.{Stands}
+use Rattle.eh_link.specs.EquationLaw.{CodeAt}
 use Rattle.eh_link.proofs.Branches.{IsSmall}
 
 -- ---- `adr` and `ldr` of a literal
@@ -104,7 +104,7 @@ half_there bytes at x after e h =
     within : (all at rest more : ℕ) → rest ≡ all - at → rest ≡ 2 + more → at + 2 ≤ all
     within all at rest more e f = omega (arith, e, f)
 
-pub code_there : (c : Code) (bytes : List ℕ) (at : ℕ) (after : List ℕ) → drop at bytes ≡ code_bytes c ++ after → IsSmall c → Stands c bytes at
+pub code_there : (c : Code) (bytes : List ℕ) (at : ℕ) (after : List ℕ) → drop at bytes ≡ code_bytes c ++ after → IsSmall c → CodeAt c bytes at
 code_there (code.Half first) bytes at after e small = half_there bytes at first after e small
 code_there (code.Pair first second) bytes at after e small =
     let split : drop at bytes ≡ half_bytes first ++ (half_bytes second ++ after) = e ∙ append_assoc (half_bytes first) (half_bytes second) after in

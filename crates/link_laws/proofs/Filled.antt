@@ -28,7 +28,7 @@ use Rattle.eh_link.specs.Placed.{Placed}
 use Rattle.eh_link.specs.Layout.{address_in, placed_of}
 use Rattle.eh_link.specs.Symbols.{meaning_of}
 use Rattle.eh_link.specs.Fields.{part_in, filled, filled_of, unreachable_in, unreachable_for}
-use Rattle.eh_link.specs.EquationLaw.{IsField, Stands, Decodes}
+use Rattle.eh_link.specs.EquationLaw.{IsField, CodeAt, Decodes}
 use Rattle.eh_link.specs.Linked.{linked}
 use Rattle.link_laws.proofs.AssembledLaws.{law_of_assembled}
 use Rattle.eh_link.proofs.Equations.{law_of_absolute, law_of_relative, law_of_prel31, law_of_calls, law_of_jumps, law_of_cond_jumps}
@@ -118,7 +118,7 @@ wide CondJump = omega arith
 -- ---- from a part to the image
 
 code_in : (c : Code) (s : Section) (objects : List Object) (entry : List ℕ) (image : ImageParts) (placed : Placed) (one : IsOneOf objects placed) (k : ℕ) → linked objects entry ≡ Ok image
-    → Stands c (part_in s (filled_of (placed_of objects) placed)) k → StandsIn c image (address_in s placed.at + k)
+    → CodeAt c (part_in s (filled_of (placed_of objects) placed)) k → StandsIn c image (address_in s placed.at + k)
 code_in (code.Half first) s objects entry image placed one k e h = in_image s objects entry image placed one 2 k first e (omega arith) h
 code_in (code.Pair first second) s objects entry image placed one k e h = (
   in_image s objects entry image placed one 2 k first e (omega arith) h.0,

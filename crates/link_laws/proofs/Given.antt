@@ -15,7 +15,7 @@ use Rattle.asm_layout.specs.declared.walk.Walk.{Walk}
 use Rattle.asm_layout.specs.Functions.{entries_of, no_frame}
 use Rattle.asm_layout.specs.Labels.{Named, labels_of}
 use Rattle.asm_layout.specs.Sizes.{size_in, is_too_large}
-use Rattle.asm_layout.specs.Walks.{start, next, here, coming_pool, walk_behind, sizes_with_pool}
+use Rattle.asm_layout.specs.Walks.{start, next, here, coming_pool, walk_after, sizes_with_pool}
 use Rattle.relocatable_object.specs.Sections.{same_section}
 use Rattle.relocatable_object.specs.declared.object.Object.{Object}
 use Rattle.relocatable_object.specs.declared.object.Reloc.{Reloc}
@@ -24,34 +24,34 @@ use Rattle.relocatable_object.specs.Fields.{StandInOrder, bytes_at}
 use Rattle.asm_object.specs.Pieces.{Piece, own_piece, bytes_in, relocs_in, pieces_of}
 use Rattle.asm_object.specs.Refusals.{are_names_known, encode_fault, encode_or, is_pool_too_far, is_misplaced, refusal}
 use Rattle.relocatable_object.specs.Relocations.{field_size}
-use Rattle.asm_object.proofs.PlaceLaws.{Fewer, earlier, law_of_bytes, law_of_ends, none_behind, none_parts, not_large, own_stands, refusal_parts, split, walks_on}
+use Rattle.asm_object.proofs.PlaceLaws.{Fewer, earlier, law_of_bytes, law_of_ends, none_after, none_parts, not_large, own_stands, refusal_parts, split, walks_on}
 use Rattle.asm_object.proofs.ObjectLaws.{IsTaken, OfSection, AllOwn, of_in, all_own, all_stand, earlier_stand, ends_small, entries_count, same_is}
 use Rattle.eh_link.specs.FieldLaw.{IsInNoField}
-use Rattle.source_laws.specs.RowLaw.{behind}
+use Rattle.source_laws.specs.RowLaw.{walk_over}
 use Rattle.link_laws.specs.LabelLaw.{Has}
 use Rattle.link_laws.proofs.Labels.{has_left, has_right}
 use Rattle.asm_object.proofs.Statements.{walk_sets}
 use Rattle.asm_layout.specs.Placing.{word_place, placed_from}
-use Rattle.asm_object.specs.Behind.{pieces_from, refusals_from}
+use Rattle.asm_object.specs.After.{pieces_from, refusals_from}
 
 -- ---- bytes in no field
 
 outside_before : (j from at : ℕ) → j < from → from ≤ at → at ≤ j → ⊥
 outside_before j from at h k l = omega (arith, h, k, l)
 
-outside_behind : (j at end : ℕ) → j < at → at ≤ end → end ≤ j → ⊥
-outside_behind j at end h k l = omega (arith, h, k, l)
+outside_after : (j at end : ℕ) → j < at → at ≤ end → end ≤ j → ⊥
+outside_after j at end h k l = omega (arith, h, k, l)
 
 -- in none of another section
 none_elsewhere : (t s : Section) (relocs : List Reloc) (j : ℕ) → OfSection t relocs → same_section t s ≡ false → IsInNoField s j relocs
 none_elsewhere t s [] j h e = tt
 none_elsewhere t s (reloc ∷ more) j h e = ((λ f. true≢false (sym f.here ∙ ap (λ u. same_section u s) h.0.there ∙ e)), none_elsewhere t s more j h.1 e)
 
--- in none that stands behind it
-pub none_behind_it : (s : Section) (from : ℕ) (relocs : List Reloc) (end j : ℕ) → StandInOrder from relocs end → j < from → IsInNoField s j relocs
-none_behind_it s from [] end j h lt = tt
-none_behind_it s from (reloc ∷ more) end j h lt =
-    ((λ f. outside_before j from reloc.offset lt h.0 f.from), none_behind_it s (reloc.offset + field_size reloc) more end j h.1 (omega (arith, lt, h.0)))
+-- in none that stands after it
+pub none_after_it : (s : Section) (from : ℕ) (relocs : List Reloc) (end j : ℕ) → StandInOrder from relocs end → j < from → IsInNoField s j relocs
+none_after_it s from [] end j h lt = tt
+none_after_it s from (reloc ∷ more) end j h lt =
+    ((λ f. outside_before j from reloc.offset lt h.0 f.from), none_after_it s (reloc.offset + field_size reloc) more end j h.1 (omega (arith, lt, h.0)))
 
 order_ends : (from : ℕ) (relocs : List Reloc) (end : ℕ) → StandInOrder from relocs end → from ≤ end
 order_ends from [] end s = s
@@ -61,7 +61,7 @@ order_ends from (reloc ∷ more) end s = omega (arith, s.0, order_ends (reloc.of
 pub none_before_it : (s : Section) (from : ℕ) (relocs : List Reloc) (end j : ℕ) → StandInOrder from relocs end → end ≤ j → IsInNoField s j relocs
 none_before_it s from [] end j h le = tt
 none_before_it s from (reloc ∷ more) end j h le = (
-  (λ f. outside_behind j (reloc.offset + field_size reloc) end f.below (order_ends (reloc.offset + field_size reloc) more end h.1) le),
+  (λ f. outside_after j (reloc.offset + field_size reloc) end f.below (order_ends (reloc.offset + field_size reloc) more end h.1) le),
   none_before_it s (reloc.offset + field_size reloc) more end j h.1 le,
 )
 
@@ -104,7 +104,7 @@ names_known labels kind section place word e = by (are_names_known labels kind) 
 
 there : (entries : List (Option EntryWords)) (labels : List Named) (walk : Walk) (stmt : Stmt) (more : List Stmt) → walk_sets entries labels walk stmt.kind ≡ []
     → refusals_from entries labels walk (stmt ∷ more) ≡ [] → There entries labels walk stmt more
-unfolding pieces_of placed_from walk_behind
+unfolding pieces_of placed_from walk_after
 there entries labels walk stmt more none r =
     let word = word_place walk stmt.kind (coming_pool entries walk (stmt ∷ more)) in
     let own = none_parts stmt.line (refusal labels stmt.kind walk.at.section (here walk.at).offset word) (refusals_from entries labels (next entries walk stmt.kind) more) r in
@@ -122,7 +122,7 @@ there entries labels walk stmt more none r =
 abbrev no_bytes : List ℕ
 no_bytes = []
 
--- its bytes come first, and those of the statements behind it follow
+-- its bytes come first, and those of the statements after it follow
 own_first : (entries : List (Option EntryWords)) (labels : List Named) (walk : Walk) (stmt : Stmt) (more : List Stmt) (t : There entries labels walk stmt more)
     → bytes_in walk.at.section (pieces_from entries labels walk (stmt ∷ more))
     ≡ (own_piece labels stmt.kind (here walk.at) t.word).bytes ++ bytes_in walk.at.section (pieces_from entries labels (next entries walk stmt.kind) more)
@@ -141,11 +141,11 @@ relocs_first entries labels walk stmt more t =
     ap (relocs_in walk.at.section) t.pieces
     ∙ ap (λ b. cond b own.relocs the_none ++ relocs_in walk.at.section rest) (ap (λ (p : Place). same_section p.section walk.at.section) (own_stands labels stmt.kind (here walk.at) t.word) ∙ itself walk.at.section)
 
--- the section ends behind them, and the fields of the statements behind it stand there
+-- the section ends after them, and the fields of the statements after it stand there
 ends_at : (entries : List (Option EntryWords)) (labels : List Named) (walk : Walk) (stmt : Stmt) (more : List Stmt) (t : There entries labels walk stmt more) → Fewer entries
-    → refusals_from entries labels walk (stmt ∷ more) ≡ [] → is_too_large (sizes_with_pool (walk_behind entries walk (stmt ∷ more))) ≡ false
+    → refusals_from entries labels walk (stmt ∷ more) ≡ [] → is_too_large (sizes_with_pool (walk_after entries walk (stmt ∷ more))) ≡ false
     → size_in (next entries walk stmt.kind).at.sizes walk.at.section ≡ (here walk.at).offset + length (own_piece labels stmt.kind (here walk.at) t.word).bytes
-unfolding walk_behind
+unfolding walk_after
 ends_at entries labels walk stmt more t few r h =
     let s = walk.at.section in
     let after = next entries walk stmt.kind in
@@ -158,23 +158,23 @@ ends_at entries labels walk stmt more t few r h =
     exact a b own rest all end h k l = omega (arith, h, k, l)
 
 later_stand : (entries : List (Option EntryWords)) (labels : List Named) (walk : Walk) (stmt : Stmt) (more : List Stmt) (t : There entries labels walk stmt more) → Fewer entries
-    → is_too_large (sizes_with_pool (walk_behind entries walk (stmt ∷ more))) ≡ false
+    → is_too_large (sizes_with_pool (walk_after entries walk (stmt ∷ more))) ≡ false
     → StandInOrder (size_in (next entries walk stmt.kind).at.sizes walk.at.section) (relocs_in walk.at.section (pieces_from entries labels (next entries walk stmt.kind) more))
-    (size_in (sizes_with_pool (walk_behind entries (next entries walk stmt.kind) more)) walk.at.section)
-unfolding walk_behind
+    (size_in (sizes_with_pool (walk_after entries (next entries walk stmt.kind) more)) walk.at.section)
+unfolding walk_after
 later_stand entries labels walk stmt more t few h = all_stand entries labels (next entries walk stmt.kind) more walk.at.section few t.later h
 
 within : (a x end : ℕ) → a + x ≡ end → end ≤ MOST_BYTES → a ≤ MOST_BYTES
 within a x end e h = omega (arith, e, h)
 
 end_small : (entries : List (Option EntryWords)) (labels : List Named) (walk : Walk) (stmt : Stmt) (more : List Stmt) (t : There entries labels walk stmt more) → Fewer entries
-    → is_too_large (sizes_with_pool (walk_behind entries walk (stmt ∷ more))) ≡ false
+    → is_too_large (sizes_with_pool (walk_after entries walk (stmt ∷ more))) ≡ false
     → size_in (next entries walk stmt.kind).at.sizes walk.at.section ≤ MOST_BYTES
-unfolding walk_behind
+unfolding walk_after
 end_small entries labels walk stmt more t few h =
     let s = walk.at.section in
     let after = next entries walk stmt.kind in
-    within (size_in after.at.sizes s) _ (size_in (sizes_with_pool (walk_behind entries after more)) s) (law_of_ends entries labels after more s few t.later h) (not_large (sizes_with_pool (walk_behind entries after more)) s h)
+    within (size_in after.at.sizes s) _ (size_in (sizes_with_pool (walk_after entries after more)) s) (law_of_ends entries labels after more s few t.later h) (not_large (sizes_with_pool (walk_after entries after more)) s h)
 
 -- ---- a statement of a source
 
@@ -228,47 +228,47 @@ none_of_section s pieces j own h =
 
 -- what a statement that sets no pieces of its own gives: its bytes at its place, its fields, and that no other field lies in them
 pub record Given (stmts before : List Stmt) (kind : StmtKind) (object : Object) : Type 0 where
-  pub in_place : is_misplaced kind (behind stmts before).at.section ≡ false
-  pub has_bytes : same_section (behind stmts before).at.section Bss ≡ false
+  pub in_place : is_misplaced kind (walk_over stmts before).at.section ≡ false
+  pub has_bytes : same_section (walk_over stmts before).at.section Bss ≡ false
   pub word : Option ℕ
   pub rest : List Stmt
   pub rest_is : stmts ≡ before ++ rest
-  pub word_is : word ≡ word_place (behind stmts before) kind (coming_pool (entries_of stmts) (behind stmts before) rest)
+  pub word_is : word ≡ word_place (walk_over stmts before) kind (coming_pool (entries_of stmts) (walk_over stmts before) rest)
   pub known : are_names_known (labels_of (entries_of stmts) stmts) kind ≡ true
-  pub unfaulted : encode_fault (labels_of (entries_of stmts) stmts) kind (here (behind stmts before).at).offset word ≡ None
+  pub unfaulted : encode_fault (labels_of (entries_of stmts) stmts) kind (here (walk_over stmts before).at).offset word ≡ None
   pub after : List ℕ
   pub bytes :
-      drop (here (behind stmts before).at).offset (bytes_at (behind stmts before).at.section object)
-      ≡ (own_piece (labels_of (entries_of stmts) stmts) kind (here (behind stmts before).at) word).bytes ++ after
-  pub small : (here (behind stmts before).at).offset + length (own_piece (labels_of (entries_of stmts) stmts) kind (here (behind stmts before).at) word).bytes ≤ MOST_BYTES
-  pub fields : (reloc : Reloc) → Has (own_piece (labels_of (entries_of stmts) stmts) kind (here (behind stmts before).at) word).relocs reloc → Has object.relocs reloc
+      drop (here (walk_over stmts before).at).offset (bytes_at (walk_over stmts before).at.section object)
+      ≡ (own_piece (labels_of (entries_of stmts) stmts) kind (here (walk_over stmts before).at) word).bytes ++ after
+  pub small : (here (walk_over stmts before).at).offset + length (own_piece (labels_of (entries_of stmts) stmts) kind (here (walk_over stmts before).at) word).bytes ≤ MOST_BYTES
+  pub fields : (reloc : Reloc) → Has (own_piece (labels_of (entries_of stmts) stmts) kind (here (walk_over stmts before).at) word).relocs reloc → Has object.relocs reloc
   pub others :
-      (j : ℕ) → (here (behind stmts before).at).offset ≤ j
-      → j < (here (behind stmts before).at).offset + length (own_piece (labels_of (entries_of stmts) stmts) kind (here (behind stmts before).at) word).bytes
-      → IsInNoField (behind stmts before).at.section j (own_piece (labels_of (entries_of stmts) stmts) kind (here (behind stmts before).at) word).relocs
-      → IsInNoField (behind stmts before).at.section j object.relocs
+      (j : ℕ) → (here (walk_over stmts before).at).offset ≤ j
+      → j < (here (walk_over stmts before).at).offset + length (own_piece (labels_of (entries_of stmts) stmts) kind (here (walk_over stmts before).at) word).bytes
+      → IsInNoField (walk_over stmts before).at.section j (own_piece (labels_of (entries_of stmts) stmts) kind (here (walk_over stmts before).at) word).relocs
+      → IsInNoField (walk_over stmts before).at.section j object.relocs
 
 fewer : (a b : ℕ) → a ≤ b → b < 2 ^ 64 → a < 2 ^ 64
 fewer a b h k = omega (arith, h, k)
 
 -- a statement that is data or an instruction, in a section that has bytes
 pub given : (stmts before more : List Stmt) (line : ℕ) (kind : StmtKind) (object : Object) → stmts ≡ before ++ record { line = line; kind = kind } ∷ more → length stmts < 2 ^ 64 → IsTaken stmts object
-    → walk_sets (entries_of stmts) (labels_of (entries_of stmts) stmts) (behind stmts before) kind ≡ []
-    → (is_misplaced kind (behind stmts before).at.section ≡ false → same_section (behind stmts before).at.section Bss ≡ false) → Given stmts before kind object
+    → walk_sets (entries_of stmts) (labels_of (entries_of stmts) stmts) (walk_over stmts before) kind ≡ []
+    → (is_misplaced kind (walk_over stmts before).at.section ≡ false → same_section (walk_over stmts before).at.section Bss ≡ false) → Given stmts before kind object
 given stmts before more line kind object same few t none has =
     let entries = entries_of stmts in
     let labels = labels_of entries stmts in
-    let walk = behind stmts before in
+    let walk = walk_over stmts before in
     let s = walk.at.section in
     let stmt : Stmt = record { line = line; kind = kind } in
     let rest = stmt ∷ more in
     let few_entries = fewer _ _ (entries_count no_frame stmts) few in
     let R : List Stmt → Type 0 = λ l. refusals_from entries labels start l ≡ [] in
-    let T : List Stmt → Type 0 = λ l. is_too_large (sizes_with_pool (walk_behind entries start l)) ≡ false in
+    let T : List Stmt → Type 0 = λ l. is_too_large (sizes_with_pool (walk_after entries start l)) ≡ false in
     let unrefused = subst R same t.unrefused in
     let large = subst T same (ends_small entries start 0 stmts t.small) in
-    let r = none_behind entries labels start before rest unrefused in
-    let h : is_too_large (sizes_with_pool (walk_behind entries walk rest)) ≡ false = ap (λ w. is_too_large (sizes_with_pool w)) (sym (walks_on entries start before rest)) ∙ large in
+    let r = none_after entries labels start before rest unrefused in
+    let h : is_too_large (sizes_with_pool (walk_after entries walk rest)) ≡ false = ap (λ w. is_too_large (sizes_with_pool w)) (sym (walks_on entries start before rest)) ∙ large in
     let own = there entries labels walk stmt more none r in
     let piece = own_piece labels kind (here walk.at) own.word in
     let bytes_there = has own.in_place in
@@ -308,5 +308,5 @@ given stmts before more line kind object same few t none has =
           (none_in_both s (relocs_in s first) _ j
           (none_before_it s _ (relocs_in s first) (size_in walk.at.sizes s) j (earlier_stand entries labels start before rest s few_entries unrefused large) from)
           (none_in_both s piece.relocs _ j none_own
-          (none_behind_it s (size_in (next entries walk kind).at.sizes s) (relocs_in s (pieces_from entries labels (next entries walk kind) more)) _ j (later_stand entries labels walk stmt more own few_entries h) (omega (arith, below, end)))))));
+          (none_after_it s (size_in (next entries walk kind).at.sizes s) (relocs_in s (pieces_from entries labels (next entries walk kind) more)) _ j (later_stand entries labels walk stmt more own few_entries h) (omega (arith, below, end)))))));
     }

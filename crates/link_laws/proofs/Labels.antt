@@ -36,7 +36,7 @@ Below address placed = placed.at.bss + placed.object.bss ≤ address
 
 record Room (at : Addresses) (objects : List Object) (front : List Placed) (placed : Placed) : Type 0 where
   fourth : placed.at.bss % 4 ≡ 0
-  behind : at.bss ≤ placed.at.bss
+  following : at.bss ≤ placed.at.bss
   within : placed.at.bss + placed.object.bss ≤ end_of Bss at.bss objects
   apart : All (Below placed.at.bss) front
 
@@ -48,7 +48,7 @@ room_from at (object ∷ more) [] back placed e =
     let P : Placed → Type 0 = λ p. Room at (object ∷ more) [] p in
     subst P same (record {
       fourth = fourth at.bss;
-      behind = behind at.bss;
+      following = following at.bss;
       within = end_ge Bss (aligned at.bss + object.bss) more;
       apart = All-nil (Below (aligned at.bss));
     })
@@ -56,17 +56,17 @@ room_from at (object ∷ more) [] back placed e =
     fourth : (n : ℕ) → aligned n % 4 ≡ 0
     fourth n = omega arith
 
-    behind : (n : ℕ) → n ≤ aligned n
-    behind n = omega arith
+    following : (n : ℕ) → n ≤ aligned n
+    following n = omega arith
 room_from at (object ∷ more) (x ∷ front) back placed e =
     let same : record { object = object; at = all_aligned at } ≡ x = cc in
     let rest : placed_from (ends (all_aligned at) object) more ≡ front ++ placed ∷ back = cc in
     let later = room_from (ends (all_aligned at) object) more front back placed rest in
     let P : Placed → Type 0 = λ p. Below placed.at.bss p in
-    let low : aligned at.bss + object.bss ≤ placed.at.bss = later.behind in
+    let low : aligned at.bss + object.bss ≤ placed.at.bss = later.following in
     record {
       fourth = later.fourth;
-      behind = onward at.bss object.bss placed.at.bss low;
+      following = onward at.bss object.bss placed.at.bss low;
       within = later.within;
       apart = All-cons (Below placed.at.bss) x front (subst P same low) later.apart;
     }
@@ -82,7 +82,7 @@ has_room objects placed one =
     record {
       is = refl;
       fourth = room.fourth;
-      behind = omega (arith, room.behind, rises.init, rises.bss, sizes);
+      following = omega (arith, room.following, rises.init, rises.bss, sizes);
       within = omega (arith, room.within, (ends_of objects).bss, rises.init, rises.bss);
       apart = room.apart;
     }

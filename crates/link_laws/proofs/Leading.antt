@@ -23,7 +23,7 @@ use Rattle.asm_layout.specs.declared.walk.Walk.{Walk}
 use Rattle.asm_layout.specs.Functions.{entries_of, no_frame}
 use Rattle.asm_layout.specs.Labels.{Named, find, is_among, label_unless, new_labels, labels_from, labels_of, labelled, labels_in}
 use Rattle.asm_layout.specs.Sizes.{size_in, is_instruction, is_too_large}
-use Rattle.asm_layout.specs.Walks.{start, next, here, coming_pool, walk_behind, sizes_with_pool}
+use Rattle.asm_layout.specs.Walks.{start, next, here, coming_pool, walk_after, sizes_with_pool}
 use Rattle.relocatable_object.specs.Sections.{same_section}
 use Rattle.relocatable_object.specs.declared.object.Object.{Object}
 use Rattle.relocatable_object.specs.declared.object.ObjSymbol.{ObjSymbol}
@@ -32,17 +32,17 @@ use Rattle.asm_object.specs.Objects.{joined, symbol_of}
 use Rattle.asm_object.specs.ObjectLaw.{symbol_place}
 use Rattle.asm_object.specs.Pieces.{Piece, place_at, own_piece, bytes_of_code, bytes_in, pieces_of}
 use Rattle.asm_object.specs.Refusals.{encode_fault, refusal}
-use Rattle.asm_object.proofs.PlaceLaws.{Fewer, own_stands, none_parts, none_behind, refusal_parts, not_false, not_large, text_here, law_of_ends, law_of_bytes}
+use Rattle.asm_object.proofs.PlaceLaws.{Fewer, own_stands, none_parts, none_after, refusal_parts, not_false, not_large, text_here, law_of_ends, law_of_bytes}
 use Rattle.asm_object.proofs.ObjectLaws.{IsTaken, taken, ends_small, entries_count}
-use Rattle.asm_object.proofs.LabelLaws.{small_behind}
-use Rattle.source_laws.specs.RowLaw.{behind}
-use Rattle.source_laws.specs.MarkLaw.{text_behind}
+use Rattle.asm_object.proofs.LabelLaws.{small_after}
+use Rattle.source_laws.specs.RowLaw.{walk_over}
+use Rattle.source_laws.specs.MarkLaw.{text_after}
 use Rattle.eh_link.proofs.Branches.{bl_means, b_means, b_cond_means, bl_is_small, b_is_small, b_cond_is_small}
 use Rattle.link_laws.specs.BranchLaw.{GoesTo, ReachesFromItsBase, Leads, BranchesLead, CondBranchesLead, CallsLead, AddressesLead, LoadsLead}
 use Rattle.link_laws.proofs.Codes.{Means, adr_means, load_means, code_there}
 use Rattle.asm_object.proofs.Statements.{walk_sets, walk_pieces}
 use Rattle.asm_layout.specs.Placing.{word_place, placed_from}
-use Rattle.asm_object.specs.Behind.{pieces_from, refusals_from}
+use Rattle.asm_object.specs.After.{pieces_from, refusals_from}
 
 -- ---- labels that are found
 
@@ -65,17 +65,17 @@ found_or name labels _ place q rest e = inr e
 
 -- a label stands within what a section may have
 pub found_small : (entries : List (Option EntryWords)) (given labels : List Named) (walk : Walk) (stmts : List Stmt) (name : List ℕ) (q : Place) → Fewer entries
-    → refusals_from entries given walk stmts ≡ [] → is_too_large (sizes_with_pool (walk_behind entries walk stmts)) ≡ false
+    → refusals_from entries given walk stmts ≡ [] → is_too_large (sizes_with_pool (walk_after entries walk stmts)) ≡ false
     → find name (labels_from entries labels walk stmts) ≡ Some q → q.offset ≤ MOST_BYTES
-unfolding labels_in placed_from find walk_behind
+unfolding labels_in placed_from find walk_after
 found_small entries given labels walk [] name q few r h e = absurd (cc)
 found_small entries given labels walk (stmt ∷ more) name q few r h e =
     let after = next entries walk stmt.kind in
     let new = new_labels labels stmt.kind (here walk.at) in
     let word = word_place walk stmt.kind (coming_pool entries walk (stmt ∷ more)) in
     let parts = none_parts stmt.line (refusal given stmt.kind walk.at.section (here walk.at).offset word) (refusals_from entries given after more) r in
-    let small = within (size_in walk.at.sizes walk.at.section) _ (size_in (sizes_with_pool (walk_behind entries after more)) walk.at.section)
-    (law_of_ends entries given walk (stmt ∷ more) walk.at.section few r h) (not_large (sizes_with_pool (walk_behind entries after more)) walk.at.section h) in
+    let small = within (size_in walk.at.sizes walk.at.section) _ (size_in (sizes_with_pool (walk_after entries after more)) walk.at.section)
+    (law_of_ends entries given walk (stmt ∷ more) walk.at.section few r h) (not_large (sizes_with_pool (walk_after entries after more)) walk.at.section h) in
     elim (found_or name labels stmt.kind (here walk.at) q (labels_from entries (labels ++ new) after more) e) [
       | inl is ↦ let P : Place → Type 0 = λ p. p.offset ≤ MOST_BYTES in subst P (sym is) small
       | inr rest ↦ found_small entries given (labels ++ new) after more name q few parts.1 h rest
@@ -136,7 +136,7 @@ fewer a b h k = omega (arith, h, k)
 abbrev no_bytes : List ℕ
 no_bytes = []
 
--- the bytes of a statement that has one piece, and of those behind it
+-- the bytes of a statement that has one piece, and of those after it
 one_piece : (entries : List (Option EntryWords)) (labels : List Named) (walk : Walk) (kind : StmtKind) (rest : List Piece) (word : Option ℕ)
     → walk_sets entries labels walk kind ≡ [] → same_section walk.at.section Text ≡ true
     → bytes_in Text (walk_pieces entries labels walk word kind ++ rest) ≡ (own_piece labels kind (here walk.at) word).bytes ++ bytes_in Text rest
@@ -155,7 +155,7 @@ record Placed (entries : List (Option EntryWords)) (labels : List Named) (walk :
 
 placed : (entries : List (Option EntryWords)) (labels : List Named) (walk : Walk) (stmt : Stmt) (more : List Stmt) → refusals_from entries labels walk (stmt ∷ more) ≡ []
     → walk_sets entries labels walk stmt.kind ≡ [] → is_instruction stmt.kind ≡ true → Placed entries labels walk stmt more
-unfolding pieces_of placed_from walk_behind
+unfolding pieces_of placed_from walk_after
 placed entries labels walk stmt more r none is =
     let word = word_place walk stmt.kind (coming_pool entries walk (stmt ∷ more)) in
     let own = none_parts stmt.line (refusal labels stmt.kind walk.at.section (here walk.at).offset word) (refusals_from entries labels (next entries walk stmt.kind) more) r in
@@ -170,30 +170,30 @@ placed entries labels walk stmt more r none is =
 
 -- the bytes of an instruction of an accepted source stand at its place in the text, and the encoder takes it
 record Stood (stmts before : List Stmt) (kind : StmtKind) (object : Object) : Type 0 where
-  place_is : (here (behind stmts before).at).offset ≡ text_behind stmts before
-  small : (here (behind stmts before).at).offset ≤ MOST_BYTES
+  place_is : (here (walk_over stmts before).at).offset ≡ text_after stmts before
+  small : (here (walk_over stmts before).at).offset ≤ MOST_BYTES
   word : Option ℕ
-  unfaulted : encode_fault (labels_of (entries_of stmts) stmts) kind (here (behind stmts before).at).offset word ≡ None
+  unfaulted : encode_fault (labels_of (entries_of stmts) stmts) kind (here (walk_over stmts before).at).offset word ≡ None
   after : List ℕ
-  bytes : drop (here (behind stmts before).at).offset object.text ≡ (own_piece (labels_of (entries_of stmts) stmts) kind (here (behind stmts before).at) word).bytes ++ after
+  bytes : drop (here (walk_over stmts before).at).offset object.text ≡ (own_piece (labels_of (entries_of stmts) stmts) kind (here (walk_over stmts before).at) word).bytes ++ after
 
 stood : (stmts before more : List Stmt) (line : ℕ) (kind : StmtKind) (object : Object) → stmts ≡ before ++ record { line = line; kind = kind } ∷ more → length stmts < 2 ^ 64 → IsTaken stmts object
-    → walk_sets (entries_of stmts) (labels_of (entries_of stmts) stmts) (behind stmts before) kind ≡ [] → is_instruction kind ≡ true → Stood stmts before kind object
+    → walk_sets (entries_of stmts) (labels_of (entries_of stmts) stmts) (walk_over stmts before) kind ≡ [] → is_instruction kind ≡ true → Stood stmts before kind object
 stood stmts before more line kind object same few t none is =
     let entries = entries_of stmts in
     let labels = labels_of entries stmts in
-    let walk = behind stmts before in
+    let walk = walk_over stmts before in
     let rest = record { line = line; kind = kind } ∷ more in
     let few_entries = fewer _ _ (entries_count no_frame stmts) few in
     let R : List Stmt → Type 0 = λ s. refusals_from entries labels start s ≡ [] in
-    let T : List Stmt → Type 0 = λ s. is_too_large (sizes_with_pool (walk_behind entries start s)) ≡ false in
+    let T : List Stmt → Type 0 = λ s. is_too_large (sizes_with_pool (walk_after entries start s)) ≡ false in
     let unrefused = subst R same t.unrefused in
     let small = subst T same (ends_small entries start 0 stmts t.small) in
-    let own = placed entries labels walk (record { line = line; kind = kind }) more (none_behind entries labels start before rest unrefused) none is in
+    let own = placed entries labels walk (record { line = line; kind = kind }) more (none_after entries labels start before rest unrefused) none is in
     let place = text_here walk.at.sizes walk.at.section own.text in
     record {
       place_is = place;
-      small = small_behind entries labels before rest walk.at.section few_entries unrefused small;
+      small = small_after entries labels before rest walk.at.section few_entries unrefused small;
       word = own.word;
       unfaulted = own.unfaulted;
       after = own.after;
@@ -241,8 +241,8 @@ minus_small to from h k = grind (arith, ints, nat_tests)
 pub goes : (place to : ℕ) → place ≤ MOST_BYTES → to ≤ MOST_BYTES → GoesTo place to (between to (pc place))
 goes place to h k regs text fits at =
     let from : pc place ≡ place + 4 = omega (arith, h) in
-    let way : between to (pc place) ≡ pos to -ℤ pos (place + 4) = ap (between to) from ∙ minus_small to (place + 4) (omega (arith, k)) (omega (arith, h)) in
-    ap (λ off. forward ((regs.pc + 4) % 2 ^ 32) off) way
+    let displacement : between to (pc place) ≡ pos to -ℤ pos (place + 4) = ap (between to) from ∙ minus_small to (place + 4) (omega (arith, k)) (omega (arith, h)) in
+    ap (λ off. forward ((regs.pc + 4) % 2 ^ 32) off) displacement
     ∙ ap (λ n. forward ((n + 4) % 2 ^ 32) (pos to -ℤ pos (place + 4))) at
     ∙ comes text place to h k fits
   where
@@ -252,8 +252,8 @@ goes place to h k regs text fits at =
 pub reaches : (place to : ℕ) → place ≤ MOST_BYTES → to ≤ MOST_BYTES → ReachesFromItsBase place to (literal to place)
 reaches place to h k regs text fourth fits at =
     let from : base place ≡ (place + 4) / 4 * 4 = omega (arith, h) in
-    let way : literal to place ≡ pos to -ℤ pos ((place + 4) / 4 * 4) = ap (between to) from ∙ minus_small to ((place + 4) / 4 * 4) (omega (arith, k)) (omega (arith, h)) in
-    ap (λ off. forward (core_base regs) off) way
+    let displacement : literal to place ≡ pos to -ℤ pos ((place + 4) / 4 * 4) = ap (between to) from ∙ minus_small to ((place + 4) / 4 * 4) (omega (arith, k)) (omega (arith, h)) in
+    ap (λ off. forward (core_base regs) off) displacement
     ∙ ap (λ n. forward ((n + 4) % 2 ^ 32 - (n + 4) % 2 ^ 32 % 4) (pos to -ℤ pos ((place + 4) / 4 * 4))) at
     ∙ comes text place to ((place + 4) / 4 * 4) h k fourth fits refl
   where
@@ -306,9 +306,9 @@ law_of_branches before more line name object to few e symbol =
     let stmts = before ++ record { line = line; kind = statement.B name } ∷ more in
     let t = taken stmts object e in
     let own = stood stmts before more line (statement.B name) object refl few t refl refl in
-    let place = (here (behind stmts before).at).offset in
+    let place = (here (walk_over stmts before).at).offset in
     let off = branch (labels_of (entries_of stmts) stmts) name place in
-    moved_to GoesTo instr.B object.text place (text_behind stmts before) to own.place_is
+    moved_to GoesTo instr.B object.text place (text_after stmts before) to own.place_is
     (leads GoesTo instr.B off object.text place to own.after own.unfaulted own.bytes (λ c is. record { means = b_means off c is; small = b_is_small off c is })
     (branch_goes stmts name place to own.small (named_there stmts name object to few t symbol)))
 
@@ -317,9 +317,9 @@ law_of_conditions cond before more line name object to few e symbol =
     let stmts = before ++ record { line = line; kind = statement.BCond cond name } ∷ more in
     let t = taken stmts object e in
     let own = stood stmts before more line (statement.BCond cond name) object refl few t refl refl in
-    let place = (here (behind stmts before).at).offset in
+    let place = (here (walk_over stmts before).at).offset in
     let off = branch (labels_of (entries_of stmts) stmts) name place in
-    moved_to GoesTo (instr.BCond cond) object.text place (text_behind stmts before) to own.place_is
+    moved_to GoesTo (instr.BCond cond) object.text place (text_after stmts before) to own.place_is
     (leads GoesTo (instr.BCond cond) off object.text place to own.after own.unfaulted own.bytes (λ c is. record { means = b_cond_means cond off c is; small = b_cond_is_small cond off c is })
     (branch_goes stmts name place to own.small (named_there stmts name object to few t symbol)))
 
@@ -328,9 +328,9 @@ law_of_calls before more line name object to few e symbol =
     let stmts = before ++ record { line = line; kind = statement.Bl name } ∷ more in
     let t = taken stmts object e in
     let own = stood stmts before more line (statement.Bl name) object refl few t refl refl in
-    let place = (here (behind stmts before).at).offset in
+    let place = (here (walk_over stmts before).at).offset in
     let off = branch (labels_of (entries_of stmts) stmts) name place in
-    moved_to GoesTo instr.Bl object.text place (text_behind stmts before) to own.place_is
+    moved_to GoesTo instr.Bl object.text place (text_after stmts before) to own.place_is
     (leads GoesTo instr.Bl off object.text place to own.after own.unfaulted own.bytes (λ c is. record { means = bl_means off c is; small = bl_is_small off c is })
     (branch_goes stmts name place to own.small (named_there stmts name object to few t symbol)))
 
@@ -339,9 +339,9 @@ law_of_addresses d before more line name object to few e symbol =
     let stmts = before ++ record { line = line; kind = statement.Adr d name } ∷ more in
     let t = taken stmts object e in
     let own = stood stmts before more line (statement.Adr d name) object refl few t refl refl in
-    let place = (here (behind stmts before).at).offset in
+    let place = (here (walk_over stmts before).at).offset in
     let off = label_literal (labels_of (entries_of stmts) stmts) name place in
-    moved_to ReachesFromItsBase (instr.Adr d) object.text place (text_behind stmts before) to own.place_is
+    moved_to ReachesFromItsBase (instr.Adr d) object.text place (text_after stmts before) to own.place_is
     (leads ReachesFromItsBase (instr.Adr d) off object.text place to own.after own.unfaulted own.bytes (λ c is. adr_means d off c is)
     (literal_reaches stmts name place to own.small (named_there stmts name object to few t symbol)))
 
@@ -350,8 +350,8 @@ law_of_loads t before more line name object to few e symbol =
     let stmts = before ++ record { line = line; kind = statement.LdrLabel t name } ∷ more in
     let is = taken stmts object e in
     let own = stood stmts before more line (statement.LdrLabel t name) object refl few is refl refl in
-    let place = (here (behind stmts before).at).offset in
+    let place = (here (walk_over stmts before).at).offset in
     let off = label_literal (labels_of (entries_of stmts) stmts) name place in
-    moved_to ReachesFromItsBase (instr.LdrLit t) object.text place (text_behind stmts before) to own.place_is
+    moved_to ReachesFromItsBase (instr.LdrLit t) object.text place (text_after stmts before) to own.place_is
     (leads ReachesFromItsBase (instr.LdrLit t) off object.text place to own.after own.unfaulted own.bytes (λ c code. load_means t off c code)
     (literal_reaches stmts name place to own.small (named_there stmts name object to few is symbol)))

@@ -8,7 +8,7 @@ pub mod Filled
 pub mod Given
 pub mod Said
 pub mod Joined
-pub mod Ways
+pub mod Targets
 pub mod Entries
 pub mod Symbols
 pub mod Rights

@@ -17,7 +17,7 @@ use Rattle.eh_link.specs.LayoutLaw.{StandsAt, linked_code, linked_data}
 use Rattle.eh_link.proofs.Images.{image_made}
 use Rattle.eh_link.proofs.Layouts.{rising}
 use Rattle.eh_link.proofs.Standing.{code_ends, law_of_images, law_of_sizes}
-use Rattle.eh_link.proofs.Words.{Reads, number_is, number_reads, reads_behind}
+use Rattle.eh_link.proofs.Words.{Reads, number_is, number_reads, reads_after}
 use Rattle.link_laws.specs.MeaningLaw.{IsOneOf}
 use Rattle.link_laws.specs.LabelLaw.{Has}
 use Rattle.link_laws.specs.JoinedLaw.{NumberAt}
@@ -55,7 +55,7 @@ record InBytes (n address w start : ℕ) (bytes : List ℕ) : Type 0 where
 
 in_bytes : (n k w address start : ℕ) (part bytes : List ℕ) → StandsAt address part start bytes → number_at n part k ≡ Some w → InBytes n (address + k) w start bytes
 in_bytes n k w address start part bytes stands h =
-    let far = reads_behind n (length stands.before) k (length stands.before + k) w stands.before (part ++ stands.after) refl refl
+    let far = reads_after n (length stands.before) k (length stands.before + k) w stands.before (part ++ stands.after) refl refl
     (reads_front n k w part stands.after (number_reads n part k w h)) in
     let P : List ℕ → Type 0 = λ l. Reads n l (length stands.before + k) w in
     record {

@@ -30,7 +30,7 @@ use Rattle.asm_layout.specs.Functions.{entries_of, no_frame}
 use Rattle.asm_layout.specs.Labels.{Named, labels_of}
 use Rattle.asm_layout.specs.SameWords.{same_word}
 use Rattle.asm_layout.specs.Sizes.{sum_64, times, size_in, is_too_large}
-use Rattle.asm_layout.specs.Walks.{start, next, here, is_empty, is_in_text, ends_pool, pool_place, pool_with, coming_pool, sizes_with_pool, walk_behind}
+use Rattle.asm_layout.specs.Walks.{start, next, here, is_empty, is_in_text, ends_pool, pool_place, pool_with, coming_pool, sizes_with_pool, walk_after}
 use Rattle.relocatable_object.specs.Sections.{same_section}
 use Rattle.asm_layout.specs.Words.{word_of}
 use Rattle.relocatable_object.specs.declared.object.Object.{Object}
@@ -44,26 +44,26 @@ use Rattle.asm_object.specs.Refusals.{instruction_fault, refusal}
 use Rattle.asm_object.specs.declared.value.Link.{Link}
 use Rattle.asm_object.specs.Values.{held, link_of}
 use Rattle.asm_object.proofs.LoadLaws.{HasWord, and_true, put_there, pool_keeps, ends_sizes, law_of_loads as law_of_read_words}
-use Rattle.asm_object.proofs.PlaceLaws.{Fewer, earlier, gives, law_of_ends, loads, none_behind, none_parts, not_large, split, walks_on}
+use Rattle.asm_object.proofs.PlaceLaws.{Fewer, earlier, gives, law_of_ends, loads, none_after, none_parts, not_large, split, walks_on}
 use Rattle.asm_object.proofs.ObjectLaws.{IsTaken, taken, all_own, all_stand, earlier_stand, ends_small, entries_count, last_unlinked}
 use Rattle.eh_link.specs.FieldLaw.{IsInNoField}
 use Rattle.eh_link.specs.Layout.{address_in}
 use Rattle.eh_link.proofs.Words.{Reads}
-use Rattle.source_laws.specs.RowLaw.{behind}
-use Rattle.source_laws.specs.MarkLaw.{text_behind}
+use Rattle.source_laws.specs.RowLaw.{walk_over}
+use Rattle.source_laws.specs.MarkLaw.{text_after}
 use Rattle.link_laws.specs.LabelLaw.{Has}
 use Rattle.link_laws.specs.FilledLaw.{DecodesAt}
 use Rattle.link_laws.specs.PoolLaw.{LoadsReadValues}
 use Rattle.link_laws.proofs.Codes.{literal_is, load_means, no_literal}
-use Rattle.link_laws.proofs.Given.{has_of_section, joined_relocs, none_before_it, none_behind_it, none_in_both, none_of_section}
+use Rattle.link_laws.proofs.Given.{has_of_section, joined_relocs, none_before_it, none_after_it, none_in_both, none_of_section}
 use Rattle.link_laws.proofs.Labels.{begins_at, has_left, has_right}
 use Rattle.link_laws.proofs.Leading.{coded, minus_small, reaches}
 use Rattle.link_laws.proofs.Said.{field_at, word_clear, word_says, words_have}
-use Rattle.link_laws.proofs.Ways.{given_in_text, own_decodes, place_in, place_is, text_aligned, text_begins, text_small}
+use Rattle.link_laws.proofs.Targets.{given_in_text, own_decodes, place_in, place_is, text_aligned, text_begins, text_small}
 use Rattle.asm_object.proofs.Statements.{walk_sets, walk_pieces}
 use Rattle.asm_layout.specs.Placing.{word_place, placed_from, pool_here, pool_puts}
 use Rattle.asm_layout.specs.declared.placed.Puts.TheVariants as puts
-use Rattle.asm_object.specs.Behind.{pieces_from, refusals_from}
+use Rattle.asm_object.specs.After.{pieces_from, refusals_from}
 
 -- ---- a word in its pool
 
@@ -137,27 +137,27 @@ no_bytes = []
 one_by_one : (entries : List (Option EntryWords)) (labels : List Named) (walk : Walk) (stmt : Stmt) (more : List Stmt)
     → length (bytes_in Text (pieces_from entries labels walk (stmt ∷ more)))
     ≡ length (bytes_in Text (walk_pieces entries labels walk (word_place walk stmt.kind (coming_pool entries walk (stmt ∷ more))) stmt.kind)) + length (bytes_in Text (pieces_from entries labels (next entries walk stmt.kind) more))
-unfolding pieces_of placed_from walk_behind
+unfolding pieces_of placed_from walk_after
 one_by_one entries labels walk stmt more =
     let own = walk_pieces entries labels walk (word_place walk stmt.kind (coming_pool entries walk (stmt ∷ more))) stmt.kind in
     let rest = pieces_from entries labels (next entries walk stmt.kind) more in
     ap length (flat_map-append (λ p. cond (same_section p.place.section Text) p.bytes no_bytes) own rest) ∙ length-append (bytes_in Text own) (bytes_in Text rest)
 
--- the text doesn't shrink behind a statement, and stays small
+-- the text doesn't shrink after a statement, and stays small
 record Onward (entries : List (Option EntryWords)) (walk : Walk) (stmt : Stmt) : Type 0 where
   rises : walk.at.sizes.text ≤ (next entries walk stmt.kind).at.sizes.text
   small : (next entries walk stmt.kind).at.sizes.text ≤ MOST_BYTES
 
 onward : (entries : List (Option EntryWords)) (labels : List Named) (walk : Walk) (stmt : Stmt) (more : List Stmt) → Fewer entries
     → refusals_from entries labels walk (stmt ∷ more) ≡ [] → refusals_from entries labels (next entries walk stmt.kind) more ≡ []
-    → is_too_large (sizes_with_pool (walk_behind entries walk (stmt ∷ more))) ≡ false → Onward entries walk stmt
-unfolding walk_behind
+    → is_too_large (sizes_with_pool (walk_after entries walk (stmt ∷ more))) ≡ false → Onward entries walk stmt
+unfolding walk_after
 onward entries labels walk stmt more few r later h =
     let after = next entries walk stmt.kind in
-    let end = (sizes_with_pool (walk_behind entries after more)).text in
+    let end = (sizes_with_pool (walk_after entries after more)).text in
     let whole = law_of_ends entries labels walk (stmt ∷ more) Text few r h in
     let rest = law_of_ends entries labels after more Text few later h in
-    let most : end ≤ MOST_BYTES = not_large (sizes_with_pool (walk_behind entries after more)) Text h in
+    let most : end ≤ MOST_BYTES = not_large (sizes_with_pool (walk_after entries after more)) Text h in
     let count = one_by_one entries labels walk stmt more in
     record {
       rises =
@@ -170,20 +170,20 @@ onward entries labels walk stmt more few r later h =
     within : (a x end : ℕ) → a + x ≡ end → end ≤ MOST_BYTES → a ≤ MOST_BYTES
     within a x end e h = omega (arith, e, h)
 
--- the relocations of a statement's pieces and of those behind it
+-- the relocations of a statement's pieces and of those after it
 relocs_on : (entries : List (Option EntryWords)) (labels : List Named) (walk : Walk) (stmt : Stmt) (more : List Stmt)
     → relocs_in Text (pieces_from entries labels walk (stmt ∷ more))
     ≡ relocs_in Text (walk_pieces entries labels walk (word_place walk stmt.kind (coming_pool entries walk (stmt ∷ more))) stmt.kind) ++ relocs_in Text (pieces_from entries labels (next entries walk stmt.kind) more)
-unfolding pieces_of placed_from walk_behind
+unfolding pieces_of placed_from walk_after
 relocs_on entries labels walk stmt more =
     flat_map-append (λ p. cond (same_section p.place.section Text) p.relocs the_none) (walk_pieces entries labels walk (word_place walk stmt.kind (coming_pool entries walk (stmt ∷ more))) stmt.kind)
     (pieces_from entries labels (next entries walk stmt.kind) more)
 
--- those of one statement end where the text has come to behind it
+-- those of one statement end where the text has come to after it
 own_end : (entries : List (Option EntryWords)) (labels : List Named) (walk : Walk) (stmt : Stmt) (more : List Stmt) → Fewer entries
-    → refusals_from entries labels walk (stmt ∷ more) ≡ [] → is_too_large (sizes_with_pool (walk_behind entries walk (stmt ∷ more))) ≡ false
+    → refusals_from entries labels walk (stmt ∷ more) ≡ [] → is_too_large (sizes_with_pool (walk_after entries walk (stmt ∷ more))) ≡ false
     → StandInOrder walk.at.sizes.text (relocs_in Text (walk_pieces entries labels walk (word_place walk stmt.kind (coming_pool entries walk (stmt ∷ more))) stmt.kind)) (next entries walk stmt.kind).at.sizes.text
-unfolding earlier walk_behind
+unfolding earlier walk_after
 own_end entries labels walk stmt more few r h =
     let own = walk_pieces entries labels walk (word_place walk stmt.kind (coming_pool entries walk (stmt ∷ more))) stmt.kind in
     let P : List Piece → Type 0 = λ l. StandInOrder walk.at.sizes.text (relocs_in Text l) (next entries walk stmt.kind).at.sizes.text in
@@ -214,10 +214,10 @@ pool_end walk word at h small = by (is_empty walk.pool) (filled_pool walk.pool w
     by false e small = ends walk.at.sizes.text (gap walk.at.sizes.text 4) (length walk.pool) at (length h.front) (length h.back) h.place count small
 
 pool_later : (walk : Walk) → walk.at.sizes.text ≤ MOST_BYTES → walk.at.sizes.text ≤ pool_place walk
-pool_later walk h = behind walk.at.sizes.text (gap walk.at.sizes.text 4) h
+pool_later walk h = walk_over walk.at.sizes.text (gap walk.at.sizes.text 4) h
   where
-    behind : (text fill : ℕ) → text ≤ MOST_BYTES → text ≤ sum_64 text fill
-    behind text fill h = omega (arith, h)
+    walk_over : (text fill : ℕ) → text ≤ MOST_BYTES → text ≤ sum_64 text fill
+    walk_over text fill h = omega (arith, h)
 
 coming_is : (entries : List (Option EntryWords)) (walk : Walk) (stmt : Stmt) (more : List Stmt)
     → coming_pool entries walk (stmt ∷ more) ≡ cond (ends_pool walk stmt.kind) (pool_place walk) (coming_pool entries (next entries walk stmt.kind) more)
@@ -246,7 +246,7 @@ comes_here entries labels walk stmt more word at end e on order small there =
     subst P (sym (ends_relocs entries labels walk (word_place walk stmt.kind (coming_pool entries walk (stmt ∷ more))) stmt.kind e)) (held_in_pool labels walk word at there fits) in
     let both : Held (own ++ rest) word (pool_place walk + 4 * at) =
     held_first own rest word (pool_place walk + 4 * at)
-    (λ j low below. none_behind_it Text (next entries walk stmt.kind).at.sizes.text rest end j order (onward_of j (pool_place walk + 4 * at) _ _ below last sizes)) mine in
+    (λ j low below. none_after_it Text (next entries walk stmt.kind).at.sizes.text rest end j order (onward_of j (pool_place walk + 4 * at) _ _ below last sizes)) mine in
     let L : ℕ → Type 0 = λ n. walk.at.sizes.text ≤ n in
     let H : ℕ → Type 0 = λ n. Held (relocs_in Text (pieces_from entries labels walk (stmt ∷ more))) word (n + 4 * at) in
     let M : ℕ → Type 0 = λ n. n + 4 * at ≤ MOST_BYTES in
@@ -286,9 +286,9 @@ comes_later entries labels walk stmt more word at e on order ih =
     up a b c h k = omega (arith, h, k)
 
 comes : (entries : List (Option EntryWords)) (labels : List Named) (walk : Walk) (stmts : List Stmt) (word : Word) (at : ℕ) → Fewer entries
-    → refusals_from entries labels walk stmts ≡ [] → is_too_large (sizes_with_pool (walk_behind entries walk stmts)) ≡ false → walk.at.sizes.text ≤ MOST_BYTES → HasWord walk.pool word at
+    → refusals_from entries labels walk stmts ≡ [] → is_too_large (sizes_with_pool (walk_after entries walk stmts)) ≡ false → walk.at.sizes.text ≤ MOST_BYTES → HasWord walk.pool word at
     → Comes entries labels walk stmts word at
-unfolding pieces_of placed_from walk_behind coming_pool
+unfolding pieces_of placed_from walk_after coming_pool
 comes entries labels walk [] word at few r h small there = record {
   later = pool_later walk small;
   small = below_end (pool_place walk + 4 * at) (sizes_with_pool walk).text (pool_end walk word at there (not_large (sizes_with_pool walk) Text h)) (not_large (sizes_with_pool walk) Text h);
@@ -306,7 +306,7 @@ comes entries labels walk (stmt ∷ more) word at few r h small there =
     (λ e. comes entries labels after more word at few parts.1 h on.small (pool_keeps entries walk stmt.kind word at e there))
   where
     by : (b : Bool) → ends_pool walk stmt.kind ≡ b → Onward entries walk stmt
-        → StandInOrder (next entries walk stmt.kind).at.sizes.text (OfRest entries labels walk stmt more) (size_in (sizes_with_pool (walk_behind entries (next entries walk stmt.kind) more)) Text)
+        → StandInOrder (next entries walk stmt.kind).at.sizes.text (OfRest entries labels walk stmt more) (size_in (sizes_with_pool (walk_after entries (next entries walk stmt.kind) more)) Text)
         → StandInOrder walk.at.sizes.text (OfOne entries labels walk stmt more) (next entries walk stmt.kind).at.sizes.text
         → (ends_pool walk stmt.kind ≡ false → Comes entries labels (next entries walk stmt.kind) more word at) → Comes entries labels walk (stmt ∷ more) word at
     by true e on order own ih = comes_here entries labels walk stmt more word at _ e on order small there
@@ -337,8 +337,8 @@ record Literal (t : ℕ) (place to : ℕ) : Type 0 where
 literal_there : (t place to : ℕ) (bytes : List ℕ) → place ≤ MOST_BYTES → to ≤ MOST_BYTES → bytes_of_code (encoded_of (LdrLit t (literal to place))) ≡ bytes → length bytes ≡ 2 → Literal t place to
 literal_there t place to bytes h k e l = by (literal to place) refl (encoded_of (LdrLit t (literal to place))) refl (ap length e ∙ l)
   where
-    way : literal to place ≡ pos to -ℤ pos (base place)
-    way = minus_small to (base place) (omega (arith, k)) (omega (arith, h))
+    displacement : literal to place ≡ pos to -ℤ pos (base place)
+    displacement = minus_small to (base place) (omega (arith, k)) (omega (arith, h))
 
     some : (r : Result Code EncodeFault) → length (bytes_of_code r) ≡ 2 → (c : Code) × (r ≡ Ok c)
     some (Ok c) e = (c, refl)
@@ -350,7 +350,7 @@ literal_there t place to bytes h k e l = by (literal to place) refl (encoded_of 
     by : (off : ℤ) → literal to place ≡ off → (r : Result Code EncodeFault) → encoded_of (LdrLit t (literal to place)) ≡ r → length (bytes_of_code r) ≡ 2 → Literal t place to
     by (pos n) o r f size =
         let c = some r size in
-        record { n = n; offset = o; is = leads to (base place) n (sym way ∙ o); code = c.0; encoded = f ∙ c.1 }
+        record { n = n; offset = o; is = leads to (base place) n (sym displacement ∙ o); code = c.0; encoded = f ∙ c.1 }
     by (negsuc n) o r f size =
         let c = some r size in
         absurd (backward t n c.0 (sym (ap (λ off. encoded_of (LdrLit t off)) o) ∙ f ∙ c.1))
@@ -373,19 +373,19 @@ same_place t place a b bytes h k l size e f =
 abbrev load_at : ℕ → ℕ → Expr → Stmt
 load_at line t value = record { line = line; kind = statement.LdrPool t value }
 
--- what a load has in the pieces of its source: its own code, and its word's field behind it
+-- what a load has in the pieces of its source: its own code, and its word's field after it
 record Loaded (entries : List (Option EntryWords)) (labels : List Named) (walk : Walk) (line t : ℕ) (value : Expr) (more : List Stmt) : Type 0 where
   place : ℕ
   place_is : Some place ≡ word_place walk (statement.LdrPool t value) (coming_pool entries walk (load_at line t value ∷ more))
-  behind_it : walk.at.sizes.text ≤ place
+  following_it : walk.at.sizes.text ≤ place
   small : place ≤ MOST_BYTES
   held : Held (relocs_in Text (pieces_from entries labels walk (load_at line t value ∷ more))) (word_of value) place
   coded : result_err (encoded_of (LdrLit t (literal place (here walk.at).offset))) ≡ None
 
 loaded : (entries : List (Option EntryWords)) (labels : List Named) (walk : Walk) (line t : ℕ) (value : Expr) (more : List Stmt) → Fewer entries
-    → refusals_from entries labels walk (load_at line t value ∷ more) ≡ [] → is_too_large (sizes_with_pool (walk_behind entries walk (load_at line t value ∷ more))) ≡ false
+    → refusals_from entries labels walk (load_at line t value ∷ more) ≡ [] → is_too_large (sizes_with_pool (walk_after entries walk (load_at line t value ∷ more))) ≡ false
     → same_section walk.at.section Text ≡ true → Loaded entries labels walk line t value more
-unfolding pieces_of placed_from walk_behind coming_pool
+unfolding pieces_of placed_from walk_after coming_pool
 loaded entries labels walk line t value more few r h text =
     let kind = statement.LdrPool t value in
     let stmt = load_at line t value in
@@ -412,12 +412,12 @@ loaded entries labels walk line t value more few r h text =
     record {
       place = place;
       place_is = sym named;
-      behind_it = omega (arith, is, on.rises, c.later);
+      following_it = omega (arith, is, on.rises, c.later);
       small = omega (arith, is, low);
       held = subst H (sym is) (subst P (sym (relocs_on entries labels walk stmt more)) both);
       coded =
           ap (λ o. instruction_fault (Some (LdrLit t (literal_to o (here walk.at).offset)))) (sym named)
-          ∙ loads entries labels walk kind more word refl (not_large (sizes_with_pool (walk_behind entries after more)) Text h) parts.0 refl;
+          ∙ loads entries labels walk kind more word refl (not_large (sizes_with_pool (walk_after entries after more)) Text h) parts.0 refl;
     }
   where
     exact : (coming at : ℕ) → coming + 4 * at ≤ MOST_BYTES → sum_64 coming (times at 4) ≡ coming + 4 * at
@@ -455,26 +455,26 @@ cancelled (x ∷ xs) ys zs e = let rest : xs ++ ys ≡ xs ++ zs = cc in cancelle
 
 -- the word's place in an accepted source, what the object's fields are there, and the instruction's code
 record InSource (stmts before more : List Stmt) (line t : ℕ) (value : Expr) (object : Object) : Type 0 where
-  own : Loaded (entries_of stmts) (labels_of (entries_of stmts) stmts) (behind stmts before) line t value more
+  own : Loaded (entries_of stmts) (labels_of (entries_of stmts) stmts) (walk_over stmts before) line t value more
   field : (link : Link) → link_of (word_of value) ≡ Some link → Has object.relocs (field_at Text own.place link)
   clear : link_of (word_of value) ≡ None → (j : ℕ) → own.place ≤ j → j < own.place + 4 → IsInNoField Text j object.relocs
   whole : length object.text ≤ MOST_BYTES
 
 in_source : (stmts before more : List Stmt) (line t : ℕ) (value : Expr) (object : Object) → stmts ≡ before ++ load_at line t value ∷ more → length stmts < 2 ^ 64 → IsTaken stmts object
-    → same_section (behind stmts before).at.section Text ≡ true → InSource stmts before more line t value object
+    → same_section (walk_over stmts before).at.section Text ≡ true → InSource stmts before more line t value object
 in_source stmts before more line t value object same few is text =
     let entries = entries_of stmts in
     let labels = labels_of entries stmts in
-    let walk = behind stmts before in
+    let walk = walk_over stmts before in
     let after = load_at line t value ∷ more in
     let few_entries = fewer _ _ (entries_count no_frame stmts) few in
     let R : List Stmt → Type 0 = λ l. refusals_from entries labels start l ≡ [] in
-    let T : List Stmt → Type 0 = λ l. is_too_large (sizes_with_pool (walk_behind entries start l)) ≡ false in
+    let T : List Stmt → Type 0 = λ l. is_too_large (sizes_with_pool (walk_after entries start l)) ≡ false in
     let ends = ends_small entries start 0 stmts is.small in
     let unrefused = subst R same is.unrefused in
     let large = subst T same ends in
-    let r = none_behind entries labels start before after unrefused in
-    let h : is_too_large (sizes_with_pool (walk_behind entries walk after)) ≡ false = ap (λ w. is_too_large (sizes_with_pool w)) (sym (walks_on entries start before after)) ∙ large in
+    let r = none_after entries labels start before after unrefused in
+    let h : is_too_large (sizes_with_pool (walk_after entries walk after)) ≡ false = ap (λ w. is_too_large (sizes_with_pool w)) (sym (walks_on entries start before after)) ∙ large in
     let l = loaded entries labels walk line t value more few_entries r h text in
     let pieces = pieces_from entries labels start stmts in
     let first = earlier entries labels start before after in
@@ -486,7 +486,7 @@ in_source stmts before more line t value object same few is text =
     let H : List Reloc → Type 0 = λ x. Held x (word_of value) l.place in
     let held = subst H (sym relocs)
     (held_both (relocs_in Text first) (relocs_in Text (pieces_from entries labels walk after)) (word_of value) l.place
-    (λ j low below. none_before_it Text _ (relocs_in Text first) walk.at.sizes.text j front (up walk.at.sizes.text l.place j l.behind_it low)) l.held) in
+    (λ j low below. none_before_it Text _ (relocs_in Text first) walk.at.sizes.text j front (up walk.at.sizes.text l.place j l.following_it low)) l.held) in
     record {
       own = l;
       field = λ link e.
@@ -498,7 +498,7 @@ in_source stmts before more line t value object same few is text =
       whole =
           let P : ℕ → Type 0 = λ n. n ≤ MOST_BYTES in
           subst P (sym (ap (λ (o : Object). length o.text) is.object_is ∙ ap length (joined_text stmts)))
-          (within (length (bytes_in Text pieces)) (sizes_with_pool (walk_behind entries start stmts)).text (law_of_ends entries labels start stmts Text few_entries is.unrefused ends) (not_large (sizes_with_pool (walk_behind entries start stmts)) Text ends));
+          (within (length (bytes_in Text pieces)) (sizes_with_pool (walk_after entries start stmts)).text (law_of_ends entries labels start stmts Text few_entries is.unrefused ends) (not_large (sizes_with_pool (walk_after entries start stmts)) Text ends));
     }
   where
     up : (a b c : ℕ) → a ≤ b → b ≤ c → a ≤ c
@@ -520,8 +520,8 @@ law_of_pools objects entry image placed one before more line t value few accepte
     let read = law_of_read_words before more line t value placed.object few accepted in
     let instruction = LdrLit t (literal l.place place) in
     let rest : n.own.rest ≡ load_at line t value ∷ more = cancelled before n.own.rest (load_at line t value ∷ more) (sym n.own.rest_is) in
-    let word : n.own.word ≡ Some l.place = n.own.word_is ∙ ap (λ x. word_place (behind stmts before) kind (coming_pool (entries_of stmts) (behind stmts before) x)) rest ∙ sym l.place_is in
-    let bytes : (own_piece labels kind (here (behind stmts before).at) n.own.word).bytes ≡ bytes_of_code (encoded_of instruction) = ap (λ w. bytes_of_code (encoded_of (LdrLit t (literal_to w place)))) word in
+    let word : n.own.word ≡ Some l.place = n.own.word_is ∙ ap (λ x. word_place (walk_over stmts before) kind (coming_pool (entries_of stmts) (walk_over stmts before) x)) rest ∙ sym l.place_is in
+    let bytes : (own_piece labels kind (here (walk_over stmts before).at) n.own.word).bytes ≡ bytes_of_code (encoded_of instruction) = ap (λ w. bytes_of_code (encoded_of (LdrLit t (literal_to w place)))) word in
     let low : place ≤ MOST_BYTES = omega (arith, n.own.small) in
     let code = coded (encoded_of instruction) l.coded in
     let size : length (bytes_of_code (encoded_of instruction)) ≡ 2 = (gives instruction).has l.coded in
@@ -532,8 +532,8 @@ law_of_pools objects entry image placed one before more line t value few accepte
     same_place t place read.place l.place (take 2 (drop place placed.object.text)) low
     (far read.place _ there.whole (four_read (held_word stmts value) read.place placed.object.text read.word).inside) l.small (ap length both ∙ size) (sym read.code) (sym both) in
     let decodes = own_decodes kind none objects entry image placed one stmts before instruction n refl bytes l.coded (λ c e. load_means t (literal l.place place) c e) in
-    let same : address_in (behind stmts before).at.section placed.at + place ≡ placed.at.text + text_behind stmts before =
-    ap (λ a. a + place) (text_begins (behind stmts before).at.section objects placed one n.text) ∙ ap (λ p. placed.at.text + p) (place_is kind none objects entry image placed one stmts before n) in
+    let same : address_in (walk_over stmts before).at.section placed.at + place ≡ placed.at.text + text_after stmts before =
+    ap (λ a. a + place) (text_begins (walk_over stmts before).at.section objects placed one n.text) ∙ ap (λ p. placed.at.text + p) (place_is kind none objects entry image placed one stmts before n) in
     let D : ℕ → Type 0 = λ a. DecodesAt instruction image a in
     let address = text_small objects entry image placed one made in
     record {

@@ -54,12 +54,12 @@ use Rattle.eh_link.specs.Fields.{filled}
 use Rattle.eh_link.specs.Linked.{linked}
 use Rattle.eh_link.proofs.Holding.{filled_length, law_of_other_bytes}
 use Rattle.eh_link.proofs.Words.{Reads, number_is, reads_same}
-use Rattle.source_laws.specs.RowLaw.{behind}
+use Rattle.source_laws.specs.RowLaw.{walk_over}
 use Rattle.link_laws.specs.MeaningLaw.{IsOneOf}
 use Rattle.link_laws.specs.LabelLaw.{Has}
 use Rattle.link_laws.specs.JoinedLaw.{NumberAt}
 use Rattle.link_laws.specs.FilledLaw.{FieldSays}
-use Rattle.link_laws.specs.SaidLaw.{MeansSo, StandsBehind, WordSays, NumberSays, SaysThere, WordsSay, HalvesSay, BytesSay}
+use Rattle.link_laws.specs.SaidLaw.{MeansSo, StandsAfter, WordSays, NumberSays, SaysThere, WordsSay, HalvesSay, BytesSay}
 use Rattle.link_laws.proofs.Filled.{filled_at, part_is}
 use Rattle.link_laws.proofs.Given.{Given, given, none_in_both}
 use Rattle.link_laws.proofs.Labels.{begins_at, has_right}
@@ -158,14 +158,14 @@ low_field j offset h lt f = omega (arith, h, lt, f)
 high_field : (j offset : ℕ) → offset + 4 ≤ j → j < offset % 2 ^ 32 + 4 → ⊥
 high_field j offset le f = omega (arith, le, f)
 
-word_behind : (s : Section) (offset j : ℕ) (w : Word) → offset ≤ MOST_BYTES → j < offset → IsInNoField s j (relocs_of (place_at s offset) (link_of w))
-word_behind s offset j (word.Num n) h lt = tt
-word_behind s offset j (word.Diff a b n) h lt = tt
-word_behind s offset j (word.Of name n) h lt = ((λ f. low_field j offset h lt f.from), tt)
-word_behind s offset j (word.Rel name) h lt = ((λ f. low_field j offset h lt f.from), tt)
-word_behind s offset j (word.Target2 name) h lt = ((λ f. low_field j offset h lt f.from), tt)
-word_behind s offset j (word.Prel31 name) h lt = ((λ f. low_field j offset h lt f.from), tt)
-word_behind s offset j (word.Prel31Ref name) h lt = ((λ f. low_field j offset h lt f.from), tt)
+word_after : (s : Section) (offset j : ℕ) (w : Word) → offset ≤ MOST_BYTES → j < offset → IsInNoField s j (relocs_of (place_at s offset) (link_of w))
+word_after s offset j (word.Num n) h lt = tt
+word_after s offset j (word.Diff a b n) h lt = tt
+word_after s offset j (word.Of name n) h lt = ((λ f. low_field j offset h lt f.from), tt)
+word_after s offset j (word.Rel name) h lt = ((λ f. low_field j offset h lt f.from), tt)
+word_after s offset j (word.Target2 name) h lt = ((λ f. low_field j offset h lt f.from), tt)
+word_after s offset j (word.Prel31 name) h lt = ((λ f. low_field j offset h lt f.from), tt)
+word_after s offset j (word.Prel31Ref name) h lt = ((λ f. low_field j offset h lt f.from), tt)
 
 word_before : (s : Section) (offset j : ℕ) (w : Word) → offset + 4 ≤ j → IsInNoField s j (relocs_of (place_at s offset) (link_of w))
 word_before s offset j (word.Num n) le = tt
@@ -176,12 +176,12 @@ word_before s offset j (word.Target2 name) le = ((λ f. high_field j offset le f
 word_before s offset j (word.Prel31 name) le = ((λ f. high_field j offset le f.below), tt)
 word_before s offset j (word.Prel31Ref name) le = ((λ f. high_field j offset le f.below), tt)
 
-words_behind : (s : Section) (offset j : ℕ) (words : List Word) → offset + 4 * length words ≤ MOST_BYTES → j < offset → IsInNoField s j (word_relocs s offset words)
+words_after : (s : Section) (offset j : ℕ) (words : List Word) → offset + 4 * length words ≤ MOST_BYTES → j < offset → IsInNoField s j (word_relocs s offset words)
 unfolding word_relocs
-words_behind s offset j [] h lt = tt
-words_behind s offset j (x ∷ words) h lt =
-    none_in_both s (relocs_of (place_at s offset) (link_of x)) (word_relocs s (sum_64 offset 4) words) j (word_behind s offset j x (omega (arith, h)) lt)
-    (words_behind s (sum_64 offset 4) j words (next_low offset (length words) h) (omega (arith, h, lt)))
+words_after s offset j [] h lt = tt
+words_after s offset j (x ∷ words) h lt =
+    none_in_both s (relocs_of (place_at s offset) (link_of x)) (word_relocs s (sum_64 offset 4) words) j (word_after s offset j x (omega (arith, h)) lt)
+    (words_after s (sum_64 offset 4) j words (next_low offset (length words) h) (omega (arith, h, lt)))
 
 -- a word that the linker doesn't fill lies in no field of its `.word`
 pub word_clear : (s : Section) (offset j : ℕ) (front : List Word) (value : Word) (back : List Word) → link_of value ≡ None → offset + 4 * length (front ++ value ∷ back) ≤ MOST_BYTES
@@ -189,7 +189,7 @@ pub word_clear : (s : Section) (offset j : ℕ) (front : List Word) (value : Wor
 unfolding word_relocs
 word_clear s offset j [] value back e h from below =
     let P : List Reloc → Type 0 = λ l. IsInNoField s j (l ++ word_relocs s (sum_64 offset 4) back) in
-    subst P (sym (ap (relocs_of (place_at s offset)) e)) (words_behind s (sum_64 offset 4) j back (next_low offset (length back) h) (omega (arith, h, below)))
+    subst P (sym (ap (relocs_of (place_at s offset)) e)) (words_after s (sum_64 offset 4) j back (next_low offset (length back) h) (omega (arith, h, below)))
 word_clear s offset j (x ∷ front) value back e h from below =
     none_in_both s (relocs_of (place_at s offset) (link_of x)) (word_relocs s (sum_64 offset 4) (front ++ value ∷ back)) j (word_before s offset j x (omega (arith, from)))
     (word_clear s (sum_64 offset 4) j front value back e (next_low offset (length (front ++ value ∷ back)) h) (omega (arith, h, from)) (omega (arith, below)))
@@ -228,12 +228,12 @@ symbol_there stmts object name place few t e =
     low : (n : ℕ) → n ≤ MOST_BYTES → n % 2 ^ 32 ≡ n
     low n h = omega (arith, h)
 
-pub stands_behind : (stmts : List Stmt) (object : Object) (a b : List ℕ) (way : ℤ) → length stmts < 2 ^ 64 → IsTaken stmts object → distance (labels_of (entries_of stmts) stmts) a b ≡ Some way
-    → StandsBehind object a b way
-stands_behind stmts object a b way few t e = by (find a (labels_of (entries_of stmts) stmts)) (find b (labels_of (entries_of stmts) stmts)) refl refl e
+pub stands_after : (stmts : List Stmt) (object : Object) (a b : List ℕ) (displacement : ℤ) → length stmts < 2 ^ 64 → IsTaken stmts object → distance (labels_of (entries_of stmts) stmts) a b ≡ Some displacement
+    → StandsAfter object a b displacement
+stands_after stmts object a b displacement few t e = by (find a (labels_of (entries_of stmts) stmts)) (find b (labels_of (entries_of stmts) stmts)) refl refl e
   where
     in_one : (p q : Place) (same : Bool) → same_section p.section q.section ≡ same → find a (labels_of (entries_of stmts) stmts) ≡ Some p → find b (labels_of (entries_of stmts) stmts) ≡ Some q
-        → cond same (Some (pos p.offset -ℤ pos q.offset)) None ≡ Some way → StandsBehind object a b way
+        → cond same (Some (pos p.offset -ℤ pos q.offset)) None ≡ Some displacement → StandsAfter object a b displacement
     in_one p q false s f g e = absurd (cc)
     in_one p q true s f g e = record {
       first = p;
@@ -241,10 +241,10 @@ stands_behind stmts object a b way few t e = by (find a (labels_of (entries_of s
       second = q;
       second_is = symbol_there stmts object b q few t g;
       together = same_is p.section q.section s;
-      way_is = cc;
+      displacement_is = cc;
     }
 
-    by : (p q : Option Place) → find a (labels_of (entries_of stmts) stmts) ≡ p → find b (labels_of (entries_of stmts) stmts) ≡ q → between_places p q ≡ Some way → StandsBehind object a b way
+    by : (p q : Option Place) → find a (labels_of (entries_of stmts) stmts) ≡ p → find b (labels_of (entries_of stmts) stmts) ≡ q → between_places p q ≡ Some displacement → StandsAfter object a b displacement
     by (Some p) (Some q) f g e = in_one p q (same_section p.section q.section) refl f g e
     by (Some p) None f g e = absurd (cc)
     by None q f g e = absurd (cc)
@@ -290,10 +290,10 @@ abbrev labels_in : Wording → List Named
 labels_in w = labels_of (entries_of (source w)) (source w)
 
 abbrev section_of : Wording → Section
-section_of w = (behind (source w) w.before).at.section
+section_of w = (walk_over (source w) w.before).at.section
 
 abbrev place_of : Wording → ℕ
-place_of w = (here (behind (source w) w.before).at).offset + 4 * length w.front
+place_of w = (here (walk_over (source w) w.before).at).offset + 4 * length w.front
 
 some_fields : (front : List Expr) (x : Expr) (back : List Expr) → has_fields (front ++ x ∷ back) ≡ true
 some_fields front x back = not_none (length (front ++ x ∷ back)) (omega (arith, length-append front (x ∷ back)))
@@ -320,7 +320,7 @@ word_reads w x e =
     let labels = labels_in w in
     let first = words_bytes labels (map word_of w.front) in
     let last = words_bytes labels (map word_of w.back) in
-    reads_there 4 x (here (behind (source w) w.before).at).offset (4 * length w.front) (bytes_at (section_of w) w.placed.object) first last own.after (omega arith) refl
+    reads_there 4 x (here (walk_over (source w) w.before).at).offset (4 * length w.front) (bytes_at (section_of w) w.placed.object) first last own.after (omega arith) refl
     (own.bytes
     ∙ ap (λ l. l ++ own.after)
     (ap (words_bytes labels) (words_split w.front w.back w.value)
@@ -331,8 +331,8 @@ word_reads w x e =
 word_clears : (w : Wording) → link_of (word_of w.value) ≡ None → (j : ℕ) → place_of w ≤ j → j < place_of w + 4 → IsInNoField (section_of w) j w.placed.object.relocs
 word_clears w none j from below =
     let own = word_given w in
-    let offset = (here (behind (source w) w.before).at).offset in
-    let count : length (own_piece (labels_in w) (statement.Words (values w)) (here (behind (source w) w.before).at) own.word).bytes ≡ 4 * length (values w) = bytes_count (labels_in w) (values w) in
+    let offset = (here (walk_over (source w) w.before).at).offset in
+    let count : length (own_piece (labels_in w) (statement.Words (values w)) (here (walk_over (source w) w.before).at) own.word).bytes ≡ 4 * length (values w) = bytes_count (labels_in w) (values w) in
     let split = words_split w.front w.back w.value in
     let P : List Word → Type 0 = λ l. IsInNoField (section_of w) j (word_relocs (section_of w) offset l) in
     own.others j (omega (arith, from)) (omega (arith, below, count, length-append w.front (w.value ∷ w.back)))
@@ -344,8 +344,8 @@ word_clears w none j from below =
 word_field : (w : Wording) (link : Link) → link_of (word_of w.value) ≡ Some link → Has w.placed.object.relocs (field_at (section_of w) (place_of w) link)
 word_field w link e =
     let own = word_given w in
-    let offset = (here (behind (source w) w.before).at).offset in
-    let count : length (own_piece (labels_in w) (statement.Words (values w)) (here (behind (source w) w.before).at) own.word).bytes ≡ 4 * length (values w) = bytes_count (labels_in w) (values w) in
+    let offset = (here (walk_over (source w) w.before).at).offset in
+    let count : length (own_piece (labels_in w) (statement.Words (values w)) (here (walk_over (source w) w.before).at) own.word).bytes ≡ 4 * length (values w) = bytes_count (labels_in w) (values w) in
     let low : offset + 4 * length (map word_of w.front) ≤ MOST_BYTES =
     omega (arith, own.small, count, words_count w.front, length-append w.front (w.value ∷ w.back)) in
     let there = words_have (section_of w) offset (map word_of w.front) (word_of w.value) (map word_of w.back) link low e in
@@ -409,8 +409,8 @@ filled_word objects entry image placed one stmts s k value kind link w e is =
 low_is : (n : ℤ) → low_word n % 256 ^ 4 ≡ low_word n
 low_is n = omega (arith, low_small n)
 
-difference_is : (labels : List Named) (a b : List ℕ) (n way : ℤ) → distance labels a b ≡ Some way → low_or_zero (plus (distance labels a b) (pos (low_word n))) ≡ low_word (way +ℤ n)
-difference_is labels a b n way e = ap (λ d. low_or_zero (plus d (pos (low_word n)))) e ∙ low_low way n
+difference_is : (labels : List Named) (a b : List ℕ) (n displacement : ℤ) → distance labels a b ≡ Some displacement → low_or_zero (plus (distance labels a b) (pos (low_word n))) ≡ low_word (displacement +ℤ n)
+difference_is labels a b n displacement e = ap (λ d. low_or_zero (plus d (pos (low_word n)))) e ∙ low_low displacement n
 
 pub word_says : (objects : List Object) (entry : List ℕ) (image : ImageParts) (placed : Placed) (one : IsOneOf objects placed) (stmts : List Stmt) (s : Section) (k : ℕ) (value : Expr)
     → WordHere objects entry image placed one stmts s k value → WordSays objects placed image value (address_in s placed.at + k)
@@ -421,8 +421,8 @@ word_says objects entry image placed one stmts s k (expr.Diff a b n) w =
     let labels = labels_of (entries_of stmts) stmts in
     let known = known_some (distance labels a b) w.known in
     record {
-      way = known.value;
-      apart = stands_behind stmts placed.object a b known.value w.few (taken stmts placed.object w.accepted) known.is;
+      displacement = known.value;
+      apart = stands_after stmts placed.object a b known.value w.few (taken stmts placed.object w.accepted) known.is;
       there = plain_word objects entry image placed one stmts s k (expr.Diff a b n) w (low_word (known.value +ℤ n)) refl (difference_is labels a b n known.value known.is);
     }
 word_says objects entry image placed one stmts s k (expr.Of name n) w =
@@ -487,19 +487,19 @@ record Numbers (size : ℕ) (stmts before : List Stmt) (kind : StmtKind) (front 
   some : 0 < size
   whole : (x : ℕ) → length (little_bytes size x) ≡ size
   own : Given stmts before kind placed.object
-  unlinked : (own_piece (labels_of (entries_of stmts) stmts) kind (here (behind stmts before).at) own.word).relocs ≡ []
+  unlinked : (own_piece (labels_of (entries_of stmts) stmts) kind (here (walk_over stmts before).at) own.word).relocs ≡ []
   bytes :
-      (own_piece (labels_of (entries_of stmts) stmts) kind (here (behind stmts before).at) own.word).bytes
+      (own_piece (labels_of (entries_of stmts) stmts) kind (here (walk_over stmts before).at) own.word).bytes
       ≡ flat_map (λ v. little_bytes size (low_or_zero (number (labels_of (entries_of stmts) stmts) v))) (front ++ value ∷ back)
   known : is_some (number (labels_of (entries_of stmts) stmts) value) ≡ true
 
 number_there : (size : ℕ) (stmts before : List Stmt) (kind : StmtKind) (front back : List Expr) (value : Expr) (objects : List Object) (entry : List ℕ) (image : ImageParts) (placed : Placed) (one : IsOneOf objects placed)
     → Numbers size stmts before kind front back value objects entry image placed one
-    → NumberAt size image (address_in (behind stmts before).at.section placed.at + ((here (behind stmts before).at).offset + size * length front)) (low_or_zero (number (labels_of (entries_of stmts) stmts) value) % 256 ^ size)
+    → NumberAt size image (address_in (walk_over stmts before).at.section placed.at + ((here (walk_over stmts before).at).offset + size * length front)) (low_or_zero (number (labels_of (entries_of stmts) stmts) value) % 256 ^ size)
 number_there size stmts before kind front back value objects entry image placed one c =
-    let s = (behind stmts before).at.section in
+    let s = (walk_over stmts before).at.section in
     let labels = labels_of (entries_of stmts) stmts in
-    let offset = (here (behind stmts before).at).offset in
+    let offset = (here (walk_over stmts before).at).offset in
     let f : Expr → List ℕ = λ v. little_bytes size (low_or_zero (number labels v)) in
     let x = low_or_zero (number labels value) in
     let first = each_has f size (λ v. c.whole (low_or_zero (number labels v))) front in
@@ -527,12 +527,12 @@ number_says : (size : ℕ) (stmts before : List Stmt) (kind : StmtKind) (front b
     → Numbers size stmts before kind front back value objects entry image placed one → (v : Expr) → value ≡ v
     → SaysThere objects placed one stmts before (size * length front) (NumberSays size objects placed image v)
 number_says size stmts before kind front back value objects entry image placed one c v e = record {
-  part = address_in (behind stmts before).at.section placed.at;
-  begins = begins_at (behind stmts before).at.section objects placed one;
+  part = address_in (walk_over stmts before).at.section placed.at;
+  begins = begins_at (walk_over stmts before).at.section objects placed one;
   says =
       by v
       (ap (λ u. is_some (number (labels_of (entries_of stmts) stmts) u)) (sym e) ∙ c.known)
-      (let P : Expr → Type 0 = λ u. NumberAt size image (address_in (behind stmts before).at.section placed.at + ((here (behind stmts before).at).offset + size * length front)) (low_or_zero (number (labels_of (entries_of stmts) stmts) u) % 256 ^ size) in
+      (let P : Expr → Type 0 = λ u. NumberAt size image (address_in (walk_over stmts before).at.section placed.at + ((here (walk_over stmts before).at).offset + size * length front)) (low_or_zero (number (labels_of (entries_of stmts) stmts) u) % 256 ^ size) in
       subst P e (number_there size stmts before kind front back value objects entry image placed one c));
 }
   where
@@ -541,15 +541,15 @@ number_says size stmts before kind front back value objects entry image placed o
     some_of None n h = h
 
     by : (v : Expr) → is_some (number (labels_of (entries_of stmts) stmts) v) ≡ true
-        → NumberAt size image (address_in (behind stmts before).at.section placed.at + ((here (behind stmts before).at).offset + size * length front)) (low_or_zero (number (labels_of (entries_of stmts) stmts) v) % 256 ^ size)
-        → NumberSays size objects placed image v (address_in (behind stmts before).at.section placed.at + ((here (behind stmts before).at).offset + size * length front))
+        → NumberAt size image (address_in (walk_over stmts before).at.section placed.at + ((here (walk_over stmts before).at).offset + size * length front)) (low_or_zero (number (labels_of (entries_of stmts) stmts) v) % 256 ^ size)
+        → NumberSays size objects placed image v (address_in (walk_over stmts before).at.section placed.at + ((here (walk_over stmts before).at).offset + size * length front))
     by (expr.Num n) k h = h
     by (expr.Diff a b n) k h =
         let known = known_some (distance (labels_of (entries_of stmts) stmts) a b) (some_of (distance (labels_of (entries_of stmts) stmts) a b) n k) in
-        let P : Option ℤ → Type 0 = λ d. NumberAt size image (address_in (behind stmts before).at.section placed.at + ((here (behind stmts before).at).offset + size * length front)) (low_or_zero (plus d n) % 256 ^ size) in
+        let P : Option ℤ → Type 0 = λ d. NumberAt size image (address_in (walk_over stmts before).at.section placed.at + ((here (walk_over stmts before).at).offset + size * length front)) (low_or_zero (plus d n) % 256 ^ size) in
         record {
-          way = known.value;
-          apart = stands_behind stmts placed.object a b known.value c.few (taken stmts placed.object c.accepted) known.is;
+          displacement = known.value;
+          apart = stands_after stmts placed.object a b known.value c.few (taken stmts placed.object c.accepted) known.is;
           there = subst P known.is h;
         }
     by (expr.Of name n) k h = true≢false (sym k)
@@ -561,7 +561,7 @@ number_says size stmts before kind front back value objects entry image placed o
 pub law_of_halves : HalvesSay
 law_of_halves objects entry image placed one before more line front back value few accepted made =
     let stmts = before ++ record { line = line; kind = statement.Halves (front ++ value ∷ back) } ∷ more in
-    let own = given stmts before more line (statement.Halves (front ++ value ∷ back)) placed.object refl few (taken stmts placed.object accepted) refl (λ h. not_there (has_fields (front ++ value ∷ back)) (same_section (behind stmts before).at.section Bss) (some_fields front value back) h) in
+    let own = given stmts before more line (statement.Halves (front ++ value ∷ back)) placed.object refl few (taken stmts placed.object accepted) refl (λ h. not_there (has_fields (front ++ value ∷ back)) (same_section (walk_over stmts before).at.section Bss) (some_fields front value back) h) in
     number_says 2 stmts before (statement.Halves (front ++ value ∷ back)) front back value objects entry image placed one
     (record {
       few = few;
@@ -578,7 +578,7 @@ law_of_halves objects entry image placed one before more line front back value f
 pub law_of_bytes : BytesSay
 law_of_bytes objects entry image placed one before more line front back value few accepted made =
     let stmts = before ++ record { line = line; kind = statement.Bytes (front ++ value ∷ back) } ∷ more in
-    let own = given stmts before more line (statement.Bytes (front ++ value ∷ back)) placed.object refl few (taken stmts placed.object accepted) refl (λ h. not_there (has_fields (front ++ value ∷ back)) (same_section (behind stmts before).at.section Bss) (some_fields front value back) h) in
+    let own = given stmts before more line (statement.Bytes (front ++ value ∷ back)) placed.object refl few (taken stmts placed.object accepted) refl (λ h. not_there (has_fields (front ++ value ∷ back)) (same_section (walk_over stmts before).at.section Bss) (some_fields front value back) h) in
     number_says 1 stmts before (statement.Bytes (front ++ value ∷ back)) front back value objects entry image placed one
     (record {
       few = few;

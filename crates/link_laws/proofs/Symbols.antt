@@ -97,7 +97,7 @@ ends_in Bss at object = refl
 
 -- an object's part of a section stands between the first one's start and the end of the last
 record Within (s : Section) (at : Addresses) (objects : List Object) (placed : Placed) : Type 0 where
-  behind : aligned (address_in s at) ≤ address_in s placed.at
+  following : aligned (address_in s at) ≤ address_in s placed.at
   before : address_in s placed.at + size_in s placed.object ≤ end_of s (address_in s at) objects
 
 within_from : (s : Section) (at : Addresses) (objects : List Object) (front back : List Placed) (placed : Placed) → placed_from at objects ≡ front ++ placed ∷ back → Within s at objects placed
@@ -107,7 +107,7 @@ within_from s at (object ∷ more) [] back placed e =
     let same : record { object = object; at = all_aligned at } ≡ placed = cc in
     let P : Placed → Type 0 = λ p. Within s at (object ∷ more) p in
     subst P same (record {
-      behind = here (aligned (address_in s at)) (address_in s (all_aligned at)) (aligned_in s at);
+      following = here (aligned (address_in s at)) (address_in s (all_aligned at)) (aligned_in s at);
       before = ended (aligned (address_in s at)) (address_in s (all_aligned at)) (size_in s object) (end_of s (aligned (address_in s at) + size_in s object) more) (aligned_in s at) (end_ge s (aligned (address_in s at) + size_in s object) more);
     })
   where
@@ -122,7 +122,7 @@ within_from s at (object ∷ more) (x ∷ front) back placed e =
     let next : address_in s (ends (all_aligned at) object) ≡ aligned (address_in s at) + size_in s object = ends_in s (all_aligned at) object ∙ ap (λ n. n + size_in s object) (aligned_in s at) in
     let P : ℕ → Type 0 = λ n. address_in s placed.at + size_in s placed.object ≤ end_of s n more in
     record {
-      behind = onward (aligned (address_in s at)) (size_in s object) (address_in s (ends (all_aligned at) object)) (address_in s placed.at) next later.behind;
+      following = onward (aligned (address_in s at)) (size_in s object) (address_in s (ends (all_aligned at) object)) (address_in s placed.at) next later.following;
       before = subst P next later.before;
     }
   where
@@ -234,7 +234,7 @@ law_of_data Rodata objects entry image placed one e given some =
     let w = within_from Rodata (firsts l) objects one.front one.back placed one.split in
     let start = aligned l.text_end in
     let P : List OwnSymbol → Type 0 = λ symbols. Has symbols (data_at start) in
-    let room : start < l.rodata_end = apart start placed.at.rodata (length placed.object.rodata) (end_of Rodata l.text_end objects) l.rodata_end w.behind w.before (ends_of objects).rodata some in
+    let room : start < l.rodata_end = apart start placed.at.rodata (length placed.object.rodata) (end_of Rodata l.text_end objects) l.rodata_end w.following w.before (ends_of objects).rodata some in
     record {
       symbol = data_at start;
       there = subst P (sym (image_symbols objects entry image e)) (rodata_there l (placed_of objects) (data_at start) (data_there start l.rodata_end room));
@@ -245,7 +245,7 @@ law_of_data Extab objects entry image placed one e given some =
     let w = within_from Extab (firsts l) objects one.front one.back placed one.split in
     let start = aligned l.rodata_end in
     let P : List OwnSymbol → Type 0 = λ symbols. Has symbols (data_at start) in
-    let room : start < l.extab_end = apart start placed.at.extab (length placed.object.extab) (end_of Extab l.rodata_end objects) l.extab_end w.behind w.before (ends_of objects).extab some in
+    let room : start < l.extab_end = apart start placed.at.extab (length placed.object.extab) (end_of Extab l.rodata_end objects) l.extab_end w.following w.before (ends_of objects).extab some in
     record {
       symbol = data_at start;
       there = subst P (sym (image_symbols objects entry image e)) (extab_there l (placed_of objects) (data_at start) (data_there start l.extab_end room));

@@ -24,7 +24,7 @@ use Rattle.eh_link.specs.Placed.{Placed}
 use Rattle.eh_link.specs.Layout.{address_in}
 use Rattle.eh_link.specs.Linked.{linked}
 use Rattle.eh_link.proofs.Words.{Reads}
-use Rattle.source_laws.specs.RowLaw.{behind}
+use Rattle.source_laws.specs.RowLaw.{walk_over}
 use Rattle.link_laws.specs.MeaningLaw.{IsOneOf}
 use Rattle.link_laws.specs.JoinedLaw.{NumberAt}
 use Rattle.link_laws.specs.SaidLaw.{SaysThere, TextsSay, ZeroedTextsSay, SpacesSay}
@@ -50,12 +50,12 @@ byte_there offset byte bytes front back after e =
 -- a byte of a statement that has no fields
 byte_says : (objects : List Object) (entry : List ℕ) (image : ImageParts) (placed : Placed) (one : IsOneOf objects placed) (stmts before : List Stmt) (kind : StmtKind) (front back : List ℕ) (byte : ℕ)
     → linked objects entry ≡ Ok image → (own : Given stmts before kind placed.object)
-    → (own_piece (labels_of (entries_of stmts) stmts) kind (here (behind stmts before).at) own.word).relocs ≡ []
-    → (own_piece (labels_of (entries_of stmts) stmts) kind (here (behind stmts before).at) own.word).bytes ≡ front ++ byte ∷ back
+    → (own_piece (labels_of (entries_of stmts) stmts) kind (here (walk_over stmts before).at) own.word).relocs ≡ []
+    → (own_piece (labels_of (entries_of stmts) stmts) kind (here (walk_over stmts before).at) own.word).bytes ≡ front ++ byte ∷ back
     → SaysThere objects placed one stmts before (length front) (λ address. NumberAt 1 image address byte)
 byte_says objects entry image placed one stmts before kind front back byte made own unlinked bytes =
-    let s = (behind stmts before).at.section in
-    let offset = (here (behind stmts before).at).offset in
+    let s = (walk_over stmts before).at.section in
+    let offset = (here (walk_over stmts before).at).offset in
     record {
       part = address_in s placed.at;
       begins = begins_at s objects placed one;
@@ -83,7 +83,7 @@ pub law_of_texts : TextsSay
 law_of_texts objects entry image placed one before more line text front back byte e few accepted made =
     let stmts = before ++ record { line = line; kind = statement.Ascii text } ∷ more in
     let own = given stmts before more line (statement.Ascii text) placed.object refl few (taken stmts placed.object accepted) refl
-    (λ h. not_there (not (length text == 0)) (same_section (behind stmts before).at.section Bss) (some_text text front back byte e) h) in
+    (λ h. not_there (not (length text == 0)) (same_section (walk_over stmts before).at.section Bss) (some_text text front back byte e) h) in
     byte_says objects entry image placed one stmts before (statement.Ascii text) front back byte made own refl e
 
 pub law_of_zeroed_texts : ZeroedTextsSay

@@ -16,7 +16,7 @@ use Rattle.relocatable_object.specs.declared.object.Object.{Object}
 use Rattle.asm_object.specs.Objects.{object_of}
 use Rattle.asm_object.specs.ObjectLaw.{symbol_place}
 use Rattle.asm_object.specs.Pieces.{place_at}
-use Rattle.source_laws.specs.MarkLaw.{text_behind}
+use Rattle.source_laws.specs.MarkLaw.{text_after}
 use Rattle.eh_link.specs.EquationLaw.{Decodes}
 
 -- a branch at one place of a text leads to another, wherever the text stands
@@ -40,7 +40,7 @@ NamesLead kind instruction Comes =
     (before more : List Stmt) (line : ℕ) (name : List ℕ) (object : Object) (to : ℕ)
     → let stmts = before ++ record { line = line; kind = kind name } ∷ more in
     length stmts < 2 ^ 64 → object_of stmts ≡ Ok object → symbol_place name object.symbols ≡ Some (place_at Text to)
-    → Leads Comes instruction object.text (text_behind stmts before) to
+    → Leads Comes instruction object.text (text_after stmts before) to
 
 abbrev pub BranchesLead : Type 0
 BranchesLead = NamesLead statement.B instr.B GoesTo

@@ -21,7 +21,7 @@ use Rattle.eh_link.specs.declared.names.Meaning.{Meaning}
 use Rattle.eh_link.specs.Placed.{Placed}
 use Rattle.eh_link.specs.Layout.{placed_of}
 use Rattle.eh_link.specs.Symbols.{meaning_of}
-use Rattle.eh_link.specs.EquationLaw.{target_of, way_of}
+use Rattle.eh_link.specs.EquationLaw.{target_of, displacement_of}
 use Rattle.eh_link.specs.Linked.{linked}
 use Rattle.link_laws.specs.MeaningLaw.{IsOneOf}
 use Rattle.link_laws.specs.LabelLaw.{PartBegins}
@@ -63,10 +63,10 @@ FieldSays Absolute meaning addend old offset image address = NumberAt 4 image ad
 FieldSays Relative meaning addend old offset image address = RelativeAt (target_of meaning addend) image address
 FieldSays Prel31 meaning addend old offset image address =
     (word : ℕ) → number_at 4 old offset ≡ Some word → word < 2 ^ 32 → Prel31At (word / 2 ^ 31) (target_of meaning addend) image address
-FieldSays Call meaning addend old offset image address = DecodesAt (Bl (way_of meaning addend address)) image address
-FieldSays Jump meaning addend old offset image address = DecodesAt (B (way_of meaning addend address)) image address
+FieldSays Call meaning addend old offset image address = DecodesAt (Bl (displacement_of meaning addend address)) image address
+FieldSays Jump meaning addend old offset image address = DecodesAt (B (displacement_of meaning addend address)) image address
 FieldSays CondJump meaning addend old offset image address =
-    (half : ℕ) → number_at 2 old offset ≡ Some half → DecodesAt (BCond (field half 8 4) (way_of meaning addend address)) image address
+    (half : ℕ) → number_at 2 old offset ≡ Some half → DecodesAt (BCond (field half 8 4) (displacement_of meaning addend address)) image address
 
 -- the field of an object at its address: it has a kind, its name means something, and it is what its kind says of that
 pub record FieldIsFilled (objects : List Object) (image : ImageParts) (placed : Placed) (one : IsOneOf objects placed) (reloc : Reloc) : Type 0 where

@@ -19,7 +19,7 @@ use Rattle.eh_link.specs.Layout.{placed_of}
 use Rattle.eh_link.specs.Symbols.{meaning_of}
 use Rattle.eh_link.specs.EquationLaw.{target_of}
 use Rattle.eh_link.specs.Linked.{linked}
-use Rattle.source_laws.specs.RowLaw.{behind}
+use Rattle.source_laws.specs.RowLaw.{walk_over}
 use Rattle.link_laws.specs.MeaningLaw.{IsOneOf}
 use Rattle.link_laws.specs.LabelLaw.{Has, PartBegins}
 
@@ -31,14 +31,14 @@ pub record NumberAt (n : ℕ) (image : ImageParts) (address number : ℕ) : Type
   pub place : address ≡ segment.start + offset
   pub reads : number_at n segment.bytes offset ≡ Some number
 
--- where a `.word` of a source stands, so many words behind the statement's own place
+-- where a `.word` of a source stands, so many words after the statement's own place
 abbrev pub word_offset : List Stmt → List Stmt → List Expr → ℕ
-word_offset stmts before front = (here (behind stmts before).at).offset + 4 * length front
+word_offset stmts before front = (here (walk_over stmts before).at).offset + 4 * length front
 
--- the word that many bytes behind the start of the source's part of the section is S + n, with bit 0 set where the name means a function
+-- the word that many bytes after the start of the source's part of the section is S + n, with bit 0 set where the name means a function
 pub record WordIsSum (objects : List Object) (image : ImageParts) (placed : Placed) (one : IsOneOf objects placed) (stmts before : List Stmt) (front : List Expr) (name : List ℕ) (n : ℤ) : Type 0 where
   pub part : ℕ
-  pub begins : PartBegins (behind stmts before).at.section objects placed one part
+  pub begins : PartBegins (walk_over stmts before).at.section objects placed one part
   pub meaning : Meaning
   pub means : meaning_of (placed_of objects) placed name ≡ Some meaning
   pub word : NumberAt 4 image (part + word_offset stmts before front) (target_of meaning (signed (low_word n)))

@@ -1,4 +1,4 @@
--- Where labels are in an image: at the address of their object's part of their section, and as many bytes further on as they stand behind
+-- Where labels are in an image: at the address of their object's part of their section, and as many bytes further on as they stand after
 -- its start, in each section, the zeroed data too (docs/linking.md, "Names").
 use Rattle.std.specs.Prelude.{◌≡◌, ℕ, ◌+◌, ◌%◌, ◌^◌, ◌≤◌, ◌⊎◌, true, false, if◌then◌else◌, List, ◌∷◌, ◌++◌, length, All, Some, Ok}
 use Rattle.eh_word.specs.Names.{same_bytes}
@@ -22,12 +22,12 @@ use Rattle.link_laws.specs.MeaningLaw.{IsOneOf}
 
 -- ---- where a part is
 
--- an object's zeroed data begins at an address: at a multiple of 4 behind all given bytes of the second segment, within its memory, and
--- behind the zeroed data of the objects in front
+-- an object's zeroed data begins at an address: at a multiple of 4 after all given bytes of the second segment, within its memory, and
+-- after the zeroed data of the objects in front
 pub record HasRoom (objects : List Object) (placed : Placed) (one : IsOneOf objects placed) (address : ℕ) : Type 0 where
   pub is : address ≡ placed.at.bss
   pub fourth : address % 4 ≡ 0
-  pub behind : (layout_of objects).data_start + length (linked_data objects) ≤ address
+  pub following : (layout_of objects).data_start + length (linked_data objects) ≤ address
   pub within : address + placed.object.bss ≤ (layout_of objects).data_start + data_size (layout_of objects)
   pub apart : All (λ p. p.at.bss + p.object.bss ≤ address) one.front
 

@@ -5,7 +5,7 @@ pub mod LabelLaw
 pub mod JoinedLaw
 pub mod FilledLaw
 pub mod SaidLaw
-pub mod WayLaw
+pub mod TargetLaw
 pub mod EntryLaw
 pub mod SymbolsLaw
 pub mod RightsLaw

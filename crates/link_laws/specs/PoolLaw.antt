@@ -11,17 +11,17 @@ use Rattle.asm_object.specs.Objects.{object_of}
 use Rattle.elf_write.specs.declared.parts.ImageParts.{ImageParts}
 use Rattle.eh_link.specs.Placed.{Placed}
 use Rattle.eh_link.specs.Linked.{linked}
-use Rattle.source_laws.specs.MarkLaw.{text_behind}
+use Rattle.source_laws.specs.MarkLaw.{text_after}
 use Rattle.link_laws.specs.MeaningLaw.{IsOneOf}
 use Rattle.link_laws.specs.LabelLaw.{PartBegins}
 use Rattle.link_laws.specs.SaidLaw.{WordSays}
-use Rattle.link_laws.specs.WayLaw.{LeadsTo, literal_at}
+use Rattle.link_laws.specs.TargetLaw.{LeadsTo, literal_at}
 
 pub record LoadsValue (objects : List Object) (image : ImageParts) (placed : Placed) (one : IsOneOf objects placed) (stmts before : List Stmt) (t : ℕ) (value : Expr) : Type 0 where
   pub part : ℕ
   pub begins : PartBegins Text objects placed one part
   pub to : ℕ
-  pub leads : LeadsTo (LdrLit t) literal_at image (part + text_behind stmts before) to
+  pub leads : LeadsTo (LdrLit t) literal_at image (part + text_after stmts before) to
   pub word : WordSays objects placed image value to
 
 abbrev pub LoadsReadValues : Type 0

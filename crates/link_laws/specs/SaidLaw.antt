@@ -22,7 +22,7 @@ use Rattle.eh_link.specs.Layout.{placed_of}
 use Rattle.eh_link.specs.Symbols.{meaning_of}
 use Rattle.eh_link.specs.EquationLaw.{target_of}
 use Rattle.eh_link.specs.Linked.{linked}
-use Rattle.source_laws.specs.RowLaw.{behind}
+use Rattle.source_laws.specs.RowLaw.{walk_over}
 use Rattle.link_laws.specs.MeaningLaw.{IsOneOf}
 use Rattle.link_laws.specs.LabelLaw.{PartBegins}
 use Rattle.link_laws.specs.JoinedLaw.{NumberAt}
@@ -36,20 +36,20 @@ pub record MeansSo (objects : List Object) (placed : Placed) (name : List ℕ) (
   pub means : meaning_of (placed_of objects) placed name ≡ Some meaning
   pub says : Says meaning
 
--- one label of an object stands so far behind another one of its section
-pub record StandsBehind (object : Object) (a b : List ℕ) (way : ℤ) : Type 0 where
+-- one label of an object stands so far after another one of its section
+pub record StandsAfter (object : Object) (a b : List ℕ) (displacement : ℤ) : Type 0 where
   pub first : Place
   pub first_is : symbol_place a object.symbols ≡ Some first
   pub second : Place
   pub second_is : symbol_place b object.symbols ≡ Some second
   pub together : first.section ≡ second.section
-  pub way_is : way ≡ pos first.offset -ℤ pos second.offset
+  pub displacement_is : displacement ≡ pos first.offset -ℤ pos second.offset
 
--- a number of so many bytes is how far one label stands behind another, and n more, without what goes beyond these bytes
+-- a number of so many bytes is how far one label stands after another, and n more, without what goes beyond these bytes
 pub record DifferenceAt (size : ℕ) (object : Object) (a b : List ℕ) (n : ℤ) (image : ImageParts) (address : ℕ) : Type 0 where
-  pub way : ℤ
-  pub apart : StandsBehind object a b way
-  pub there : NumberAt size image address (low_word (way +ℤ n) % 256 ^ size)
+  pub displacement : ℤ
+  pub apart : StandsAfter object a b displacement
+  pub there : NumberAt size image address (low_word (displacement +ℤ n) % 256 ^ size)
 
 -- the word at an address is what an expression says
 abbrev pub WordSays : List Object → Placed → ImageParts → Expr → ℕ → Type 0
@@ -73,11 +73,11 @@ NumberSays size objects placed image (expr.Prel31Ref name) address = ⊥
 
 -- ---- where they stand
 
--- something holds of an address: so many bytes behind the place of the statement behind some others, in the object's part of its section
+-- something holds of an address: so many bytes after the place of the statement after some others, in the object's part of its section
 pub record SaysThere (objects : List Object) (placed : Placed) (one : IsOneOf objects placed) (stmts before : List Stmt) (offset : ℕ) (Says : ℕ → Type 0) : Type 0 where
   pub part : ℕ
-  pub begins : PartBegins (behind stmts before).at.section objects placed one part
-  pub says : Says (part + ((here (behind stmts before).at).offset + offset))
+  pub begins : PartBegins (walk_over stmts before).at.section objects placed one part
+  pub says : Says (part + ((here (walk_over stmts before).at).offset + offset))
 
 -- each expression of a statement of a kind, whose values take so many bytes each
 abbrev pub EachSays : (List Expr → StmtKind) → ℕ → (List Object → Placed → ImageParts → Expr → ℕ → Type 0) → Type 0
@@ -109,7 +109,7 @@ EachByteSays kind given =
 abbrev pub TextsSay : Type 0
 TextsSay = EachByteSays statement.Ascii (λ text. text)
 
--- behind the text of an `.asciz` a zero byte
+-- after the text of an `.asciz` a zero byte
 abbrev pub ZeroedTextsSay : Type 0
 ZeroedTextsSay = EachByteSays statement.Asciz (λ text. text ++ 0 ∷ [])
 
@@ -119,6 +119,6 @@ SpacesSay =
     (objects : List Object) (entry : List ℕ) (image : ImageParts) (placed : Placed) (one : IsOneOf objects placed)
     (before more : List Stmt) (line count offset : ℕ)
     → let stmts = before ++ record { line = line; kind = statement.Space (pos count) } ∷ more in
-    offset < count → same_section (behind stmts before).at.section Bss ≡ false
+    offset < count → same_section (walk_over stmts before).at.section Bss ≡ false
     → length stmts < 2 ^ 64 → object_of stmts ≡ Ok placed.object → linked objects entry ≡ Ok image
     → SaysThere objects placed one stmts before offset (λ address. NumberAt 1 image address 0)

@@ -13,7 +13,7 @@ ghost use Rattle.link_laws.specs.EntryLaw.{MarksAreMapped, EntriesAreFunctions};
 ghost use Rattle.link_laws.specs.SymbolsLaw.{DataIsMarked, IndexesAreMarked, NoOtherSymbols};
 ghost use Rattle.link_laws.specs.RightsLaw.{SegmentsHaveRights};
 ghost use Rattle.link_laws.specs.PoolLaw.{LoadsReadValues};
-ghost use Rattle.link_laws.specs.WayLaw.{JumpsLeadTo, CondJumpsLeadTo, CallsLeadTo, AddressesLeadTo, LoadsLeadTo};
+ghost use Rattle.link_laws.specs.TargetLaw.{JumpsLeadTo, CondJumpsLeadTo, CallsLeadTo, AddressesLeadTo, LoadsLeadTo};
 
 /// A branch to a label in the text of its own source, an `adr` and a `ldr rt, name` lead to the label: the halfwords at the statement's
 /// place decode to the instruction, and the core, which counts from that place, comes to the label's.
@@ -30,7 +30,7 @@ pub fn names_have_meanings()
     ensures { NamesHaveMeanings }
 {}
 
-/// A label is in an image at the address of its object's part of its section, and as many bytes further on as it stands behind the
+/// A label is in an image at the address of its object's part of its section, and as many bytes further on as it stands after the
 /// start of that, in the zeroed data too: so say the symbols of the image, and so do the names of fields mean it.
 pub fn labels_stand_in_their_parts()
     ensures symbols { LabelsAreSymbols }
@@ -51,14 +51,14 @@ pub fn assembled_fields_stand_alone()
 
 /// In the image that sources link to, each field that the assembler left to the linker has a kind, its name means a label, and what
 /// stands at the field's address is what the kind says of that: a word that is, or makes with its own address, the label's address, or
-/// a branch that decodes to the way there.
+/// a branch that decodes to the displacement to it.
 pub fn fields_are_filled()
     ensures { FieldsAreFilled }
 {}
 
 /// In the image that sources link to, the word at the address of each expression of a `.word` is what the expression says, and so are the
-/// halfwords and bytes of a `.half` and a `.byte`: a number, how far one label stands behind another, or what the name means, in the
-/// relation to the word's own address that the source asks for. The bytes of a text are there, and behind an `.asciz` a zero byte; those of a
+/// halfwords and bytes of a `.half` and a `.byte`: a number, how far one label stands after another, or what the name means, in the
+/// relation to the word's own address that the source asks for. The bytes of a text are there, and after an `.asciz` a zero byte; those of a
 /// `.space` are zeros.
 pub fn numbers_are_as_given()
     ensures words { WordsSay }
@@ -101,7 +101,7 @@ pub fn code_is_apart()
 {}
 
 /// In the image that sources link to, `ldr rt, =value` loads what the value says: the word at the address to which the core comes from
-/// the instruction is the number, how far one label stands behind another, or what the name means.
+/// the instruction is the number, how far one label stands after another, or what the name means.
 pub fn loads_read_their_values()
     ensures { LoadsReadValues }
 {}

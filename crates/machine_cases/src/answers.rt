@@ -4,7 +4,7 @@ use eh_trace::{Event, EventKind};
 use std::alloc::{AllocError, Global};
 use thumb_core::ends::End;
 
-/// Adds an answer behind those before it.
+/// Adds an answer after those before it.
 pub fn push(all: &mut String, answer: &str) -> Result<(), AllocError> {
     if !all.is_empty() && !answer.is_empty() {
         all.push_str("; ")?;

@@ -1,4 +1,4 @@
-//! What can be asked of a machine, one command behind the other. A number is hexadecimal, the name of a symbol, or A/N: the address of word
+//! What can be asked of a machine, one command after the other. A number is hexadecimal, the name of a symbol, or A/N: the address of word
 //! N of the table that covers A.
 use crate::code::{symbol, table_of};
 use crate::desk::Desk;

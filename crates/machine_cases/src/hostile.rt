@@ -171,7 +171,7 @@ fn is_head(head: u32) -> bool {
     head == 0 || slot_of_block(head).is_some()
 }
 
-/// Whether behind a gate each head is one that it was, or none, or a control block.
+/// Whether after a gate each head is one that it was, or none, or a control block.
 fn are_heads(old: &Globals, new: &Globals) -> bool {
     (new.caught == old.caught || is_head(new.caught))
         && (new.cleanup == old.cleanup || is_head(new.cleanup))
@@ -180,11 +180,11 @@ fn are_heads(old: &Globals, new: &Globals) -> bool {
 /// Whether a gate went on or ended as it may: a trap leaves registers and heads, a terminate the registers.
 fn is_well(gate: u8, desk: &Desk) -> bool {
     let before = &desk.before;
-    let behind = &desk.machine.core;
+    let after = &desk.machine.core;
     match desk.end {
-        End::Budget => are_heads(&before.globals, &behind.globals),
-        End::Terminate(cause) => behind.regs == before.regs && may_terminate(gate, cause),
-        End::Trap(kind, value, pc) => behind == before
+        End::Budget => are_heads(&before.globals, &after.globals),
+        End::Terminate(cause) => after.regs == before.regs && may_terminate(gate, cause),
+        End::Trap(kind, value, pc) => after == before
             && pc == before.regs.pc
             && may_trap(gate, kind, value, before),
         End::Exit(_) | End::ReadFault | End::WriteFault => false,

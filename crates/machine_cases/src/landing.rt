@@ -44,9 +44,9 @@ fn first_of(desk: &Desk, ty: u32, limit: Option<u32>) -> First {
 }
 
 /// The registers that aren't as they were.
-fn changed(alloc: Global, before: &Vrs, behind: &Vrs) -> Result<String, AllocError> {
+fn changed(alloc: Global, before: &Vrs, after: &Vrs) -> Result<String, AllocError> {
     let mut text = String::new(alloc);
-    for (number, (old, new)) in before.r.iter().zip(&behind.r).enumerate() {
+    for (number, (old, new)) in before.r.iter().zip(&after.r).enumerate() {
         if old != new {
             text.push_str(format!(in alloc; " r{number}={new:X}")?.as_str())?;
         }

@@ -44,7 +44,7 @@ fn over(alloc: Global, file: &[u8], commands: &str) -> Result<String, Unanswered
 }
 
 impl<'h> Asked for InMachine<'h> {
-    /// The names of a program's sources, and commands behind them.
+    /// The names of a program's sources, and commands after them.
     fn answer(&self, alloc: Global, question: &str) -> Result<String, Unanswered> {
         let (names, commands) = question.split_once("; ").unwrap_or((question, ""));
         let file = build::built(self.host, names)?;

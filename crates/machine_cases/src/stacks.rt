@@ -36,7 +36,7 @@ fn stack_word(dice: &mut Pcg32) -> u32 {
         4 | 5 => 0x8039,
         6 | 7 => 0x804F,
         8 | 9 => 0x806D,
-        // behind gates, and behind all functions
+        // after gates, and after all functions
         10 => 0x8053,
         11 => 0x8091,
         12 | 13 => 0xFFFF_FFFF,
@@ -81,7 +81,7 @@ enum Place {
     Bare,
     /// Nobody called it.
     End,
-    /// In front of all functions or behind them.
+    /// In front of all functions or after them.
     Nowhere,
 }
 
@@ -150,7 +150,7 @@ fn goes_as(alloc: Global, desk: &mut Desk, wanted: Result<[u32; 4], Cause>) -> b
     }
 }
 
-/// Which kind of stack it is: caught at once, caught behind a cleanup, by nobody, or one that can't be unwound.
+/// Which kind of stack it is: caught at once, caught after a cleanup, by nobody, or one that can't be unwound.
 fn kind_of(wanted: Result<[u32; 4], Cause>) -> usize {
     match wanted {
         Ok(place) => { if place[0] == 0x800A { 0 } else { 1 } }

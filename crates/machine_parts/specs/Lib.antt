@@ -2,7 +2,7 @@ pub mod two_machines
 pub mod frame_check
 pub mod frame_flow
 pub mod frame_reach
-pub mod frame_scene
+pub mod frame_graph
 pub mod frame_facts
 pub mod flow
 pub mod eh_gates

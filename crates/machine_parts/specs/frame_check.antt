@@ -3,4 +3,4 @@ pub use Rattle.frame_check.specs.Accepts
 pub use Rattle.frame_check.specs.Judged
 pub use Rattle.frame_check.specs.Pushes
 pub use Rattle.frame_check.specs.Roots
-pub use Rattle.frame_check.specs.Spots
+pub use Rattle.frame_check.specs.Roles

@@ -1,4 +1,4 @@
--- Behind each event sp stands in the running stack, so that no word beyond it is released.
+-- After each event sp stands in the running stack, so that no word beyond it is released.
 use Rattle.std.proofs.Common.{ℕ, ◌≤◌, subst, arith}
 use Rattle.resumes_keep.specs.event_runs.Runs.{Event, Goes, Ends}
 use Rattle.resumes_keep.specs.thumb_core.declared.regs.TheConstants.{SP}

@@ -11,7 +11,7 @@ use Rattle.resumes_keep.specs.thumb_core.declared.regs.Regs.{Regs}
 use Rattle.resumes_keep.specs.thumb_core.declared.regs.Stepped.{Stepped}
 use Rattle.resumes_keep.specs.thumb_core.declared.regs.Stepped.TheVariants.{Done, Call, Return, Gate, Trap}
 use Rattle.resumes_keep.specs.eh_gates.declared.state.Turned.TheVariants.{Went, Ended}
-use Rattle.resumes_keep.specs.two_machines.Program.{Program, guide}
+use Rattle.resumes_keep.specs.two_machines.Program.{Program, program_tables}
 use Rattle.resumes_keep.specs.thumb_core.declared.ends.End.TheVariants as the_end
 use Rattle.resumes_keep.specs.thumb_core.declared.ends.TrapKind.TheVariants as kind
 use Rattle.resumes_keep.specs.two_machines.ActivationMachine as acts
@@ -44,8 +44,8 @@ module _ (p : Program) (s : Recorded) (input : List ℕ) (h : AreBytes input) wh
   gated_fits : (number : ℕ) (regs : Regs) → FitsIn (acts.gated p number s regs input)
   gated_fits number regs = go (nat_lt INPUT_GATE number)
     where
-      go : (b : Bool) → FitsIn (cond b (acts.event_of (acts.gate_of (guide p) number regs.pc s) input) (acts.in_state s (gate_event number s.regs regs input)))
-      go true = outcome_fits (acts.gate_of (guide p) number regs.pc s)
+      go : (b : Bool) → FitsIn (cond b (acts.event_of (acts.gate_of (program_tables p) number regs.pc s) input) (acts.in_state s (gate_event number s.regs regs input)))
+      go true = outcome_fits (acts.gate_of (program_tables p) number regs.pc s)
       go false = low_fits number s.regs regs
 
   acted_fits : (what : Stepped) (t : Recorded) → FitsIn (acts.acted p s what t input)

@@ -6,10 +6,10 @@ use Rattle.resumes_keep.specs.eh_gates.declared.gates.TheConstants.{THROW_GATE, 
 use Rattle.resumes_keep.specs.frame_check.Accepts.{Accepted}
 use Rattle.resumes_keep.specs.two_machines.Activations.{Recorded}
 use Rattle.resumes_keep.specs.two_machines.Checked.{program_of}
-use Rattle.resumes_keep.specs.two_machines.Program.{guide}
+use Rattle.resumes_keep.specs.two_machines.Program.{program_tables}
 use Rattle.resumes_keep.specs.thumb_isa.declared.instr.Instr.{Instr}
 use Rattle.resumes_keep.specs.frame_facts.Machine.{works_on}
-use Rattle.resumes_keep.specs.frame_check.Roots.{scene_of}
+use Rattle.resumes_keep.specs.frame_check.Roots.{flow_graph_of}
 use Rattle.resumes_keep.specs.stands_for.Stands.{Keeps, IsProgram, Turns, DoesAt}
 use Rattle.resumes_keep.proofs.ResumeKeeps.{resume_keeps}
 use Rattle.resumes_keep.proofs.ResumeMatches.{resume_matches}
@@ -34,15 +34,15 @@ use Rattle.resumes_keep.proofs.steps_keep.Cases.{turns_by_instruction}
 module _ (x : Accepted) (s : Recorded) (input : List ℕ) (is : IsProgram x) (k : Keeps x s) where
   throws : DoesAt x s (Svc THROW_GATE) → Turns x s input
   throws does =
-      walking_turns x is s k does.at THROW_GATE does.size does.stands refl (λ next. (throw_gates_match x s next THROW_GATE is k does).0) (throw_gate_keeps x is s k THROW_GATE does (guide (program_of x))) input does.reached
+      walking_turns x is s k does.at THROW_GATE does.size does.stands refl (λ next. (throw_gates_match x s next THROW_GATE is k does).0) (throw_gate_keeps x is s k THROW_GATE does (program_tables (program_of x))) input does.reached
 
   rethrows : DoesAt x s (Svc RETHROW_GATE) → Turns x s input
   rethrows does =
-      walking_turns x is s k does.at RETHROW_GATE does.size does.stands refl (λ next. (throw_gates_match x s next RETHROW_GATE is k does).1) (rethrow_gate_keeps x is s k RETHROW_GATE does (guide (program_of x))) input does.reached
+      walking_turns x is s k does.at RETHROW_GATE does.size does.stands refl (λ next. (throw_gates_match x s next RETHROW_GATE is k does).1) (rethrow_gate_keeps x is s k RETHROW_GATE does (program_tables (program_of x))) input does.reached
 
   resumes : DoesAt x s (Svc END_CLEANUP_GATE) → Turns x s input
   resumes does =
-      walking_turns x is s k does.at END_CLEANUP_GATE does.size does.stands refl (resume_matches x is s k (guide (program_of x)) END_CLEANUP_GATE does) (resume_keeps x is s k END_CLEANUP_GATE does (guide (program_of x))) input does.reached
+      walking_turns x is s k does.at END_CLEANUP_GATE does.size does.stands refl (resume_matches x is s k (program_tables (program_of x)) END_CLEANUP_GATE does) (resume_keeps x is s k END_CLEANUP_GATE does (program_tables (program_of x))) input does.reached
 
 module _ (x : Accepted) (s : Recorded) (input : List ℕ) (is : IsProgram x) (k : Keeps x s) (bytes : AreBytes input) where
   gate : (number : ℕ) → DoesAt x s (Svc number) → Turns x s input
@@ -58,7 +58,7 @@ module _ (x : Accepted) (s : Recorded) (input : List ℕ) (is : IsProgram x) (k 
   ]
 
   low : (i : Instr) (d : ℕ) → works_on i ≡ Some d → DoesAt x s i → Turns x s input
-  low i d works does = data_turns x s i d input is k does works (works_low i d works (standing_bounds (scene_of x.image does.at.function) does.at.place i does.size does.stands))
+  low i d works does = data_turns x s i d input is k does works (works_low i d works (standing_bounds (flow_graph_of x.image does.at.function) does.at.place i does.size does.stands))
 
   each : (i : Instr) → DoesAt x s i → Turns x s input
   each (ShiftImm op d m n) does = low (ShiftImm op d m n) d refl does
@@ -70,7 +70,7 @@ module _ (x : Accepted) (s : Recorded) (input : List ℕ) (is : IsProgram x) (k 
   each (Extend op d m) does = low (Extend op d m) d refl does
   each (Rev op d m) does = low (Rev op d m) d refl does
   each (AddRdSp d (pos off)) does = low (AddRdSp d (pos off)) d refl does
-  each (AddRdSp d (negsuc off)) does = absurd (standing_bounds (scene_of x.image does.at.function) does.at.place (AddRdSp d (negsuc off)) does.size does.stands).1
+  each (AddRdSp d (negsuc off)) does = absurd (standing_bounds (flow_graph_of x.image does.at.function) does.at.place (AddRdSp d (negsuc off)) does.size does.stands).1
   each (LdrLit t off) does = accesses x s (LdrLit t off) input is k does tt
   each (MemReg op t n m) does = accesses x s (MemReg op t n m) input is k does tt
   each (MemImm op t n off) does = accesses x s (MemImm op t n off) input is k does tt

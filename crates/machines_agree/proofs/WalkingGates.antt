@@ -9,14 +9,14 @@ use Rattle.resumes_keep.specs.thumb_core.Step.{step_of}
 use Rattle.resumes_keep.specs.thumb_core.declared.regs.Regs.{Regs}
 use Rattle.resumes_keep.specs.thumb_core.declared.regs.Stepped.TheVariants.{Gate}
 use Rattle.resumes_keep.specs.thumb_core.declared.ends.End.{End}
-use Rattle.resumes_keep.specs.frame_scene.declared.places.Standing.TheVariants.{Instruction}
-use Rattle.resumes_keep.specs.frame_scene.Places.{standing_at}
+use Rattle.resumes_keep.specs.frame_graph.declared.places.Standing.TheVariants.{Instruction}
+use Rattle.resumes_keep.specs.frame_graph.Places.{standing_at}
 use Rattle.resumes_keep.specs.frame_check.Accepts.{Accepted}
-use Rattle.resumes_keep.specs.frame_check.Roots.{scene_of}
-use Rattle.resumes_keep.specs.frame_check.Spots.{look}
+use Rattle.resumes_keep.specs.frame_check.Roots.{flow_graph_of}
+use Rattle.resumes_keep.specs.frame_check.Roles.{look}
 use Rattle.resumes_keep.specs.eh_gates.Gates.{gate_of}
 use Rattle.resumes_keep.specs.eh_gates.declared.state.Turned.TheVariants.{Went, Ended}
-use Rattle.resumes_keep.specs.two_machines.Program.{guide}
+use Rattle.resumes_keep.specs.two_machines.Program.{program_tables}
 use Rattle.resumes_keep.specs.two_machines.Activations.{Recorded, memory_of, bytes_of}
 use Rattle.resumes_keep.specs.two_machines.ActivationLaws.{Matches}
 use Rattle.resumes_keep.specs.two_machines.Checked.{program_of}
@@ -28,12 +28,12 @@ use Rattle.resumes_keep.specs.two_machines.Machine as bytes
 use Rattle.resumes_keep.specs.two_machines.ActivationMachine as acts
 use Rattle.resumes_keep.specs.stands_for.Chain.{StandsAt}
 use Rattle.resumes_keep.specs.stands_for.Stands.{Keeps, IsProgram, OnEvent, Turns}
-use Rattle.resumes_keep.proofs.stands_for.Level.{fetch}
+use Rattle.resumes_keep.proofs.stands_for.SimpleTurns.{fetch}
 
 module _ (x : Accepted) (is : IsProgram x) (s : Recorded) (k : Keeps x s) (at : StandsAt x s.first s.segments s.regs s.regs.pc) (number size : ℕ)
-    (stands : standing_at (scene_of x.image at.function) at.place ≡ Instruction (Svc number) size) (high : nat_lt INPUT_GATE number ≡ true)
-    (matches : (next : ℕ) → GateMatches (gate_of (guide (program_of x)) number next (bytes_of s)) (acts.gate_of (guide (program_of x)) number next s))
-    (keeps : (next : ℕ) → Keeps x (acts.gate_of (guide (program_of x)) number next s).1) (input : List ℕ) where
+    (stands : standing_at (flow_graph_of x.image at.function) at.place ≡ Instruction (Svc number) size) (high : nat_lt INPUT_GATE number ≡ true)
+    (matches : (next : ℕ) → GateMatches (gate_of (program_tables (program_of x)) number next (bytes_of s)) (acts.gate_of (program_tables (program_of x)) number next s))
+    (keeps : (next : ℕ) → Keeps x (acts.gate_of (program_tables (program_of x)) number next s).1) (input : List ℕ) where
   abbrev regs : Regs
   regs = with_next size s.regs
 
@@ -47,8 +47,8 @@ module _ (x : Accepted) (is : IsProgram x) (s : Recorded) (k : Keeps x s) (at : 
   gated : OnEvent x (acts.gated (program_of x) number s regs input)
   gated = go (nat_lt INPUT_GATE number) high
     where
-      go : (b : Bool) → b ≡ true → OnEvent x (cond b (acts.event_of (acts.gate_of (guide (program_of x)) number regs.pc s) input) (acts.in_state s (gate_event number s.regs regs input)))
-      go true e = left (acts.gate_of (guide (program_of x)) number regs.pc s) (keeps regs.pc)
+      go : (b : Bool) → b ≡ true → OnEvent x (cond b (acts.event_of (acts.gate_of (program_tables (program_of x)) number regs.pc s) input) (acts.in_state s (gate_event number s.regs regs input)))
+      go true e = left (acts.gate_of (program_tables (program_of x)) number regs.pc s) (keeps regs.pc)
       go false e = absurd cc
 
   tested : (o : Option End) → OnEvent x (acts.onward (program_of x) s (acts.tested (program_of x) s (Gate number) regs (memory_of s) o) input)
@@ -58,7 +58,7 @@ module _ (x : Accepted) (is : IsProgram x) (s : Recorded) (k : Keeps x s) (at : 
   checked : OnEvent x (acts.onward (program_of x) s (acts.stepped (program_of x) s (step_of s.regs (memory_of s))) input)
   checked = subst (λ (o : Stepping). OnEvent x (acts.onward (program_of x) s (acts.stepped (program_of x) s o) input)) (sym stepped) (tested (acts.tests (program_of x) s (Gate number) regs))
 
-  event : (look x.spots s.regs.pc).is_instr ≡ true → OnEvent x (acts.recorded_event (program_of x) s input)
+  event : (look x.roles s.regs.pc).is_instr ≡ true → OnEvent x (acts.recorded_event (program_of x) s input)
   unfolding acts.recorded_event acts.passed
   event reached = subst (λ (b : Bool). OnEvent x (acts.onward (program_of x) s (acts.checked (program_of x) s b) input)) (sym reached) checked
 
@@ -66,12 +66,12 @@ module _ (x : Accepted) (is : IsProgram x) (s : Recorded) (k : Keeps x s) (at : 
   can after given = go (nat_lt INPUT_GATE number) high
     where
       go : (b : Bool) → b ≡ true
-          → Matches (cond b (bytes.event_of (gate_of (guide (program_of x)) number after.pc (bytes_of s)) given) (bytes.in_state (bytes_of s) (gate_event number s.regs after given)))
-          (cond b (acts.event_of (acts.gate_of (guide (program_of x)) number after.pc s) given) (acts.in_state s (gate_event number s.regs after given)))
-      go true e = outcome_event (gate_of (guide (program_of x)) number after.pc (bytes_of s)) (acts.gate_of (guide (program_of x)) number after.pc s) given (matches after.pc).same
+          → Matches (cond b (bytes.event_of (gate_of (program_tables (program_of x)) number after.pc (bytes_of s)) given) (bytes.in_state (bytes_of s) (gate_event number s.regs after given)))
+          (cond b (acts.event_of (acts.gate_of (program_tables (program_of x)) number after.pc s) given) (acts.in_state s (gate_event number s.regs after given)))
+      go true e = outcome_event (gate_of (program_tables (program_of x)) number after.pc (bytes_of s)) (acts.gate_of (program_tables (program_of x)) number after.pc s) given (matches after.pc).same
       go false e = absurd cc
 
-  pub walking_turns : (look x.spots s.regs.pc).is_instr ≡ true → Turns x s input
+  pub walking_turns : (look x.roles s.regs.pc).is_instr ≡ true → Turns x s input
   walking_turns reached = record {
     same = events_match (program_of x) s input (knows s k.corresponds) (subst (λ (o : Stepping). CanMatch (program_of x) s o.0) (sym stepped) can);
     keeps = event reached;

@@ -4,7 +4,7 @@
 ghost use Rattle.machines_agree.specs.Turned.{TurnsSame, RunsSame, ReportsSame, RunsGuard};
 ghost use Rattle.machines_agree.specs.Beyond.{BeyondStays};
 
-/// One event of any instruction is the same in both machines, and what is kept before it is kept behind it, whether it goes on or ends the run.
+/// One event of any instruction is the same in both machines, and what is kept before it is kept after it, whether it goes on or ends the run.
 pub fn turns_same()
     ensures { TurnsSame }
 {}

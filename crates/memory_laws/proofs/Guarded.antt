@@ -10,7 +10,7 @@ use Rattle.eh_bus.specs.declared.fault.BusFault.TheVariants.{Unaligned, ReadOnly
 use Rattle.eh_bus.specs.declared.map.TheConstants.{STACK_START}
 use Rattle.eh_bus.proofs.AccessLaws.{store_keeps, store_only, run_keeps, run_done}
 use Rattle.eh_bus.proofs.PartLaws.{guarded_refused, guard_places}
-use Rattle.memory_laws.specs.Runs.{place_of}
+use Rattle.memory_laws.specs.Runs.{word_address}
 use Rattle.memory_laws.specs.Guarded.{Reaches, StoresAreRefused, RunsAreRefused, OnlyGuardsRefuse, GuardedWordsStay}
 use Rattle.memory_laws.proofs.Runs.{stop_at_first}
 
@@ -32,7 +32,7 @@ stores_refused m n a v g x w al h r =
 
 pub runs_refused : RunsAreRefused
 runs_refused m a words k x l inside before h =
-    let at = place_of a k in
+    let at = word_address a k in
     let q = guard_places STACK_START m.guards at x.guards h in
     let whole : (at % 4 == 0) ≡ true = rw (q.1) refl in
     let refused = guarded_refused 4 m at (slice_index words k) at x (inr (inr refl)) whole h (omega arith) (omega arith) in

@@ -5,7 +5,7 @@ use Rattle.eh_bus.specs.Map.{IsMap}
 use Rattle.eh_bus.specs.Memory.{Memory, load, store, store_run}
 use Rattle.eh_bus.specs.Place.{IsWidth}
 use Rattle.eh_bus.specs.declared.fault.BusFault.TheVariants.{SavedSlot}
-use Rattle.memory_laws.specs.Runs.{place_of, CanStore}
+use Rattle.memory_laws.specs.Runs.{word_address, CanStore}
 
 -- one of the n bytes from a on is one of the four of the word at g
 abbrev pub Reaches : ℕ → ℕ → ℕ → Type 0
@@ -15,11 +15,11 @@ abbrev pub StoresAreRefused : Type 0
 StoresAreRefused =
     (m : Memory) (n a v g : ℕ) → IsMap m → IsWidth n → a % n ≡ 0 → Has m.guards g → Reaches n a g → store n m a v ≡ (Err (SavedSlot g), m)
 
--- the words before the guarded one could be stored; what comes behind it doesn't count
+-- the words before the guarded one could be stored; what comes after it doesn't count
 abbrev pub RunsAreRefused : Type 0
 RunsAreRefused =
-    (m : Memory) (a : ℕ) (words : List ℕ) (k : ℕ) → IsMap m → a < 2 ^ 32 → k < length words → CanStore m a words k → Has m.guards (place_of a k)
-    → store_run m a words ≡ (Err (SavedSlot (place_of a k)), m)
+    (m : Memory) (a : ℕ) (words : List ℕ) (k : ℕ) → IsMap m → a < 2 ^ 32 → k < length words → CanStore m a words k → Has m.guards (word_address a k)
+    → store_run m a words ≡ (Err (SavedSlot (word_address a k)), m)
 
 abbrev pub OnlyGuardsRefuse : Type 0
 OnlyGuardsRefuse =

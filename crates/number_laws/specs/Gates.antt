@@ -3,7 +3,7 @@ use Rattle.std.specs.Prelude.{◌≡◌}
 use Rattle.guest_gates.specs.declared.gates.TheConstants as guest_gates-gates
 use Rattle.eh_gates.specs.declared.gates.TheConstants as eh_gates-gates
 use Rattle.eh_gates.specs.declared.throwing.TheConstants as eh_gates-throwing
-use Rattle.step_ahead.specs.declared.kept.TheConstants as step_ahead-kept
+use Rattle.step_ahead.specs.declared.undo_record.TheConstants as step_ahead-kept
 use Rattle.eh_trace.specs.declared.event.TheConstants as eh_trace-event
 use Rattle.eh_trace.specs.declared.events.TheConstants as eh_trace-events
 use Rattle.eh_trace.specs.declared.text.TheConstants as eh_trace-text

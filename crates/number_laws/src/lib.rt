@@ -8,7 +8,7 @@ ghost use Rattle.number_laws.specs.TypesOf.{TypeNumbers, MatchNumbers};
 ghost use Rattle.number_laws.specs.Images.{ImageNumbers, WriterNumbers};
 ghost use Rattle.number_laws.specs.Core.{CoreNumbers};
 ghost use Rattle.number_laws.specs.Gates.{PlainGateNumbers, GateNumbers, KeptNumbers, TraceNumbers};
-ghost use Rattle.number_laws.specs.Checker.{FactNumbers, SceneNumbers, ReachNumbers};
+ghost use Rattle.number_laws.specs.Checker.{FactNumbers, FlowGraphNumbers, ReachNumbers};
 ghost use Rattle.number_laws.specs.Sources.{ReaderNumbers, DirectiveNumbers, LayoutNumbers, ObjectNumbers};
 ghost use Rattle.number_laws.specs.Linked.{LinkNumbers, GeneratorNumbers};
 
@@ -98,8 +98,8 @@ pub fn fact_numbers()
 {}
 
 /// The top byte of UDF.
-pub fn scene_numbers()
-    ensures { SceneNumbers }
+pub fn flow_graph_numbers()
+    ensures { FlowGraphNumbers }
 {}
 
 /// How many instructions of a function are reached.

@@ -131,11 +131,11 @@ no_others_are_asked image a name words named =
 
 -- ---- four bytes
 
-passed : (p : Segment → Bool) (before behind : List Segment) (s : Segment) → ((k : ℕ) (d : Segment) → k < length before → p (slice_index_or before k d) ≡ false) → p s ≡ true
-    → find p (before ++ s ∷ behind) ≡ Some s
-passed p [] behind s none h = ap (λ b. cond b (Some s) (find p behind)) h
-passed p (x ∷ before) behind s none h =
-    ap (λ b. cond b (Some x) (find p (before ++ s ∷ behind))) (none 0 x (omega arith)) ∙ passed p before behind s (λ k d inside. none (suc k) d (omega (arith, inside))) h
+passed : (p : Segment → Bool) (before after : List Segment) (s : Segment) → ((k : ℕ) (d : Segment) → k < length before → p (slice_index_or before k d) ≡ false) → p s ≡ true
+    → find p (before ++ s ∷ after) ≡ Some s
+passed p [] after s none h = ap (λ b. cond b (Some s) (find p after)) h
+passed p (x ∷ before) after s none h =
+    ap (λ b. cond b (Some x) (find p (before ++ s ∷ after))) (none 0 x (omega arith)) ∙ passed p before after s (λ k d inside. none (suc k) d (omega (arith, inside))) h
 
 pub words_are_four_bytes : WordsAreFourBytes
 unfolding word
@@ -143,7 +143,7 @@ words_are_four_bytes segments a b0 b1 b2 b3 w =
     let long : length w.segment.bytes ≡ length w.low + (4 + length w.rest) = ap length w.bytes ∙ length-append w.low (b0 ∷ b1 ∷ b2 ∷ b3 ∷ w.rest) ∙ (let z : length w.low + length (b0 ∷ b1 ∷ b2 ∷ b3 ∷ w.rest) ≡ length w.low + (4 + length w.rest) = omega arith in z) in
     let held : has 4 a w.segment ≡ true = has_to a w.segment (record { from = omega (arith, w.at); to = omega (arith, w.at, long) }) in
     let found : find (has 4 a) segments ≡ Some w.segment =
-    ap (find (has 4 a)) w.is ∙ passed (has 4 a) w.before w.behind w.segment (λ k d inside. has_not a (slice_index_or w.before k d) (w.first k d inside)) held in
+    ap (find (has 4 a)) w.is ∙ passed (has 4 a) w.before w.after w.segment (λ k d inside. has_not a (slice_index_or w.before k d) (w.first k d inside)) held in
     let skip : a - w.segment.start ≡ length w.low = omega (arith, w.at) in
     let bytes : drop (a - w.segment.start) w.segment.bytes ≡ b0 ∷ b1 ∷ b2 ∷ b3 ∷ w.rest =
     ap (λ n. drop n w.segment.bytes) skip ∙ ap (drop (length w.low)) w.bytes ∙ drop-append_seam w.low (b0 ∷ b1 ∷ b2 ∷ b3 ∷ w.rest) in

@@ -108,8 +108,8 @@ NoOthersAreAsked =
 pub record StandsIn (segments : List Segment) (a : ℕ) (b0 b1 b2 b3 : ℕ) : Type 0 where
   pub before : List Segment
   pub segment : Segment
-  pub behind : List Segment
-  pub is : segments ≡ before ++ segment ∷ behind
+  pub after : List Segment
+  pub is : segments ≡ before ++ segment ∷ after
   pub first : All (λ s. ¬ (HasWord a s)) before
   pub low : List ℕ
   pub rest : List ℕ

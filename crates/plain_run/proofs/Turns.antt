@@ -1,4 +1,4 @@
--- One event, from what a step and what came behind it have done.
+-- One event, from what a step and what came after it have done.
 use Rattle.std.specs.Prelude.{MatchOption}
 use Rattle.std.proofs.Common.{◌≡◌, ℕ, ◌%◌, ◌==◌, ◌<◌, List, [], ◌∷◌, drop, slice_get, cond, ◌⊎◌, inl, inr, Bool, true, false, Option, Some, None, IfSome, refl, sym, ap, ◌∙◌}
 use Rattle.std.specs.Bool.{OnFalse, OnTrue}

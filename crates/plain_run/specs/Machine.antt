@@ -16,7 +16,7 @@ use Rattle.thumb_core.specs.declared.ends.End.TheVariants as the_end
 
 -- ---- one event
 
--- what an instruction goes on to: an event of the registers, those before it and those behind it
+-- what an instruction goes on to: an event of the registers, those before it and those after it
 abbrev pub went_event : Stepped → Regs → Regs → List ℕ → Event Regs End
 went_event Done old new input = Goes new [] input
 went_event (Call target ret) old new input = Goes new [] input
@@ -24,12 +24,12 @@ went_event (Return to) old new input = return_event to old new input
 went_event (Gate number) old new input = gate_event number old new input
 went_event (Trap trap) old new input = Ends (trap_end trap old.pc) old
 
--- with the memory: that behind the instruction where the run goes on, and that before it where it ends
+-- with the memory: that after the instruction where the run goes on, and that before it where it ends
 abbrev pub in_memory : Memory → Memory → Event Regs End → Event State End
 in_memory old new (Goes regs text left) = Goes (record { regs = regs; memory = new }) text left
 in_memory old new (Ends end regs) = Ends end (record { regs = regs; memory = old })
 
--- from what a step did, and the registers and the memory behind it
+-- from what a step did, and the registers and the memory after it
 abbrev pub stepped_event : Outcome → State → List ℕ → Event State End
 stepped_event (what, regs, memory) old input = in_memory old.memory memory (went_event what old.regs regs input)
 

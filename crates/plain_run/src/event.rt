@@ -16,7 +16,7 @@ use thumb_core::ends::End;
 use thumb_core::regs::{Regs, Stepped};
 use thumb_core::step::step;
 
-// What an instruction goes on to. The registers are those behind it, `before` those before it.
+// What an instruction goes on to. The registers are those after it, `before` those before it.
 fn went<I: Source, O: Sink>(
     what: Stepped,
     before: &Regs,

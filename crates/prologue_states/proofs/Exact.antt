@@ -10,7 +10,7 @@ use Rattle.accepted_code.specs.frame_facts.declared.saves.Prologue.{Prologue}
 use Rattle.accepted_code.specs.frame_facts.Saves.{saves_within, moved_to, stack_word, saves_of}
 use Rattle.accepted_code.specs.thumb_isa.declared.instr.Instr.{Instr}
 use Rattle.accepted_code.specs.thumb_isa.declared.instr.Instr.TheVariants.{Push, ShiftImm, AddSubReg, AddSubImm3, Imm8, Alu, AddHigh, CmpHigh, MovHigh, Bx, Blx, LdrLit, MemReg, MemImm, MemSp, Adr, AddRdSp, AddSp, SubSp, Extend, Rev, Pop, Hint, Stm, Ldm, BCond, Svc, B, Bl, Barrier}
-use Rattle.accepted_code.specs.frame_facts.Facts.{lost, forgotten, source, within, with_source}
+use Rattle.accepted_code.specs.frame_facts.Facts.{lost, clobbered, source, within, with_source}
 use Rattle.accepted_code.specs.thumb_core.Words.{listed}
 use Rattle.accepted_code.specs.frame_facts.After.{effect}
 use Rattle.accepted_code.specs.frame_facts.Data.{add_sub_imm3, imm8, alu, copied, sp_set}
@@ -21,13 +21,13 @@ use Rattle.accepted_code.specs.frame_facts.declared.saves.Save.{Save}
 use Rattle.accepted_code.specs.frame_facts.declared.straight.Straight.{Straight}
 use Rattle.accepted_code.specs.frame_facts.Lists.{pushed_to}
 use Rattle.accepted_code.specs.frame_facts.declared.facts.TheConstants.{DEEPEST}
-use Rattle.accepted_code.specs.frame_scene.declared.places.Standing.TheVariants.{Instruction}
-use Rattle.accepted_code.specs.frame_scene.Scene.{Scene}
-use Rattle.accepted_code.specs.frame_scene.Places.{standing_at}
+use Rattle.accepted_code.specs.frame_graph.declared.places.Standing.TheVariants.{Instruction}
+use Rattle.accepted_code.specs.frame_graph.FlowGraph.{FlowGraph}
+use Rattle.accepted_code.specs.frame_graph.Places.{standing_at}
 use Rattle.accepted_code.specs.frame_reach.Marks.{Marks}
 use Rattle.accepted_code.specs.frame_reach.Laws.{IsRun, begins, takes}
 use Rattle.accepted_code.proofs.frame_reach.Stands.{stands_size}
-use Rattle.prologue_states.proofs.Prologues.{IsDown, good, knows, behind}
+use Rattle.prologue_states.proofs.Prologues.{IsDown, good, knows, after}
 use Rattle.prologue_states.proofs.Ordered.{Between, between_ends, Holds16, taken_holds}
 use Rattle.prologue_states.proofs.Extends.{length_saves, step_of_run}
 
@@ -47,13 +47,13 @@ either : (q : Prologue) (f g h : Fact) (b : Bool) → Frame q f g → Frame q f 
 either q f g h true x y = x
 either q f g h false x y = y
 
-forgotten_below : (regs : List ℕ) (f : Fact) → (forgotten regs f).below ≡ f.below
-forgotten_below [] f = refl
-forgotten_below (r ∷ more) f = forgotten_below more (lost r f)
+clobbered_below : (regs : List ℕ) (f : Fact) → (clobbered regs f).below ≡ f.below
+clobbered_below [] f = refl
+clobbered_below (r ∷ more) f = clobbered_below more (lost r f)
 
-forgotten_kept : (regs : List ℕ) (f : Fact) → (forgotten regs f).kept ≡ f.kept
-forgotten_kept [] f = refl
-forgotten_kept (r ∷ more) f = forgotten_kept more (lost r f)
+clobbered_kept : (regs : List ℕ) (f : Fact) → (clobbered regs f).kept ≡ f.kept
+clobbered_kept [] f = refl
+clobbered_kept (r ∷ more) f = clobbered_kept more (lost r f)
 
 pub other_frame : (q : Prologue) (at : ℕ) (i : Instr) (f g : Fact) → may_stand i ≡ true → IsDown i → effect q false at i f ≡ Some g → Leaves q i f g
 other_frame q at (ShiftImm op d m n) f g may down e = give q f (shift_imm op d m n f) g (either q f (with_source f d (source f m)) (lost d f) ((op == 0) && (n == 0)) (refl, inl refl) (refl, inl refl)) e
@@ -97,7 +97,7 @@ other_frame q at (Push list) f g may down e = tt
 other_frame q at (Pop list) f g may down e = absurd cc
 other_frame q at (Hint n) f g may down e = give q f f g (refl, inl refl) e
 other_frame q at (Stm n list) f g may down e = give q f (lost n f) g (refl, inl refl) e
-other_frame q at (Ldm n list) f g may down e = give q f (lost n (forgotten (listed list) f)) g (forgotten_below (listed list) f, inl (forgotten_kept (listed list) f)) e
+other_frame q at (Ldm n list) f g may down e = give q f (lost n (clobbered (listed list) f)) g (clobbered_below (listed list) f, inl (clobbered_kept (listed list) f)) e
 other_frame q at (BCond c off) f g may down e = absurd cc
 other_frame q at (Svc imm) f g may down e = absurd cc
 other_frame q at (B off) f g may down e = absurd cc
@@ -166,14 +166,14 @@ next_kept i run t k h l e w c = plain w c
         let before = k.kept in
         (b ∙ k.below, omega (arith, least, all, before, c))
 
-module _ (s : Scene) (m : Marks) (even : s.start % 2 ≡ 0) (low : s.end + 4 ≤ 2 ^ 32) (down : (p : ℕ) (i : Instr) (size : ℕ) → standing_at s p ≡ Instruction i size → IsDown i) where
+module _ (s : FlowGraph) (m : Marks) (even : s.start % 2 ≡ 0) (low : s.end + 4 ≤ 2 ^ 32) (down : (p : ℕ) (i : Instr) (size : ℕ) → standing_at s p ≡ Instruction i size → IsDown i) where
   pub exact : (p : ℕ) (run : Straight) → IsRun s m p run → Exact run
   exact _ _ begins = record { below = refl; kept = refl; rise = record { long = refl; few = omega arith; rise = omega arith } }
   exact _ _ (takes {p} {run} {next} {i} {size} r e free t) =
       let k = exact p run r in
       let known = knows s m even low p run r in
       let step = step_of_run run next i size (good s m even low p run known) t in
-      let further = behind s m even low p run next i size known e step in
+      let further = after s m even low p run next i size known e step in
       let past : run.prologue.end < next.prologue.end = past_it known.ends further.ends (stands_size s p i size e) in
       let h = taken_holds run next i size k.rise (down p i size e) t in
       let w = next_kept i run next k h past step.does (other_frame next.prologue run.prologue.end i run.fact next.fact step.may (down p i size e) step.does) (counts run next i size t) in

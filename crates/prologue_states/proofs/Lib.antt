@@ -3,7 +3,7 @@ pub use Rattle.accepted_code.proofs.two_machines
 pub use Rattle.accepted_code.proofs.frame_check
 pub use Rattle.accepted_code.proofs.frame_flow
 pub use Rattle.accepted_code.proofs.frame_reach
-pub use Rattle.accepted_code.proofs.frame_scene
+pub use Rattle.accepted_code.proofs.frame_graph
 pub use Rattle.accepted_code.proofs.frame_facts
 pub use Rattle.accepted_code.proofs.flow
 pub use Rattle.accepted_code.proofs.eh_phase

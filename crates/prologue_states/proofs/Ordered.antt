@@ -25,9 +25,9 @@ use Rattle.accepted_code.specs.thumb_core.Words.{listed}
 use Rattle.accepted_code.specs.frame_facts.After.{effect}
 use Rattle.accepted_code.specs.frame_facts.Lists.{pushed_to}
 use Rattle.accepted_code.specs.frame_facts.declared.straight.Straight.{Straight}
-use Rattle.accepted_code.specs.frame_scene.declared.places.Standing.TheVariants.{Instruction}
-use Rattle.accepted_code.specs.frame_scene.Places.{standing_at}
-use Rattle.accepted_code.specs.frame_scene.Scene.{Scene}
+use Rattle.accepted_code.specs.frame_graph.declared.places.Standing.TheVariants.{Instruction}
+use Rattle.accepted_code.specs.frame_graph.Places.{standing_at}
+use Rattle.accepted_code.specs.frame_graph.FlowGraph.{FlowGraph}
 use Rattle.accepted_code.specs.frame_reach.Marks.{Marks}
 use Rattle.accepted_code.specs.frame_reach.Prologue.{places, line_at, lines, prologue}
 use Rattle.accepted_code.proofs.frame_reach.Runs.{line_stands}
@@ -136,7 +136,7 @@ within_pos (pos n) d e = go (nat_le n DEEPEST) refl e
     go false is x = absurd cc
 within_pos (negsuc n) d e = absurd cc
 
--- the depth behind a push
+-- the depth after a push
 pub push_depth : (q : Prologue) (at list : ℕ) (f g : Fact) → effect q false at (Push list) f ≡ Some g → g.depth ≡ f.depth + 4 * length (listed list)
 push_depth q at list f g e = go (within (pos f.depth +ℤ pos (4 * length (listed list)))) refl e
   where
@@ -147,7 +147,7 @@ push_depth q at list f g e = go (within (pos f.depth +ℤ pos (4 * length (liste
         let is : d ≡ f.depth + 4 * length (listed list) = omega (arith, ints, w.0) in
         sym (ap (λ (y : Fact). y.depth) (same_Some (pushed_to q at d f) g x)) ∙ pushed_depth q at f d ∙ is
 
--- how deep the saves go, and that the fact behind goes as deep
+-- how deep the saves go, and that the fact after goes as deep
 record Deep (run : Straight) (j : Instr) (q : Prologue) : Type 0 where
   pub depth : ℕ
   pub holds : Holds16 q depth
@@ -191,7 +191,7 @@ taken_holds run t i size h down e = go (nat_le run.fact.depth DEEPEST && may_sta
 abbrev pub AreOrdered : Prologue → Type 0
 AreOrdered p = (high : ℕ) × Between 0 high (saves_of p)
 
-module _ (s : Scene) (m : Marks) (down : (p : ℕ) (i : Instr) (size : ℕ) → standing_at s p ≡ Instruction i size → IsDown i) where
+module _ (s : FlowGraph) (m : Marks) (down : (p : ℕ) (i : Instr) (size : ℕ) → standing_at s p ≡ Instruction i size → IsDown i) where
   from_run : (fuel p : ℕ) (run : Straight) → Holds16 run.prologue run.fact.depth → AreOrdered (run_on run (lines s m.target fuel p)).prologue
   from_run zero p run h = (run.fact.depth, h.rise)
   from_run (suc fuel) p run h = by_line (line_at s m.target p) refl (λ i size next k. from_run fuel (p + size / 2) next k)

@@ -9,7 +9,7 @@ use Rattle.std.proofs.lemmas.List.{append_assoc}
 use Rattle.accepted_code.specs.thumb_isa.declared.instr.Instr.{Instr}
 use Rattle.accepted_code.specs.thumb_isa.declared.instr.Instr.TheVariants.{SubSp, ShiftImm, AddSubReg, AddSubImm3, Imm8, Alu, AddHigh, CmpHigh, MovHigh, Bx, Blx, LdrLit, MemReg, MemImm, MemSp, Adr, AddRdSp, AddSp, Extend, Rev, Push, Pop, Hint, Stm, Ldm, BCond, Svc, B, Bl, Barrier}
 use Rattle.accepted_code.specs.frame_facts.declared.facts.Fact.{Fact}
-use Rattle.accepted_code.specs.frame_facts.Facts.{lost, forgotten, within, source, with_source, IsFit}
+use Rattle.accepted_code.specs.frame_facts.Facts.{lost, clobbered, within, source, with_source, IsFit}
 use Rattle.accepted_code.specs.frame_facts.declared.facts.TheConstants.{DEEPEST}
 use Rattle.accepted_code.specs.frame_facts.declared.saves.Prologue.{Prologue}
 use Rattle.accepted_code.specs.frame_facts.Lists.{pushed_to}
@@ -20,9 +20,9 @@ use Rattle.accepted_code.specs.frame_facts.Data.{add_sub_imm3, imm8, alu, copied
 use Rattle.accepted_code.specs.frame_facts.Access.{mem_reg, mem_imm}
 use Rattle.accepted_code.specs.frame_facts.Prologues.{may_stand, taken, run_on}
 use Rattle.accepted_code.specs.frame_facts.Shifts.{shift_imm}
-use Rattle.accepted_code.specs.frame_scene.declared.places.Standing.TheVariants.{Instruction}
-use Rattle.accepted_code.specs.frame_scene.Scene.{Scene}
-use Rattle.accepted_code.specs.frame_scene.Places.{standing_at, address_of}
+use Rattle.accepted_code.specs.frame_graph.declared.places.Standing.TheVariants.{Instruction}
+use Rattle.accepted_code.specs.frame_graph.FlowGraph.{FlowGraph}
+use Rattle.accepted_code.specs.frame_graph.Places.{standing_at, address_of}
 use Rattle.accepted_code.specs.frame_facts.declared.cause.FrameCause.{FrameCause}
 use Rattle.accepted_code.specs.frame_facts.declared.saves.Save.{Save}
 use Rattle.accepted_code.specs.frame_facts.declared.straight.Straight.{Straight}
@@ -50,9 +50,9 @@ either : (f g h : Fact) (b : Bool) → f.depth ≤ g.depth → f.depth ≤ h.dep
 either f g h true x y = x
 either f g h false x y = y
 
-pub forgotten_depth : (regs : List ℕ) (f : Fact) → (forgotten regs f).depth ≡ f.depth
-forgotten_depth [] f = refl
-forgotten_depth (r ∷ more) f = forgotten_depth more (lost r f)
+pub clobbered_depth : (regs : List ℕ) (f : Fact) → (clobbered regs f).depth ≡ f.depth
+clobbered_depth [] f = refl
+clobbered_depth (r ∷ more) f = clobbered_depth more (lost r f)
 
 within_is : (z : ℤ) (d n : ℕ) → within z ≡ Some d → z ≡ pos n → d ≡ n
 within_is z d n e is = go (nat_le n DEEPEST) (subst (λ y. within y ≡ Some d) is e)
@@ -115,21 +115,21 @@ effect_deeper q at (Push list) f g may down e =
 effect_deeper q at (Pop list) f g may down e = absurd cc
 effect_deeper q at (Hint n) f g may down e = deeper f f g (omega arith) e
 effect_deeper q at (Stm n list) f g may down e = deeper f (lost n f) g (omega arith) e
-effect_deeper q at (Ldm n list) f g may down e = deeper f (lost n (forgotten (listed list) f)) g (omega (arith, forgotten_depth (listed list) f)) e
+effect_deeper q at (Ldm n list) f g may down e = deeper f (lost n (clobbered (listed list) f)) g (omega (arith, clobbered_depth (listed list) f)) e
 effect_deeper q at (BCond c off) f g may down e = absurd cc
 effect_deeper q at (Svc imm) f g may down e = absurd cc
 effect_deeper q at (B off) f g may down e = absurd cc
 effect_deeper q at (Bl off) f g may down e = absurd cc
 effect_deeper q at (Barrier op option) f g may down e = deeper f f g (omega arith) e
 
-never_up : (s : Scene) (p : ℕ) (i : Instr) (size : ℕ) → standing_at s p ≡ Instruction i size → IsDown i
+never_up : (s : FlowGraph) (p : ℕ) (i : Instr) (size : ℕ) → standing_at s p ≡ Instruction i size → IsDown i
 never_up s p (SubSp (pos n)) size e = tt
 never_up s p (SubSp (negsuc n)) size e = sub_sp_falls s p n size e
 never_up s p i size e = tt
 
 -- ---- runs
 
-module _ (s : Scene) (m : Marks) (even : s.start % 2 ≡ 0) (low : s.end + 4 ≤ 2 ^ 32) where
+module _ (s : FlowGraph) (m : Marks) (even : s.start % 2 ≡ 0) (low : s.end + 4 ≤ 2 ^ 32) where
   down : (p : ℕ) (i : Instr) (size : ℕ) → standing_at s p ≡ Instruction i size → IsDown i
   down = never_up s
 
@@ -143,8 +143,8 @@ module _ (s : Scene) (m : Marks) (even : s.start % 2 ≡ 0) (low : s.end + 4 ≤
   pub good : (p : ℕ) (run : Straight) → Knows p run → IsGood run
   good p run k = record { long = k.long; few = k.few; kept = k.fits.kept }
 
-  pub behind : (p : ℕ) (run next : Straight) (i : Instr) (size : ℕ) → Knows p run → standing_at s p ≡ Instruction i size → Step run next i size → Knows (p + size / 2) next
-  behind p run next i size k e t = record {
+  pub after : (p : ℕ) (run next : Straight) (i : Instr) (size : ℕ) → Knows p run → standing_at s p ≡ Instruction i size → Step run next i size → Knows (p + size / 2) next
+  after p run next i size k e t = record {
     long = t.long;
     few = t.few;
     fits = after_fits next.prologue false run.prologue.end i run.fact next.fact (record { depth = k.fits.depth; kept = omega (arith, k.fits.kept, t.more); long = k.fits.long })
@@ -157,7 +157,7 @@ module _ (s : Scene) (m : Marks) (even : s.start % 2 ≡ 0) (low : s.end + 4 ≤
 
   pub knows : (p : ℕ) (run : Straight) → IsRun s m p run → Knows p run
   knows _ _ begins = record { long = refl; few = omega arith; fits = entered_fits 0; ends = omega arith }
-  knows _ _ (takes {p} {run} {next} {i} {size} r e free t) = let k = knows p run r in behind p run next i size k e (step_of_run run next i size (good p run k) t)
+  knows _ _ (takes {p} {run} {next} {i} {size} r e free t) = let k = knows p run r in after p run next i size k e (step_of_run run next i size (good p run k) t)
 
   -- the instructions from a place on
   abbrev pub from : ℕ → ℕ → Straight → Straight
@@ -185,7 +185,7 @@ module _ (s : Scene) (m : Marks) (even : s.start % 2 ≡ 0) (low : s.end + 4 ≤
           let t = step_of_run run next i size (good p run k) is in
           let g = later next is in
           let depth : run.fact.depth ≤ next.fact.depth = effect_deeper next.prologue run.prologue.end i run.fact next.fact t.may (down p i size e) t.does in
-          let ends = (behind p run next i size k e t).ends in
+          let ends = (after p run next i size k e t).ends in
           record {
             newer = t.newer ++ g.newer;
             are = g.are ∙ ap (λ vs. vs ++ g.newer) t.are ∙ append_assoc (saves_of run.prologue) t.newer g.newer;
@@ -235,13 +235,13 @@ module _ (s : Scene) (m : Marks) (even : s.start % 2 ≡ 0) (low : s.end + 4 ≤
       let there : IsRun s m (p + size / 2) next = takes r e free t in
       let last = reaches (p + size / 2) next there in
       let g = grows last.fuel (p + size / 2) next there in
-      let behind_it = behind p run next i size known e step in
+      let after_it = after p run next i size known e step in
       let P : Prologue = prologue s m in
       let at : address_of s p ≡ run.prologue.end = sym known.ends in
       let further : Deeper next.prologue P next.fact.depth = record { newer = g.newer; are = ap saves_of (sym last.is) ∙ g.are; above = g.above } in
       let past : run.prologue.end < next.prologue.end = elim (stands_size s p i size e) [
-        | inl two ↦ omega (arith, known.ends, behind_it.ends, two)
-        | inr four ↦ omega (arith, known.ends, behind_it.ends, four)
+        | inl two ↦ omega (arith, known.ends, after_it.ends, two)
+        | inr four ↦ omega (arith, known.ends, after_it.ends, four)
       ] in
       let end_is : next.prologue.end ≤ P.end = subst (λ (x : Prologue). next.prologue.end ≤ x.end) last.is g.end in
       let count : run.fact.kept ≤ length (saves_of next.prologue) = omega (arith, known.fits.kept, step.more, length_saves next.prologue step.long step.few) in

@@ -1,4 +1,4 @@
--- At a place of a function's prologue each state is the fact of the run that comes there: no way leads into the run but from its own instructions.
+-- At a place of a function's prologue each state is the fact of the run that comes there: no edge leads into the run but from its own instructions.
 use Rattle.std.proofs.Common.{ℕ, ◌≡◌, sym, ◌∙◌, ◌+◌, ◌/◌, false, Some, ◌⊎◌, inl, inr, refl, arith, ◌<◌, ◌≤◌, ◌-◌, ◌%◌, ◌==◌, ◌&&◌, ◌||◌, cond, Bool, true, List, [], ◌∷◌, Option, None, Ok, ap, subst, min}
 use Rattle.std.specs.Prelude.{if◌then◌else◌, option_and_then, Contains}
 use Rattle.std.proofs.lemmas.Bool.{true≢false, cases_eq, cases_lt}
@@ -6,14 +6,14 @@ use Rattle.std.proofs.lemmas.Bool.Decides.{nat_tests}
 use Rattle.std.proofs.lemmas.Option.{same_Some}
 use Rattle.std.proofs.lemmas.List.Elements.{Contains-append_cases}
 use Rattle.accepted_code.specs.thumb_isa.declared.instr.Instr.{Instr}
-use Rattle.accepted_code.specs.frame_scene.declared.places.Standing.TheVariants.{Instruction, Udf, Nothing}
-use Rattle.accepted_code.specs.frame_scene.Scene.{Scene}
-use Rattle.accepted_code.specs.frame_scene.Places.{standing_at, address_of, place_of, is_code_of}
+use Rattle.accepted_code.specs.frame_graph.declared.places.Standing.TheVariants.{Instruction, Udf, Nothing}
+use Rattle.accepted_code.specs.frame_graph.FlowGraph.{FlowGraph}
+use Rattle.accepted_code.specs.frame_graph.Places.{standing_at, address_of, place_of, is_code_of}
 use Rattle.accepted_code.specs.frame_facts.declared.straight.Straight.{Straight}
 use Rattle.accepted_code.specs.frame_facts.Prologues.{taken, begun}
 use Rattle.accepted_code.specs.frame_reach.Marks.{Marks, AreMarks, IsTarget}
 use Rattle.accepted_code.specs.frame_reach.Prologue.{is_led_to}
-use Rattle.accepted_code.specs.frame_reach.Laws.{IsRun, begins, takes, Continues, IsBehind}
+use Rattle.accepted_code.specs.frame_reach.Laws.{IsRun, begins, takes, Continues, IsAfter}
 use Rattle.accepted_code.proofs.frame_reach.Stands.{stands_size}
 use Rattle.accepted_code.specs.thumb_core.Words.{listed}
 use Rattle.accepted_code.specs.flow.Flow.{at_entry, along as flows_along, meeting}
@@ -21,21 +21,21 @@ use Rattle.accepted_code.proofs.flow.Work.{contains_none, contains_one}
 use Rattle.accepted_code.specs.frame_facts.declared.facts.Fact.{Fact}
 use Rattle.accepted_code.specs.frame_facts.declared.facts.Source.{Source}
 use Rattle.accepted_code.specs.frame_facts.After.{after_of}
-use Rattle.accepted_code.specs.frame_facts.Facts.{forgotten, join_of, met_sources}
+use Rattle.accepted_code.specs.frame_facts.Facts.{clobbered, join_of, met_sources}
 use Rattle.accepted_code.proofs.frame_facts.Meeting.{met_self}
-use Rattle.accepted_code.specs.frame_scene.declared.places.Standing.{Standing}
-use Rattle.accepted_code.specs.frame_scene.declared.ways.Way.{Way}
-use Rattle.accepted_code.specs.frame_scene.Ways.{goes_on, branch_target, ways_to, onward, straight_by, straight_ways, instruction_of, branched_to}
-use Rattle.accepted_code.specs.frame_scene.Sites.{site_at, ways_from, ways_of}
-use Rattle.accepted_code.specs.frame_scene.Reach.{IsReached}
-use Rattle.accepted_code.proofs.frame_reach.Others.{others_are_behind}
+use Rattle.accepted_code.specs.frame_graph.declared.places.Standing.{Standing}
+use Rattle.accepted_code.specs.frame_graph.declared.edges.Edge.{Edge}
+use Rattle.accepted_code.specs.frame_graph.Edges.{reaches_next, branch_target, edges_to, onward, straight_by, straight_edges, instruction_of, branched_to}
+use Rattle.accepted_code.specs.frame_graph.Sites.{site_at, edges_from, edges_of}
+use Rattle.accepted_code.specs.frame_graph.Reach.{IsReached}
+use Rattle.accepted_code.proofs.frame_reach.Others.{others_are_after}
 use Rattle.accepted_code.specs.frame_flow.Flows.{IsStateOf}
 use Rattle.accepted_code.specs.frame_flow.Conditions.{Leaves}
-use Rattle.accepted_code.proofs.frame_flow.Conditions.{edges_are_ways}
+use Rattle.accepted_code.proofs.frame_flow.Conditions.{transfer_follows_edges}
 use Rattle.accepted_code.proofs.frame_flow.Reaching.{state_reached}
 use Rattle.accepted_code.specs.frame_check.Accepts.{framed}
 
-pub same_stands : (s : Scene) (p : ℕ) (i j : Instr) (n k : ℕ) → standing_at s p ≡ Instruction i n → standing_at s p ≡ Instruction j k → (i ≡ j) × (n ≡ k)
+pub same_stands : (s : FlowGraph) (p : ℕ) (i j : Instr) (n k : ℕ) → standing_at s p ≡ Instruction i n → standing_at s p ≡ Instruction j k → (i ≡ j) × (n ≡ k)
 same_stands s p i j n k e f = let g : Instruction i n ≡ Instruction j k = sym e ∙ f in both g
   where
     both : Instruction i n ≡ Instruction j k → (i ≡ j) × (n ≡ k)
@@ -44,7 +44,7 @@ same_stands s p i j n k e f = let g : Instruction i n ≡ Instruction j k = sym 
 -- ---- runs
 
 -- a run that has taken an instruction
-pub record Took (s : Scene) (m : Marks) (p : ℕ) (run : Straight) : Type 0 where
+pub record Took (s : FlowGraph) (m : Marks) (p : ℕ) (run : Straight) : Type 0 where
   pub at : ℕ
   pub before : Straight
   pub instr : Instr
@@ -55,17 +55,17 @@ pub record Took (s : Scene) (m : Marks) (p : ℕ) (run : Straight) : Type 0 wher
   pub takes : taken before instr size ≡ Some run
   pub is : p ≡ at + size / 2
 
-how_run : (s : Scene) (m : Marks) (p : ℕ) (run : Straight) → IsRun s m p run → ((p ≡ 0) × (run ≡ begun s.start)) ⊎ Took s m p run
+how_run : (s : FlowGraph) (m : Marks) (p : ℕ) (run : Straight) → IsRun s m p run → ((p ≡ 0) × (run ≡ begun s.start)) ⊎ Took s m p run
 how_run s m _ _ begins = inl (refl, refl)
 how_run s m _ _ (takes {p} {run} {next} {i} {size} r e free t) = inr (record { at = p; before = run; instr = i; size = size; from = r; stands = e; free = free; takes = t; is = refl })
 
-pub two_or_four : (s : Scene) (p : ℕ) (i : Instr) (size : ℕ) → standing_at s p ≡ Instruction i size → (size / 2 ≡ 1) ⊎ ((size / 2 ≡ 2) × (size ≡ 4))
+pub two_or_four : (s : FlowGraph) (p : ℕ) (i : Instr) (size : ℕ) → standing_at s p ≡ Instruction i size → (size / 2 ≡ 1) ⊎ ((size / 2 ≡ 2) × (size ≡ 4))
 two_or_four s p i size e = elim (stands_size s p i size e) [
   | inl two ↦ inl (omega (arith, two))
   | inr four ↦ inr (omega (arith, four), four)
 ]
 
-module _ (s : Scene) (m : Marks) (are : AreMarks s m) where
+module _ (s : FlowGraph) (m : Marks) (are : AreMarks s m) where
   -- a place that is reached before a run has come so far is one of the run's, and ends by there
   pub record Passed (p q : ℕ) : Type 0 where
     pub instr : Instr
@@ -89,16 +89,16 @@ module _ (s : Scene) (m : Marks) (are : AreMarks s m) where
 
   -- nothing that is reached stands in the second halfword of an instruction of a run
   pub no_straddle : (p0 size : ℕ) (i : Instr) → standing_at s p0 ≡ Instruction i size → is_led_to m.target p0 size ≡ false → size ≡ 4 → ((q : ℕ) → IsReached s q → q < p0 → Passed p0 q) → IsReached s (p0 + 1) → ⊥
-  no_straddle p0 size i e free four passed r = elim (others_are_behind s (p0 + 1) r) [
+  no_straddle p0 size i e free four passed r = elim (others_are_after s (p0 + 1) r) [
     | inl zero_place ↦ omega (arith, zero_place)
     | inr rest ↦ elim rest [
       | inl target ↦ (not_target p0 size free).1 four target
-      | inr behind ↦ from_behind behind
+      | inr after ↦ from_after after
     ]
   ]
     where
-      from_behind : IsBehind s (p0 + 1) → ⊥
-      from_behind (q, j, n, reached, stands, on, is) = elim (cases_lt q p0) [
+      from_after : IsAfter s (p0 + 1) → ⊥
+      from_after (q, j, n, reached, stands, on, is) = elim (cases_lt q p0) [
         | inl low ↦ let w = passed q reached low in let same = (same_stands s q j w.instr n w.size stands w.stands).1 in let within = w.within in omega (arith, is, within, same)
         | inr high ↦ elim (cases_eq q p0) [
           | inl here ↦ let same = (same_stands s p0 j i n size (subst (λ z. standing_at s z ≡ Instruction j n) here stands) e).1 in omega (arith, is, here, same, four)
@@ -150,7 +150,7 @@ module _ (s : Scene) (m : Marks) (are : AreMarks s m) where
 
   -- ---- states
 
-  -- what the effect of a run's instruction gives is the fact of the run behind it
+  -- what the effect of a run's instruction gives is the fact of the run after it
   abbrev pub EffectsAgree : Type 0
   EffectsAgree = (p : ℕ) (run next : Straight) (i : Instr) (size : ℕ) (k : Fact) → IsRun s m p run → standing_at s p ≡ Instruction i size → is_led_to m.target p size ≡ false → taken run i size ≡ Some next
       → after_of (framed s m).prologue false (address_of s p) i run.fact ≡ Ok k → k ≡ next.fact
@@ -178,42 +178,42 @@ module _ (s : Scene) (m : Marks) (are : AreMarks s m) where
     unfolding listed
     listed_nothing = refl
 
-    -- a way into a place of the run that is no target comes from the instruction in front of it
-    record Comes (p q : ℕ) (w : Way) : Type 0 where
+    -- an edge into a place of the run that is no target comes from the instruction in front of it
+    record Comes (p q : ℕ) (w : Edge) : Type 0 where
       pub instr : Instr
       pub size : ℕ
       pub stands : standing_at s p ≡ Instruction instr size
       pub is : q ≡ p + size / 2
-      pub forgets : w.forgets ≡ 0
+      pub clobbers : w.clobbers ≡ 0
 
-    comes : (p q : ℕ) (w : Way) → IsReached s p → Contains (ways_of s p) w → q ≡ w.to → (IsTarget s q → ⊥) → Comes p q w
-    unfolding ways_of
-    comes p q w r c e untargeted = elim (Contains-append_cases (straight_ways s p) (ways_from s (site_at s p)) w c) [
+    comes : (p q : ℕ) (w : Edge) → IsReached s p → Contains (edges_of s p) w → q ≡ w.to → (IsTarget s q → ⊥) → Comes p q w
+    unfolding edges_of
+    comes p q w r c e untargeted = elim (Contains-append_cases (straight_edges s p) (edges_from s (site_at s p)) w c) [
       | inl straight ↦ by_standing (standing_at s p) refl straight
       | inr pad ↦ absurd (untargeted (inr (p, w, r, pad, sym e)))
     ]
       where
-        branch_no : (t : Option ℕ) → branched_to s p ≡ option_and_then (place_of s) t → Contains (ways_to 0 (option_and_then (place_of s) t)) w → ⊥
+        branch_no : (t : Option ℕ) → branched_to s p ≡ option_and_then (place_of s) t → Contains (edges_to 0 (option_and_then (place_of s) t)) w → ⊥
         branch_no t is d = go (option_and_then (place_of s) t) (is) d
           where
-            go : (o : Option ℕ) → branched_to s p ≡ o → Contains (ways_to 0 o) w → ⊥
+            go : (o : Option ℕ) → branched_to s p ≡ o → Contains (edges_to 0 o) w → ⊥
             go None f d = contains_none w d
-            go (Some n) f d = untargeted (inl (p, r, f ∙ ap (λ (z : ℕ). Some z) (sym (e ∙ ap (λ (y : Way). y.to) (contains_one w (record { to = n; forgets = 0 }) d)))))
+            go (Some n) f d = untargeted (inl (p, r, f ∙ ap (λ (z : ℕ). Some z) (sym (e ∙ ap (λ (y : Edge). y.to) (contains_one w (record { to = n; clobbers = 0 }) d)))))
 
-        onward_is : (i : Instr) (size : ℕ) → standing_at s p ≡ Instruction i size → (b : Bool) → Contains (if b then ways_to 0 (place_of s (address_of s p + size)) else []) w → Comes p q w
+        onward_is : (i : Instr) (size : ℕ) → standing_at s p ≡ Instruction i size → (b : Bool) → Contains (if b then edges_to 0 (place_of s (address_of s p + size)) else []) w → Comes p q w
         onward_is i size at true d = go (is_code_of s (address_of s p + size)) d
           where
-            go : (b : Bool) → Contains (ways_to 0 (if b then Some ((address_of s p + size - s.start) / 2) else None)) w → Comes p q w
+            go : (b : Bool) → Contains (edges_to 0 (if b then Some ((address_of s p + size - s.start) / 2) else None)) w → Comes p q w
             go false d = absurd (contains_none w d)
             go true d =
-                let one = contains_one w (record { to = (address_of s p + size - s.start) / 2; forgets = 0 }) d in
-                let to : q ≡ (address_of s p + size - s.start) / 2 = e ∙ ap (λ (y : Way). y.to) one in
-                record { instr = i; size = size; stands = at; is = elim (stands_size s p i size at) [ inl two ↦ omega (arith, to, two) | inr four ↦ omega (arith, to, four) ]; forgets = ap (λ (y : Way). y.forgets) one }
+                let one = contains_one w (record { to = (address_of s p + size - s.start) / 2; clobbers = 0 }) d in
+                let to : q ≡ (address_of s p + size - s.start) / 2 = e ∙ ap (λ (y : Edge). y.to) one in
+                record { instr = i; size = size; stands = at; is = elim (stands_size s p i size at) [ inl two ↦ omega (arith, to, two) | inr four ↦ omega (arith, to, four) ]; clobbers = ap (λ (y : Edge). y.clobbers) one }
         onward_is i size at false d = absurd (contains_none w d)
 
         by_standing : (t : Standing) → standing_at s p ≡ t → Contains (straight_by s (address_of s p) t) w → Comes p q w
-        by_standing (Instruction i size) at d = elim (Contains-append_cases (onward s (address_of s p) i size) (ways_to 0 (option_and_then (place_of s) (branch_target (address_of s p) i))) w d) [
-          | inl on ↦ onward_is i size at (goes_on i) on
+        by_standing (Instruction i size) at d = elim (Contains-append_cases (onward s (address_of s p) i size) (edges_to 0 (option_and_then (place_of s) (branch_target (address_of s p) i))) w d) [
+          | inl on ↦ onward_is i size at (reaches_next i) on
           | inr branch ↦ absurd (branch_no (branch_target (address_of s p) i)
               (ap (λ (t : Standing). option_and_then (place_of s) (option_and_then (branch_target (address_of s p)) (instruction_of t))) at) branch)
         ]
@@ -226,19 +226,19 @@ module _ (s : Scene) (m : Marks) (are : AreMarks s m) where
       | inl start ↦ sym (ap (λ (x : Straight). x.fact) start.1)
       | inr took ↦ absurd (elim (two_or_four s took.at took.instr took.size took.stands) [ inl one ↦ omega (arith, took.is, one) | inr two ↦ omega (arith, took.is, two.0) ])
     ]
-    states _ _ (flows_along {p} {q} {f} {g} st c) run r on = go (how_run s m q run r) ((edges_are_ways (framed s m) p f q g).0 c) (λ before from more. states p f st before from more)
+    states _ _ (flows_along {p} {q} {f} {g} st c) run r on = go (how_run s m q run r) ((transfer_follows_edges (framed s m) p f q g).0 c) (λ before from more. states p f st before from more)
       where
         reached : IsReached s p
         reached = state_reached (framed s m) p f st
 
         go : ((q ≡ 0) × (run ≡ begun s.start)) ⊎ Took s m q run
-            → ((k : Fact) × (w : Way) × Leaves (framed s m) p f k × Contains (ways_of s p) w × (q ≡ w.to) × (g ≡ forgotten (listed w.forgets) k))
+            → ((k : Fact) × (w : Edge) × Leaves (framed s m) p f k × Contains (edges_of s p) w × (q ≡ w.to) × (g ≡ clobbered (listed w.clobbers) k))
             → ((before : Straight) → IsRun s m p before → Continues s m p before → f ≡ before.fact) → g ≡ run.fact
-        go how (k, w, (i, at, e), d, to, is) each = by_way (comes p q w reached d to (not_target q on.1 on.4).0) how
+        go how (k, w, (i, at, e), d, to, is) each = by_edge (comes p q w reached d to (not_target q on.1 on.4).0) how
           where
-            by_way : Comes p q w → ((q ≡ 0) × (run ≡ begun s.start)) ⊎ Took s m q run → g ≡ run.fact
-            by_way v (inl start) = absurd (elim (two_or_four s p v.instr v.size v.stands) [ inl one ↦ omega (arith, v.is, start.0, one) | inr two ↦ omega (arith, v.is, start.0, two.0) ])
-            by_way v (inr took) =
+            by_edge : Comes p q w → ((q ≡ 0) × (run ≡ begun s.start)) ⊎ Took s m q run → g ≡ run.fact
+            by_edge v (inl start) = absurd (elim (two_or_four s p v.instr v.size v.stands) [ inl one ↦ omega (arith, v.is, start.0, one) | inr two ↦ omega (arith, v.is, start.0, two.0) ])
+            by_edge v (inr took) =
                 let here : p ≡ took.at = in_front q run took p v.instr v.size reached v.stands (sym v.is) in
                 let from : IsRun s m p took.before = subst (λ z. IsRun s m z took.before) (sym here) took.from in
                 let stands : standing_at s p ≡ Instruction took.instr took.size = subst (λ z. standing_at s z ≡ Instruction took.instr took.size) (sym here) took.stands in
@@ -248,7 +248,7 @@ module _ (s : Scene) (m : Marks) (are : AreMarks s m) where
                 let left : after_of (framed s m).prologue false (address_of s p) took.instr took.before.fact ≡ Ok k =
                 subst (λ (j : Instr). after_of (framed s m).prologue false (address_of s p) j took.before.fact ≡ Ok k) same_instr
                 (subst (λ (h : Fact). after_of (framed s m).prologue false (address_of s p) i h ≡ Ok k) before e) in
-                let plain : g ≡ k = is ∙ ap (λ (n : ℕ). forgotten (listed n) k) v.forgets ∙ ap (λ (rs : List ℕ). forgotten rs k) listed_nothing in
+                let plain : g ≡ k = is ∙ ap (λ (n : ℕ). clobbered (listed n) k) v.clobbers ∙ ap (λ (rs : List ℕ). clobbered rs k) listed_nothing in
                 plain ∙ agree p took.before run took.instr took.size k from stands free took.takes left
     states _ _ (meeting {p} {f} {g} {h} a b j) run r on =
         let x = states p f a run r on in

@@ -6,10 +6,10 @@ use Rattle.accepted_code.specs.thumb_isa.Rows.{Row, fits, first_fit, rows, decod
 use Rattle.accepted_code.specs.thumb_isa.declared.instr.Decoded.TheVariants.{Undefined, Is, Unpredictable, NotInProfile}
 use Rattle.accepted_code.specs.thumb_isa.declared.instr.Instr.TheVariants.{Bl, Blx, SubSp}
 use Rattle.accepted_code.specs.thumb_isa.declared.instr.Instr.{Instr}
-use Rattle.accepted_code.specs.frame_scene.declared.places.Standing.TheVariants.{Instruction, Udf}
-use Rattle.accepted_code.specs.frame_scene.Places.{of_decoded, is_udf, wide_of, standing_by, halfword_of, standing_at}
+use Rattle.accepted_code.specs.frame_graph.declared.places.Standing.TheVariants.{Instruction, Udf}
+use Rattle.accepted_code.specs.frame_graph.Places.{of_decoded, is_udf, wide_of, standing_by, halfword_of, standing_at}
 use Rattle.accepted_code.specs.thumb_isa.Range.{size_of}
-use Rattle.accepted_code.specs.frame_scene.Scene.{Scene}
+use Rattle.accepted_code.specs.frame_graph.FlowGraph.{FlowGraph}
 
 -- a test that the answer of each row passes
 abbrev every : (Decoded → Bool) → List Row → ℕ → ℕ → Bool
@@ -56,17 +56,17 @@ fine_by (Some first) w i n e = go (is_udf first) (size_of first == 2) w e
     go false false None e = absurd cc
     go false false (Some second) e = fine_there (decoded_of first second) i n e (all_fine first second)
 
-pub fine_at : (s : Scene) (p : ℕ) (i : Instr) (n : ℕ) → standing_at s p ≡ Instruction i n → fine (Is i n) ≡ true
+pub fine_at : (s : FlowGraph) (p : ℕ) (i : Instr) (n : ℕ) → standing_at s p ≡ Instruction i n → fine (Is i n) ≡ true
 unfolding standing_at
 fine_at s p i n e = fine_by (halfword_of s p) (halfword_of s (p + 1)) i n e
 
-pub bl_width : (s : Scene) (p : ℕ) (off : ℤ) (n : ℕ) → standing_at s p ≡ Instruction (Bl off) n → n ≡ 4
+pub bl_width : (s : FlowGraph) (p : ℕ) (off : ℤ) (n : ℕ) → standing_at s p ≡ Instruction (Bl off) n → n ≡ 4
 bl_width s p off n e = eqb-true n 4 (fine_at s p (Bl off) n e)
 
-pub blx_width : (s : Scene) (p m n : ℕ) → standing_at s p ≡ Instruction (Blx m) n → n ≡ 2
+pub blx_width : (s : FlowGraph) (p m n : ℕ) → standing_at s p ≡ Instruction (Blx m) n → n ≡ 2
 blx_width s p m n e = eqb-true n 2 (fine_at s p (Blx m) n e)
 
-pub sub_sp_falls : (s : Scene) (p k n : ℕ) → standing_at s p ≡ Instruction (SubSp (negsuc k)) n → ⊥
+pub sub_sp_falls : (s : FlowGraph) (p k n : ℕ) → standing_at s p ≡ Instruction (SubSp (negsuc k)) n → ⊥
 sub_sp_falls s p k n e = no_true (fine_at s p (SubSp (negsuc k)) n e)
   where
     no_true : false ≡ true → ⊥

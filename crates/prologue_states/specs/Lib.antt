@@ -3,7 +3,7 @@ pub use Rattle.accepted_code.specs.two_machines
 pub use Rattle.accepted_code.specs.frame_check
 pub use Rattle.accepted_code.specs.frame_flow
 pub use Rattle.accepted_code.specs.frame_reach
-pub use Rattle.accepted_code.specs.frame_scene
+pub use Rattle.accepted_code.specs.frame_graph
 pub use Rattle.accepted_code.specs.frame_facts
 pub use Rattle.accepted_code.specs.flow
 pub use Rattle.accepted_code.specs.eh_gates

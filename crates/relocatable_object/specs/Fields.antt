@@ -8,7 +8,7 @@ use Rattle.relocatable_object.specs.declared.object.Reloc.{Reloc}
 use Rattle.relocatable_object.specs.Relocations.{field_size}
 use Rattle.relocatable_object.specs.Sections.{same_section}
 
--- fields from an offset on and up to another one, one behind the other
+-- fields from an offset on and up to another one, one after the other
 abbrev pub StandInOrder : ℕ → List Reloc → ℕ → Type 0
 StandInOrder from [] end = from ≤ end
 StandInOrder from (reloc ∷ more) end = (from ≤ reloc.offset) × StandInOrder (reloc.offset + field_size reloc) more end

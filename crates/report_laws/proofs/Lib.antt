@@ -1,1 +1,2 @@
 mod OneReport
+mod Written

@@ -44,7 +44,7 @@ is_by_program : (budget : ℕ) (a : Accepted) (input : List ℕ) → accepted_re
 unfolding accepted_report by_program
 is_by_program budget a input = refl
 
--- .. and of a walk in it: what stands behind the guest's bytes rests on the image and its types
+-- .. and of a walk in it: what stands after the guest's bytes rests on the image and its types
 module _ (a b : Accepted) (image : a.image ≡ b.image) (types : a.types ≡ b.types) (events : Trace) where
   same_trace : trace a events ≡ trace b events
   same_trace =
@@ -53,13 +53,13 @@ module _ (a b : Accepted) (image : a.image ≡ b.image) (types : a.types ≡ b.t
   same_closing : (end : End) → closing_of (trace a events) end ≡ closing_of (trace b events) end
   same_closing end = ap (λ (head : List ℕ). closing_of head end) same_trace
 
-  walk_behind : List ℕ → List ℕ → Closing
-  walk_behind head walk = record { text = head ++ walk; status = DONE }
+  walk_after : List ℕ → List ℕ → Closing
+  walk_after head walk = record { text = head ++ walk; status = DONE }
 
   same_walked : (frames : List WalkFrame) → walked a events frames ≡ walked b events frames
-  unfolding walk_behind
+  unfolding walk_after
   same_walked frames =
-      ap (λ (head : List ℕ). walk_behind head (walk_text a.image frames)) same_trace ∙ ap (λ (i : Image). walk_behind (trace b events) (walk_text i frames)) image
+      ap (λ (head : List ℕ). walk_after head (walk_text a.image frames)) same_trace ∙ ap (λ (i : Image). walk_after (trace b events) (walk_text i frames)) image
 
   by_walk_end : (frames : List WalkFrame) (end : WalkEnd) → walked_by a events frames end ≡ walked_by b events frames end
   by_walk_end frames NotSite = same_closing Budget
@@ -101,8 +101,7 @@ by_task Walk budget input a b r q e x y =
     ∙ sym (is_walk_by_program budget b input) ∙ sym y.is
 
 pub reports : ProgramsAreOne → ReportsAreOne
-reports one request image input r q x y =
-    by_task request.task request.budget input x.accepted y.accepted r q (one x.accepted y.accepted x.sound y.sound (x.same ∙ sym y.same)) x.does y.does
+reports one request x y input r q are i j = by_task request.task request.budget input x y r q (one x y are.one are.other are.same) i j
 
 -- .. of which the events are counted
 counted : List ℕ → Program → Report
@@ -115,6 +114,5 @@ unfolding summary_report counted
 is_counted a input = refl
 
 pub counts : ProgramsAreOne → CountsAreOne
-counts one image input r q x y =
-    x.is ∙ is_counted x.accepted input ∙ ap (counted input) (one x.accepted y.accepted x.sound y.sound (x.same ∙ sym y.same))
-    ∙ sym (is_counted y.accepted input) ∙ sym y.is
+counts one x y input r q are i j =
+    i.is ∙ is_counted x input ∙ ap (counted input) (one x y are.one are.other are.same) ∙ sym (is_counted y input) ∙ sym j.is

@@ -17,13 +17,13 @@ pub record CommandNumbers : Type 0 where
   pub most_frames : ehabi_top-walk.MOST_FRAMES ≡ 65536
   pub most_further : eh_walk-reach.MOST_FURTHER ≡ 1000000
   pub done : ehabi_top-status.DONE ≡ 0
-  pub exits : ehabi_top-status.EXITS ≡ 1
+  pub exit_nonzero : ehabi_top-status.EXIT_NONZERO ≡ 1
   pub usage : ehabi_top-status.USAGE ≡ 2
   pub refused : ehabi_top-status.REFUSED ≡ 3
   pub terminated : ehabi_top-status.TERMINATED ≡ 4
   pub trapped : ehabi_top-status.TRAPPED ≡ 5
-  pub spent : ehabi_top-status.SPENT ≡ 6
+  pub budget_spent : ehabi_top-status.BUDGET_SPENT ≡ 6
   pub read_failed : ehabi_top-status.READ_FAILED ≡ 7
   pub write_failed : ehabi_top-status.WRITE_FAILED ≡ 8
   pub no_memory : ehabi_top-status.NO_MEMORY ≡ 9
-  pub lacking : ehabi_top-status.LACKING ≡ 10
+  pub file_unavailable : ehabi_top-status.FILE_UNAVAILABLE ≡ 10

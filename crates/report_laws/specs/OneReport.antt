@@ -1,15 +1,21 @@
 -- The report of a run of an accepted image, and of a walk in it, is one (docs/command-line.md): it doesn't rest on how the checker has kept what it found.
 use Rattle.std.specs.Prelude.{◌≡◌, ℕ, List}
-use Rattle.elf_image.specs.Image.{Image}
-use Rattle.ehabi_top.specs.GenerateReport.{CountsImage}
+use Rattle.frame_check.specs.Accepts.{Accepted, IsSound}
+use Rattle.ehabi_top.specs.GenerateReport.{CountsAccepted}
 use Rattle.ehabi_top.specs.Loading.{Report}
-use Rattle.ehabi_top.specs.TaskReport.{RunsImage}
+use Rattle.ehabi_top.specs.TaskReport.{DoesTask}
 use Rattle.ehabi_top.specs.declared.words.Request.{Request}
+
+-- two reports of the checker are of one image
+pub record AreOfOne (x y : Accepted) : Type 0 where
+  pub one : IsSound x
+  pub other : IsSound y
+  pub same : x.image ≡ y.image
 
 -- of one image, with one budget and one input, `run` has one report, and so has `walk`
 abbrev pub ReportsAreOne : Type 0
-ReportsAreOne = (request : Request) (image : Image) (input : List ℕ) (r q : Report) → RunsImage request image input r → RunsImage request image input q → r ≡ q
+ReportsAreOne = (request : Request) (x y : Accepted) (input : List ℕ) (r q : Report) → AreOfOne x y → DoesTask request x input r → DoesTask request y input q → r ≡ q
 
 -- and so has `gen`
 abbrev pub CountsAreOne : Type 0
-CountsAreOne = (image : Image) (input : List ℕ) (r q : Report) → CountsImage image input r → CountsImage image input q → r ≡ q
+CountsAreOne = (x y : Accepted) (input : List ℕ) (r q : Report) → AreOfOne x y → CountsAccepted x input r → CountsAccepted y input q → r ≡ q

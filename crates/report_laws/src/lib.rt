@@ -1,8 +1,9 @@
-//! The report of an accepted image's run is one; and the limits and statuses of the command line, in digits (docs/command-line.md).
+//! The report of an accepted image's run is one; what reports say last; and the limits and statuses of the command line, in digits (docs/command-line.md).
 #![tactic(auto)]
 
 ghost use Rattle.report_laws.specs.Numbers.{CommandNumbers};
 ghost use Rattle.report_laws.specs.OneReport.{ReportsAreOne, CountsAreOne};
+ghost use Rattle.report_laws.specs.Written.{ReportsAreWritten};
 
 use accepted_laws::programs_are_one;
 
@@ -19,6 +20,12 @@ pub fn counts_are_one()
 {
     programs_are_one();
 }
+
+/// The last line and the status of each report, in letters and digits: of a run, a walk, raw code and a generated program by how it ended; of
+/// words of no form, of files that are missing or too long, of an image that is built and of one that is accepted.
+pub fn reports_are_written()
+    ensures { ReportsAreWritten }
+{}
 
 /// The limits of files, of the budget and of the words, and the statuses.
 pub fn command_numbers()

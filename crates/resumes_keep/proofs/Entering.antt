@@ -1,4 +1,4 @@
--- Behind a landing in an activation what every event keeps is kept, by where the activation stands at the pad and the registers that it has there.
+-- After a landing in an activation what every event keeps is kept, by where the activation stands at the pad and the registers that it has there.
 use Rattle.std.proofs.Common.{◌≡◌, ℕ, ◌%◌, ◌<◌, ◌≤◌, ◌^◌, List, ◌∷◌, ◌++◌, zero, suc, ◌+◌, inl, inr, refl, sym, subst, arith}
 use Rattle.std.specs.Prelude.{slice_index}
 use Rattle.std.proofs.lemmas.List.{get_or_past}
@@ -19,7 +19,7 @@ use Rattle.throws_keep.specs.thumb_core.declared.regs.Regs.{Regs}
 use Rattle.throws_keep.proofs.frame_flow.Reaching.{state_reached}
 use Rattle.throws_keep.proofs.frame_reach.Found.{inside}
 use Rattle.throws_keep.specs.frame_check.Judged.{IsPlaced}
-use Rattle.throws_keep.specs.frame_check.Roots.{scene_of}
+use Rattle.throws_keep.specs.frame_check.Roots.{flow_graph_of}
 use Rattle.throws_keep.proofs.frame_check.Wells.{placed_at}
 use Rattle.throws_keep.specs.two_machines.Corresponds.{Corresponds}
 use Rattle.throws_keep.proofs.frames_same.Located.{Rest, chain_from}
@@ -83,7 +83,7 @@ module _ (x : Accepted) (is : IsProgram x) (s : Recorded) (k : Keeps x s) (n : E
         let reached = state_reached (code x stands.function stands.marks) stands.place stands.fact stands.state in
         record {
           words = record { count = refl; small = each; aligned = (let e = n.register in let h = n.aligned in omega (arith, e, h)) };
-          small = elim (inside (scene_of x.image stands.function) stands.place reached) [
+          small = elim (inside (flow_graph_of x.image stands.function) stands.place reached) [
             | inl zero_place ↦ (let a = placed.some in let b = placed.low in omega (arith, at, zero_place, a, b))
             | inr low ↦ (let b = placed.low in omega (arith, at, low, b))
           ];
@@ -94,7 +94,7 @@ module _ (x : Accepted) (is : IsProgram x) (s : Recorded) (k : Keeps x s) (n : E
     links = chain_from x s.segments s.home s.first s.outer n.cut n.first n.more n.all k.whole k.chain
 
     module _ (lists : Lists) (cleanups : List InProgress) (segments : List Segment) (events : Trace) where
-      -- the state behind it
+      -- the state after it
       abbrev pub left : Recorded
       left = record {
         regs = regs;

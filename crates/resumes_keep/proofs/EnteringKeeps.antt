@@ -28,7 +28,7 @@ use Rattle.throws_keep.specs.stands_for.Chain.{StandsAt}
 use Rattle.throws_keep.specs.stands_for.Cleanups.{goal_at, IsEntered, IsWithin, AreInProgress}
 use Rattle.throws_keep.specs.stands_for.Stands.{Keeps, IsProgram}
 use Rattle.throws_keep.proofs.stands_for.CountedLists.{land_counts}
-use Rattle.throws_keep.proofs.Behind.{entered_there, released_same, all_released_same}
+use Rattle.throws_keep.proofs.After.{entered_there, released_same, all_released_same}
 use Rattle.throws_keep.proofs.Bounds.{still_in_progress}
 use Rattle.throws_keep.proofs.CleanupEntered.{puts_else}
 use Rattle.throws_keep.proofs.CleanupKeeps.{begins_of, begins_else_sp, begins_else_desc, word_same}

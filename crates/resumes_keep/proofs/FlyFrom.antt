@@ -27,7 +27,7 @@ use Rattle.throws_keep.specs.two_machines.Activations.{Recorded, reg_in, memory_
 use Rattle.throws_keep.specs.two_machines.Checked.{program_of}
 use Rattle.throws_keep.specs.two_machines.Corresponds.{Corresponds, GateMatches}
 use Rattle.throws_keep.specs.two_machines.Landings.{IsInFlight}
-use Rattle.throws_keep.specs.two_machines.Program.{guide}
+use Rattle.throws_keep.specs.two_machines.Program.{program_tables}
 use Rattle.throws_keep.proofs.two_machines.FirstEvent.{segments_alone}
 use Rattle.throws_keep.specs.two_machines.ActivationMachine as machine
 use Rattle.resumes_keep.specs.Flying.{GatesFly, SearchesReach, all_frames, fly_from, CanFly, FlightsMatch}
@@ -60,17 +60,17 @@ module _ (x : Accepted) (is : IsProgram x) (s : Recorded) (k : Keeps x s) (site 
   abbrev writes : List Write
   writes = set_barrier_of (Some slot) (barrier_words (block slot) b)
 
-  -- behind the words of the barrier
-  abbrev behind : Recorded
-  behind = with_words (set_barrier_of (Some slot) (barrier_words (block slot) b)) s
+  -- after the words of the barrier
+  abbrev following : Recorded
+  following = with_words (set_barrier_of (Some slot) (barrier_words (block slot) b)) s
 
   is_slot : block_slot (block slot) ≡ Some slot
   is_slot = slot_of_block_is slot can.flight.small
 
-  memory_is : put_all writes (memory_of s) ≡ memory_of behind
+  memory_is : put_all writes (memory_of s) ≡ memory_of following
   memory_is = segments_alone writes (memory_of s)
 
-  still : Corresponds behind
+  still : Corresponds following
   still = record {
     map = subst (λ (m : Memory). IsMap m) memory_is (all_is_map writes (memory_of s) k.corresponds.map);
     stands = subst (λ (m : Memory). Stands (word m) (heads (lists_of s)) (lists_of s)) memory_is
@@ -78,14 +78,14 @@ module _ (x : Accepted) (is : IsProgram x) (s : Recorded) (k : Keeps x s) (site 
         (ap (λ (o : Option ℕ). put_all (set_barrier_of o words) (memory_of s)) (sym is_slot)) (heads (lists_of s)) (lists_of s) k.corresponds.stands);
   }
 
-  wrote : Wrote slot s behind
-  wrote = wrote_one slot writes s behind can.flight.small (barred_of slot words) k.corresponds.map refl
+  wrote : Wrote slot s following
+  wrote = wrote_one slot writes s following can.flight.small (barred_of slot words) k.corresponds.map refl
 
-  behind_keeps : Keeps x behind
-  behind_keeps = poured_keeps x s k (lists_of s) behind.segments s.events k.counted slot wrote can.flight.idle still
+  after_keeps : Keeps x following
+  after_keeps = poured_keeps x s k (lists_of s) following.segments s.events k.counted slot wrote can.flight.idle still
 
   -- it stands at the site as before
-  does_there : (i : Instr) → DoesAt x s i → DoesAt x behind i
+  does_there : (i : Instr) → DoesAt x s i → DoesAt x following i
   does_there i does =
       let low = k.corresponds.map.home.low in
       let high = k.corresponds.map.home.high in
@@ -102,65 +102,65 @@ module _ (x : Accepted) (is : IsProgram x) (s : Recorded) (k : Keeps x s) (site 
           fact = does.at.fact;
           state = does.at.state;
           holds =
-              holds_there s.segments behind.segments wrote.stack (code x does.at.function does.at.marks).prologue does.at.fact s.first s.regs (reg_in s SP) k.slots (omega (arith, low, above)) (omega (arith, top, high))
+              holds_there s.segments following.segments wrote.stack (code x does.at.function does.at.marks).prologue does.at.fact s.first s.regs (reg_in s SP) k.slots (omega (arith, low, above)) (omega (arith, top, high))
               does.at.holds;
         };
         size = does.size;
         stands = does.stands;
       }
 
-  throws_there : ThrowsAt x behind site
+  throws_there : ThrowsAt x following site
   throws_there = go can.throws
     where
-      go : ThrowsAt x s site → ThrowsAt x behind site
+      go : ThrowsAt x s site → ThrowsAt x following site
       go (inl (imm, does, e)) = inl (imm, does_there _ does, e)
       go (inr (inl (m, does, e))) = inr (inl (m, does_there _ does, e))
       go (inr (inr (off, does, e))) = inr (inr (off, does_there _ does, e))
 
-  same_goal : goal_at behind slot ≡ goal_of b
+  same_goal : goal_at following slot ≡ goal_of b
   same_goal =
-      let sp = word_same (put_all writes (memory_of s)) (memory_of behind) refl slot BARRIER_SP ∙ barrier_sp (memory_of s) slot words k.corresponds.map can.flight.small can.sp in
-      let desc = word_same (put_all writes (memory_of s)) (memory_of behind) refl slot BARRIER_DESCRIPTOR ∙ barrier_desc (memory_of s) slot words k.corresponds.map can.flight.small can.desc in
-      ap (λ (v : ℕ). let g : Goal = record { sp = v; desc = word (memory_of behind) slot BARRIER_DESCRIPTOR } in g) sp ∙ ap (λ (v : ℕ). let g : Goal = record { sp = b.sp; desc = v } in g) desc
+      let sp = word_same (put_all writes (memory_of s)) (memory_of following) refl slot BARRIER_SP ∙ barrier_sp (memory_of s) slot words k.corresponds.map can.flight.small can.sp in
+      let desc = word_same (put_all writes (memory_of s)) (memory_of following) refl slot BARRIER_DESCRIPTOR ∙ barrier_desc (memory_of s) slot words k.corresponds.map can.flight.small can.desc in
+      ap (λ (v : ℕ). let g : Goal = record { sp = v; desc = word (memory_of following) slot BARRIER_DESCRIPTOR } in g) sp ∙ ap (λ (v : ℕ). let g : Goal = record { sp = b.sp; desc = v } in g) desc
 
-  reached_there : is_reached (goal_at behind slot) 0 (all_frames x behind site).frames ≡ true
+  reached_there : is_reached (goal_at following slot) 0 (all_frames x following site).frames ≡ true
   reached_there = subst (λ (g : Goal). is_reached g 0 (all_frames x s site).frames ≡ true) (sym same_goal) can.reached
 
-  within_there : IsWithin (goal_at behind slot).sp (cleanups_in s.cleanups)
+  within_there : IsWithin (goal_at following slot).sp (cleanups_in s.cleanups)
   within_there = subst (λ (g : Goal). IsWithin g.sp (cleanups_in s.cleanups)) (sym same_goal) can.within
 
-  abbrev flight : IsInFlight behind slot
+  abbrev flight : IsInFlight following slot
   flight = record { small = can.flight.small; flies = can.flight.flies; idle = can.flight.idle }
 
-  -- what both machines do, from the state behind those words
+  -- what both machines do, from the state after those words
   abbrev on_bytes : Goal → Outcome
-  on_bytes g = entered (bytes_of behind) (block slot) (handed (block slot) b.hit) (phase2 g 0 (frames_of x.image (stack_of (memory_of behind)) None site (all_of s.regs)))
+  on_bytes g = entered (bytes_of following) (block slot) (handed (block slot) b.hit) (phase2 g 0 (frames_of x.image (stack_of (memory_of following)) None site (all_of s.regs)))
 
   abbrev on_lists : Goal → machine.Outcome
-  on_lists g = machine.advances behind (s.first ∷ s.outer) (block slot) (handed (block slot) b.hit) g 0 (all_frames x s site)
+  on_lists g = machine.advances following (s.first ∷ s.outer) (block slot) (handed (block slot) b.hit) g 0 (all_frames x s site)
 
-  bytes_fly : throw_to (guide (program_of x)) (bytes_of s) site (block slot) b ≡ on_bytes (goal_of b)
+  bytes_fly : throw_to (program_tables (program_of x)) (bytes_of s) site (block slot) b ≡ on_bytes (goal_of b)
   unfolding throw_to
   bytes_fly =
       let after : Memory → State = λ m. record { regs = s.regs; globals = heads (lists_of s); memory = m; events = s.events } in
       let one : Memory → Outcome = λ m. entered (after m) (block slot) (handed (block slot) b.hit) (phase2 (goal_of b) 0 (frames_of x.image (stack_of m) None site (all_of s.regs))) in
       ap (λ (o : Option ℕ). one (put_all (set_barrier_of o words) (memory_of s))) is_slot ∙ ap one memory_is
 
-  lists_fly : fly_from (guide (program_of x)) site (block slot) b s ≡ on_lists (goal_of b)
+  lists_fly : fly_from (program_tables (program_of x)) site (block slot) b s ≡ on_lists (goal_of b)
   lists_fly =
       ap (λ (o : Option ℕ). machine.advances (with_words (set_barrier_of o words) s) (s.first ∷ s.outer) (block slot) (handed (block slot) b.hit) (goal_of b) 0 (all_frames x s site)) is_slot
 
-  pub flies_same : GateMatches (throw_to (guide (program_of x)) (bytes_of s) site (block slot) b) (fly_from (guide (program_of x)) site (block slot) b s)
+  pub flies_same : GateMatches (throw_to (program_tables (program_of x)) (bytes_of s) site (block slot) b) (fly_from (program_tables (program_of x)) site (block slot) b s)
   flies_same =
-      subst (λ (o : Outcome). GateMatches o (fly_from (guide (program_of x)) site (block slot) b s)) (sym bytes_fly)
+      subst (λ (o : Outcome). GateMatches o (fly_from (program_tables (program_of x)) site (block slot) b s)) (sym bytes_fly)
       (subst (λ (q : machine.Outcome). GateMatches (on_bytes (goal_of b)) q) (sym lists_fly)
       (subst (λ (g : Goal). GateMatches (on_bytes g) (on_lists g)) same_goal
-      (fly_matches x is behind behind_keeps site throws_there slot (handed (block slot) b.hit) flight reached_there within_there)))
+      (fly_matches x is following after_keeps site throws_there slot (handed (block slot) b.hit) flight reached_there within_there)))
 
-  pub flies_keep : Keeps x (fly_from (guide (program_of x)) site (block slot) b s).1
+  pub flies_keep : Keeps x (fly_from (program_tables (program_of x)) site (block slot) b s).1
   flies_keep =
       subst (λ (q : machine.Outcome). Keeps x q.1) (sym lists_fly)
-      (subst (λ (g : Goal). Keeps x (on_lists g).1) same_goal (fly_keeps x is behind behind_keeps site throws_there slot (handed (block slot) b.hit) flight reached_there within_there))
+      (subst (λ (g : Goal). Keeps x (on_lists g).1) same_goal (fly_keeps x is following after_keeps site throws_there slot (handed (block slot) b.hit) flight reached_there within_there))
 
 pub flights_match : FlightsMatch
 flights_match x s site slot b is k can = record {

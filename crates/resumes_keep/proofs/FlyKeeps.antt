@@ -30,14 +30,14 @@ use Rattle.throws_keep.specs.stands_for.Cleanups.{by_sp, goal_at, IsWithin}
 use Rattle.resumes_keep.specs.Flying.{all_frames}
 use Rattle.throws_keep.specs.frames_same.Frames.{ThrowsAt, IsSiteOf}
 use Rattle.throws_keep.specs.stands_for.Stands.{Keeps, IsProgram}
-use Rattle.throws_keep.proofs.Behind.{frame_words}
+use Rattle.throws_keep.proofs.After.{frame_words}
 use Rattle.throws_keep.proofs.steps_keep.Rooms.{has_room}
 use Rattle.throws_keep.proofs.CleanupEntered.{cleanup_entered}
 use Rattle.throws_keep.proofs.CleanupKeeps.{offers_of}
 use Rattle.resumes_keep.proofs.Entering.{Entering}
 use Rattle.resumes_keep.proofs.EnteringKeeps.{handler_kept, cleanup_kept}
 use Rattle.throws_keep.proofs.stands_for.Flows.{none_stands}
-use Rattle.throws_keep.proofs.FramesBehind.{frames_behind}
+use Rattle.throws_keep.proofs.FramesAfter.{frames_after}
 use Rattle.throws_keep.proofs.frames_same.FramesSame.{frames_are_same}
 use Rattle.throws_keep.specs.frames_same.Landings.{Offers, OfFrame, ReachesOn}
 use Rattle.throws_keep.proofs.frames_same.PadStands.{pad_stands}
@@ -131,7 +131,7 @@ module _ (x : Accepted) (is : IsProgram x) (s : Recorded) (k : Keeps x s) (site 
       let high : frame.sp ≤ goal.sp = reached_above goal frame.sp next s.home.1 frame.sp (l.frame ∷ l.outer) (l.first ∷ l.more) (omega arith) l.fit n.rest.rise on in
       let reach : is_reached goal next (frames_at x.image None frame.site (by_sp frame.sp) first more).frames ≡ true =
       sym (reached_by_sp goal next x.image frame.site frame.r frame.sp first more n.register)
-      ∙ ap (is_reached goal next) (frames_behind x.image site (all_of s.regs) s.first s.outer l.inner l.frame l.outer l.cut l.first l.more l.frames l.all l.beside) ∙ on in
+      ∙ ap (is_reached goal next) (frames_after x.image site (all_of s.regs) s.first s.outer l.inner l.frame l.outer l.cut l.first l.more l.frames l.all l.beside) ∙ on in
       let whole : cleans (block_slot (block slot)) v pad next at ≡ cleans (Some slot) (vrs_of frame) pad next frame.site =
       ap (λ (o : Option ℕ). cleans o v pad next at) (slot_of_block_is slot flight.small) ∙ ap (λ (w : Vrs). cleans (Some slot) w pad next at) h.0
       ∙ ap (λ (here_at : ℕ). cleans (Some slot) (vrs_of frame) pad next here_at) h.1 in

@@ -17,7 +17,7 @@ use Rattle.throws_keep.specs.eh_phase.declared.phase2.Entered.TheVariants as ent
 use Rattle.resumes_keep.specs.Flying.{all_frames}
 use Rattle.throws_keep.specs.frames_same.Frames.{ThrowsAt, IsSiteOf}
 use Rattle.throws_keep.specs.stands_for.Stands.{Keeps, IsProgram}
-use Rattle.throws_keep.proofs.Behind.{Enters}
+use Rattle.throws_keep.proofs.After.{Enters}
 use Rattle.throws_keep.proofs.frames_same.FramesSame.{site_is}
 use Rattle.throws_keep.proofs.stands_for.Goes.{chain_top}
 use Rattle.throws_keep.proofs.Landable.{AreSmall, Good, AllGood, good_at, good_framed, good_outside, small_next}

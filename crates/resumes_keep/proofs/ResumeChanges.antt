@@ -1,10 +1,10 @@
--- A register that a resume may change is forgotten at a pad behind a cleanup.
+-- A register that a resume may change is clobbered at a pad after a cleanup.
 use Rattle.std.proofs.Common.{◌≡◌, ℕ, zero, suc, ◌*◌, ◌^◌, ◌<◌, ◌≤◌, ◌==◌, ◌⊎◌, inl, inr, Bool, true, false, cond, refl, ap, ◌∙◌, arith}
 use Rattle.std.specs.List.{list_any}
 use Rattle.throws_keep.specs.thumb_core.Words.{listed}
-use Rattle.throws_keep.specs.frame_scene.declared.unwinding.Unwinding.{Unwinding}
-use Rattle.throws_keep.specs.frame_scene.Unwinding.{changes, change_bit, landing_changes}
-use Rattle.throws_keep.proofs.frames_same.Forgets.{has_bit}
+use Rattle.throws_keep.specs.frame_graph.declared.unwinding.Unwinding.{Unwinding}
+use Rattle.throws_keep.specs.frame_graph.Unwinding.{changes, change_bit, landing_changes}
+use Rattle.throws_keep.proofs.frames_same.Clobbers.{has_bit}
 
 module _ (u : Unwinding) where
   either : (reg : ℕ) → (change_bit u reg ≡ 0) ⊎ (change_bit u reg ≡ 2 ^ reg)
@@ -37,8 +37,8 @@ module _ (u : Unwinding) where
   bits : Bits
   bits = record { r4 = bit 4 16 refl; r5 = bit 5 32 refl; r6 = bit 6 64 refl; r7 = bit 7 128 refl; r8 = bit 8 256 refl; r9 = bit 9 512 refl; r10 = bit 10 1024 refl; r11 = bit 11 2048 refl }
 
-  pub changes_forget : (k : ℕ) → 4 ≤ k → k < 12 → changes u k ≡ true → list_any (λ (j : ℕ). j == k) (listed (landing_changes u true)) ≡ true
-  changes_forget = go bits
+  pub changes_clobber : (k : ℕ) → 4 ≤ k → k < 12 → changes u k ≡ true → list_any (λ (j : ℕ). j == k) (listed (landing_changes u true)) ≡ true
+  changes_clobber = go bits
     where
       go : Bits → (k : ℕ) → 4 ≤ k → k < 12 → changes u k ≡ true → list_any (λ (j : ℕ). j == k) (listed (landing_changes u true)) ≡ true
       go b zero low high e = absurd (omega (arith, low))

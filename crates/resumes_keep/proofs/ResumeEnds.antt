@@ -31,7 +31,7 @@ use Rattle.throws_keep.specs.thumb_core.declared.ends.End.{End}
 use Rattle.throws_keep.specs.frame_check.Accepts.{Accepted}
 use Rattle.throws_keep.specs.eh_gates.Landing.{entered}
 use Rattle.throws_keep.specs.eh_gates.Resuming.{goal_in}
-use Rattle.throws_keep.specs.eh_gates.State.{Guide, Outcome}
+use Rattle.throws_keep.specs.eh_gates.State.{Tables, Outcome}
 use Rattle.throws_keep.specs.eh_gates.declared.state.Turned.TheVariants.{Ended}
 use Rattle.throws_keep.specs.two_machines.Corresponds.{Corresponds}
 use Rattle.throws_keep.proofs.two_machines.Agreeing.{are_one}
@@ -62,8 +62,8 @@ same_number n m e = grind (arith, nat_tests)
 no_trap : (what : TrapKind) (value pc : ℕ) (why : Cause) → the_end.Trap what value pc ≡ the_end.Terminate why → ⊥
 no_trap what value pc why e = absurd cc
 
-module _ (x : Accepted) (is : IsProgram x) (s : Recorded) (k : Keeps x s) (g : Guide) where
-  abbrev pub ours : Guide
+module _ (x : Accepted) (is : IsProgram x) (s : Recorded) (k : Keeps x s) (g : Tables) where
+  abbrev pub ours : Tables
   ours = record g { image = x.image }
 
   -- ---- the throw goes on

@@ -19,8 +19,8 @@ use Rattle.throws_keep.specs.eh_phase.Frames.{covered_at, frame_of}
 use Rattle.throws_keep.specs.eh_phase.Laws.{IsInOrder}
 use Rattle.throws_keep.specs.eh_phase.declared.walk.Covered.{Covered}
 use Rattle.throws_keep.specs.thumb_isa.declared.instr.Instr.TheVariants.{Svc}
-use Rattle.throws_keep.specs.frame_scene.Sites.{Item, cleans, is_cleanup, is_one, items_at, pad_of}
-use Rattle.throws_keep.specs.frame_check.Roots.{scene_of}
+use Rattle.throws_keep.specs.frame_graph.Sites.{Item, cleans, is_cleanup, is_one, items_at, pad_of}
+use Rattle.throws_keep.specs.frame_check.Roots.{flow_graph_of}
 use Rattle.throws_keep.specs.eh_phase.declared.phase2.Entered.TheVariants as enters
 use Rattle.throws_keep.specs.stands_for.Holds.{IsWhole}
 use Rattle.throws_keep.proofs.frames_same.Outwards.{at_sp}
@@ -28,10 +28,10 @@ use Rattle.throws_keep.specs.stands_for.Chain.{StandsAt}
 use Rattle.throws_keep.specs.stands_for.Cleanups.{by_sp, IsEntered}
 use Rattle.throws_keep.specs.stands_for.Stands.{Keeps, IsProgram, DoesAt}
 use Rattle.throws_keep.specs.frames_same.Frames.{IsSiteOf}
-use Rattle.throws_keep.proofs.Behind.{Enters, frame_words}
+use Rattle.throws_keep.proofs.After.{Enters, frame_words}
 use Rattle.throws_keep.proofs.CleanupEntered.{cleanup_entered}
 use Rattle.throws_keep.proofs.frames_same.FramesSame.{site_is, gate_deep}
-use Rattle.throws_keep.proofs.frames_same.GoesHere.{left_behind}
+use Rattle.throws_keep.proofs.frames_same.GoesHere.{left_after}
 use Rattle.throws_keep.specs.frames_same.Landings.{Fit, Rise, IsCleanupOf, Offers, OfFrame, LandsIn}
 use Rattle.throws_keep.proofs.frames_same.Landing.{of_items, fit_frames, rise_outside}
 use Rattle.throws_keep.proofs.frames_same.Located.{Rest, rest_at, covered_items}
@@ -149,32 +149,32 @@ module _ (x : Accepted) (is : IsProgram x) (s : Recorded) (k : Keeps x s) (imm :
   in_caller h enters.Unexpected of = tt
   in_caller h (enters.Terminate why) of = tt
 
-  -- ---- in the cleanup's own activation, behind the cleanup
+  -- ---- in the cleanup's own activation, after the cleanup
 
   module _ (v : Covered) (covers : covered_at x.image r.ends.cleanup.site ≡ Some v) where
     abbrev there_again : Frame
     there_again = frame_of r.ends.cleanup.site (registers_of s.first.caller) v
 
-    abbrev behind_it : Frame
-    behind_it = record there_again { items = r.holder.entered.after }
+    abbrev after_it : Frame
+    after_it = record there_again { items = r.holder.entered.after }
 
     its_items : v.descs ≡ r.holder.entered.before ++ Ok r.holder.entered.cleanup ∷ r.holder.entered.after
-    its_items = sym (covered_items (scene_of x.image r.holder.entered.function) r.ends.cleanup.site v covers) ∙ r.holder.entered.items
+    its_items = sym (covered_items (flow_graph_of x.image r.holder.entered.function) r.ends.cleanup.site v covers) ∙ r.holder.entered.items
 
-    -- those behind it, in the list of all
+    -- those after it, in the list of all
     all_items : (before : List Item) (d : Desc) (after : List Item) → r.holder.entered.after ≡ before ++ Ok d ∷ after
-        → items_at (scene_of x.image r.holder.entered.function) r.ends.cleanup.site ≡ (r.holder.entered.before ++ Ok r.holder.entered.cleanup ∷ before) ++ Ok d ∷ after
+        → items_at (flow_graph_of x.image r.holder.entered.function) r.ends.cleanup.site ≡ (r.holder.entered.before ++ Ok r.holder.entered.cleanup ∷ before) ++ Ok d ∷ after
     all_items before d after e =
         r.holder.entered.items ∙ ap (λ (l : List Item). r.holder.entered.before ++ Ok r.holder.entered.cleanup ∷ l) e
         ∙ sym (append_assoc r.holder.entered.before (Ok r.holder.entered.cleanup ∷ before) (Ok d ∷ after))
 
-    stands_again : (pad answer : ℕ) → Offers behind_it pad → StandsAt x r.holder.first s.segments (landed s.regs (registers_of s.first.caller) pad answer) (landed s.regs (registers_of s.first.caller) pad answer).pc
+    stands_again : (pad answer : ℕ) → Offers after_it pad → StandsAt x r.holder.first s.segments (landed s.regs (registers_of s.first.caller) pad answer) (landed s.regs (registers_of s.first.caller) pad answer).pc
     stands_again pad answer o =
         resumed_stands x is s.segments k.corresponds.map.segments goal r.ends.cleanup r.holder.first r.holder.more r.holder.entered s.first.caller (resume.links x is s k r).0 k.whole r.called
         (r.holder.entered.before ++ Ok r.holder.entered.cleanup ∷ o.before) o.desc o.after (all_items o.before o.desc o.after o.items) o.scope pad o.kind
         (any_there (is_one (cleans r.ends.cleanup.site)) r.holder.entered.before (Ok r.holder.entered.cleanup) o.before r.holder.entered.cleans) s.regs answer
 
-    entered_again : (pad next : ℕ) → IsCleanupOf behind_it pad next → is_reached goal next (frames_at x.image None r.ends.cleanup.site (by_sp there_again.sp) r.holder.first r.holder.more).frames ≡ true
+    entered_again : (pad next : ℕ) → IsCleanupOf after_it pad next → is_reached goal next (frames_at x.image None r.ends.cleanup.site (by_sp there_again.sp) r.holder.first r.holder.more).frames ≡ true
         → IsEntered x s.segments goal (record { slot = r.ends.cleanup.slot; next = next; sp = there_again.sp; site = r.ends.cleanup.site }) r.holder.first r.holder.more
     entered_again pad next c reach =
         let old = r.holder.entered in
@@ -188,7 +188,7 @@ module _ (x : Accepted) (is : IsProgram x) (s : Recorded) (k : Keeps x s) (imm :
           state = old.state;
           site = old.site;
           lower = let l = old.lower in omega (arith, sp, l);
-          level = λ b. let l = old.level b in omega (arith, sp, l);
+          at_depth = λ b. let l = old.at_depth b in omega (arith, sp, l);
           below = let l = old.below in omega (arith, sp, l);
           saves = old.saves;
           before = old.before ++ Ok old.cleanup ∷ c.before;
@@ -200,7 +200,7 @@ module _ (x : Accepted) (is : IsProgram x) (s : Recorded) (k : Keeps x s) (imm :
           reach = reach;
         }
 
-    again : (e : Entered) → OfFrame goal behind_it e → Fits x s r.ends.cleanup.slot goal there_again r.holder.first r.holder.more e
+    again : (e : Entered) → OfFrame goal after_it e → Fits x s r.ends.cleanup.slot goal there_again r.holder.first r.holder.more e
     again (enters.Cleanup vrs pad next site) of =
         let c = of.2 in
         (of.0, of.1, stands_again pad 0 (record { before = c.before; desc = c.desc; after = c.after; items = c.items; scope = c.scope; kind = ap pad_of c.kind }), entered_again pad next c)
@@ -209,12 +209,12 @@ module _ (x : Accepted) (is : IsProgram x) (s : Recorded) (k : Keeps x s) (imm :
     again enters.Unexpected of = tt
     again (enters.Terminate why) of = tt
 
-    behind_cleanup : IsInOrder there_again → (e : Entered) → first_some (entered_item goal there_again) (from_address r.ends.cleanup.next there_again.items) ≡ Some e → OfFrame goal behind_it e
-    behind_cleanup order e own =
+    after_cleanup : IsInOrder there_again → (e : Entered) → first_some (entered_item goal there_again) (from_address r.ends.cleanup.next there_again.items) ≡ Some e → OfFrame goal after_it e
+    after_cleanup order e own =
         let old = r.holder.entered in
         let left : from_address r.ends.cleanup.next there_again.items ≡ old.after =
-        ap (λ (n : ℕ). from_address n there_again.items) old.next ∙ left_behind there_again 0 old.before old.cleanup old.after order its_items in
-        of_items goal behind_it [] old.after e refl (subst (λ (is : List (Result Desc DescFault)). first_some (entered_item goal there_again) is ≡ Some e) left own)
+        ap (λ (n : ℕ). from_address n there_again.items) old.next ∙ left_after there_again 0 old.before old.cleanup old.after order its_items in
+        of_items goal after_it [] old.after e refl (subst (λ (is : List (Result Desc DescFault)). first_some (entered_item goal there_again) is ≡ Some e) left own)
 
   in_head : length there.cut ≡ 0
       → IsHead x s.segments s.home r.ends.cleanup.site (registers_of s.first.caller) r.holder.first r.holder.more (resume.links x is s k r).0.whole (resume.links x is s k r).1 there.frame there.first there.more
@@ -223,7 +223,7 @@ module _ (x : Accepted) (is : IsProgram x) (s : Recorded) (k : Keeps x s) (imm :
       let order : IsInOrder there.frame = all_there IsInOrder there.inner there.frame there.outer (subst (All IsInOrder) there.frames (resume.in_order x is s k r)) in
       let own : first_some (entered_item goal there.frame) (from_address r.ends.cleanup.next there.frame.items) ≡ Some e = there.in_first none ∙ ap Some enters_it in
       let whole = again h.covered h.covers e
-      (behind_cleanup h.covered h.covers (subst IsInOrder h.frame order) e (subst (λ (f : Frame). first_some (entered_item goal f) (from_address r.ends.cleanup.next f.items) ≡ Some e) h.frame own)) in
+      (after_cleanup h.covered h.covers (subst IsInOrder h.frame order) e (subst (λ (f : Frame). first_some (entered_item goal f) (from_address r.ends.cleanup.next f.items) ≡ Some e) h.frame own)) in
       subst (λ (f : Frame). Fits x s r.ends.cleanup.slot goal f there.first there.more e) (sym h.frame)
       (subst (λ (b : Activation). Fits x s r.ends.cleanup.slot goal (frame_of r.ends.cleanup.site (registers_of s.first.caller) h.covered) b there.more e) (sym h.first)
       (subst (λ (bs : List Activation). Fits x s r.ends.cleanup.slot goal (frame_of r.ends.cleanup.site (registers_of s.first.caller) h.covered) r.holder.first bs e) (sym h.rest) whole))

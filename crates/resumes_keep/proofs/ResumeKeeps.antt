@@ -9,7 +9,7 @@ use Rattle.throws_keep.specs.eh_cxa.Throw.{barrier_of}
 use Rattle.throws_keep.specs.eh_cxa.Words.{word, block, block_slot}
 use Rattle.throws_keep.proofs.eh_cxa.Pools.{slot_of_block_is}
 use Rattle.throws_keep.specs.eh_gates.Landing.{landed, pad_event, words_of}
-use Rattle.throws_keep.specs.eh_gates.State.{Guide}
+use Rattle.throws_keep.specs.eh_gates.State.{Tables}
 use Rattle.throws_keep.specs.eh_gates.declared.gates.TheConstants.{END_CLEANUP_GATE}
 use Rattle.throws_keep.specs.eh_phase.Cleanups.{is_reached}
 use Rattle.throws_keep.specs.eh_phase.Phases.{phase2, vrs_of}
@@ -27,7 +27,7 @@ use Rattle.throws_keep.specs.stands_for.Chain.{StandsAt}
 use Rattle.throws_keep.specs.stands_for.Stands.{Keeps, IsProgram, DoesAt}
 use Rattle.resumes_keep.proofs.Entering.{Entering}
 use Rattle.resumes_keep.proofs.EnteringKeeps.{handler_kept, cleanup_kept}
-use Rattle.throws_keep.proofs.FramesBehind.{frames_behind}
+use Rattle.throws_keep.proofs.FramesAfter.{frames_after}
 use Rattle.throws_keep.proofs.frames_same.FramesSame.{site_is}
 use Rattle.throws_keep.specs.frames_same.Landings.{LandsIn, ReachesOn}
 use Rattle.throws_keep.proofs.frames_same.ReachBySp.{reached_by_sp}
@@ -48,7 +48,7 @@ pub within_below : (low high : ℕ) (cleanups : List Cleanup) → low ≤ high �
 within_below low high [] l w = tt
 within_below low high (c ∷ more) l w = omega (arith, l, w)
 
-module _ (x : Accepted) (is : IsProgram x) (s : Recorded) (k : Keeps x s) (imm : ℕ) (does : DoesAt x s (Svc imm)) (g : Guide) where
+module _ (x : Accepted) (is : IsProgram x) (s : Recorded) (k : Keeps x s) (imm : ℕ) (does : DoesAt x s (Svc imm)) (g : Tables) where
   module _ (r : Resumes x s) where
     abbrev ended : Recorded
     ended = record s { cleanups = r.others }
@@ -126,7 +126,7 @@ module _ (x : Accepted) (is : IsProgram x) (s : Recorded) (k : Keeps x s) (imm :
     reach_by_sp v pad next at e =
         sym (reached_by_sp goal next x.image there.frame.site there.frame.r there.frame.sp there.first there.more there.fit.1)
         ∙ ap (is_reached goal next)
-        (frames_behind x.image r.ends.cleanup.site (registers_of s.first.caller) r.holder.first r.holder.more there.inner there.frame there.outer there.cut there.first there.more there.frames there.all there.beside)
+        (frames_after x.image r.ends.cleanup.site (registers_of s.first.caller) r.holder.first r.holder.more there.inner there.frame there.outer there.cut there.first there.more there.frames there.all there.beside)
         ∙ reaches v pad next at e
 
     in_cleanup : (v : Vrs) (pad next at : ℕ) → phase2 goal r.ends.cleanup.next (resume.frames x is s k r) ≡ enters.Cleanup v pad next at

@@ -9,7 +9,7 @@ use Rattle.throws_keep.specs.thumb_core.declared.ends.End.{End}
 use Rattle.throws_keep.specs.frame_check.Accepts.{Accepted}
 use Rattle.throws_keep.specs.eh_gates.Gates.{gate_of}
 use Rattle.throws_keep.specs.eh_gates.Landing.{entered}
-use Rattle.throws_keep.specs.eh_gates.State.{Guide, Outcome}
+use Rattle.throws_keep.specs.eh_gates.State.{Tables, Outcome}
 use Rattle.throws_keep.specs.eh_gates.declared.gates.TheConstants.{END_CLEANUP_GATE}
 use Rattle.throws_keep.specs.eh_gates.declared.state.Turned.TheVariants.{Ended}
 use Rattle.throws_keep.specs.two_machines.Activations.{Activation, Recorded, memory_of, bytes_of}
@@ -27,7 +27,7 @@ use Rattle.resumes_keep.proofs.ResumeEnds.{ours, Alike, enters, still, end_alike
 use Rattle.resumes_keep.proofs.ResumeLands.{Resumes}
 use Rattle.resumes_keep.proofs.ResumeLands as resume
 
-module _ (x : Accepted) (is : IsProgram x) (s : Recorded) (k : Keeps x s) (g : Guide) where
+module _ (x : Accepted) (is : IsProgram x) (s : Recorded) (k : Keeps x s) (g : Tables) where
   -- what phase 2 enters is entered alike
   pub entered_match : (r : Resumes x s) → GateMatches (entered (bytes_of (record s { cleanups = r.others })) (block r.ends.cleanup.slot) (barrier_of (word (memory_of s)) (Some r.ends.cleanup.slot)).object (enters x is s k g r))
       (machine.entered (record s { cleanups = r.others }) ((resume.there x is s k r).first ∷ (resume.there x is s k r).more) (block r.ends.cleanup.slot) (barrier_of (word (memory_of s)) (Some r.ends.cleanup.slot)).object (enters x is s k g r))

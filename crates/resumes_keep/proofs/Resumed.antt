@@ -12,21 +12,21 @@ use Rattle.throws_keep.specs.two_machines.ActivationMachine.{can_unwind, has_rec
 use Rattle.throws_keep.specs.unwind_codes.Cut.{cut}
 use Rattle.throws_keep.specs.eh_bytecode.Meaning.{unwound}
 use Rattle.throws_keep.specs.eh_bytecode.declared.frame.UnwindEnd.{UnwindEnd}
-use Rattle.throws_keep.specs.frame_scene.Reach.{IsReached}
-use Rattle.throws_keep.specs.frame_scene.Scene.{Scene}
-use Rattle.throws_keep.specs.frame_scene.Sites.{site_at}
+use Rattle.throws_keep.specs.frame_graph.Reach.{IsReached}
+use Rattle.throws_keep.specs.frame_graph.FlowGraph.{FlowGraph}
+use Rattle.throws_keep.specs.frame_graph.Sites.{site_at}
 use Rattle.throws_keep.specs.frame_check.Accepts.{IsWell, Accepted}
 use Rattle.throws_keep.specs.thumb_isa.declared.instr.Instr.{Instr}
 use Rattle.throws_keep.specs.elf_image.Functions.{Function}
-use Rattle.throws_keep.specs.frame_scene.Places.{address_of}
-use Rattle.throws_keep.specs.frame_scene.Ways.{instruction_at}
+use Rattle.throws_keep.specs.frame_graph.Places.{address_of}
+use Rattle.throws_keep.specs.frame_graph.Edges.{instruction_at}
 use Rattle.throws_keep.specs.frame_reach.Marks.{Marks}
 use Rattle.throws_keep.proofs.frame_reach.Found.{inside}
 use Rattle.throws_keep.specs.frame_facts.declared.facts.Fact.{Fact}
 use Rattle.throws_keep.specs.frame_flow.Flows.{IsStateOf}
 use Rattle.throws_keep.proofs.frame_flow.Reaching.{state_reached}
 use Rattle.throws_keep.specs.frame_check.Judged.{IsPlaced}
-use Rattle.throws_keep.specs.frame_check.Roots.{scene_of}
+use Rattle.throws_keep.specs.frame_check.Roots.{flow_graph_of}
 use Rattle.throws_keep.proofs.frame_check.Wells.{placed_at}
 use Rattle.throws_keep.specs.eh_bus.Map.{AreSegments}
 use Rattle.throws_keep.specs.eh_bus.Memory.{Memory, loads}
@@ -42,7 +42,7 @@ use Rattle.throws_keep.proofs.eh_phase.Whole.{frames_are_whole}
 use Rattle.throws_keep.specs.two_machines.Agreeing.{Agree}
 use Rattle.throws_keep.specs.two_machines.Throws.{AreInPool}
 use Rattle.throws_keep.proofs.two_machines.FirstEvent.{segments_alone}
-use Rattle.throws_keep.specs.frame_scene.Sites as scene_site
+use Rattle.throws_keep.specs.frame_graph.Sites as flow_graph_site
 use Rattle.throws_keep.proofs.frames_same.Outwards.{IsNew, Unwinds, none_stop, hands, walk, out, from_first, at_sp, at_pc}
 use Rattle.throws_keep.proofs.accepted_code.Results.{refusing}
 use Rattle.throws_keep.proofs.accepted_code.Entries.{entry_of_start}
@@ -84,7 +84,7 @@ caller_found image segments site r c (inr (inr goes)) = inr (
 
 -- ---- sites of one function
 
-pub covered_of_start : (s : Scene) (p site : ℕ) → IsWell s → IsReached s p → site_at s p ≡ Some site → s.start ≤ site → covered_at s.image site ≡ covered_at s.image s.start
+pub covered_of_start : (s : FlowGraph) (p site : ℕ) → IsWell s → IsReached s p → site_at s p ≡ Some site → s.start ≤ site → covered_at s.image site ≡ covered_at s.image s.start
 unfolding covered_at
 covered_of_start s p site w r is low = ap (covered_by s.image) (entry_of_start s p site w r is low)
 
@@ -101,22 +101,22 @@ moved_unwinds image segments site other r c e (inr (inr goes)) = inr (inr (recor
   is = goes.is;
 }))
 
-pub site_there : (a site : ℕ) (o : Option Instr) → a + 2 < 2 ^ 32 → option_and_then (scene_site.site_of a) o ≡ Some site → a ≤ site
+pub site_there : (a site : ℕ) (o : Option Instr) → a + 2 < 2 ^ 32 → option_and_then (flow_graph_site.site_of a) o ≡ Some site → a ≤ site
 site_there a site None l e = absurd (none-some site e)
 site_there a site (Some i) l e = site_low a site i l e
 
 -- every site of a reached place of the function at an address is covered by what covers that address
 pub covered_of_function : (x : Accepted) → IsProgram x → (start : ℕ) (f : Function) (m : Marks) → IsOf x start f m → (p : ℕ) (fact : Fact) → IsStateOf (code x f m) p fact → (site : ℕ)
-    → site_at (scene_of x.image f) p ≡ Some site → covered_at x.image site ≡ covered_at x.image start
+    → site_at (flow_graph_of x.image f) p ≡ Some site → covered_at x.image site ≡ covered_at x.image start
 covered_of_function x is start f m of p fact state site e =
-    let reached : IsReached (scene_of x.image f) p = state_reached (code x f m) p fact state in
+    let reached : IsReached (flow_graph_of x.image f) p = state_reached (code x f m) p fact state in
     let placed : IsPlaced f = subst IsPlaced of.among.2 (placed_at x.image of.among.0 f is.image of.among.1) in
-    let below : address_of (scene_of x.image f) p + 2 < 2 ^ 32 = elim (inside (scene_of x.image f) p reached) [
+    let below : address_of (flow_graph_of x.image f) p + 2 < 2 ^ 32 = elim (inside (flow_graph_of x.image f) p reached) [
       | inl zero_place ↦ omega (arith, zero_place, placed.some, placed.low)
       | inr low ↦ omega (arith, low, placed.low)
     ] in
-    let above = site_there (address_of (scene_of x.image f) p) site (instruction_at (scene_of x.image f) p) below e in
-    covered_of_start (scene_of x.image f) p site (All-contains (λ (g : Function). IsWell (scene_of x.image g)) x.image.functions f is.sound.functions of.among) reached e (omega (arith, above))
+    let above = site_there (address_of (flow_graph_of x.image f) p) site (instruction_at (flow_graph_of x.image f) p) below e in
+    covered_of_start (flow_graph_of x.image f) p site (All-contains (λ (g : Function). IsWell (flow_graph_of x.image g)) x.image.functions f is.sound.functions of.among) reached e (omega (arith, above))
     ∙ ap (covered_at x.image) of.begins
 
 -- ---- the end of a cleanup
@@ -170,9 +170,9 @@ module _ (x : Accepted) (is : IsProgram x) (s : Recorded) (k : Keeps x s) where
             moved_unwinds x.image segments c.site (site_of (registers_of s.first.caller)) new a.caller (kept_covered ∙ sym call_covered)
             (each s.first.caller a new moved.0 k.whole bottom (let t = chain_top x s.segments s.home a.caller more links.1 in let r = roof in omega (arith, t, r)) n)
 
-    -- so behind the words that the end of the cleanup writes into the pool
-    pub kept_frames_behind : (ws : List Write) → AreInPool ws → (g : Goal) (c : Cleanup) → IsEntered x s.segments g c a more → (new : List ℕ) → IsNew s.first.caller new
+    -- so after the words that the end of the cleanup writes into the pool
+    pub kept_frames_after : (ws : List Write) → AreInPool ws → (g : Goal) (c : Cleanup) → IsEntered x s.segments g c a more → (new : List ℕ) → IsNew s.first.caller new
         → Agree (frames_of x.image (stack_of (put_all ws (memory_of s))) None c.site new) (frames_at x.image None c.site (registers_of s.first.caller) a more)
-    kept_frames_behind ws h g c entered new n =
+    kept_frames_after ws h g c entered new n =
         subst (λ (m : Memory). Agree (frames_of x.image (stack_of m) None c.site new) (frames_at x.image None c.site (registers_of s.first.caller) a more)) (sym (segments_alone ws (memory_of s)))
         (kept_frames (put_all ws (memory_of s)).segments (all_is_map ws (memory_of s) k.corresponds.map).segments (λ q l t. pool_stack ws (memory_of s) h q l) g c entered new n)

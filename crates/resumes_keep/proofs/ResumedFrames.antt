@@ -57,9 +57,9 @@ module _ (x : Accepted) (segments : List Segment) (home : ℕ × ℕ) where
         go None is h = absurd (no_frames [] f rest h)
         go (Some v) is h = record { covered = v; covers = is; frame = first_of v (recipe (cut v.codes)) h; first = cc; rest = cc }
 
-    behind_head : (i : Frame) (rest : List Frame) (o : Option Covered) → (framed_at (outside x.image None a.caller outer) site r o).frames ≡ i ∷ rest → Sides Called rest outer
-    behind_head i rest None e = absurd (no_frames [] i rest e)
-    behind_head i rest (Some v) e = go (recipe (cut v.codes)) e
+    after_head : (i : Frame) (rest : List Frame) (o : Option Covered) → (framed_at (outside x.image None a.caller outer) site r o).frames ≡ i ∷ rest → Sides Called rest outer
+    after_head i rest None e = absurd (no_frames [] i rest e)
+    after_head i rest (Some v) e = go (recipe (cut v.codes)) e
       where
         go : (o : Result Recipe RecipeFault) → (framed (frame_of site r v) (where_unwound o (outside x.image None a.caller outer))).frames ≡ i ∷ rest → Sides Called rest outer
         go (Ok done) h =
@@ -79,4 +79,4 @@ module _ (x : Accepted) (segments : List Segment) (home : ℕ × ℕ) where
     head_or_caller (i ∷ inner) f rest (c ∷ cut_off) b more e all n =
         let below : outer ≡ cut_off ++ b ∷ more = cc in
         inr (side_at Called inner f rest cut_off b more (let m : length inner ≡ length cut_off = omega (arith, n) in m)
-        (subst (λ (acts : List Activation). Sides Called (inner ++ f ∷ rest) acts) below (behind_head i (inner ++ f ∷ rest) (covered_at x.image site) e)))
+        (subst (λ (acts : List Activation). Sides Called (inner ++ f ∷ rest) acts) below (after_head i (inner ++ f ∷ rest) (covered_at x.image site) e)))

@@ -6,19 +6,19 @@ use Rattle.std.proofs.lemmas.List.{get_or-set_other}
 use Rattle.std.specs.Prelude.{Result, Ok, option_and_then}
 use Rattle.std.proofs.lemmas.List.Elements.{All-contains}
 use Rattle.std.proofs.lemmas.Option.{none-some}
-use Rattle.throws_keep.specs.frame_facts.Facts.{source, slot, lost, forgotten}
+use Rattle.throws_keep.specs.frame_facts.Facts.{source, slot, lost, clobbered}
 use Rattle.throws_keep.specs.frame_facts.declared.facts.Fact.{Fact}
 use Rattle.throws_keep.specs.frame_facts.declared.facts.Source.TheVariants.{Other}
 use Rattle.throws_keep.specs.frame_facts.Agrees.{at_site, gives}
 use Rattle.throws_keep.specs.frame_facts.Branches.{call_changes, gate_changes}
 use Rattle.throws_keep.specs.frame_facts.declared.cause.FrameCause.{FrameCause}
 use Rattle.throws_keep.specs.elf_image.Functions.{Function}
-use Rattle.throws_keep.specs.frame_scene.Sites.{unwinding_at, site_at}
+use Rattle.throws_keep.specs.frame_graph.Sites.{unwinding_at, site_at}
 use Rattle.throws_keep.specs.frame_check.Accepts.{Accepted, IsWell}
-use Rattle.throws_keep.specs.frame_check.Roots.{scene_of}
-use Rattle.throws_keep.specs.frame_scene.Places.{address_of}
-use Rattle.throws_keep.specs.frame_scene.Reach.{IsReached}
-use Rattle.throws_keep.specs.frame_scene.Ways.{instruction_at}
+use Rattle.throws_keep.specs.frame_check.Roots.{flow_graph_of}
+use Rattle.throws_keep.specs.frame_graph.Places.{address_of}
+use Rattle.throws_keep.specs.frame_graph.Reach.{IsReached}
+use Rattle.throws_keep.specs.frame_graph.Edges.{instruction_at}
 use Rattle.throws_keep.specs.frame_reach.Marks.{Marks}
 use Rattle.throws_keep.proofs.frame_reach.Found.{inside}
 use Rattle.throws_keep.specs.frame_flow.Flows.{IsStateOf}
@@ -37,13 +37,13 @@ use Rattle.throws_keep.specs.eh_bytecode.declared.recipe.Recipe.{Recipe}
 use Rattle.throws_keep.specs.eh_cxa.Lists.{Cleanup}
 use Rattle.throws_keep.specs.eh_phase.Frames.{site_of}
 use Rattle.throws_keep.specs.eh_phase.declared.phase2.Goal.{Goal}
-use Rattle.throws_keep.specs.frame_scene.Unwinding.{stays, changes, landing_changes}
-use Rattle.throws_keep.specs.frame_scene.declared.unwinding.Unwinding.{Unwinding}
-use Rattle.throws_keep.specs.frame_scene.declared.unwinding.Unwinding.TheVariants.{Finds, Refused, BadBytecode, GenericModel}
+use Rattle.throws_keep.specs.frame_graph.Unwinding.{stays, changes, landing_changes}
+use Rattle.throws_keep.specs.frame_graph.declared.unwinding.Unwinding.{Unwinding}
+use Rattle.throws_keep.specs.frame_graph.declared.unwinding.Unwinding.TheVariants.{Finds, Refused, BadBytecode, GenericModel}
 use Rattle.throws_keep.specs.two_machines.Activations.{Caller, Activation, registers_of}
-use Rattle.throws_keep.specs.frame_scene.Sites as scene_site
-use Rattle.throws_keep.proofs.stands_for.Moves.{lost_here, forgotten_here}
-use Rattle.throws_keep.proofs.frames_same.Sites.{forgotten_depth, forgotten_below, forgotten_kept, agrees}
+use Rattle.throws_keep.specs.frame_graph.Sites as flow_graph_site
+use Rattle.throws_keep.proofs.stands_for.Moves.{lost_here, clobbered_here}
+use Rattle.throws_keep.proofs.frames_same.Sites.{clobbered_depth, clobbered_below, clobbered_kept, agrees}
 use Rattle.throws_keep.specs.stands_for.Chain.{IsOf, code, StandsAtCall}
 use Rattle.throws_keep.specs.stands_for.Stands.{IsProgram}
 use Rattle.throws_keep.proofs.accepted_code.Entries.{unwinding_of_start}
@@ -53,16 +53,16 @@ use Rattle.throws_keep.specs.stands_for.Cleanups.{IsEntered}
 use Rattle.throws_keep.proofs.frames_same.Agreement.{called_site}
 use Rattle.throws_keep.proofs.frames_same.CodeBytes.{codes_are_recipes}
 use Rattle.throws_keep.proofs.stands_for.Flows.{stands_instruction}
-use Rattle.throws_keep.proofs.frames_same.Forgets.{landing_forgets}
-use Rattle.resumes_keep.proofs.ResumeChanges.{changes_forget}
+use Rattle.throws_keep.proofs.frames_same.Clobbers.{landing_clobbers}
+use Rattle.resumes_keep.proofs.ResumeChanges.{changes_clobber}
 use Rattle.resumes_keep.proofs.Staying.{gives_all, stays_same}
 use Rattle.throws_keep.proofs.frames_same.Pads as pads
 
--- ---- what a fact forgets
+-- ---- what a fact clobbers
 
-forgotten_source : (xs : List ℕ) (f : Fact) (k : ℕ) → (source (forgotten xs f) k ≡ Other) ⊎ (source (forgotten xs f) k ≡ source f k)
-forgotten_source [] f k = inr refl
-forgotten_source (r ∷ xs) f k = elim (forgotten_source xs (lost r f) k) [
+clobbered_source : (xs : List ℕ) (f : Fact) (k : ℕ) → (source (clobbered xs f) k ≡ Other) ⊎ (source (clobbered xs f) k ≡ source f k)
+clobbered_source [] f k = inr refl
+clobbered_source (r ∷ xs) f k = elim (clobbered_source xs (lost r f) k) [
   | inl e ↦ inl e
   | inr e ↦ elim (cases_eq (slot k) (slot r)) [
     | inl same ↦ inl (e ∙ lost_here r f k same)
@@ -71,15 +71,15 @@ forgotten_source (r ∷ xs) f k = elim (forgotten_source xs (lost r f) k) [
 ]
 
 site_depth : (call : Bool) (f : Fact) → (at_site call f).depth ≡ f.depth
-site_depth true f = forgotten_depth call_changes f
+site_depth true f = clobbered_depth call_changes f
 site_depth false f = refl
 
 site_below : (call : Bool) (f : Fact) → (at_site call f).below ≡ f.below
-site_below true f = forgotten_below call_changes f
+site_below true f = clobbered_below call_changes f
 site_below false f = refl
 
 site_kept : (call : Bool) (f : Fact) → (at_site call f).kept ≡ f.kept
-site_kept true f = forgotten_kept call_changes f
+site_kept true f = clobbered_kept call_changes f
 site_kept false f = refl
 
 same_ok : (g h : Fact) → ◌≡◌ {A = Result Fact FrameCause} (Ok g) (Ok h) → g ≡ h
@@ -90,77 +90,77 @@ same_ok g h e = cc
 -- it lies above the function's start, and unwinds like that
 pub record IsLike (x : Accepted) (f : Function) (site : ℕ) : Type 0 where
   pub low : f.start ≤ site
-  pub same : unwinding_at (scene_of x.image f) site ≡ unwinding_at (scene_of x.image f) f.start
+  pub same : unwinding_at (flow_graph_of x.image f) site ≡ unwinding_at (flow_graph_of x.image f) f.start
 
 like_start : (x : Accepted) → IsProgram x → (start : ℕ) (f : Function) (m : Marks) → IsOf x start f m → (p : ℕ) (fact : Fact) → IsStateOf (code x f m) p fact → (site : ℕ)
-    → site_at (scene_of x.image f) p ≡ Some site → IsLike x f site
+    → site_at (flow_graph_of x.image f) p ≡ Some site → IsLike x f site
 like_start x is start f m of p fact state site e =
-    let reached : IsReached (scene_of x.image f) p = state_reached (code x f m) p fact state in
+    let reached : IsReached (flow_graph_of x.image f) p = state_reached (code x f m) p fact state in
     let placed : IsPlaced f = subst IsPlaced of.among.2 (placed_at x.image of.among.0 f is.image of.among.1) in
-    let below : address_of (scene_of x.image f) p + 2 < 2 ^ 32 = elim (inside (scene_of x.image f) p reached) [
+    let below : address_of (flow_graph_of x.image f) p + 2 < 2 ^ 32 = elim (inside (flow_graph_of x.image f) p reached) [
       | inl zero_place ↦ omega (arith, zero_place, placed.some, placed.low)
       | inr low ↦ omega (arith, low, placed.low)
     ] in
-    let above = site_there (address_of (scene_of x.image f) p) site (instruction_at (scene_of x.image f) p) below e in
+    let above = site_there (address_of (flow_graph_of x.image f) p) site (instruction_at (flow_graph_of x.image f) p) below e in
     let low : f.start ≤ site = omega (arith, above) in
     record {
       low = low;
-      same = unwinding_of_start (scene_of x.image f) p site (All-contains (λ (g : Function). IsWell (scene_of x.image g)) x.image.functions f is.sound.functions of.among) reached e low;
+      same = unwinding_of_start (flow_graph_of x.image f) p site (All-contains (λ (g : Function). IsWell (flow_graph_of x.image g)) x.image.functions f is.sound.functions of.among) reached e low;
     }
 
 -- functions of one image read one index
-one_index : (image : Image) (f h : Function) (a : ℕ) → unwinding_at (scene_of image f) a ≡ unwinding_at (scene_of image h) a
+one_index : (image : Image) (f h : Function) (a : ℕ) → unwinding_at (flow_graph_of image f) a ≡ unwinding_at (flow_graph_of image h) a
 unfolding unwinding_at
 one_index image f h a = refl
 
-some_instr : (address site : ℕ) (o : Option Instr) → option_and_then (scene_site.site_of address) o ≡ Some site → (i : Instr) × (o ≡ Some i)
+some_instr : (address site : ℕ) (o : Option Instr) → option_and_then (flow_graph_site.site_of address) o ≡ Some site → (i : Instr) × (o ≡ Some i)
 some_instr address site None e = absurd (none-some site e)
 some_instr address site (Some i) e = (i, refl)
 
 -- ---- what a pad's fact says, by the fact at its site
 
 module _ (x : Accepted) (is : IsProgram x) (f : Function) (m : Marks) (start : ℕ) (of : IsOf x start f m) (p : ℕ) (fact : Fact) (state : IsStateOf (code x f m) p fact) (i : Instr)
-    (at : instruction_at (scene_of x.image f) p ≡ Some i) (site : ℕ) (site_is : site_at (scene_of x.image f) p ≡ Some site) where
+    (at : instruction_at (flow_graph_of x.image f) p ≡ Some i) (site : ℕ) (site_is : site_at (flow_graph_of x.image f) p ≡ Some site) where
   abbrev pub left : Fact
-  left = (pads.leaves x is f m start of p fact state i at site site_is).fact_behind
+  left = (pads.leaves x is f m start of p fact state i at site site_is).fact_after
 
-  -- a call and a gate leave a fact that forgets registers alone
+  -- a call and a gate leave a fact that clobbers registers alone
   record Forgot : Type 0 where
     pub names : List ℕ
-    pub same : left ≡ forgotten names (at_site (is_call i) fact)
+    pub same : left ≡ clobbered names (at_site (is_call i) fact)
 
-  forgot_by : (j : Instr) → i ≡ j → scene_site.site_of (address_of (scene_of x.image f) p) j ≡ Some site → Forgot
+  forgot_by : (j : Instr) → i ≡ j → flow_graph_site.site_of (address_of (flow_graph_of x.image f) p) j ≡ Some site → Forgot
   forgot_by (Bl off) e h =
-      let w = subst (λ (j : Instr). after_of (code x f m).prologue false (address_of (scene_of x.image f) p) j fact ≡ Ok left) e (pads.leaves x is f m start of p fact state i at site site_is).is_behind in
-      record { names = []; same = sym (same_ok (forgotten call_changes fact) left w) ∙ sym (ap (λ (j : Instr). at_site (is_call j) fact) e) }
+      let w = subst (λ (j : Instr). after_of (code x f m).prologue false (address_of (flow_graph_of x.image f) p) j fact ≡ Ok left) e (pads.leaves x is f m start of p fact state i at site site_is).is_after in
+      record { names = []; same = sym (same_ok (clobbered call_changes fact) left w) ∙ sym (ap (λ (j : Instr). at_site (is_call j) fact) e) }
   forgot_by (Blx n) e h =
-      let w = subst (λ (j : Instr). after_of (code x f m).prologue false (address_of (scene_of x.image f) p) j fact ≡ Ok left) e (pads.leaves x is f m start of p fact state i at site site_is).is_behind in
-      record { names = []; same = sym (same_ok (forgotten call_changes fact) left w) ∙ sym (ap (λ (j : Instr). at_site (is_call j) fact) e) }
+      let w = subst (λ (j : Instr). after_of (code x f m).prologue false (address_of (flow_graph_of x.image f) p) j fact ≡ Ok left) e (pads.leaves x is f m start of p fact state i at site site_is).is_after in
+      record { names = []; same = sym (same_ok (clobbered call_changes fact) left w) ∙ sym (ap (λ (j : Instr). at_site (is_call j) fact) e) }
   forgot_by (Svc imm) e h =
-      let w = subst (λ (j : Instr). after_of (code x f m).prologue false (address_of (scene_of x.image f) p) j fact ≡ Ok left) e (pads.leaves x is f m start of p fact state i at site site_is).is_behind in
-      record { names = gate_changes; same = sym (same_ok (forgotten gate_changes fact) left w) ∙ sym (ap (λ (j : Instr). forgotten gate_changes (at_site (is_call j) fact)) e) }
+      let w = subst (λ (j : Instr). after_of (code x f m).prologue false (address_of (flow_graph_of x.image f) p) j fact ≡ Ok left) e (pads.leaves x is f m start of p fact state i at site site_is).is_after in
+      record { names = gate_changes; same = sym (same_ok (clobbered gate_changes fact) left w) ∙ sym (ap (λ (j : Instr). clobbered gate_changes (at_site (is_call j) fact)) e) }
   forgot_by j e h = absurd (none-some site h)
 
   forgot : Forgot
-  forgot = forgot_by i refl (ap (option_and_then (scene_site.site_of (address_of (scene_of x.image f) p))) (sym at) ∙ site_is)
+  forgot = forgot_by i refl (ap (option_and_then (flow_graph_site.site_of (address_of (flow_graph_of x.image f) p))) (sym at) ∙ site_is)
 
   module _ (changed : ℕ) where
     abbrev there : Fact
-    there = forgotten (listed changed) left
+    there = clobbered (listed changed) left
 
     pub depth_there : there.depth ≡ fact.depth
-    depth_there = forgotten_depth (listed changed) left ∙ ap (λ (g : Fact). g.depth) forgot.same ∙ forgotten_depth forgot.names (at_site (is_call i) fact) ∙ site_depth (is_call i) fact
+    depth_there = clobbered_depth (listed changed) left ∙ ap (λ (g : Fact). g.depth) forgot.same ∙ clobbered_depth forgot.names (at_site (is_call i) fact) ∙ site_depth (is_call i) fact
 
     pub below_there : there.below ≡ fact.below
-    below_there = forgotten_below (listed changed) left ∙ ap (λ (g : Fact). g.below) forgot.same ∙ forgotten_below forgot.names (at_site (is_call i) fact) ∙ site_below (is_call i) fact
+    below_there = clobbered_below (listed changed) left ∙ ap (λ (g : Fact). g.below) forgot.same ∙ clobbered_below forgot.names (at_site (is_call i) fact) ∙ site_below (is_call i) fact
 
     pub kept_there : there.kept ≡ fact.kept
-    kept_there = forgotten_kept (listed changed) left ∙ ap (λ (g : Fact). g.kept) forgot.same ∙ forgotten_kept forgot.names (at_site (is_call i) fact) ∙ site_kept (is_call i) fact
+    kept_there = clobbered_kept (listed changed) left ∙ ap (λ (g : Fact). g.kept) forgot.same ∙ clobbered_kept forgot.names (at_site (is_call i) fact) ∙ site_kept (is_call i) fact
 
     pub source_there : (k : ℕ) → (source there k ≡ Other) ⊎ (source there k ≡ source (at_site (is_call i) fact) k)
-    source_there k = elim (forgotten_source (listed changed) left k) [
+    source_there k = elim (clobbered_source (listed changed) left k) [
       | inl e ↦ inl e
-      | inr e ↦ elim (forgotten_source forgot.names (at_site (is_call i) fact) k) [
+      | inr e ↦ elim (clobbered_source forgot.names (at_site (is_call i) fact) k) [
         | inl d ↦ inl (e ∙ ap (λ (g : Fact). source g k) forgot.same ∙ d)
         | inr d ↦ inr (e ∙ ap (λ (g : Fact). source g k) forgot.same ∙ d)
       ]
@@ -170,16 +170,16 @@ module _ (x : Accepted) (is : IsProgram x) (f : Function) (m : Marks) (start : �
 
 module _ (x : Accepted) (is : IsProgram x) (segments : List Segment) (are : AreSegments segments) (g : Goal) (c : Cleanup) (a : Activation) (more : List Activation) (e : IsEntered x segments g c a more)
     (caller : Caller) (out : StandsAtCall x segments caller a) (whole : IsWhole caller) (called : caller.sp ≡ c.sp) where
-  pub kept_instr : (i : Instr) × (instruction_at (scene_of x.image e.function) e.place ≡ Some i)
-  kept_instr = some_instr (address_of (scene_of x.image e.function) e.place) c.site (instruction_at (scene_of x.image e.function) e.place) e.site
+  pub kept_instr : (i : Instr) × (instruction_at (flow_graph_of x.image e.function) e.place ≡ Some i)
+  kept_instr = some_instr (address_of (flow_graph_of x.image e.function) e.place) c.site (instruction_at (flow_graph_of x.image e.function) e.place) e.site
 
   abbrev pub i : Instr
   i = kept_instr.0
 
   abbrev pub u : Unwinding
-  u = unwinding_at (scene_of x.image e.function) c.site
+  u = unwinding_at (flow_graph_of x.image e.function) c.site
 
-  call_there : site_at (scene_of x.image out.function) out.place ≡ Some (site_of (registers_of caller))
+  call_there : site_at (flow_graph_of x.image out.function) out.place ≡ Some (site_of (registers_of caller))
   call_there = called_site x is (codes_are_recipes x is) segments are caller a out whole
 
   kept_like : IsLike x e.function c.site
@@ -189,9 +189,9 @@ module _ (x : Accepted) (is : IsProgram x) (segments : List Segment) (are : AreS
   call_like = like_start x is a.function out.function out.marks out.of out.place out.fact out.state (site_of (registers_of caller)) call_there
 
   -- one recipe for both sites
-  same_unwinding : u ≡ unwinding_at (scene_of x.image out.function) (site_of (registers_of caller))
+  same_unwinding : u ≡ unwinding_at (flow_graph_of x.image out.function) (site_of (registers_of caller))
   same_unwinding =
-      kept_like.same ∙ one_index x.image e.function out.function e.function.start ∙ ap (unwinding_at (scene_of x.image out.function)) (e.of.begins ∙ sym out.of.begins) ∙ sym call_like.same
+      kept_like.same ∙ one_index x.image e.function out.function e.function.start ∙ ap (unwinding_at (flow_graph_of x.image out.function)) (e.of.begins ∙ sym out.of.begins) ∙ sym call_like.same
 
   module _ (r : Recipe) (finds : u ≡ Finds r) where
     in_kept : (j : ℕ) → j < 16 → gives (code x e.function e.marks).prologue r (at_site (is_call i) e.fact) j ≡ true
@@ -204,7 +204,7 @@ module _ (x : Accepted) (is : IsProgram x) (segments : List Segment) (are : AreS
         subst (λ (b : Bool). gives (code x out.function out.marks).prologue r (at_site b out.fact) j ≡ true) out.call
         (gives_all (code x out.function out.marks).prologue r (is_call out.instr) out.fact
         (agrees x is (codes_are_recipes x is) out.function out.marks a.function out.of out.place out.fact out.state out.instr
-        (stands_instruction (scene_of x.image out.function) out.place out.instr out.size out.stands) (site_of (registers_of caller)) call_there call_like.low r (sym same_unwinding ∙ finds)) j l)
+        (stands_instruction (flow_graph_of x.image out.function) out.place out.instr out.size out.stands) (site_of (registers_of caller)) call_there call_like.low r (sym same_unwinding ∙ finds)) j l)
 
   -- what stays has one source at both
   stays_there : (k : ℕ) → 4 ≤ k → k < 12 → changes u k ≡ false → source (at_site (is_call i) e.fact) k ≡ source (at_site true out.fact) k
@@ -222,13 +222,13 @@ module _ (x : Accepted) (is : IsProgram x) (segments : List Segment) (are : AreS
       go GenericModel f n = absurd cc
 
   abbrev pub pad_fact : Fact
-  pad_fact = forgotten (listed (landing_changes u true)) (left x is e.function e.marks a.function e.of e.place e.fact e.state i kept_instr.1 c.site e.site)
+  pad_fact = clobbered (listed (landing_changes u true)) (left x is e.function e.marks a.function e.of e.place e.fact e.state i kept_instr.1 c.site e.site)
 
   pub saved_source : (k : ℕ) → 4 ≤ k → k < 12 → (source pad_fact k ≡ Other) ⊎ (source pad_fact k ≡ source (at_site true out.fact) k)
   saved_source k low high = go (changes u k) refl
     where
       go : (b : Bool) → changes u k ≡ b → (source pad_fact k ≡ Other) ⊎ (source pad_fact k ≡ source (at_site true out.fact) k)
-      go true n = inl (forgotten_here (listed (landing_changes u true)) (left x is e.function e.marks a.function e.of e.place e.fact e.state i kept_instr.1 c.site e.site) k (changes_forget u k low high n))
+      go true n = inl (clobbered_here (listed (landing_changes u true)) (left x is e.function e.marks a.function e.of e.place e.fact e.state i kept_instr.1 c.site e.site) k (changes_clobber u k low high n))
       go false n = elim (source_there x is e.function e.marks a.function e.of e.place e.fact e.state i kept_instr.1 c.site e.site (landing_changes u true) k) [
         | inl o ↦ inl o
         | inr s ↦ inr (s ∙ stays_there k low high n)
@@ -236,4 +236,4 @@ module _ (x : Accepted) (is : IsProgram x) (segments : List Segment) (are : AreS
 
   pub lost_there : (k : ℕ) → (k < 4) ⊎ ((k ≡ 12) ⊎ (k ≡ 14)) → source pad_fact k ≡ Other
   lost_there k h =
-      forgotten_here (listed (landing_changes u true)) (left x is e.function e.marks a.function e.of e.place e.fact e.state i kept_instr.1 c.site e.site) k (landing_forgets u true k h)
+      clobbered_here (listed (landing_changes u true)) (left x is e.function e.marks a.function e.of e.place e.fact e.state i kept_instr.1 c.site e.site) k (landing_clobbers u true k h)

@@ -12,18 +12,18 @@ use Rattle.throws_keep.specs.eh_phase.declared.phase2.Goal.{Goal}
 use Rattle.throws_keep.specs.thumb_core.Registers.{reg}
 use Rattle.throws_keep.specs.thumb_core.Words.{listed}
 use Rattle.throws_keep.specs.thumb_core.declared.regs.Regs.{Regs}
-use Rattle.throws_keep.specs.frame_facts.Facts.{source, slot, forgotten}
+use Rattle.throws_keep.specs.frame_facts.Facts.{source, slot, clobbered}
 use Rattle.throws_keep.specs.frame_facts.Machine.{Means}
 use Rattle.throws_keep.specs.frame_facts.declared.facts.Fact.{Fact}
 use Rattle.throws_keep.specs.frame_facts.declared.facts.Source.{Source}
 use Rattle.throws_keep.specs.frame_facts.declared.facts.Source.TheVariants.{Other}
 use Rattle.throws_keep.specs.frame_facts.declared.saves.Prologue.{Prologue}
-use Rattle.throws_keep.specs.frame_scene.Sites.{Item, covers, cleans, is_one, pad_of, items_at}
-use Rattle.throws_keep.specs.frame_scene.Unwinding.{landing_changes}
+use Rattle.throws_keep.specs.frame_graph.Sites.{Item, covers, cleans, is_one, pad_of, items_at}
+use Rattle.throws_keep.specs.frame_graph.Unwinding.{landing_changes}
 use Rattle.throws_keep.specs.frame_flow.Flows.{IsStateOf}
 use Rattle.throws_keep.proofs.frame_flow.Instance.{state_fits}
 use Rattle.throws_keep.specs.frame_check.Accepts.{Accepted}
-use Rattle.throws_keep.specs.frame_check.Roots.{scene_of}
+use Rattle.throws_keep.specs.frame_check.Roots.{flow_graph_of}
 use Rattle.throws_keep.specs.two_machines.Activations.{Caller, Activation, registers_of}
 use Rattle.throws_keep.specs.stands_for.Holds.{Holds, IsWhole}
 use Rattle.throws_keep.specs.stands_for.Chain.{code, regs_at, StandsAt, StandsAtCall}
@@ -39,7 +39,7 @@ use Rattle.resumes_keep.proofs.ResumedPads as site
 
 module _ (x : Accepted) (is : IsProgram x) (segments : List Segment) (are : AreSegments segments) (g : Goal) (c : Cleanup) (a : Activation) (more : List Activation) (e : IsEntered x segments g c a more)
     (caller : Caller) (out : StandsAtCall x segments caller a) (whole : IsWhole caller) (called : caller.sp ≡ c.sp) (before : List Item) (d : Desc) (after : List Item)
-    (items : items_at (scene_of x.image e.function) c.site ≡ before ++ Ok d ∷ after) (scope : covers c.site d ≡ true) (pad : ℕ) (has : pad_of d.kind ≡ Some pad)
+    (items : items_at (flow_graph_of x.image e.function) c.site ≡ before ++ Ok d ∷ after) (scope : covers c.site d ≡ true) (pad : ℕ) (has : pad_of d.kind ≡ Some pad)
     (resumed : list_any (is_one (cleans c.site)) before ≡ true) where
   abbrev p : Prologue
   p = (code x e.function e.marks).prologue
@@ -56,11 +56,11 @@ module _ (x : Accepted) (is : IsProgram x) (segments : List Segment) (are : AreS
   state_there : IsStateOf (code x e.function e.marks) place pad_fact
   state_there =
       let i = site.kept_instr x is segments are g c a more e caller out whole called in
-      subst (λ (b : Bool). IsStateOf (code x e.function e.marks) place (forgotten (listed (landing_changes (site.u x is segments are g c a more e caller out whole called) b)) left)) resumed
+      subst (λ (b : Bool). IsStateOf (code x e.function e.marks) place (clobbered (listed (landing_changes (site.u x is segments are g c a more e caller out whole called) b)) left)) resumed
       (goes_along (code x e.function e.marks) e.place e.fact (none_stands x e.function e.marks is.sound e.of.among e.of.are) e.state i.0 left
-      (pads.way x is e.function e.marks a.function e.of e.place e.fact e.state i.0 i.1 c.site e.site before d after items scope pad has) i.1
-      (pads.leaves x is e.function e.marks a.function e.of e.place e.fact e.state i.0 i.1 c.site e.site).is_behind
-      (pads.is_way x is e.function e.marks a.function e.of e.place e.fact e.state i.0 i.1 c.site e.site before d after items scope pad has))
+      (pads.edge x is e.function e.marks a.function e.of e.place e.fact e.state i.0 i.1 c.site e.site before d after items scope pad has) i.1
+      (pads.leaves x is e.function e.marks a.function e.of e.place e.fact e.state i.0 i.1 c.site e.site).is_after
+      (pads.is_edge x is e.function e.marks a.function e.of e.place e.fact e.state i.0 i.1 c.site e.site before d after items scope pad has))
 
   depth : pad_fact.depth ≡ e.fact.depth
   depth =
@@ -123,7 +123,7 @@ module _ (x : Accepted) (is : IsProgram x) (segments : List Segment) (are : AreS
     describes = record {
       long = long;
       sources = said;
-      sp = λ b. let w = e.level (sym below ∙ b) in let n = depth in let s = at_sp caller whole.count in omega (arith, w, n, s, called);
+      sp = λ b. let w = e.at_depth (sym below ∙ b) in let n = depth in let s = at_sp caller whole.count in omega (arith, w, n, s, called);
     };
     lower = let w = e.lower in let n = depth in let s = at_sp caller whole.count in omega (arith, w, n, s, called);
     saves = kept_same p e.fact pad_fact a segments depth kept e.saves;

@@ -10,14 +10,14 @@ use Rattle.throws_keep.specs.thumb_core.Words.{numbers}
 use Rattle.throws_keep.specs.eh_bytecode.declared.recipe.Recipe.{Recipe}
 use Rattle.throws_keep.specs.frame_facts.declared.facts.Fact.{Fact}
 use Rattle.throws_keep.specs.frame_facts.declared.saves.Prologue.{Prologue}
-use Rattle.throws_keep.specs.frame_facts.Agrees.{at_site, is_lost, gives, has_no_room, fails, agreed, found, in_frame, gives_cfa, place_of, base_at}
+use Rattle.throws_keep.specs.frame_facts.Agrees.{at_site, is_lost, gives, has_no_room, fails, agreed, source_found, in_frame, gives_cfa, stack_place, base_at}
 use Rattle.throws_keep.specs.eh_bytecode.declared.recipe.Src.TheVariants.{Same, FromSp, FromBase}
 use Rattle.throws_keep.specs.frame_facts.Facts.{is_entry, source}
 use Rattle.throws_keep.specs.eh_bytecode.declared.recipe.Src.{Src}
 use Rattle.throws_keep.specs.eh_bytecode.Recipe.{is_same}
 use Rattle.throws_keep.specs.frame_facts.declared.facts.Source.TheVariants.{Entry, SpAt, Other}
 use Rattle.throws_keep.specs.frame_facts.declared.facts.Source.{Source}
-use Rattle.throws_keep.specs.frame_scene.Unwinding.{stays}
+use Rattle.throws_keep.specs.frame_graph.Unwinding.{stays}
 use Rattle.throws_keep.proofs.frames_same.FramePlaces.{none_found, in_numbers, agrees_so, not_failing, entry_is}
 
 -- a recipe that agrees gives every register
@@ -28,15 +28,15 @@ gives_all p r call f e k l =
     not_failing (has_no_room call g k) (is_lost r g) (gives p r g k) (none_found (fails p r call g) numbers k w.0 (in_numbers k l)) w.1
 
 -- of r4 to r11 it gives what the fact says of their values at the entry
-gives_own : (p : Prologue) (r : Recipe) (f : Fact) (k : ℕ) → 4 ≤ k → k < 12 → gives p r f k ≡ is_entry k (found p r f k (slice_index_or r.src k Same))
+gives_own : (p : Prologue) (r : Recipe) (f : Fact) (k : ℕ) → 4 ≤ k → k < 12 → gives p r f k ≡ is_entry k (source_found p r f k (slice_index_or r.src k Same))
 gives_own p r f k low high = go (k == 13) (k == 15) (nat_le 4 k && nat_lt k 12) refl refl within
   where
     within : (nat_le 4 k && nat_lt k 12) ≡ true
     within = ap (λ (b : Bool). b && nat_lt k 12) (le-leb 4 k low) ∙ lt-ltb k 12 high
 
     go : (a b c : Bool) → (k == 13) ≡ a → (k == 15) ≡ b → c ≡ true
-        → cond a (gives_cfa r f) (cond b (is_entry 14 (found p r f k (slice_index_or r.src k Same))) (cond c (is_entry k (found p r f k (slice_index_or r.src k Same))) (in_frame r f (slice_index_or r.src k Same))))
-        ≡ is_entry k (found p r f k (slice_index_or r.src k Same))
+        → cond a (gives_cfa r f) (cond b (is_entry 14 (source_found p r f k (slice_index_or r.src k Same))) (cond c (is_entry k (source_found p r f k (slice_index_or r.src k Same))) (in_frame r f (slice_index_or r.src k Same))))
+        ≡ is_entry k (source_found p r f k (slice_index_or r.src k Same))
     go true b c e d w = absurd (let t = eqb-true k 13 e in omega (arith, t, high))
     go false true c e d w = absurd (let t = eqb-true k 15 d in omega (arith, t, high))
     go false false true e d w = refl
@@ -51,7 +51,7 @@ same_is (FromBase o) e = absurd cc
 own_value : (p : Prologue) (r : Recipe) (f : Fact) (k : ℕ) → 4 ≤ k → k < 12 → gives p r f k ≡ true → slice_index_or r.src k Same ≡ Same → source f k ≡ Entry k
 own_value p r f k low high g e =
     entry_is k (source f k)
-    (sym (ap (λ (j : ℕ). is_entry k (source f j)) (low_number (k == 15) refl)) ∙ sym (ap (λ (s : Src). is_entry k (found p r f k s)) e) ∙ sym (gives_own p r f k low high) ∙ g)
+    (sym (ap (λ (j : ℕ). is_entry k (source f j)) (low_number (k == 15) refl)) ∙ sym (ap (λ (s : Src). is_entry k (source_found p r f k s)) e) ∙ sym (gives_own p r f k low high) ∙ g)
   where
     low_number : (b : Bool) → (k == 15) ≡ b → cond b 14 k ≡ k
     low_number true i = absurd (let t = eqb-true k 15 i in omega (arith, t, high))
@@ -64,12 +64,12 @@ HasPlace r f k = (n : ℕ) × (source f k ≡ SpAt n) × (pos n ≡ r.vsp)
 base_value : (r : Recipe) (f : Fact) (k : ℕ) → k < 12 → gives_cfa r f ≡ true → r.base ≡ k → HasPlace r f k
 base_value r f k high g e = by_number (k == 13) refl (subst (λ (b : ℕ). option_map_or (λ n. int_eq (pos n) r.vsp) (base_at f b) false ≡ true) e g)
   where
-    by_source : (s : Source) → source f k ≡ s → option_map_or (λ n. int_eq (pos n) r.vsp) (place_of s) false ≡ true → HasPlace r f k
+    by_source : (s : Source) → source f k ≡ s → option_map_or (λ n. int_eq (pos n) r.vsp) (stack_place s) false ≡ true → HasPlace r f k
     by_source (SpAt n) i h = (n, i, grind (arith, ints, h))
     by_source (Entry j) i h = absurd cc
     by_source Other i h = absurd cc
 
-    by_number : (b : Bool) → (k == 13) ≡ b → option_map_or (λ n. int_eq (pos n) r.vsp) (cond b (cond f.below None (Some f.depth)) (place_of (source f k))) false ≡ true → HasPlace r f k
+    by_number : (b : Bool) → (k == 13) ≡ b → option_map_or (λ n. int_eq (pos n) r.vsp) (cond b (cond f.below None (Some f.depth)) (stack_place (source f k))) false ≡ true → HasPlace r f k
     by_number true i h = absurd (let t = eqb-true k 13 i in omega (arith, t, high))
     by_number false i h = by_source (source f k) refl h
 

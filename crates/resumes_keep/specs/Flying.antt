@@ -9,13 +9,13 @@ use Rattle.throws_keep.specs.eh_cxa.Throw.{set_barrier_of}
 use Rattle.throws_keep.specs.eh_cxa.Words.{block_slot, block}
 use Rattle.throws_keep.specs.eh_phase.Laws.{goal_of}
 use Rattle.throws_keep.specs.eh_phase.declared.phase1.Barrier.{Barrier}
-use Rattle.throws_keep.specs.eh_gates.State.{Guide}
+use Rattle.throws_keep.specs.eh_gates.State.{Tables}
 use Rattle.throws_keep.specs.eh_gates.Throwing.{handed, barrier_words, throw_to}
 use Rattle.throws_keep.specs.eh_phase.Cleanups.{is_reached}
 use Rattle.throws_keep.specs.two_machines.Landings.{IsInFlight}
 use Rattle.throws_keep.specs.two_machines.Checked.{program_of}
 use Rattle.throws_keep.specs.two_machines.Corresponds.{GateMatches}
-use Rattle.throws_keep.specs.two_machines.Program.{guide}
+use Rattle.throws_keep.specs.two_machines.Program.{program_tables}
 use Rattle.throws_keep.specs.eh_phase.Verdict.{Meeting}
 use Rattle.throws_keep.specs.thumb_core.declared.ends.Cause.{Cause}
 use Rattle.throws_keep.specs.eh_gates.Gates.{gate_of}
@@ -35,13 +35,13 @@ abbrev pub all_frames : Accepted → Recorded → ℕ → Frames
 all_frames x s site = frames_at x.image None site (all_of s.regs) s.first s.outer
 
 -- The barrier is written, and phase 2 goes to it from the site: this is what the recorded machine's throw does.
-abbrev pub fly_from : Guide → ℕ → ℕ → Barrier → Recorded → acts.Outcome
+abbrev pub fly_from : Tables → ℕ → ℕ → Barrier → Recorded → acts.Outcome
 fly_from g site control b s =
     acts.advances (with_words (set_barrier_of (block_slot control) (barrier_words control b)) s) (s.first ∷ s.outer) control (handed control b.hit) (goal_of b) 0
     (frames_at g.image None site (all_of s.regs) s.first s.outer)
 
 abbrev pub GatesFly : Type 0
-GatesFly = (g : Guide) (site control : ℕ) (b : Barrier) (s : Recorded) → acts.throw_to g site control b s ≡ fly_from g site control b s
+GatesFly = (g : Tables) (site control : ℕ) (b : Barrier) (s : Recorded) → acts.throw_to g site control b s ≡ fly_from g site control b s
 
 -- The exception of a slot flies, none of its cleanups is in progress, and its barrier is within reach from the site, at or below the landing sp
 -- of the innermost cleanup in progress.
@@ -57,8 +57,8 @@ pub record CanFly (x : Accepted) (s : Recorded) (site slot : ℕ) (b : Barrier) 
 
 -- Then both machines do the same, phase 2 enters a cleanup or the barrier, and what they leave stands for each other.
 pub record Flies (x : Accepted) (s : Recorded) (site slot : ℕ) (b : Barrier) : Type 0 where
-  pub same : GateMatches (throw_to (guide (program_of x)) (bytes_of s) site (block slot) b) (fly_from (guide (program_of x)) site (block slot) b s)
-  pub keeps : Keeps x (fly_from (guide (program_of x)) site (block slot) b s).1
+  pub same : GateMatches (throw_to (program_tables (program_of x)) (bytes_of s) site (block slot) b) (fly_from (program_tables (program_of x)) site (block slot) b s)
+  pub keeps : Keeps x (fly_from (program_tables (program_of x)) site (block slot) b s).1
   pub lands : phase_law.Lands (phase2 (goal_of b) 0 (all_frames x s site))
 
 abbrev pub FlightsMatch : Type 0
@@ -73,6 +73,6 @@ SearchesReach = (x : Accepted) (s : Recorded) (site : ℕ) (m : Meeting) (b : Ba
 -- The end of a cleanup does the same in both machines, and keeps. Phase 2 that goes on there never ends without a pad but at a specification that
 -- has none.
 pub record CleanupEnds (x : Accepted) (s : Recorded) (next : ℕ) : Type 0 where
-  pub same : GateMatches (gate_of (guide (program_of x)) END_CLEANUP_GATE next (bytes_of s)) (acts.gate_of (guide (program_of x)) END_CLEANUP_GATE next s)
-  pub keeps : Keeps x (acts.gate_of (guide (program_of x)) END_CLEANUP_GATE next s).1
-  pub lands : (why : Cause) → (acts.gate_of (guide (program_of x)) END_CLEANUP_GATE next s).0 ≡ Ended (the_end.Terminate why) → why ≡ cause.Unexpected
+  pub same : GateMatches (gate_of (program_tables (program_of x)) END_CLEANUP_GATE next (bytes_of s)) (acts.gate_of (program_tables (program_of x)) END_CLEANUP_GATE next s)
+  pub keeps : Keeps x (acts.gate_of (program_tables (program_of x)) END_CLEANUP_GATE next s).1
+  pub lands : (why : Cause) → (acts.gate_of (program_tables (program_of x)) END_CLEANUP_GATE next s).0 ≡ Ended (the_end.Terminate why) → why ≡ cause.Unexpected

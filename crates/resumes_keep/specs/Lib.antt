@@ -1,6 +1,6 @@
 pub use Rattle.throws_keep.specs.two_machines
 pub use Rattle.throws_keep.specs.frame_check
-pub use Rattle.throws_keep.specs.frame_scene
+pub use Rattle.throws_keep.specs.frame_graph
 pub use Rattle.throws_keep.specs.frame_facts
 pub use Rattle.throws_keep.specs.eh_gates
 pub use Rattle.throws_keep.specs.eh_trace

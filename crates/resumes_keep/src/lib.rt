@@ -12,7 +12,7 @@ pub fn cleanups_are_outside()
 {}
 
 /// An exception flies from a site where a throw may begin to a barrier within reach: both machines do the same, and what stood for each other does
-/// so behind it.
+/// so after it.
 pub fn flights_match()
     ensures { FlightsMatch }
 {}
@@ -27,7 +27,7 @@ pub fn gates_fly()
     ensures { GatesFly }
 {}
 
-/// The end of a cleanup does the same in both machines, and what stood for each other does so behind it.
+/// The end of a cleanup does the same in both machines, and what stood for each other does so after it.
 pub fn ends_match()
     ensures { EndsMatch }
 {}

@@ -16,7 +16,7 @@ fn object_of(alloc: Global, text: &[u8]) -> Option<Object> {
     assemble(alloc, stmts.as_slice()).ok()
 }
 
-/// The objects of sources, and that of the stubs behind them.
+/// The objects of sources, and that of the stubs after them.
 fn objects_of(alloc: Global, texts: &[String]) -> Option<Vec<Object>> {
     let mut objects = Vec::new(alloc);
     for text in texts {

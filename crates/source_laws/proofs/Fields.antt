@@ -1,4 +1,4 @@
--- The fields of the exception tables stand before a function's table or behind its words.
+-- The fields of the exception tables stand before a function's table or after its words.
 use Rattle.std.proofs.Common.{◌≡◌, ℕ, ◌+◌, ◌*◌, ◌^◌, ◌≤◌, ◌<◌, false, cond, List, [], ◌∷◌, ◌++◌, length, Option, Some, Result, Ok, refl, sym, ap, ◌∙◌, arith, subst}
 use Rattle.std.proofs.lemmas.Grind.{flat_map-append}
 use Rattle.asm_statements.specs.declared.statement.Stmt.{Stmt}
@@ -12,7 +12,7 @@ use Rattle.asm_layout.specs.declared.walk.Walk.{Walk}
 use Rattle.asm_layout.specs.Functions.{entries_of, no_frame}
 use Rattle.asm_layout.specs.Labels.{Named, labels_of}
 use Rattle.asm_layout.specs.Sizes.{size_in, is_too_large}
-use Rattle.asm_layout.specs.Walks.{start, next, here, coming_pool, walk_behind, sizes_with_pool}
+use Rattle.asm_layout.specs.Walks.{start, next, here, coming_pool, walk_after, sizes_with_pool}
 use Rattle.relocatable_object.specs.Sections.{same_section}
 use Rattle.eh_list.specs.Bytes.{next_multiple}
 use Rattle.relocatable_object.specs.declared.object.Object.{Object}
@@ -21,22 +21,22 @@ use Rattle.relocatable_object.specs.Fields.{StandInOrder, relocs_at}
 use Rattle.relocatable_object.specs.Relocations.{field_size}
 use Rattle.asm_object.specs.Objects.{object_of}
 use Rattle.asm_object.specs.Pieces.{own_piece, relocs_in, pieces_of}
-use Rattle.asm_object.proofs.PlaceLaws.{earlier, split, none_behind, walks_on}
+use Rattle.asm_object.proofs.PlaceLaws.{earlier, split, none_after, walks_on}
 use Rattle.asm_object.proofs.ObjectLaws.{taken, ends_small, entries_count, last_unlinked, start_unlinked, all_stand, earlier_stand, table_relocs}
 use Rattle.source_laws.specs.Functions.{HasNoBound, Function, source_of, directives_of, start_at, end_at}
-use Rattle.source_laws.specs.RowLaw.{behind}
+use Rattle.source_laws.specs.RowLaw.{walk_over}
 use Rattle.source_laws.proofs.Handlers.{table_end}
 use Rattle.source_laws.proofs.Standing.{fewer, at_start, own_entry}
 use Rattle.asm_object.proofs.Statements.{walk_sets, walk_pieces}
 use Rattle.asm_layout.specs.Placing.{word_place, placed_from}
-use Rattle.asm_object.specs.Behind.{pieces_from, refusals_from}
+use Rattle.asm_object.specs.After.{pieces_from, refusals_from}
 
 abbrev the_none : List Reloc
 the_none = []
 
 start_relocs : (entries : List (Option EntryWords)) (labels : List Named) (walk : Walk) (line : ℕ) (more : List Stmt)
     → relocs_in Extab (pieces_from entries labels walk (start_at line ∷ more)) ≡ relocs_in Extab (pieces_from entries labels (next entries walk statement.FnStart) more)
-unfolding pieces_of placed_from walk_behind
+unfolding pieces_of placed_from walk_after
 start_relocs entries labels walk line more =
     let word = word_place walk statement.FnStart (coming_pool entries walk (start_at line ∷ more)) in
     let rest = pieces_from entries labels (next entries walk statement.FnStart) more in
@@ -52,41 +52,41 @@ pub record FieldsAround (object : Object) (table end : ℕ) : Type 0 where
   pub last : ℕ
   pub split_there : relocs_at Extab object ≡ front ++ back
   pub before : StandInOrder 0 front table
-  pub behind_it : StandInOrder end back last
+  pub after_it : StandInOrder end back last
 
 order_later : (from : ℕ) (relocs : List Reloc) (a b : ℕ) → a ≤ b → StandInOrder from relocs a → StandInOrder from relocs b
 order_later from [] a b h s = omega (arith, h, s)
 order_later from (reloc ∷ more) a b h s = (s.0, order_later (reloc.offset + field_size reloc) more a b h s.1)
 
-multiple_behind : (n : ℕ) → n ≤ next_multiple n 4
-multiple_behind n = omega arith
+multiple_after : (n : ℕ) → n ≤ next_multiple n 4
+multiple_after n = omega arith
 
 words_same : (a b : EntryWords) (r : Result EntryWords UnwindFault) → r ≡ Ok a → r ≡ Ok b → a ≡ b
 words_same a b r e f = cc
 
 rest_unrefused : (entries : List (Option EntryWords)) (labels : List Named) (walk : Walk) (before : List Stmt) (line : ℕ) (more : List Stmt)
-    → refusals_from entries labels walk (before ++ start_at line ∷ more) ≡ [] → refusals_from entries labels (next entries (walk_behind entries walk before) statement.FnStart) more ≡ []
-unfolding walk_behind
+    → refusals_from entries labels walk (before ++ start_at line ∷ more) ≡ [] → refusals_from entries labels (next entries (walk_after entries walk before) statement.FnStart) more ≡ []
+unfolding walk_after
 rest_unrefused entries labels walk before line more r =
-    none_behind entries labels (walk_behind entries walk before) (start_at line ∷ []) more (none_behind entries labels walk before (start_at line ∷ more) r)
+    none_after entries labels (walk_after entries walk before) (start_at line ∷ []) more (none_after entries labels walk before (start_at line ∷ more) r)
 
 rest_small : (entries : List (Option EntryWords)) (walk : Walk) (before : List Stmt) (line : ℕ) (more : List Stmt)
-    → is_too_large (sizes_with_pool (walk_behind entries walk (before ++ start_at line ∷ more))) ≡ false
-    → is_too_large (sizes_with_pool (walk_behind entries (next entries (walk_behind entries walk before) statement.FnStart) more)) ≡ false
-unfolding walk_behind
+    → is_too_large (sizes_with_pool (walk_after entries walk (before ++ start_at line ∷ more))) ≡ false
+    → is_too_large (sizes_with_pool (walk_after entries (next entries (walk_after entries walk before) statement.FnStart) more)) ≡ false
+unfolding walk_after
 rest_small entries walk before line more h =
     ap (λ w. is_too_large (sizes_with_pool w)) (sym (walks_on entries walk before (start_at line ∷ more))) ∙ h
 
 pub fields_around : (f : Function) (words : List ℕ) (object : Object) → HasNoBound f.between → length (source_of f) < 2 ^ 64 → object_of (source_of f) ≡ Ok object
     → entry_words_of (directives_of f) ≡ Ok (entry.Table words)
-    → FieldsAround object (next_multiple (behind (source_of f) f.before).at.sizes.extab 4) (next_multiple (behind (source_of f) f.before).at.sizes.extab 4 + 4 * length words)
+    → FieldsAround object (next_multiple (walk_over (source_of f) f.before).at.sizes.extab 4) (next_multiple (walk_over (source_of f) f.before).at.sizes.extab 4 + 4 * length words)
 fields_around f words object plain few e given =
     let stmts = source_of f in
     let entries = entries_of stmts in
     let labels = labels_of entries stmts in
     let more = f.between ++ end_at f.end_line ∷ f.after in
     let all = start_at f.start_line ∷ more in
-    let walk = behind stmts f.before in
+    let walk = walk_over stmts f.before in
     let first = next entries walk statement.FnStart in
     let t = taken stmts object e in
     let at = at_start stmts f.before f.start_line more object refl few t in
@@ -95,18 +95,18 @@ fields_around f words object plain few e given =
     let end = table_end stmts f words object refl few t at.opens.closed at.opens.few (own.there ∙ ap Some same) in
     let few_entries = fewer _ _ (entries_count no_frame stmts) few in
     let small = ends_small entries start 0 stmts t.small in
-    let S : ℕ → Type 0 = λ n. StandInOrder n (relocs_in Extab (pieces_from entries labels first more)) (size_in (sizes_with_pool (walk_behind entries first more)) Extab) in
+    let S : ℕ → Type 0 = λ n. StandInOrder n (relocs_in Extab (pieces_from entries labels first more)) (size_in (sizes_with_pool (walk_after entries first more)) Extab) in
     record {
       front = relocs_in Extab (earlier entries labels start f.before all);
       back = relocs_in Extab (pieces_from entries labels first more);
-      last = size_in (sizes_with_pool (walk_behind entries first more)) Extab;
+      last = size_in (sizes_with_pool (walk_after entries first more)) Extab;
       split_there =
           ap (λ (o : Object). relocs_at Extab o) t.object_is ∙ table_relocs stmts
           ∙ ap (relocs_in Extab) (split entries labels start f.before all)
           ∙ flat_map-append (λ p. cond (same_section p.place.section Extab) p.relocs the_none) (earlier entries labels start f.before all) (pieces_from entries labels walk all)
           ∙ ap (λ r. relocs_in Extab (earlier entries labels start f.before all) ++ r) (start_relocs entries labels walk f.start_line more);
       before =
-          order_later 0 _ walk.at.sizes.extab _ (multiple_behind walk.at.sizes.extab)
+          order_later 0 _ walk.at.sizes.extab _ (multiple_after walk.at.sizes.extab)
           (earlier_stand entries labels start f.before all Extab few_entries t.unrefused small);
-      behind_it = subst S end (all_stand entries labels first more Extab few_entries (rest_unrefused entries labels start f.before f.start_line more t.unrefused) (rest_small entries start f.before f.start_line more small));
+      after_it = subst S end (all_stand entries labels first more Extab few_entries (rest_unrefused entries labels start f.before f.start_line more t.unrefused) (rest_small entries start f.before f.start_line more small));
     }

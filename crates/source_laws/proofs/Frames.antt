@@ -14,7 +14,7 @@ use Rattle.asm_unwind.specs.declared.directive.UnwindFault.TheVariants.{OutsideF
 use Rattle.asm_unwind.specs.declared.entry.EntryWords.{EntryWords}
 use Rattle.asm_unwind.specs.Refusals.{is_start, is_end, seen_in, refusal_of}
 use Rattle.asm_unwind.specs.Entries.{entry_words_of}
-use Rattle.asm_layout.specs.Functions.{Frame, no_frame, directive_of, frame_behind, frame_if_taken, next_frame, entry_or_none, ended_entry, new_entries, entries_from, entry_faults, directive_faults, new_faults, open_faults, unwind_faults_from}
+use Rattle.asm_layout.specs.Functions.{Frame, no_frame, directive_of, frame_after, frame_if_taken, next_frame, entry_or_none, ended_entry, new_entries, entries_from, entry_faults, directive_faults, new_faults, open_faults, unwind_faults_from}
 use Rattle.asm_object.proofs.ObjectLaws.{both_none}
 use Rattle.source_laws.specs.Functions.{bounds_function, HasNoBound, directives_in, start_at, end_at}
 use Rattle.source_laws.specs.RowLaw.{IsClosed}
@@ -62,8 +62,8 @@ taken_with frame line d None e = refl
 pub record Taken (frame : Frame) (stmt : Stmt) (more : List Stmt) (d : UnwindDirective) : Type 0 where
   pub refusal : refusal_of (seen_in frame.directives) d ≡ None
   pub faults : directive_faults frame stmt.line d None ≡ []
-  pub rest : unwind_faults_from (frame_behind frame stmt.line d) more ≡ []
-  pub entries : entries_from frame (stmt ∷ more) ≡ ended_entry frame d None ++ entries_from (frame_behind frame stmt.line d) more
+  pub rest : unwind_faults_from (frame_after frame stmt.line d) more ≡ []
+  pub entries : entries_from frame (stmt ∷ more) ≡ ended_entry frame d None ++ entries_from (frame_after frame stmt.line d) more
 
 pub taken_directive : (frame : Frame) (stmt : Stmt) (more : List Stmt) (d : UnwindDirective) → directive_of stmt.kind ≡ Some d
     → unwind_faults_from frame (stmt ∷ more) ≡ [] → Taken frame stmt more d
@@ -118,8 +118,8 @@ plain_outside stmt more plain e = by (directive_of stmt.kind) refl
 
 -- ---- from a `.fnstart` to its `.fnend`
 
-any_behind : (directives : List UnwindDirective) (d : UnwindDirective) → list_any is_start directives ≡ true → list_any is_start (directives ++ d ∷ []) ≡ true
-any_behind directives d e = list_any-append is_start directives (d ∷ []) ∙ ap (λ b. b || list_any is_start (d ∷ [])) e
+any_after : (directives : List UnwindDirective) (d : UnwindDirective) → list_any is_start directives ≡ true → list_any is_start (directives ++ d ∷ []) ≡ true
+any_after directives d e = list_any-append is_start directives (d ∷ []) ∙ ap (λ b. b || list_any is_start (d ∷ [])) e
 
 pub which : (kind : StmtKind) → (kind ≡ statement.FnStart) ⊎ ((kind ≡ statement.FnEnd) ⊎ (bounds_function kind ≡ false))
 which statement.FnStart = inl refl
@@ -134,11 +134,11 @@ pub record Went (frame : Frame) (stmt : Stmt) (more : List Stmt) : Type 0 where
   pub entries : entries_from frame (stmt ∷ more) ≡ entries_from onward more
   pub directives : onward.directives ≡ frame.directives ++ cons_option (directive_of stmt.kind) []
 
-plain_behind : (frame : Frame) (line : ℕ) (d : UnwindDirective) → is_start d ≡ false → is_end d ≡ false
-    → (frame_behind frame line d ≡ record { directives = frame.directives ++ d ∷ []; start = frame.start }) × (ended_entry frame d None ≡ [])
-plain_behind frame line unwind.FnStart s e = absurd (true≢false s)
-plain_behind frame line unwind.FnEnd s e = absurd (true≢false e)
-plain_behind frame line _ s e = (refl, refl)
+plain_after : (frame : Frame) (line : ℕ) (d : UnwindDirective) → is_start d ≡ false → is_end d ≡ false
+    → (frame_after frame line d ≡ record { directives = frame.directives ++ d ∷ []; start = frame.start }) × (ended_entry frame d None ≡ [])
+plain_after frame line unwind.FnStart s e = absurd (true≢false s)
+plain_after frame line unwind.FnEnd s e = absurd (true≢false e)
+plain_after frame line _ s e = (refl, refl)
 
 pub goes_on : (frame : Frame) (stmt : Stmt) (more : List Stmt) → Shape true frame → bounds_function stmt.kind ≡ false → unwind_faults_from frame (stmt ∷ more) ≡ []
     → Went frame stmt more
@@ -157,13 +157,13 @@ goes_on frame stmt more shape plain e = by (directive_of stmt.kind) refl
     by (Some d) is =
         let taken = taken_directive frame stmt more d is e in
         let none = bounds_none stmt.kind d plain is in
-        let next = plain_behind frame stmt.line d none.0 none.1 in
+        let next = plain_after frame stmt.line d none.0 none.1 in
         let N : Frame → Type 0 = λ f. unwind_faults_from f more ≡ [] in
         record {
           onward = record { directives = frame.directives ++ d ∷ []; start = frame.start };
-          shape = (any_behind frame.directives d shape.0, shape.1);
+          shape = (any_after frame.directives d shape.0, shape.1);
           rest = subst N next.0 taken.rest;
-          entries = taken.entries ∙ ap (λ front. front ++ entries_from (frame_behind frame stmt.line d) more) next.1 ∙ ap (λ f. entries_from f more) next.0;
+          entries = taken.entries ∙ ap (λ front. front ++ entries_from (frame_after frame stmt.line d) more) next.1 ∙ ap (λ f. entries_from f more) next.0;
           directives = ap (λ o. frame.directives ++ cons_option o []) (sym is);
         }
 
@@ -174,9 +174,9 @@ pub record Ended (frame : Frame) (between : List Stmt) (line : ℕ) (after : Lis
   pub entries : entries_from frame (between ++ end_at line ∷ after) ≡ Some words ∷ entries_from no_frame after
   pub rest : unwind_faults_from no_frame after ≡ []
 
-pub regroup : (ds : List UnwindDirective) (o : Option UnwindDirective) (more behind : List UnwindDirective) → ds ++ cons_option o [] ++ more ++ behind ≡ ds ++ cons_option o more ++ behind
-regroup ds None more behind = ap (λ l. l ++ more ++ behind) (append-nil ds)
-regroup ds (Some d) more behind = ap (λ l. l ++ behind) (append_assoc ds (d ∷ []) more)
+pub regroup : (ds : List UnwindDirective) (o : Option UnwindDirective) (more following : List UnwindDirective) → ds ++ cons_option o [] ++ more ++ following ≡ ds ++ cons_option o more ++ following
+regroup ds None more following = ap (λ l. l ++ more ++ following) (append-nil ds)
+regroup ds (Some d) more following = ap (λ l. l ++ following) (append_assoc ds (d ∷ []) more)
 
 pub ended_with : (frame : Frame) (between : List Stmt) (line : ℕ) (after : List Stmt) → Shape true frame → HasNoBound between
     → unwind_faults_from frame (between ++ end_at line ∷ after) ≡ [] → Ended frame between line after
@@ -245,7 +245,7 @@ closes frame (stmt ∷ more) shape e =
       ]
     ]
 
--- the frame behind a `.fnstart`
+-- the frame after a `.fnstart`
 pub record Begun (line : ℕ) (more : List Stmt) : Type 0 where
   pub rest : unwind_faults_from (record { directives = unwind.FnStart ∷ []; start = Some line }) more ≡ []
   pub entries : entries_from no_frame (start_at line ∷ more) ≡ entries_from (record { directives = unwind.FnStart ∷ []; start = Some line }) more
@@ -259,35 +259,35 @@ begun line more e =
 pub no_end : (stmt : Stmt) (more : List Stmt) → stmt.kind ≡ statement.FnEnd → unwind_faults_from no_frame (stmt ∷ more) ≡ [] → ⊥
 no_end stmt more is e = outside unwind.FnEnd refl (taken_directive no_frame stmt more unwind.FnEnd (ap directive_of is) e).refusal
 
--- behind any statements of an accepted source, a `.fnstart` is closed
-pub closed_behind : (frame : Frame) (before : List Stmt) (line : ℕ) (more : List Stmt) (opened : Bool) → Shape opened frame → unwind_faults_from frame (before ++ start_at line ∷ more) ≡ []
+-- after any statements of an accepted source, a `.fnstart` is closed
+pub closed_after : (frame : Frame) (before : List Stmt) (line : ℕ) (more : List Stmt) (opened : Bool) → Shape opened frame → unwind_faults_from frame (before ++ start_at line ∷ more) ≡ []
     → IsClosed more
-closed_behind frame [] line more true shape e = absurd (no_second frame (start_at line) more shape refl e)
-closed_behind frame [] line more false shape e =
+closed_after frame [] line more true shape e = absurd (no_second frame (start_at line) more shape refl e)
+closed_after frame [] line more false shape e =
     let T : Frame → Type 0 = λ f. unwind_faults_from f (start_at line ∷ more) ≡ [] in
     closes (record { directives = unwind.FnStart ∷ []; start = Some line }) more (refl, (line, refl)) (begun line more (subst T shape e)).rest
-closed_behind frame (stmt ∷ before) line more true shape e =
+closed_after frame (stmt ∷ before) line more true shape e =
     elim (which stmt.kind) [
       | inl is ↦ absurd (no_second frame stmt (before ++ start_at line ∷ more) shape is e)
       | inr other ↦ elim other [
         | inl is ↦
-            closed_behind no_frame before line more false refl
+            closed_after no_frame before line more false refl
             (taken_directive frame stmt (before ++ start_at line ∷ more) unwind.FnEnd (ap directive_of is) e).rest
         | inr plain ↦
             let went = goes_on frame stmt (before ++ start_at line ∷ more) shape plain e in
-            closed_behind went.onward before line more true went.shape went.rest
+            closed_after went.onward before line more true went.shape went.rest
       ]
     ]
-closed_behind frame (stmt ∷ before) line more false shape e =
+closed_after frame (stmt ∷ before) line more false shape e =
     let T : Frame → Type 0 = λ f. unwind_faults_from f (stmt ∷ before ++ start_at line ∷ more) ≡ [] in
     elim (which stmt.kind) [
       | inl is ↦
-          closed_behind (record { directives = unwind.FnStart ∷ []; start = Some stmt.line }) before line more true (refl, (stmt.line, refl))
+          closed_after (record { directives = unwind.FnStart ∷ []; start = Some stmt.line }) before line more true (refl, (stmt.line, refl))
           (taken_directive no_frame stmt (before ++ start_at line ∷ more) unwind.FnStart (ap directive_of is) (subst T shape e)).rest
       | inr other ↦ elim other [
         | inl is ↦ absurd (no_end stmt (before ++ start_at line ∷ more) is (subst T shape e))
         | inr plain ↦
             let none = plain_outside stmt (before ++ start_at line ∷ more) plain (subst T shape e) in
-            closed_behind frame before line more false shape (taken_none frame stmt (before ++ start_at line ∷ more) none e).0
+            closed_after frame before line more false shape (taken_none frame stmt (before ++ start_at line ∷ more) none e).0
       ]
     ]

@@ -1,4 +1,4 @@
--- What stands behind `.handlerdata`.
+-- What stands after `.handlerdata`.
 use Rattle.asm_layout.specs.declared.walk.TheConstants.{MOST_BYTES}
 use Rattle.std.proofs.Common.{◌≡◌, ℕ, ◌+◌, ◌-◌, ◌*◌, ◌%◌, ◌^◌, ◌≤◌, ◌<◌, min, Bool, true, false, cond, List, [], ◌∷◌, ◌++◌, length, drop, flat_map, Option, Some, refl, sym, ap, ◌∙◌, arith, append_assoc, append-nil, subst}
 use Rattle.std.specs.List.{list_any, list_all}
@@ -19,7 +19,7 @@ use Rattle.asm_layout.specs.declared.walk.Walk.{Walk}
 use Rattle.asm_layout.specs.Functions.{entries_of, no_frame}
 use Rattle.asm_layout.specs.Labels.{Named, labels_of}
 use Rattle.asm_layout.specs.Sizes.{sum_64, times, size_in, sizes_grown, table_size, is_too_large}
-use Rattle.asm_layout.specs.Walks.{start, next, here, entry_at, is_empty, is_in_text, coming_pool, walk_behind, sizes_with_pool}
+use Rattle.asm_layout.specs.Walks.{start, next, here, entry_at, is_empty, is_in_text, coming_pool, walk_after, sizes_with_pool}
 use Rattle.relocatable_object.specs.Sections.{same_section}
 use Rattle.eh_list.specs.Bytes.{gap, next_multiple}
 use Rattle.relocatable_object.specs.declared.object.Object.{Object}
@@ -28,15 +28,15 @@ use Rattle.asm_object.specs.Pieces.{Piece, place_at, data_bytes, bytes_in, piece
 use Rattle.asm_object.proofs.PlaceLaws.{law_of_bytes, walks_on}
 use Rattle.asm_object.proofs.ObjectLaws.{IsTaken, taken, ends_small, entries_count}
 use Rattle.asm_object.proofs.LoadLaws.{and_true}
-use Rattle.asm_object.proofs.LabelLaws.{small_behind}
+use Rattle.asm_object.proofs.LabelLaws.{small_after}
 use Rattle.source_laws.specs.Functions.{bounds_function, HasNoBound, Function, source_of, start_at, end_at}
-use Rattle.source_laws.specs.RowLaw.{behind}
-use Rattle.source_laws.specs.HandlerLaw.{is_handler, handler_at, is_data, Handler, HandlersStandBehindTheirTables}
+use Rattle.source_laws.specs.RowLaw.{walk_over}
+use Rattle.source_laws.specs.HandlerLaw.{is_handler, handler_at, is_data, Handler, HandlersStandAfterTheirTables}
 use Rattle.source_laws.proofs.Rows.{starts_at}
 use Rattle.source_laws.proofs.Standing.{fewer, at_start, in_text, own_entry}
 use Rattle.asm_object.proofs.Statements.{walk_pieces}
 use Rattle.asm_layout.specs.Placing.{word_place, placed_from}
-use Rattle.asm_object.specs.Behind.{pieces_from, refusals_from}
+use Rattle.asm_object.specs.After.{pieces_from, refusals_from}
 
 -- ---- from the `.fnstart` to the first `.handlerdata` nothing more goes into the exception tables
 
@@ -75,8 +75,8 @@ stays_out tables entries walk statement.Pool o p h = by (is_in_text walk.at)
 stays_out tables entries walk _ o p h = record { section = o.section; size = grown_elsewhere walk.at.sizes walk.at.section _ o.section ∙ o.size }
 
 all_out : (tables : ℕ) (entries : List (Option EntryWords)) (walk : Walk) (code : List Stmt) → OutOfTables tables walk.at → HasNoBound code
-    → list_any (λ s. is_handler s.kind) code ≡ false → OutOfTables tables (walk_behind entries walk code).at
-unfolding walk_behind
+    → list_any (λ s. is_handler s.kind) code ≡ false → OutOfTables tables (walk_after entries walk code).at
+unfolding walk_after
 all_out tables entries walk [] o p h = o
 all_out tables entries walk (stmt ∷ code) o p h =
     let plain = or_parts (bounds_function stmt.kind) (list_any (λ s. bounds_function s.kind) code) p in
@@ -103,8 +103,8 @@ gives_data entries labels walk word _ e = record { bytes = cc; section = cc }
 
 data_there : (entries : List (Option EntryWords)) (labels : List Named) (walk : Walk) (own more : List Stmt) → walk.at.section ≡ Extab → list_all (λ s. is_data s.kind) own ≡ true
     → bytes_in Extab (pieces_from entries labels walk (own ++ more))
-    ≡ flat_map (λ s. data_bytes labels s.kind) own ++ bytes_in Extab (pieces_from entries labels (walk_behind entries walk own) more)
-unfolding pieces_of placed_from walk_behind
+    ≡ flat_map (λ s. data_bytes labels s.kind) own ++ bytes_in Extab (pieces_from entries labels (walk_after entries walk own) more)
+unfolding pieces_of placed_from walk_after
 data_there entries labels walk [] more at e = refl
 data_there entries labels walk (stmt ∷ own) more at e =
     let parts = and_true (is_data stmt.kind) (list_all (λ s. is_data s.kind) own) e in
@@ -116,7 +116,7 @@ data_there entries labels walk (stmt ∷ own) more at e =
     ∙ ap (λ b. b ++ bytes_in Extab (pieces_from entries labels after (own ++ more)))
     (gives.bytes ∙ append-nil _ ∙ ap (λ s. cond (same_section s Extab) (data_bytes labels stmt.kind) []) at)
     ∙ ap (λ b. data_bytes labels stmt.kind ++ b) (data_there entries labels after own more (gives.section ∙ at) parts.1)
-    ∙ sym (append_assoc (data_bytes labels stmt.kind) (flat_map (λ s. data_bytes labels s.kind) own) (bytes_in Extab (pieces_from entries labels (walk_behind entries after own) more)))
+    ∙ sym (append_assoc (data_bytes labels stmt.kind) (flat_map (λ s. data_bytes labels s.kind) own) (bytes_in Extab (pieces_from entries labels (walk_after entries after own) more)))
 
 -- ---- the law
 
@@ -131,7 +131,7 @@ joined_extab stmts = refl
 abbrev up_to : Function → List Stmt → ℕ → List Stmt
 up_to f code line = f.before ++ start_at f.start_line ∷ (code ++ handler_at line ∷ [])
 
--- the source cut behind its `.handlerdata`
+-- the source cut after its `.handlerdata`
 cut_there : (f : Function) (handler : Handler f) → source_of f ≡ up_to f handler.code handler.line ++ (handler.own ++ (handler.rest ++ end_at f.end_line ∷ f.after))
 cut_there f handler =
     ap (λ between. f.before ++ start_at f.start_line ∷ (between ++ end_at f.end_line ∷ f.after)) handler.split
@@ -142,14 +142,14 @@ cut_there f handler =
         ap (λ l. b ++ s ∷ l) (append_assoc c (h ∷ (o ++ r)) e ∙ ap (λ l. c ++ h ∷ l) (append_assoc o r e) ∙ sym (append_assoc c (h ∷ []) (o ++ (r ++ e))))
         ∙ sym (append_assoc b (s ∷ (c ++ h ∷ [])) (o ++ (r ++ e)))
 
--- where the source has come to behind its `.handlerdata`
+-- where the source has come to after its `.handlerdata`
 come_to : (entries : List (Option EntryWords)) (f : Function) (code : List Stmt) (line : ℕ)
-    → walk_behind entries start (up_to f code line)
-    ≡ next entries (walk_behind entries (next entries (walk_behind entries start f.before) statement.FnStart) code) statement.HandlerData
-unfolding walk_behind
+    → walk_after entries start (up_to f code line)
+    ≡ next entries (walk_after entries (next entries (walk_after entries start f.before) statement.FnStart) code) statement.HandlerData
+unfolding walk_after
 come_to entries f code line =
     walks_on entries start f.before (start_at f.start_line ∷ (code ++ handler_at line ∷ []))
-    ∙ walks_on entries (next entries (walk_behind entries start f.before) statement.FnStart) code (handler_at line ∷ [])
+    ∙ walks_on entries (next entries (walk_after entries start f.before) statement.FnStart) code (handler_at line ∷ [])
 
 code_unbounded : (f : Function) (handler : Handler f) → HasNoBound f.between → HasNoBound handler.code
 code_unbounded f handler plain =
@@ -159,33 +159,33 @@ code_unbounded f handler plain =
 
 -- the end of the table
 pub table_end : (stmts : List Stmt) (f : Function) (words : List ℕ) (object : Object) → stmts ≡ source_of f → length stmts < 2 ^ 64 → IsTaken stmts object
-    → (walk_behind (entries_of stmts) start f.before).at.inside ≡ false → (walk_behind (entries_of stmts) start f.before).at.functions < 2 ^ 64 - 1
-    → entry_at (entries_of stmts) (walk_behind (entries_of stmts) start f.before).at.functions ≡ Some (entry.Table words)
-    → (next (entries_of stmts) (walk_behind (entries_of stmts) start f.before) statement.FnStart).at.sizes.extab
-    ≡ next_multiple (walk_behind (entries_of stmts) start f.before).at.sizes.extab 4 + 4 * length words
-unfolding walk_behind
+    → (walk_after (entries_of stmts) start f.before).at.inside ≡ false → (walk_after (entries_of stmts) start f.before).at.functions < 2 ^ 64 - 1
+    → entry_at (entries_of stmts) (walk_after (entries_of stmts) start f.before).at.functions ≡ Some (entry.Table words)
+    → (next (entries_of stmts) (walk_after (entries_of stmts) start f.before) statement.FnStart).at.sizes.extab
+    ≡ next_multiple (walk_after (entries_of stmts) start f.before).at.sizes.extab 4 + 4 * length words
+unfolding walk_after
 table_end stmts f words object same few t closed room there =
     let entries = entries_of stmts in
     let labels = labels_of entries stmts in
-    let walk = walk_behind entries start f.before in
+    let walk = walk_after entries start f.before in
     let more = f.between ++ end_at f.end_line ∷ f.after in
     let whole : stmts ≡ (f.before ++ start_at f.start_line ∷ []) ++ more = same ∙ sym (append_assoc f.before (start_at f.start_line ∷ []) more) in
     let R : List Stmt → Type 0 = λ s. refusals_from entries labels start s ≡ [] in
-    let T : List Stmt → Type 0 = λ s. is_too_large (sizes_with_pool (walk_behind entries start s)) ≡ false in
-    let small = small_behind entries labels (f.before ++ start_at f.start_line ∷ []) more Extab (fewer _ _ (entries_count no_frame stmts) few) (subst R whole t.unrefused) (subst T whole (ends_small entries start 0 stmts t.small)) in
-    let on : walk_behind entries start (f.before ++ start_at f.start_line ∷ []) ≡ next entries walk statement.FnStart = walks_on entries start f.before (start_at f.start_line ∷ []) in
+    let T : List Stmt → Type 0 = λ s. is_too_large (sizes_with_pool (walk_after entries start s)) ≡ false in
+    let small = small_after entries labels (f.before ++ start_at f.start_line ∷ []) more Extab (fewer _ _ (entries_count no_frame stmts) few) (subst R whole t.unrefused) (subst T whole (ends_small entries start 0 stmts t.small)) in
+    let on : walk_after entries start (f.before ++ start_at f.start_line ∷ []) ≡ next entries walk statement.FnStart = walks_on entries start f.before (start_at f.start_line ∷ []) in
     let size : (next entries walk statement.FnStart).at.sizes.extab ≡ sum_64 walk.at.sizes.extab (table_size walk.at.sizes.extab (Some (entry.Table words))) =
     ap (λ (c : Cursor). c.sizes.extab) (starts_at entries walk closed room) ∙ ap (λ o. sum_64 walk.at.sizes.extab (table_size walk.at.sizes.extab o)) there in
     let P : ℕ → Type 0 = λ n. n ≤ MOST_BYTES in
     size ∙ table_ends walk.at.sizes.extab (length words) (subst P (ap (λ (w : Walk). w.at.sizes.extab) on ∙ size) small)
 
-pub law_of_handlers : HandlersStandBehindTheirTables
+pub law_of_handlers : HandlersStandAfterTheirTables
 law_of_handlers f handler words object plain few e given =
     let stmts = source_of f in
     let entries = entries_of stmts in
     let labels = labels_of entries stmts in
     let more = f.between ++ end_at f.end_line ∷ f.after in
-    let walk = behind stmts f.before in
+    let walk = walk_over stmts f.before in
     let t = taken stmts object e in
     let at = at_start stmts f.before f.start_line more object refl few t in
     let own = own_entry entries walk f.start_line f.between f.end_line f.after at.opens plain in
@@ -201,18 +201,18 @@ law_of_handlers f handler words object plain few e given =
     let later = all_out first.at.sizes.extab entries first handler.code out (code_unbounded f handler plain) handler.first in
     let end = table_end stmts f words object refl few t at.opens.closed at.opens.few there in
     let come = come_to entries f handler.code handler.line in
-    let here_now = ap (λ (w : Walk). here w.at) come ∙ handler_here first.at.sizes.extab entries (walk_behind entries first handler.code) later ∙ ap (place_at Extab) end in
+    let here_now = ap (λ (w : Walk). here w.at) come ∙ handler_here first.at.sizes.extab entries (walk_after entries first handler.code) later ∙ ap (place_at Extab) end in
     let R : List Stmt → Type 0 = λ s. refusals_from entries labels start s ≡ [] in
-    let T : List Stmt → Type 0 = λ s. is_too_large (sizes_with_pool (walk_behind entries start s)) ≡ false in
+    let T : List Stmt → Type 0 = λ s. is_too_large (sizes_with_pool (walk_after entries start s)) ≡ false in
     let cut = cut_there f handler in
     let rest = handler.rest ++ end_at f.end_line ∷ f.after in
-    let last = behind stmts (up_to f handler.code handler.line) in
+    let last = walk_over stmts (up_to f handler.code handler.line) in
     let section : last.at.section ≡ Extab = ap (λ (p : Place). p.section) here_now in
     let size : size_in last.at.sizes Extab ≡ next_multiple walk.at.sizes.extab 4 + 4 * length words =
     ap (λ s. size_in last.at.sizes s) (sym section) ∙ ap (λ (p : Place). p.offset) here_now in
     record {
       here_now = here_now;
-      after = bytes_in Extab (pieces_from entries labels (walk_behind entries last handler.own) rest);
+      after = bytes_in Extab (pieces_from entries labels (walk_after entries last handler.own) rest);
       bytes =
           ap (λ n. drop n object.extab) (sym size)
           ∙ ap (λ (o : Object). drop (size_in last.at.sizes Extab) o.extab) t.object_is

@@ -15,7 +15,7 @@ use Rattle.asm_layout.specs.declared.walk.Walk.{Walk}
 use Rattle.asm_layout.specs.Functions.{entries_of, no_frame}
 use Rattle.asm_layout.specs.Labels.{Named, labels_of}
 use Rattle.asm_layout.specs.Sizes.{multiple, size_in, is_too_large}
-use Rattle.asm_layout.specs.Walks.{start, next, here, entry_at, is_empty, is_in_text, pool_place, coming_pool, walk_behind, sizes_with_pool}
+use Rattle.asm_layout.specs.Walks.{start, next, here, entry_at, is_empty, is_in_text, pool_place, coming_pool, walk_after, sizes_with_pool}
 use Rattle.relocatable_object.specs.Sections.{same_section}
 use Rattle.eh_list.specs.Bytes.{gap, next_multiple}
 use Rattle.relocatable_object.specs.declared.object.Mark.{Mark}
@@ -24,15 +24,15 @@ use Rattle.asm_object.specs.Bytes.{filling_bytes}
 use Rattle.asm_object.specs.Objects.{joined}
 use Rattle.asm_object.specs.Pieces.{Piece, shows, changes_to, mark_of, marks_from, place_at, filling_piece, words_piece, pool_pieces, table_pieces, own_piece, bytes_in, put_pieces, pieces_of}
 use Rattle.asm_object.specs.Refusals.{refusal}
-use Rattle.asm_object.proofs.PlaceLaws.{Fewer, is_ordinary, ordinary_sets, own_stands, filled_length, none_parts, not_large, text_here, law_of_ends, law_of_places, earlier, split, walks_on, none_behind}
+use Rattle.asm_object.proofs.PlaceLaws.{Fewer, is_ordinary, ordinary_sets, own_stands, filled_length, none_parts, not_large, text_here, law_of_ends, law_of_places, earlier, split, walks_on, none_after}
 use Rattle.asm_object.proofs.ObjectLaws.{IsTaken, taken, ends_small, entries_count}
-use Rattle.source_laws.specs.RowLaw.{behind}
+use Rattle.source_laws.specs.RowLaw.{walk_over}
 use Rattle.source_laws.proofs.Standing.{fewer}
-use Rattle.source_laws.specs.MarkLaw.{is_code, pool_at, text_behind, LastMarkSays, MarksTellCode, PoolsAreMarked, LastPoolsAreMarked}
+use Rattle.source_laws.specs.MarkLaw.{is_code, pool_at, text_after, LastMarkSays, MarksTellCode, PoolsAreMarked, LastPoolsAreMarked}
 use Rattle.asm_object.proofs.Statements.{walk_sets, walk_pieces}
 use Rattle.asm_layout.specs.Placing.{word_place, placed_from, pool_here, pool_puts, function_here}
 use Rattle.asm_layout.specs.declared.placed.Puts.TheVariants as puts
-use Rattle.asm_object.specs.Behind.{pieces_from, refusals_from}
+use Rattle.asm_object.specs.After.{pieces_from, refusals_from}
 
 -- ---- pieces of the text
 
@@ -42,7 +42,7 @@ no_bytes = []
 abbrev text_bytes : Piece → List ℕ
 text_bytes piece = cond (same_section piece.place.section Text) piece.bytes no_bytes
 
--- pieces stand in the text one behind the other, from a place on
+-- pieces stand in the text one after the other, from a place on
 abbrev Tiles : ℕ → List Piece → Type 0
 Tiles at [] = Unit {0}
 Tiles at (piece ∷ more) = (shows piece ≡ true → piece.place.offset ≡ at) × Tiles (at + length (text_bytes piece)) more
@@ -124,7 +124,7 @@ mark_from at offset code true e h = All-cons (FromOn at) (record { offset = offs
     is_from : (offset : ℕ) → offset ≡ at → at ≤ offset % 2 ^ 32
     is_from offset e = omega (arith, h, e)
 
--- the marks of pieces from a place on stand there or behind it
+-- the marks of pieces from a place on stand there or after it
 from_on : (at : ℕ) (last : Option Bool) (pieces : List Piece) → Tiles at pieces → at + length (bytes_in Text pieces) ≤ MOST_BYTES → All (FromOn at) (marks_from last pieces)
 unfolding marks_from
 from_on at last [] t h = All-nil (FromOn at)
@@ -314,14 +314,14 @@ within : (a x end : ℕ) → a + x ≡ end → end ≤ MOST_BYTES → a ≤ MOST
 within a x end e h = omega (arith, e, h)
 
 abbrev Unrefused : List (Option EntryWords) → List Named → Walk → List Stmt → Type 0
-Unrefused entries labels walk stmts = (refusals_from entries labels walk stmts ≡ []) × (is_too_large (sizes_with_pool (walk_behind entries walk stmts)) ≡ false)
+Unrefused entries labels walk stmts = (refusals_from entries labels walk stmts ≡ []) × (is_too_large (sizes_with_pool (walk_after entries walk stmts)) ≡ false)
 
 small_here : (entries : List (Option EntryWords)) (labels : List Named) (walk : Walk) (stmts : List Stmt) → Fewer entries → Unrefused entries labels walk stmts → walk.at.sizes.text ≤ MOST_BYTES
 small_here entries labels walk stmts few u =
-    within walk.at.sizes.text (length (bytes_in Text (pieces_from entries labels walk stmts))) (size_in (sizes_with_pool (walk_behind entries walk stmts)) Text)
-    (law_of_ends entries labels walk stmts Text few u.0 u.1) (not_large (sizes_with_pool (walk_behind entries walk stmts)) Text u.1)
+    within walk.at.sizes.text (length (bytes_in Text (pieces_from entries labels walk stmts))) (size_in (sizes_with_pool (walk_after entries walk stmts)) Text)
+    (law_of_ends entries labels walk stmts Text few u.0 u.1) (not_large (sizes_with_pool (walk_after entries walk stmts)) Text u.1)
 
--- the pieces of a statement, and where the text has come to behind them
+-- the pieces of a statement, and where the text has come to after them
 record Onward (entries : List (Option EntryWords)) (labels : List Named) (walk : Walk) (stmt : Stmt) (more : List Stmt) : Type 0 where
   word : Option ℕ
   pieces : pieces_from entries labels walk (stmt ∷ more) ≡ walk_pieces entries labels walk word stmt.kind ++ pieces_from entries labels (next entries walk stmt.kind) more
@@ -330,7 +330,7 @@ record Onward (entries : List (Option EntryWords)) (labels : List Named) (walk :
 
 goes_on : (entries : List (Option EntryWords)) (labels : List Named) (walk : Walk) (stmt : Stmt) (more : List Stmt) → Fewer entries → Unrefused entries labels walk (stmt ∷ more)
     → Onward entries labels walk stmt more
-unfolding pieces_of placed_from walk_behind
+unfolding pieces_of placed_from walk_after
 goes_on entries labels walk stmt more few u =
     let after = next entries walk stmt.kind in
     let word = word_place walk stmt.kind (coming_pool entries walk (stmt ∷ more)) in
@@ -340,7 +340,7 @@ goes_on entries labels walk stmt more few u =
       pieces = refl;
       unrefused = (parts.1, u.1);
       grown =
-          behind_own walk.at.sizes.text (length (bytes_in Text (walk_pieces entries labels walk word stmt.kind))) (length (bytes_in Text (pieces_from entries labels after more))) after.at.sizes.text _
+          after_own walk.at.sizes.text (length (bytes_in Text (walk_pieces entries labels walk word stmt.kind))) (length (bytes_in Text (pieces_from entries labels after more))) after.at.sizes.text _
           (ap (λ n. walk.at.sizes.text + n) (sym (both (walk_pieces entries labels walk word stmt.kind) (pieces_from entries labels after more)))
           ∙ law_of_ends entries labels walk (stmt ∷ more) Text few u.0 u.1)
           (law_of_ends entries labels after more Text few parts.1 u.1);
@@ -350,12 +350,12 @@ goes_on entries labels walk stmt more few u =
     both xs ys =
         ap length (flat_map-append (λ p. cond (same_section p.place.section Text) p.bytes no_bytes) xs ys) ∙ length-append (bytes_in Text xs) (bytes_in Text ys)
 
-    behind_own : (a x y b end : ℕ) → a + (x + y) ≡ end → b + y ≡ end → a + x ≡ b
-    behind_own a x y b end e f = omega (arith, e, f)
+    after_own : (a x y b end : ℕ) → a + (x + y) ≡ end → b + y ≡ end → a + x ≡ b
+    after_own a x y b end e f = omega (arith, e, f)
 
 tiles_from : (entries : List (Option EntryWords)) (labels : List Named) (walk : Walk) (stmts : List Stmt) → Fewer entries → Unrefused entries labels walk stmts
     → Tiles walk.at.sizes.text (pieces_from entries labels walk stmts)
-unfolding pieces_of placed_from walk_behind
+unfolding pieces_of placed_from walk_after
 tiles_from entries labels walk [] few u = pool_tiles labels walk (small_here entries labels walk [] few u)
 tiles_from entries labels walk (stmt ∷ more) few u =
     let on = goes_on entries labels walk stmt more few u in
@@ -410,17 +410,17 @@ joined_text stmts = refl
 
 record Cut (stmts before more : List Stmt) (object : Object) : Type 0 where
   few : Fewer (entries_of stmts)
-  unrefused : Unrefused (entries_of stmts) (labels_of (entries_of stmts) stmts) (behind stmts before) more
-  standing : Standing object (text_behind stmts before) (pieces_from (entries_of stmts) (labels_of (entries_of stmts) stmts) (behind stmts before) more)
+  unrefused : Unrefused (entries_of stmts) (labels_of (entries_of stmts) stmts) (walk_over stmts before) more
+  standing : Standing object (text_after stmts before) (pieces_from (entries_of stmts) (labels_of (entries_of stmts) stmts) (walk_over stmts before) more)
 
 cut : (stmts before more : List Stmt) (object : Object) → stmts ≡ before ++ more → length stmts < 2 ^ 64 → IsTaken stmts object → Cut stmts before more object
 cut stmts before more object same few t =
     let entries = entries_of stmts in
     let labels = labels_of entries stmts in
-    let walk = behind stmts before in
+    let walk = walk_over stmts before in
     let few_entries = fewer _ _ (entries_count no_frame stmts) few in
     let R : List Stmt → Type 0 = λ s. refusals_from entries labels start s ≡ [] in
-    let H : List Stmt → Type 0 = λ s. is_too_large (sizes_with_pool (walk_behind entries start s)) ≡ false in
+    let H : List Stmt → Type 0 = λ s. is_too_large (sizes_with_pool (walk_after entries start s)) ≡ false in
     let unrefused = subst R same t.unrefused in
     let small = subst H same (ends_small entries start 0 stmts t.small) in
     let parts = ap (pieces_from entries labels start) same ∙ split entries labels start before more in
@@ -430,7 +430,7 @@ cut stmts before more object same few t =
     let all : Unrefused entries labels start stmts = subst P (sym same) (unrefused, small) in
     record {
       few = few_entries;
-      unrefused = (none_behind entries labels start before more unrefused, ap (λ w. is_too_large (sizes_with_pool w)) (sym (walks_on entries start before more)) ∙ small);
+      unrefused = (none_after entries labels start before more unrefused, ap (λ w. is_too_large (sizes_with_pool w)) (sym (walks_on entries start before more)) ∙ small);
       standing = record {
         front = earlier entries labels start before more;
         marks = ap (λ (o : Object). o.marks) t.object_is ∙ joined_marks stmts ∙ ap (marks_from None) parts;
@@ -449,14 +449,14 @@ cut stmts before more object same few t =
     whole_small : (entries : List (Option EntryWords)) (labels : List Named) (stmts : List Stmt) → Fewer entries → Unrefused entries labels start stmts
         → length (bytes_in Text (pieces_from entries labels start stmts)) ≤ MOST_BYTES
     whole_small entries labels stmts few u =
-        no_more _ _ (law_of_ends entries labels start stmts Text few u.0 u.1) (not_large (sizes_with_pool (walk_behind entries start stmts)) Text u.1)
+        no_more _ _ (law_of_ends entries labels start stmts Text few u.0 u.1) (not_large (sizes_with_pool (walk_after entries start stmts)) Text u.1)
       where
         no_more : (x end : ℕ) → 0 + x ≡ end → end ≤ MOST_BYTES → x ≤ MOST_BYTES
         no_more x end e h = omega (arith, e, h)
 
--- where the text has come to behind a statement more
-one_more : (stmts before : List Stmt) (stmt : Stmt) → text_behind stmts (before ++ stmt ∷ []) ≡ (next (entries_of stmts) (behind stmts before) stmt.kind).at.sizes.text
-unfolding walk_behind
+-- where the text has come to after a statement more
+one_more : (stmts before : List Stmt) (stmt : Stmt) → text_after stmts (before ++ stmt ∷ []) ≡ (next (entries_of stmts) (walk_over stmts before) stmt.kind).at.sizes.text
+unfolding walk_after
 one_more stmts before stmt = ap (λ walk. walk.at.sizes.text) (walks_on (entries_of stmts) start before (stmt ∷ []))
 
 -- ---- a statement's own bytes
@@ -499,7 +499,7 @@ law_of_marks before more stmt code object offset few e is h k =
     let stmts = before ++ stmt ∷ more in
     let entries = entries_of stmts in
     let labels = labels_of entries stmts in
-    let walk = behind stmts before in
+    let walk = walk_over stmts before in
     let at = cut stmts before (stmt ∷ more) object refl few (taken stmts object e) in
     let on = goes_on entries labels walk stmt more at.few at.unrefused in
     let S : List Piece → Type 0 = λ l. Standing object walk.at.sizes.text l in
@@ -559,7 +559,7 @@ law_of_pools before more line object offset few e h k =
     let stmts = before ++ stmt ∷ more in
     let entries = entries_of stmts in
     let labels = labels_of entries stmts in
-    let walk = behind stmts before in
+    let walk = walk_over stmts before in
     let at = cut stmts before (stmt ∷ more) object refl few (taken stmts object e) in
     let on = goes_on entries labels walk stmt more at.few at.unrefused in
     let S : List Piece → Type 0 = λ l. Standing object walk.at.sizes.text l in
@@ -567,14 +567,14 @@ law_of_pools before more line object offset few e h k =
     (subst S on.pieces at.standing) h (omega (arith, k, one_more stmts before stmt, on.grown))
 
 last_pieces : (entries : List (Option EntryWords)) (labels : List Named) (walk : Walk) → pieces_from entries labels walk [] ≡ pool_pieces labels (pool_here walk) ++ []
-unfolding pieces_of placed_from walk_behind
+unfolding pieces_of placed_from walk_after
 last_pieces entries labels walk = sym (append-nil (pool_pieces labels (pool_here walk)))
 
 pub law_of_last_pools : LastPoolsAreMarked
 law_of_last_pools stmts object offset few e h k =
     let entries = entries_of stmts in
     let labels = labels_of entries stmts in
-    let walk = behind stmts stmts in
+    let walk = walk_over stmts stmts in
     let at = cut stmts stmts [] object (sym (append-nil stmts)) few (taken stmts object e) in
     let S : List Piece → Type 0 = λ l. Standing object walk.at.sizes.text l in
     let last = subst S (last_pieces entries labels walk) at.standing in

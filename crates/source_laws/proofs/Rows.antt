@@ -15,14 +15,14 @@ use Rattle.asm_layout.specs.declared.walk.Cursor.{Cursor}
 use Rattle.asm_layout.specs.declared.walk.Walk.{Walk}
 use Rattle.asm_layout.specs.Functions.{Frame, no_frame, entries_from, entries_of, unwind_faults_from}
 use Rattle.asm_layout.specs.Sizes.{table_size, sizes_grown}
-use Rattle.asm_layout.specs.Walks.{start, next, entry_at, is_in_text, sizes_with_pool, walk_behind}
+use Rattle.asm_layout.specs.Walks.{start, next, entry_at, is_in_text, sizes_with_pool, walk_after}
 use Rattle.relocatable_object.specs.Sections.{same_section}
 use Rattle.asm_object.specs.Pieces.{row_of, put_rows}
 use Rattle.source_laws.specs.Functions.{starts_function, bounds_function, functions_in, start_at, end_at}
 use Rattle.source_laws.proofs.Frames.{Shape, which, goes_on, ended_with, closes, no_second, no_end, begun, plain_outside, taken_none}
 use Rattle.asm_layout.specs.Placing.{placed_from, pool_puts, function_at, function_here, puts_at}
 use Rattle.asm_layout.specs.declared.placed.Puts.TheVariants as puts
-use Rattle.asm_object.specs.Behind.{rows_from}
+use Rattle.asm_object.specs.After.{rows_from}
 
 -- ---- the walk
 
@@ -109,7 +109,7 @@ dropped_next (suc n) (y ∷ xs) x ys e =
     let next : suc n + 1 ≡ suc (n + 1) = omega arith in
     ap (λ k. drop k (y ∷ xs)) next ∙ dropped_next n xs x ys e
 
--- the entry of the function that begins here, and what is open behind its `.fnstart`
+-- the entry of the function that begins here, and what is open after its `.fnstart`
 pub record Opens (entries : List (Option EntryWords)) (walk : Walk) (line : ℕ) (more : List Stmt) : Type 0 where
   pub words : EntryWords
   pub entry : entry_at entries walk.at.functions ≡ Some words
@@ -121,8 +121,8 @@ pub record Opens (entries : List (Option EntryWords)) (walk : Walk) (line : ℕ)
 few_more : (n : ℕ) (xs : List Stmt) (x : Stmt) → n + length (x ∷ xs) < 2 ^ 64 → n < 2 ^ 64 - 1
 few_more n xs x h = omega (arith, h)
 
-few_behind : (n m : ℕ) (xs : List Stmt) (x : Stmt) → m ≤ n + 1 → n + length (x ∷ xs) < 2 ^ 64 → m + length xs < 2 ^ 64
-few_behind n m xs x l h = omega (arith, l, h)
+few_after : (n m : ℕ) (xs : List Stmt) (x : Stmt) → m ≤ n + 1 → n + length (x ∷ xs) < 2 ^ 64 → m + length xs < 2 ^ 64
+few_after n m xs x l h = omega (arith, l, h)
 
 opens_closed : (entries : List (Option EntryWords)) (walk : Walk) (line : ℕ) (more : List Stmt) → State entries false no_frame walk (start_at line ∷ more) → Opens entries walk line more
 opens_closed entries walk line more s =
@@ -135,8 +135,8 @@ opens_closed entries walk line more s =
     let queue : drop s.ended entries ≡ Some ended.words ∷ entries_from no_frame closed.after = s.queue ∙ first.entries ∙ ap (λ l. entries_from frame l) closed.split ∙ ended.entries in
     let number : walk.at.functions ≡ s.ended = s.functions ∙ plus_none s.ended in
     let few = few_more walk.at.functions more (start_at line) s.few in
-    let behind = starts_at entries walk s.inside few in
-    let count : (next entries walk statement.FnStart).at.functions ≡ walk.at.functions + 1 = ap (λ (c : Cursor). c.functions) behind in
+    let following = starts_at entries walk s.inside few in
+    let count : (next entries walk statement.FnStart).at.functions ≡ walk.at.functions + 1 = ap (λ (c : Cursor). c.functions) following in
     record {
       words = ended.words;
       entry = ap (λ n. entry_at entries n) number ∙ ap (λ o. unwrap_or o None) (dropped_get s.ended entries (Some ended.words) (entries_from no_frame closed.after) queue);
@@ -145,11 +145,11 @@ opens_closed entries walk line more s =
       state = record {
         taken = first.rest;
         shape = shape;
-        inside = ap (λ (c : Cursor). c.inside) behind;
+        inside = ap (λ (c : Cursor). c.inside) following;
         ended = s.ended;
         functions = count ∙ ap (λ n. n + 1) number;
         queue = s.queue ∙ first.entries;
-        few = few_behind walk.at.functions (next entries walk statement.FnStart).at.functions more (start_at line) (at_most _ _ count) s.few;
+        few = few_after walk.at.functions (next entries walk statement.FnStart).at.functions more (start_at line) (at_most _ _ count) s.few;
       };
       number = number;
     }
@@ -211,7 +211,7 @@ step_end entries true frame walk line more s =
         ended = s.ended + 1;
         functions = s.functions ∙ plus_none (s.ended + 1);
         queue = dropped_next s.ended entries (Some ended.words) (entries_from no_frame more) (s.queue ∙ ended.entries);
-        few = few_behind walk.at.functions walk.at.functions more (end_at line) (le_next walk.at.functions) s.few;
+        few = few_after walk.at.functions walk.at.functions more (end_at line) (le_next walk.at.functions) s.few;
       };
       functions = plus_none walk.at.functions;
       rows = refl;
@@ -239,7 +239,7 @@ plain_state entries opened frame onward walk stmt more s shape rest queue plain 
         ended = s.ended;
         functions = kept.functions ∙ s.functions;
         queue = s.queue ∙ queue;
-        few = few_behind walk.at.functions (next entries walk stmt.kind).at.functions more stmt (same_le _ _ kept.functions) s.few;
+        few = few_after walk.at.functions (next entries walk stmt.kind).at.functions more stmt (same_le _ _ kept.functions) s.few;
       };
       functions = kept.functions ∙ plus_none walk.at.functions ∙ ap (λ b. walk.at.functions + cond b 1 0) (sym kept.starts);
       rows = ap length kept.rows ∙ ap (λ b. cond b 1 0) (sym kept.starts);
@@ -282,12 +282,12 @@ step entries opened frame walk stmt more s =
 pub record Reached (entries : List (Option EntryWords)) (walk : Walk) (before more : List Stmt) : Type 0 where
   pub opened : Bool
   pub frame : Frame
-  pub state : State entries opened frame (walk_behind entries walk before) more
+  pub state : State entries opened frame (walk_after entries walk before) more
   pub rows : length (rows_from entries walk before) ≡ functions_in before
 
 pub reach : (entries : List (Option EntryWords)) (opened : Bool) (frame : Frame) (walk : Walk) (before more : List Stmt) → State entries opened frame walk (before ++ more)
     → Reached entries walk before more
-unfolding walk_behind placed_from
+unfolding walk_after placed_from
 reach entries opened frame walk [] more s = record { opened = opened; frame = frame; state = s; rows = refl }
 reach entries opened frame walk (stmt ∷ before) more s =
     let one = step entries opened frame walk stmt (before ++ more) s in
@@ -304,12 +304,12 @@ reach entries opened frame walk (stmt ∷ before) more s =
     }
 
 pub rows_split : (entries : List (Option EntryWords)) (walk : Walk) (before more : List Stmt)
-    → rows_from entries walk (before ++ more) ≡ rows_from entries walk before ++ rows_from entries (walk_behind entries walk before) more
-unfolding walk_behind placed_from
+    → rows_from entries walk (before ++ more) ≡ rows_from entries walk before ++ rows_from entries (walk_after entries walk before) more
+unfolding walk_after placed_from
 rows_split entries walk [] more = refl
 rows_split entries walk (stmt ∷ before) more =
     ap (λ rows. put_rows entries (puts_at walk stmt.kind) ++ rows) (rows_split entries (next entries walk stmt.kind) before more)
-    ∙ sym (append_assoc (put_rows entries (puts_at walk stmt.kind)) (rows_from entries (next entries walk stmt.kind) before) (rows_from entries (walk_behind entries (next entries walk stmt.kind) before) more))
+    ∙ sym (append_assoc (put_rows entries (puts_at walk stmt.kind)) (rows_from entries (next entries walk stmt.kind) before) (rows_from entries (walk_after entries (next entries walk stmt.kind) before) more))
 
 -- the beginning of a source
 pub begins : (stmts : List Stmt) → length stmts < 2 ^ 64 → unwind_faults_from no_frame stmts ≡ [] → State (entries_of stmts) false no_frame start stmts

@@ -14,11 +14,11 @@ use Rattle.relocatable_object.specs.declared.place.Section.TheVariants.{Text, Ro
 use Rattle.asm_layout.specs.declared.walk.Walk.{Walk}
 use Rattle.asm_layout.specs.Functions.{entries_of, no_frame}
 use Rattle.asm_layout.specs.Labels.{Named, find, new_labels, labels_from, labels_of, duplicates_from, size_between, size_by, size_from, labels_in, size_said}
-use Rattle.asm_layout.specs.Walks.{start, next, here, walk_behind}
+use Rattle.asm_layout.specs.Walks.{start, next, here, walk_after}
 use Rattle.relocatable_object.specs.Sections.{same_section}
 use Rattle.asm_object.proofs.ObjectLaws.{taken, ends_small, entries_count}
-use Rattle.asm_object.proofs.LabelLaws.{new_there, label_there, small_behind}
-use Rattle.source_laws.specs.RowLaw.{behind}
+use Rattle.asm_object.proofs.LabelLaws.{new_there, label_there, small_after}
+use Rattle.source_laws.specs.RowLaw.{walk_over}
 use Rattle.source_laws.specs.SymbolLaw.{HasNone}
 use Rattle.source_laws.specs.SizeLaw.{is_size, label_at, size_at, SizesCountBytes, OthersHaveNoSize}
 use Rattle.source_laws.proofs.Standing.{fewer}
@@ -41,22 +41,22 @@ unsized name entries labels size walk (stmt ∷ more) e =
     ap (λ n. size_from name entries after n (next entries walk stmt.kind) more) (not_sized name labels size stmt.kind (here walk.at) parts.0)
     ∙ unsized name entries after size (next entries walk stmt.kind) more parts.1
 
--- the size behind a statement, by the labels before it
-abbrev size_behind : List ℕ → List (Option EntryWords) → List Named → ℕ → Walk → Stmt → List Stmt → ℕ
-size_behind name entries labels size walk stmt more =
+-- the size after a statement, by the labels before it
+abbrev size_after : List ℕ → List (Option EntryWords) → List Named → ℕ → Walk → Stmt → List Stmt → ℕ
+size_after name entries labels size walk stmt more =
     size_from name entries (labels ++ new_labels labels stmt.kind (here walk.at)) (size_by name labels size stmt.kind (here walk.at)) (next entries walk stmt.kind) more
 
 size_split : (name : List ℕ) (entries : List (Option EntryWords)) (labels : List Named) (size : ℕ) (walk : Walk) (front : List Stmt) (stmt : Stmt) (more : List Stmt)
     → size_from name entries labels size walk (front ++ stmt ∷ more)
-    ≡ size_behind name entries (labels ++ labels_from entries labels walk front) (size_from name entries labels size walk front) (walk_behind entries walk front) stmt more
-unfolding size_said placed_from labels_in walk_behind
-size_split name entries labels size walk [] stmt more = ap (λ ls. size_behind name entries ls size walk stmt more) (sym (append-nil labels))
+    ≡ size_after name entries (labels ++ labels_from entries labels walk front) (size_from name entries labels size walk front) (walk_after entries walk front) stmt more
+unfolding size_said placed_from labels_in walk_after
+size_split name entries labels size walk [] stmt more = ap (λ ls. size_after name entries ls size walk stmt more) (sym (append-nil labels))
 size_split name entries labels size walk (x ∷ front) stmt more =
     let new = new_labels labels x.kind (here walk.at) in
     let after = next entries walk x.kind in
     let own = size_by name labels size x.kind (here walk.at) in
     size_split name entries (labels ++ new) own after front stmt more
-    ∙ ap (λ ls. size_behind name entries ls (size_from name entries (labels ++ new) own after front) (walk_behind entries after front) stmt more)
+    ∙ ap (λ ls. size_after name entries ls (size_from name entries (labels ++ new) own after front) (walk_after entries after front) stmt more)
     (append_assoc labels new (labels_from entries (labels ++ new) after front))
 
 same_there : (s t : Section) → s ≡ t → same_section s t ≡ true
@@ -87,16 +87,16 @@ law_of_sizes before between more line last name object few e none same =
     let t = taken stmts object e in
     let regrouped : stmts ≡ before ++ label_at line name ∷ (between ++ size_at last name ∷ more) = append_assoc before (label_at line name ∷ between) (size_at last name ∷ more) in
     let D : List Stmt → Type 0 = λ s. duplicates_from [] s ≡ [] in
-    let found : find name (labels_from entries [] start front) ≡ Some (here (behind stmts before).at) =
+    let found : find name (labels_from entries [] start front) ≡ Some (here (walk_over stmts before).at) =
     label_there entries [] start before line name between (new_there entries [] start before line name (between ++ size_at last name ∷ more) (subst D regrouped t.unique)) in
-    let end = here (behind stmts front).at in
-    let small = small_behind entries (labels_of entries stmts) front (size_at last name ∷ more) end.section (fewer _ _ (entries_count no_frame stmts) few) t.unrefused (ends_small entries start 0 stmts t.small) in
-    let size : size_from name entries [] 0 start stmts ≡ end.offset - (here (behind stmts before).at).offset =
+    let end = here (walk_over stmts front).at in
+    let small = small_after entries (labels_of entries stmts) front (size_at last name ∷ more) end.section (fewer _ _ (entries_count no_frame stmts) few) t.unrefused (ends_small entries start 0 stmts t.small) in
+    let size : size_from name entries [] 0 start stmts ≡ end.offset - (here (walk_over stmts before).at).offset =
     size_split name entries [] 0 start front (size_at last name) more
-    ∙ unsized name entries _ _ (next entries (behind stmts front) (Size name)) more none
-    ∙ own_size name (labels_from entries [] start front) (size_from name entries [] 0 start front) (here (behind stmts before).at) end found same in
-    each_named (λ symbol. symbol.size ≡ end.offset - (here (behind stmts before).at).offset) stmts name object t.object_is
-    (λ label is. ap (λ n. size_from n entries [] 0 start stmts % 2 ^ 32) (sym is) ∙ ap (λ n. n % 2 ^ 32) size ∙ low end.offset (here (behind stmts before).at).offset small)
+    ∙ unsized name entries _ _ (next entries (walk_over stmts front) (Size name)) more none
+    ∙ own_size name (labels_from entries [] start front) (size_from name entries [] 0 start front) (here (walk_over stmts before).at) end found same in
+    each_named (λ symbol. symbol.size ≡ end.offset - (here (walk_over stmts before).at).offset) stmts name object t.object_is
+    (λ label is. ap (λ n. size_from n entries [] 0 start stmts % 2 ^ 32) (sym is) ∙ ap (λ n. n % 2 ^ 32) size ∙ low end.offset (here (walk_over stmts before).at).offset small)
 
 pub law_of_no_size : OthersHaveNoSize
 law_of_no_size stmts name object e none =

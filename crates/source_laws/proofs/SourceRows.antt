@@ -32,7 +32,7 @@ use Rattle.asm_layout.specs.declared.walk.Walk.{Walk}
 use Rattle.asm_layout.specs.Functions.{Frame, no_frame, directive_of, entries_of, unwind_faults_from}
 use Rattle.asm_layout.specs.Labels.{labels_of}
 use Rattle.asm_layout.specs.Sizes.{size_in, is_too_large}
-use Rattle.asm_layout.specs.Walks.{start, here, walk_behind, sizes_with_pool}
+use Rattle.asm_layout.specs.Walks.{start, here, walk_after, sizes_with_pool}
 use Rattle.relocatable_object.specs.Sections.{same_section}
 use Rattle.eh_list.specs.Bytes.{next_multiple}
 use Rattle.relocatable_object.specs.declared.object.IndexRow.{IndexRow}
@@ -44,12 +44,12 @@ use Rattle.asm_object.specs.Pieces.{Piece, place_at, bytes_in}
 use Rattle.asm_object.proofs.PlaceLaws.{law_of_places, earlier, split, walks_on}
 use Rattle.asm_object.proofs.ObjectLaws.{IsTaken, taken, ends_small, entries_count}
 use Rattle.source_laws.specs.Functions.{starts_function, bounds_function, HasNoBound, functions_in, directives_in, Function, source_of, directives_of, start_at, end_at}
-use Rattle.source_laws.specs.RowLaw.{behind, entry_for, TableStands, HasItsRow}
-use Rattle.source_laws.specs.SourceRowLaw.{EachRowIsAFunctions, RowsRise, LaterRowsBeginBehind, HasShortList, HaveShortLists, LiesIn, RowLies, RowsLieInTheirObjects}
+use Rattle.source_laws.specs.RowLaw.{walk_over, entry_for, TableStands, HasItsRow}
+use Rattle.source_laws.specs.SourceRowLaw.{EachRowIsAFunctions, RowsRise, LaterRowsBeginAfter, HasShortList, HaveShortLists, LiesIn, RowLies, RowsLieInTheirObjects}
 use Rattle.source_laws.proofs.Frames.{Shape, regroup, begins, goes_on, taken_directive}
 use Rattle.source_laws.proofs.Rows.{one_if, functions_more}
 use Rattle.source_laws.proofs.Standing.{fewer, at_start, law_of_rows, law_of_count, law_of_closing}
-use Rattle.asm_object.specs.Behind.{pieces_from, refusals_from}
+use Rattle.asm_object.specs.After.{pieces_from, refusals_from}
 
 -- ---- the k-th `.fnstart`
 
@@ -137,29 +137,29 @@ rises_by : (all a b r q e : ℕ) → all ≡ a + r → all ≡ b + q → r ≡ e
 rises_by all a b r q e h k l = omega (arith, h, k, l)
 
 pub sizes_rise : (stmts before mid more : List Stmt) (object : Object) (s : Section) → stmts ≡ before ++ (mid ++ more) → length stmts < 2 ^ 64 → IsTaken stmts object
-    → size_in (behind stmts before).at.sizes s ≤ size_in (behind stmts (before ++ mid)).at.sizes s
+    → size_in (walk_over stmts before).at.sizes s ≤ size_in (walk_over stmts (before ++ mid)).at.sizes s
 sizes_rise stmts before mid more object s same few t =
     let entries = entries_of stmts in
     let labels = labels_of entries stmts in
     let few_entries = fewer _ _ (entries_count no_frame stmts) few in
     let R : List Stmt → Type 0 = λ l. refusals_from entries labels start l ≡ [] in
-    let T : List Stmt → Type 0 = λ l. is_too_large (sizes_with_pool (walk_behind entries start l)) ≡ false in
+    let T : List Stmt → Type 0 = λ l. is_too_large (sizes_with_pool (walk_after entries start l)) ≡ false in
     let all : List Stmt → ℕ = λ l. length (bytes_in s (pieces_from entries labels start l)) in
     let again : before ++ (mid ++ more) ≡ (before ++ mid) ++ more = sym (append_assoc before mid more) in
     let small = ends_small entries start 0 stmts t.small in
     let first = law_of_places entries labels before (mid ++ more) s few_entries (subst R same t.unrefused) (subst T same small) in
     let second = law_of_places entries labels (before ++ mid) more s few_entries (subst R (same ∙ again) t.unrefused) (subst T (same ∙ again) small) in
-    let walk = walk_behind entries start before in
+    let walk = walk_after entries start before in
     let f : Piece → List ℕ = λ p. cond (same_section p.place.section s) p.bytes no_bytes in
     let parts : length (bytes_in s (pieces_from entries labels walk (mid ++ more)))
-    ≡ length (bytes_in s (earlier entries labels walk mid more)) + length (bytes_in s (pieces_from entries labels (walk_behind entries start (before ++ mid)) more)) =
+    ≡ length (bytes_in s (earlier entries labels walk mid more)) + length (bytes_in s (pieces_from entries labels (walk_after entries start (before ++ mid)) more)) =
     ap (λ p. length (bytes_in s p)) (split entries labels walk mid more)
-    ∙ ap length (flat_map-append f (earlier entries labels walk mid more) (pieces_from entries labels (walk_behind entries walk mid) more))
-    ∙ length-append (bytes_in s (earlier entries labels walk mid more)) (bytes_in s (pieces_from entries labels (walk_behind entries walk mid) more))
+    ∙ ap length (flat_map-append f (earlier entries labels walk mid more) (pieces_from entries labels (walk_after entries walk mid) more))
+    ∙ length-append (bytes_in s (earlier entries labels walk mid more)) (bytes_in s (pieces_from entries labels (walk_after entries walk mid) more))
     ∙ ap (λ w. length (bytes_in s (earlier entries labels walk mid more)) + length (bytes_in s (pieces_from entries labels w more))) (sym (walks_on entries start before mid)) in
     rises_by (all (before ++ (mid ++ more))) _ _ _ _ _ first (ap all again ∙ second) parts
 
--- ---- where one `.fnstart` stands behind another
+-- ---- where one `.fnstart` stands after another
 
 same_head : (x y : Stmt) (xs ys : List Stmt) → x ∷ xs ≡ y ∷ ys → (x ≡ y) × (xs ≡ ys)
 same_head x y xs ys e = (cc, cc)
@@ -203,17 +203,17 @@ law_of_rising stmts object j k first second few e le one two =
     let up = sizes_rise stmts a.function.before mid.0 rest object Text same few (taken stmts object e) in
     let offset_a : first.offset ≡ a.has_row.offset = ap (λ (r : IndexRow). r.offset) (some_row first _ _ one (ap (λ n. slice_get object.rows n) (sym a.number) ∙ a.has_row.row)) in
     let offset_b : second.offset ≡ b.has_row.offset = ap (λ (r : IndexRow). r.offset) (some_row second _ _ two (ap (λ n. slice_get object.rows n) (sym b.number) ∙ b.has_row.row)) in
-    let text_a = ap (λ s. (behind s a.function.before).at.sizes.text) (sym a.source) ∙ text_offset (behind (source_of a.function) a.function.before) a.has_row.offset a.has_row.place in
-    let text_b = ap (λ l. (behind stmts l).at.sizes.text) (sym mid.1) ∙ ap (λ s. (behind s b.function.before).at.sizes.text) (sym b.source) ∙ text_offset (behind (source_of b.function) b.function.before) b.has_row.offset b.has_row.place in
+    let text_a = ap (λ s. (walk_over s a.function.before).at.sizes.text) (sym a.source) ∙ text_offset (walk_over (source_of a.function) a.function.before) a.has_row.offset a.has_row.place in
+    let text_b = ap (λ l. (walk_over stmts l).at.sizes.text) (sym mid.1) ∙ ap (λ s. (walk_over s b.function.before).at.sizes.text) (sym b.source) ∙ text_offset (walk_over (source_of b.function) b.function.before) b.has_row.offset b.has_row.place in
     omega (arith, offset_a, offset_b, text_a, text_b, up)
 
--- ---- a later row begins behind the function
+-- ---- a later row begins after the function
 
 cancelled : (xs ys zs : List Stmt) → xs ++ ys ≡ xs ++ zs → ys ≡ zs
 cancelled [] ys zs e = e
 cancelled (x ∷ xs) ys zs e = cancelled xs ys zs (same_head x x (xs ++ ys) (xs ++ zs) e).1
 
--- a `.fnstart` behind statements without one stands behind all of them
+-- a `.fnstart` after statements without one stands after all of them
 past : (between mid : List Stmt) (j : ℕ) (rest n : List Stmt) → HasNoBound between → between ++ rest ≡ mid ++ start_at j ∷ n → (later : List Stmt) × (mid ≡ between ++ later)
 past [] mid j rest n plain e = (mid, refl)
 past (x ∷ between) [] j rest n plain e =
@@ -247,7 +247,7 @@ up_to_later f g (x ∷ mid) plain e order is =
 at_most : (n m : ℕ) → n < m → n ≤ m
 at_most n m h = omega (arith, h)
 
-pub law_of_later_rows : LaterRowsBeginBehind
+pub law_of_later_rows : LaterRowsBeginAfter
 law_of_later_rows f object k row plain few e order got =
     let stmts = source_of f in
     let b = law_of_functions stmts object k few e (slice_get_within object.rows k row got) in
@@ -260,7 +260,7 @@ law_of_later_rows f object k row plain few e order got =
     let same : stmts ≡ own_stmts f ++ (later.0 ++ rest) = sym b.source ∙ ap (λ l. l ++ rest) later.1 ∙ append_assoc (own_stmts f) later.0 rest in
     let up = sizes_rise stmts (own_stmts f) later.0 rest object Text same few (taken stmts object e) in
     let offset : row.offset ≡ b.has_row.offset = ap (λ (r : IndexRow). r.offset) (some_row row _ _ got (ap (λ n. slice_get object.rows n) (sym b.number) ∙ b.has_row.row)) in
-    let text = ap (λ l. (behind stmts l).at.sizes.text) (sym later.1) ∙ ap (λ s. (behind s g.before).at.sizes.text) (sym b.source) ∙ text_offset (behind (source_of g) g.before) b.has_row.offset b.has_row.place in
+    let text = ap (λ l. (walk_over stmts l).at.sizes.text) (sym later.1) ∙ ap (λ s. (walk_over s g.before).at.sizes.text) (sym b.source) ∙ text_offset (walk_over (source_of g) g.before) b.has_row.offset b.has_row.place in
     omega (arith, offset, text, up)
 
 -- ---- what an entry's words are
@@ -373,12 +373,12 @@ le_sum : (all a b : ℕ) → all ≡ a + b → a ≤ all
 le_sum all a b e = omega (arith, e)
 
 pub starts_inside : (stmts before more : List Stmt) (object : Object) → stmts ≡ before ++ more → length stmts < 2 ^ 64 → IsTaken stmts object
-    → (behind stmts before).at.sizes.text ≤ length object.text
+    → (walk_over stmts before).at.sizes.text ≤ length object.text
 starts_inside stmts before more object same few t =
     let entries = entries_of stmts in
     let labels = labels_of entries stmts in
     let R : List Stmt → Type 0 = λ l. refusals_from entries labels start l ≡ [] in
-    let T : List Stmt → Type 0 = λ l. is_too_large (sizes_with_pool (walk_behind entries start l)) ≡ false in
+    let T : List Stmt → Type 0 = λ l. is_too_large (sizes_with_pool (walk_after entries start l)) ≡ false in
     le_sum _ _ _
     (ap (λ (o : Object). length o.text) t.object_is ∙ ap length (joined_text stmts) ∙ ap (λ s. length (bytes_in Text (pieces_from entries labels start s))) same
     ∙ law_of_places entries labels before more Text (fewer _ _ (entries_count no_frame stmts) few) (subst R same t.unrefused) (subst T same (ends_small entries start 0 stmts t.small)))
@@ -409,9 +409,9 @@ function_kept f object plain few short t =
     let more = f.between ++ end_at f.end_line ∷ f.after in
     let at = at_start (source_of f) f.before f.start_line more object refl few t in
     let P : Stmt → Type 0 = λ s. HasShortList s.kind in
-    let behind_start = All-tail P (start_at f.start_line) more (all_back P f.before (start_at f.start_line ∷ more) short) in
+    let after_start = All-tail P (start_at f.start_line) more (all_back P f.before (start_at f.start_line ∷ more) short) in
     kept_between (record { directives = unwind.FnStart ∷ []; start = Some f.start_line }) f.between f.end_line f.after (refl, (f.start_line, refl)) first plain at.opens.state.taken
-    (all_front P f.between (end_at f.end_line ∷ f.after) behind_start)
+    (all_front P f.between (end_at f.end_line ∷ f.after) after_start)
   where
     first : IsKept (unwind.FnStart ∷ []) (seen_in (unwind.FnStart ∷ []))
     first = kept_more [] (unwind.FnStart ∷ []) (seen_in []) _ unwind.FnStart kept_none tt begins refl (seen_more [] unwind.FnStart begins)
@@ -421,9 +421,9 @@ pub row_lies : (f : Function) (object : Object) → HasNoBound f.between → len
 row_lies f object plain few short e has =
     let t = taken (source_of f) object e in
     let F : ℕ → Type 0 = λ n. n ≤ length object.text in
-    let four : has.table % 4 ≡ 0 = ap (λ n. n % 4) has.table_place ∙ at_four (behind (source_of f) f.before).at.sizes.extab in
+    let four : has.table % 4 ≡ 0 = ap (λ n. n % 4) has.table_place ∙ at_four (walk_over (source_of f) f.before).at.sizes.extab in
     record {
-      start = subst F (text_offset (behind (source_of f) f.before) has.offset has.place) (starts_inside (source_of f) f.before _ object refl few t);
+      start = subst F (text_offset (walk_over (source_of f) f.before) has.offset has.place) (starts_inside (source_of f) f.before _ object refl few t);
       second = second_lies has.words f object has.table four (words_lie (directives_of f) has.words (function_kept f object plain few short t) has.given) has.stands;
     }
 

@@ -17,7 +17,7 @@ use Rattle.asm_layout.specs.declared.walk.Walk.{Walk}
 use Rattle.asm_layout.specs.Functions.{Frame, no_frame, entries_of}
 use Rattle.asm_layout.specs.Labels.{Named, labels_of}
 use Rattle.asm_layout.specs.Sizes.{sum_64, size_in, is_too_large}
-use Rattle.asm_layout.specs.Walks.{start, next, here, entry_at, coming_pool, walk_behind, sizes_with_pool}
+use Rattle.asm_layout.specs.Walks.{start, next, here, entry_at, coming_pool, walk_after, sizes_with_pool}
 use Rattle.relocatable_object.specs.Sections.{same_section}
 use Rattle.eh_list.specs.Bytes.{gap, zeros, length-zeros, next_multiple}
 use Rattle.relocatable_object.specs.declared.object.IndexRow.{IndexRow}
@@ -26,34 +26,34 @@ use Rattle.asm_object.specs.Bytes.{word_bytes}
 use Rattle.asm_object.specs.Objects.{joined}
 use Rattle.asm_object.specs.Pieces.{Piece, place_at, row_entry, row_of, table_pieces, own_piece, bytes_in, put_pieces, put_rows, pieces_of}
 use Rattle.asm_object.specs.Refusals.{refusal}
-use Rattle.asm_object.proofs.PlaceLaws.{law_of_bytes, none_behind, none_parts, refusal_parts, not_false, walks_on}
+use Rattle.asm_object.proofs.PlaceLaws.{law_of_bytes, none_after, none_parts, refusal_parts, not_false, walks_on}
 use Rattle.asm_object.proofs.ObjectLaws.{IsTaken, taken, ends_small, entries_count, same_is}
-use Rattle.asm_object.proofs.LabelLaws.{small_behind}
+use Rattle.asm_object.proofs.LabelLaws.{small_after}
 use Rattle.source_laws.specs.Functions.{HasNoBound, Function, directives_in, functions_in, source_of, start_at, end_at}
-use Rattle.source_laws.specs.RowLaw.{behind, tables_from, entry_for, TableStands, RowsStandAtTheirFunctions, RowsAreOfFunctions, FunctionsAreClosed}
-use Rattle.source_laws.proofs.Frames.{ended_with, closed_behind}
+use Rattle.source_laws.specs.RowLaw.{walk_over, tables_from, entry_for, TableStands, RowsStandAtTheirFunctions, RowsAreOfFunctions, FunctionsAreClosed}
+use Rattle.source_laws.proofs.Frames.{ended_with, closed_after}
 use Rattle.source_laws.proofs.Rows.{dropped_get, State, Opens, opens, reach, rows_split, begins}
 use Rattle.asm_layout.specs.Placing.{word_place, placed_from, function_at, function_here}
 use Rattle.asm_layout.specs.declared.placed.Puts.TheVariants as puts
-use Rattle.asm_object.specs.Behind.{pieces_from, refusals_from, rows_from}
+use Rattle.asm_object.specs.After.{pieces_from, refusals_from, rows_from}
 
-got_behind : {X : Type 0} (xs : List X) (x : X) (ys : List X) (n : ℕ) → length xs ≡ n → slice_get (xs ++ x ∷ ys) n ≡ Some x
-got_behind [] x ys zero e = refl
-got_behind [] x ys (suc n) e = absurd (omega (arith, e))
-got_behind (y ∷ xs) x ys zero e = absurd (omega (arith, e))
-got_behind (y ∷ xs) x ys (suc n) e = got_behind xs x ys n (omega (arith, e))
+got_after : {X : Type 0} (xs : List X) (x : X) (ys : List X) (n : ℕ) → length xs ≡ n → slice_get (xs ++ x ∷ ys) n ≡ Some x
+got_after [] x ys zero e = refl
+got_after [] x ys (suc n) e = absurd (omega (arith, e))
+got_after (y ∷ xs) x ys zero e = absurd (omega (arith, e))
+got_after (y ∷ xs) x ys (suc n) e = got_after xs x ys n (omega (arith, e))
 
 -- ---- a source cut before a `.fnstart`
 
--- what holds at the `.fnstart` behind some statements of an accepted source
+-- what holds at the `.fnstart` after some statements of an accepted source
 pub record At (stmts before : List Stmt) (line : ℕ) (more : List Stmt) (object : Object) : Type 0 where
-  pub opens : Opens (entries_of stmts) (behind stmts before) line more
+  pub opens : Opens (entries_of stmts) (walk_over stmts before) line more
   pub front : List IndexRow
   pub count : length front ≡ functions_in before
-  pub rows : object.rows ≡ front ++ rows_from (entries_of stmts) (behind stmts before) (start_at line ∷ more)
-  pub unrefused : refusals_from (entries_of stmts) (labels_of (entries_of stmts) stmts) (behind stmts before) (start_at line ∷ more) ≡ []
-  pub extab : drop (behind stmts before).at.sizes.extab object.extab ≡ tables_from stmts (behind stmts before) (start_at line ∷ more)
-  pub small : (section : Section) → size_in (behind stmts before).at.sizes section ≤ MOST_BYTES
+  pub rows : object.rows ≡ front ++ rows_from (entries_of stmts) (walk_over stmts before) (start_at line ∷ more)
+  pub unrefused : refusals_from (entries_of stmts) (labels_of (entries_of stmts) stmts) (walk_over stmts before) (start_at line ∷ more) ≡ []
+  pub extab : drop (walk_over stmts before).at.sizes.extab object.extab ≡ tables_from stmts (walk_over stmts before) (start_at line ∷ more)
+  pub small : (section : Section) → size_in (walk_over stmts before).at.sizes section ≤ MOST_BYTES
 
 joined_rows : (stmts : List Stmt) → (joined stmts).rows ≡ rows_from (entries_of stmts) start stmts
 unfolding joined
@@ -75,23 +75,23 @@ at_start stmts before line more object same few t =
     let S : List Stmt → Type 0 = λ s. State entries false no_frame start s in
     let reached = reach entries false no_frame start before (start_at line ∷ more) (subst S same (begins stmts few t.unwound)) in
     let R : List Stmt → Type 0 = λ s. refusals_from entries labels start s ≡ [] in
-    let T : List Stmt → Type 0 = λ s. is_too_large (sizes_with_pool (walk_behind entries start s)) ≡ false in
+    let T : List Stmt → Type 0 = λ s. is_too_large (sizes_with_pool (walk_after entries start s)) ≡ false in
     let unrefused = subst R same t.unrefused in
     let small = subst T same (ends_small entries start 0 stmts t.small) in
     record {
-      opens = opens entries reached.opened reached.frame (walk_behind entries start before) line more reached.state;
+      opens = opens entries reached.opened reached.frame (walk_after entries start before) line more reached.state;
       front = rows_from entries start before;
       count = reached.rows;
       rows =
           ap (λ (o : Object). o.rows) t.object_is ∙ joined_rows stmts ∙ ap (λ s. rows_from entries start s) same
           ∙ rows_split entries start before (start_at line ∷ more);
-      unrefused = none_behind entries labels start before (start_at line ∷ more) unrefused;
+      unrefused = none_after entries labels start before (start_at line ∷ more) unrefused;
       extab =
-          ap (λ (o : Object). drop (behind stmts before).at.sizes.extab o.extab) t.object_is
-          ∙ ap (drop (behind stmts before).at.sizes.extab) (joined_extab stmts)
-          ∙ ap (λ s. drop (behind stmts before).at.sizes.extab (bytes_in Extab (pieces_from entries labels start s))) same
+          ap (λ (o : Object). drop (walk_over stmts before).at.sizes.extab o.extab) t.object_is
+          ∙ ap (drop (walk_over stmts before).at.sizes.extab) (joined_extab stmts)
+          ∙ ap (λ s. drop (walk_over stmts before).at.sizes.extab (bytes_in Extab (pieces_from entries labels start s))) same
           ∙ law_of_bytes entries labels before (start_at line ∷ more) Extab few_entries unrefused small;
-      small = λ section. small_behind entries labels before (start_at line ∷ more) section few_entries unrefused small;
+      small = λ section. small_after entries labels before (start_at line ∷ more) section few_entries unrefused small;
     }
 
 -- ---- the `.fnstart` itself
@@ -130,12 +130,12 @@ start_rows entries walk line more words closed is =
 abbrev no_bytes : List ℕ
 no_bytes = []
 
--- the bytes of the exception tables from a `.fnstart` on: the function's table, and then those of the statements behind
+-- the bytes of the exception tables from a `.fnstart` on: the function's table, and then those of the statements after
 pub start_bytes : (entries : List (Option EntryWords)) (labels : List Named) (walk : Walk) (line : ℕ) (more : List Stmt) (o : Option EntryWords) → walk.at.inside ≡ false
     → entry_at entries walk.at.functions ≡ o
     → bytes_in Extab (pieces_from entries labels walk (start_at line ∷ more))
     ≡ bytes_in Extab (table_pieces walk.at.sizes.extab o) ++ bytes_in Extab (pieces_from entries labels (next entries walk statement.FnStart) more)
-unfolding pieces_of placed_from walk_behind
+unfolding pieces_of placed_from walk_after
 start_bytes entries labels walk line more o closed is =
     let word = word_place walk statement.FnStart (coming_pool entries walk (start_at line ∷ more)) in
     let rest = pieces_from entries labels (next entries walk statement.FnStart) more in
@@ -152,8 +152,8 @@ start_bytes entries labels walk line more o closed is =
     none true = refl
     none false = refl
 
-behind_filling : (n : ℕ) (words rest : List ℕ) → drop n ((zeros n ++ words ++ []) ++ rest) ≡ words ++ rest
-behind_filling n words rest =
+after_filling : (n : ℕ) (words rest : List ℕ) → drop n ((zeros n ++ words ++ []) ++ rest) ≡ words ++ rest
+after_filling n words rest =
     ap (drop n) (ap (λ l. l ++ rest) (append-nil (zeros n ++ words)) ∙ append_assoc (zeros n) words rest)
     ∙ ap (λ k. drop k (zeros n ++ (words ++ rest))) (sym (length-zeros n)) ∙ drop-append_seam (zeros n) (words ++ rest)
 
@@ -167,7 +167,7 @@ table_stands entries labels walk line more words bytes closed is there =
     ap (λ k. drop k bytes) (next_there n)
     ∙ sym (drop-drop (gap n 4) n bytes)
     ∙ ap (drop (gap n 4)) (there ∙ start_bytes entries labels walk line more (Some (entry.Table words)) closed is)
-    ∙ behind_filling (gap n 4) (flat_map word_bytes words) (bytes_in Extab (pieces_from entries labels (next entries walk statement.FnStart) more))
+    ∙ after_filling (gap n 4) (flat_map word_bytes words) (bytes_in Extab (pieces_from entries labels (next entries walk statement.FnStart) more))
 
 -- ---- the laws
 
@@ -188,11 +188,11 @@ own_entry entries walk line between end_line after o plain =
       there = ap (λ n. entry_at entries n) o.number ∙ ap (λ e. unwrap_or e None) (dropped_get o.state.ended entries (Some ended.words) _ (o.state.queue ∙ ended.entries));
     }
 
-table_at : (words : EntryWords) (f : Function) (object : Object) (walk : Walk) → walk ≡ behind (source_of f) f.before → walk.at.inside ≡ false
+table_at : (words : EntryWords) (f : Function) (object : Object) (walk : Walk) → walk ≡ walk_over (source_of f) f.before → walk.at.inside ≡ false
     → entry_at (entries_of (source_of f)) walk.at.functions ≡ Some words
     → drop walk.at.sizes.extab object.extab ≡ tables_from (source_of f) walk (start_at f.start_line ∷ (f.between ++ end_at f.end_line ∷ f.after))
     → TableStands words f object (next_multiple walk.at.sizes.extab 4)
-unfolding walk_behind
+unfolding walk_after
 table_at entry.CantUnwind f object walk same closed is there = tt
 table_at (entry.Inline word) f object walk same closed is there = tt
 table_at (entry.Table words) f object walk same closed is there =
@@ -214,7 +214,7 @@ law_of_rows f object plain few e =
     let stmts = source_of f in
     let entries = entries_of stmts in
     let more = f.between ++ end_at f.end_line ∷ f.after in
-    let walk = behind stmts f.before in
+    let walk = walk_over stmts f.before in
     let at = at_start stmts f.before f.start_line more object refl few (taken stmts object e) in
     let own = own_entry entries walk f.start_line f.between f.end_line f.after at.opens plain in
     let text = in_text entries (labels_of entries stmts) walk f.start_line more at.unrefused in
@@ -231,7 +231,7 @@ law_of_rows f object plain few e =
           (at.rows
           ∙ ap (λ rows. at.front ++ rows) (start_rows entries walk f.start_line more own.words at.opens.closed own.there
           ∙ ap (λ rows. rows ++ rows_from entries (next entries walk statement.FnStart) more) (row_is walk own.words (at.small Text) (at.small Extab))))
-          ∙ got_behind at.front row (rows_from entries (next entries walk statement.FnStart) more) (functions_in f.before) at.count;
+          ∙ got_after at.front row (rows_from entries (next entries walk statement.FnStart) more) (functions_in f.before) at.count;
       stands = table_at own.words f object walk refl at.opens.closed own.there at.extab;
     }
 
@@ -245,4 +245,4 @@ law_of_count stmts object few e =
 pub law_of_closing : FunctionsAreClosed
 law_of_closing before more line object e =
     let stmts = before ++ start_at line ∷ more in
-    closed_behind no_frame before line more false refl (taken stmts object e).unwound
+    closed_after no_frame before line more false refl (taken stmts object e).unwound

@@ -52,11 +52,11 @@ untyped name function (stmt ∷ more) e =
     let parts = or_parts (is_type name stmt.kind) (list_any (λ s. is_type name s.kind) more) e in
     ap (λ f. function_from name f more) (not_typed name function stmt.kind parts.0) ∙ untyped name function more parts.1
 
-type_behind : (name : List ℕ) (function : Bool) (before more : List Stmt) (line : ℕ) (kind : StmtKind)
+type_after : (name : List ℕ) (function : Bool) (before more : List Stmt) (line : ℕ) (kind : StmtKind)
     → function_from name function (before ++ record { line = line; kind = kind } ∷ more) ≡ function_from name (typed_by name (function_from name function before) kind) more
 unfolding function_from
-type_behind name function [] more line kind = refl
-type_behind name function (stmt ∷ before) more line kind = type_behind name (typed_by name function stmt.kind) before more line kind
+type_after name function [] more line kind = refl
+type_after name function (stmt ∷ before) more line kind = type_after name (typed_by name function stmt.kind) before more line kind
 
 itself : (name : List ℕ) → same_bytes name name ≡ true
 itself name = nat_list_eq_equiv.refl name
@@ -65,7 +65,7 @@ itself name = nat_list_eq_equiv.refl name
 own_type : (name : List ℕ) (kind : List ℕ → StmtKind) (says : Bool) (before more : List Stmt) (line : ℕ) → ((f : Bool) → typed_by name f (kind name) ≡ says) → HasNone (is_type name) more
     → function_from name false (before ++ record { line = line; kind = kind name } ∷ more) ≡ says
 own_type name kind says before more line typed none =
-    type_behind name false before more line (kind name) ∙ ap (λ f. function_from name f more) (typed (function_from name false before)) ∙ untyped name says more none
+    type_after name false before more line (kind name) ∙ ap (λ f. function_from name f more) (typed (function_from name false before)) ∙ untyped name says more none
 
 pub law_of_functions : FunctionsAreTyped
 law_of_functions before more line name object e none =

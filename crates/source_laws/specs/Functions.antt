@@ -32,7 +32,7 @@ abbrev pub directives_in : List Stmt → List UnwindDirective
 directives_in stmts = filter_map (λ s. directive_of s.kind) stmts
 
 -- a source cut at one of its functions: the statements before its `.fnstart`, those between that and its `.fnend`, and those
--- behind it
+-- after it
 pub record Function : Type 0 where
   pub before : List Stmt
   pub start_line : ℕ

@@ -1,4 +1,4 @@
--- The data of a function's handler, as its source meant it: what stands behind `.handlerdata` (docs/unwind-index.md, "From the source").
+-- The data of a function's handler, as its source meant it: what stands after `.handlerdata` (docs/unwind-index.md, "From the source").
 use Rattle.std.specs.Prelude.{◌≡◌, ℕ, ◌*◌, ◌+◌, ◌^◌, ◌<◌, Bool, true, false, List, [], ◌∷◌, ◌++◌, length, drop, flat_map, is_some, Ok}
 use Rattle.std.specs.List.{list_any, list_all}
 use Rattle.eh_list.specs.Bytes.{next_multiple}
@@ -16,7 +16,7 @@ use Rattle.relocatable_object.specs.declared.object.Object.{Object}
 use Rattle.asm_object.specs.Objects.{object_of}
 use Rattle.asm_object.specs.Pieces.{place_at, data_bytes}
 use Rattle.source_laws.specs.Functions.{HasNoBound, Function, source_of, directives_of, start_at}
-use Rattle.source_laws.specs.RowLaw.{behind}
+use Rattle.source_laws.specs.RowLaw.{walk_over}
 
 abbrev pub is_handler : StmtKind → Bool
 is_handler statement.HandlerData = true
@@ -44,16 +44,16 @@ pub record Handler (f : Function) : Type 0 where
 abbrev pub data_of : Function → List Stmt → List ℕ
 data_of f own = flat_map (λ s. data_bytes (labels_of (entries_of (source_of f)) (source_of f)) s.kind) own
 
--- the data stands in the exception tables at a place, and the statements behind `.handlerdata` stand from there on
+-- the data stands in the exception tables at a place, and the statements after `.handlerdata` stand from there on
 pub record HandlerStands (f : Function) (handler : Handler f) (object : Object) (place : ℕ) : Type 0 where
-  pub here_now : here (behind (source_of f) (f.before ++ start_at f.start_line ∷ (handler.code ++ handler_at handler.line ∷ []))).at ≡ place_at Extab place
+  pub here_now : here (walk_over (source_of f) (f.before ++ start_at f.start_line ∷ (handler.code ++ handler_at handler.line ∷ []))).at ≡ place_at Extab place
   pub after : List ℕ
   pub bytes : drop place object.extab ≡ data_of f handler.own ++ after
 
--- where the function has a table, that place is right behind the table's words
-abbrev pub HandlersStandBehindTheirTables : Type 0
-HandlersStandBehindTheirTables =
+-- where the function has a table, that place is right after the table's words
+abbrev pub HandlersStandAfterTheirTables : Type 0
+HandlersStandAfterTheirTables =
     (f : Function) (handler : Handler f) (words : List ℕ) (object : Object)
     → HasNoBound f.between → length (source_of f) < 2 ^ 64 → object_of (source_of f) ≡ Ok object
     → entry_words_of (directives_of f) ≡ Ok (entry.Table words)
-    → HandlerStands f handler object (next_multiple (behind (source_of f) f.before).at.sizes.extab 4 + 4 * length words)
+    → HandlerStands f handler object (next_multiple (walk_over (source_of f) f.before).at.sizes.extab 4 + 4 * length words)

@@ -8,7 +8,7 @@ use Rattle.asm_statements.specs.declared.statement.StmtKind.TheVariants as state
 use Rattle.relocatable_object.specs.declared.object.Mark.{Mark}
 use Rattle.relocatable_object.specs.declared.object.Object.{Object}
 use Rattle.asm_object.specs.Objects.{object_of}
-use Rattle.source_laws.specs.RowLaw.{behind}
+use Rattle.source_laws.specs.RowLaw.{walk_over}
 
 -- whether a statement's own bytes are code: instructions are, and so is what fills a text up to a multiple; data is not. None for
 -- directives that give no bytes, and for `.pool`, which gives both
@@ -79,11 +79,11 @@ is_code statement.HandlerData = None
 abbrev pub pool_at : ℕ → Stmt
 pool_at line = record { line = line; kind = statement.Pool }
 
--- where the text has come to behind some statements of a source
-abbrev pub text_behind : List Stmt → List Stmt → ℕ
-text_behind stmts before = (behind stmts before).at.sizes.text
+-- where the text has come to after some statements of a source
+abbrev pub text_after : List Stmt → List Stmt → ℕ
+text_after stmts before = (walk_over stmts before).at.sizes.text
 
--- of the marks at or below an offset one stands highest, those before it lower and those behind it above the offset, and it says
+-- of the marks at or below an offset one stands highest, those before it lower and those after it above the offset, and it says
 -- whether code stands there
 pub record LastMarkSays (marks : List Mark) (offset : ℕ) (code : Bool) : Type 0 where
   pub before : List Mark
@@ -101,7 +101,7 @@ MarksTellCode =
     (before more : List Stmt) (stmt : Stmt) (code : Bool) (object : Object) (offset : ℕ)
     → let stmts = before ++ stmt ∷ more in
     length stmts < 2 ^ 64 → object_of stmts ≡ Ok object → is_code stmt.kind ≡ Some code
-    → text_behind stmts before ≤ offset → offset < text_behind stmts (before ++ stmt ∷ []) → LastMarkSays object.marks offset code
+    → text_after stmts before ≤ offset → offset < text_after stmts (before ++ stmt ∷ []) → LastMarkSays object.marks offset code
 
 -- of a pool code up to its first multiple of 4, and from there on its words
 abbrev pub PoolsAreMarked : Type 0
@@ -109,13 +109,13 @@ PoolsAreMarked =
     (before more : List Stmt) (line : ℕ) (object : Object) (offset : ℕ)
     → let stmts = before ++ pool_at line ∷ more in
     length stmts < 2 ^ 64 → object_of stmts ≡ Ok object
-    → text_behind stmts before ≤ offset → offset < text_behind stmts (before ++ pool_at line ∷ [])
-    → LastMarkSays object.marks offset (nat_lt offset (next_multiple (text_behind stmts before) 4))
+    → text_after stmts before ≤ offset → offset < text_after stmts (before ++ pool_at line ∷ [])
+    → LastMarkSays object.marks offset (nat_lt offset (next_multiple (text_after stmts before) 4))
 
 -- the same of the pool at the end of the text
 abbrev pub LastPoolsAreMarked : Type 0
 LastPoolsAreMarked =
     (stmts : List Stmt) (object : Object) (offset : ℕ)
     → length stmts < 2 ^ 64 → object_of stmts ≡ Ok object
-    → text_behind stmts stmts ≤ offset → offset < length object.text
-    → LastMarkSays object.marks offset (nat_lt offset (next_multiple (text_behind stmts stmts) 4))
+    → text_after stmts stmts ≤ offset → offset < length object.text
+    → LastMarkSays object.marks offset (nat_lt offset (next_multiple (text_after stmts stmts) 4))

@@ -8,7 +8,7 @@ use Rattle.asm_layout.specs.Walks.{here}
 use Rattle.relocatable_object.specs.declared.object.Object.{Object}
 use Rattle.asm_object.specs.Objects.{object_of}
 use Rattle.asm_object.specs.Pieces.{place_at}
-use Rattle.source_laws.specs.RowLaw.{behind}
+use Rattle.source_laws.specs.RowLaw.{walk_over}
 
 abbrev pub align_at : ℕ → ℕ → Stmt
 align_at line n = record { line = line; kind = statement.Align (pos n) }
@@ -19,10 +19,10 @@ AlignsReachMultiples =
     (before more : List Stmt) (line n : ℕ) (object : Object)
     → let stmts = before ++ align_at line n ∷ more in
     n ≤ 3 → length stmts < 2 ^ 64 → object_of stmts ≡ Ok object
-    → here (behind stmts (before ++ align_at line n ∷ [])).at
-    ≡ place_at (behind stmts before).at.section (next_multiple (here (behind stmts before).at).offset (2 ^ n))
+    → here (walk_over stmts (before ++ align_at line n ∷ [])).at
+    ≡ place_at (walk_over stmts before).at.section (next_multiple (here (walk_over stmts before).at).offset (2 ^ n))
 
 -- the zeroed data of an object ends where the source has come to in `.bss`
 abbrev pub ZeroedDataIsCounted : Type 0
 ZeroedDataIsCounted =
-    (stmts : List Stmt) (object : Object) → length stmts < 2 ^ 64 → object_of stmts ≡ Ok object → object.bss ≡ (behind stmts stmts).at.sizes.bss
+    (stmts : List Stmt) (object : Object) → length stmts < 2 ^ 64 → object_of stmts ≡ Ok object → object.bss ≡ (walk_over stmts stmts).at.sizes.bss

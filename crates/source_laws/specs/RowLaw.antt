@@ -9,19 +9,19 @@ use Rattle.relocatable_object.specs.declared.place.Section.TheVariants.{Text, Ex
 use Rattle.asm_layout.specs.declared.walk.Walk.{Walk}
 use Rattle.asm_layout.specs.Functions.{entries_of}
 use Rattle.asm_layout.specs.Labels.{labels_of}
-use Rattle.asm_layout.specs.Walks.{start, here, walk_behind}
+use Rattle.asm_layout.specs.Walks.{start, here, walk_after}
 use Rattle.relocatable_object.specs.declared.object.Object.{Object}
 use Rattle.relocatable_object.specs.declared.object.RowEntry.{RowEntry}
 use Rattle.relocatable_object.specs.declared.object.RowEntry.TheVariants as row
 use Rattle.asm_object.specs.Bytes.{word_bytes}
 use Rattle.asm_object.specs.Objects.{object_of}
 use Rattle.asm_object.specs.Pieces.{place_at, bytes_in}
-use Rattle.asm_object.specs.Behind.{pieces_from}
+use Rattle.asm_object.specs.After.{pieces_from}
 use Rattle.source_laws.specs.Functions.{HasNoBound, Function, functions_in, source_of, directives_of, start_at, end_at}
 
--- where a source has come to behind some of its statements
-abbrev pub behind : List Stmt → List Stmt → Walk
-behind stmts before = walk_behind (entries_of stmts) start before
+-- where a source has come to after some of its statements
+abbrev pub walk_over : List Stmt → List Stmt → Walk
+walk_over stmts before = walk_after (entries_of stmts) start before
 
 -- the bytes that statements of a source give the exception tables, from where it has come to
 abbrev pub tables_from : List Stmt → Walk → List Stmt → List ℕ
@@ -33,14 +33,14 @@ entry_for entry.CantUnwind table = row.CantUnwind
 entry_for (entry.Inline word) table = row.Inline word
 entry_for (entry.Table words) table = row.Table table
 
--- the table's words stand at a place of the exception tables, and behind them the bytes that the statements behind `.fnstart` give
+-- the table's words stand at a place of the exception tables, and after them the bytes that the statements after `.fnstart` give
 abbrev pub TableStands : EntryWords → Function → Object → ℕ → Type 0
 TableStands entry.CantUnwind f object table = Unit {0}
 TableStands (entry.Inline word) f object table = Unit {0}
 TableStands (entry.Table words) f object table =
     drop table object.extab
     ≡ flat_map word_bytes words
-    ++ tables_from (source_of f) (behind (source_of f) (f.before ++ start_at f.start_line ∷ [])) (f.between ++ end_at f.end_line ∷ f.after)
+    ++ tables_from (source_of f) (walk_over (source_of f) (f.before ++ start_at f.start_line ∷ [])) (f.between ++ end_at f.end_line ∷ f.after)
 
 -- the function has its row: by its number in the order of the text; at the place of its `.fnstart`, which is in the text; with the
 -- entry of its directives; and a table stands at the next multiple of 4 of the exception tables
@@ -48,9 +48,9 @@ pub record HasItsRow (f : Function) (object : Object) : Type 0 where
   pub words : EntryWords
   pub given : entry_words_of (directives_of f) ≡ Ok words
   pub offset : ℕ
-  pub place : here (behind (source_of f) f.before).at ≡ place_at Text offset
+  pub place : here (walk_over (source_of f) f.before).at ≡ place_at Text offset
   pub table : ℕ
-  pub table_place : table ≡ next_multiple (behind (source_of f) f.before).at.sizes.extab 4
+  pub table_place : table ≡ next_multiple (walk_over (source_of f) f.before).at.sizes.extab 4
   pub row : slice_get object.rows (functions_in f.before) ≡ Some (record { offset = offset; entry = entry_for words table })
   pub stands : TableStands words f object table
 
@@ -65,7 +65,7 @@ RowsAreOfFunctions =
     (stmts : List Stmt) (object : Object)
     → length stmts < 2 ^ 64 → object_of stmts ≡ Ok object → length object.rows ≡ functions_in stmts
 
--- a `.fnstart` has its `.fnend`: the statements behind it go on to one, and no function begins before that
+-- a `.fnstart` has its `.fnend`: the statements after it go on to one, and no function begins before that
 pub record IsClosed (more : List Stmt) : Type 0 where
   pub between : List Stmt
   pub end_line : ℕ

@@ -7,7 +7,7 @@ use Rattle.asm_statements.specs.declared.statement.StmtKind.TheVariants as state
 use Rattle.asm_layout.specs.Walks.{here}
 use Rattle.relocatable_object.specs.declared.object.Object.{Object}
 use Rattle.asm_object.specs.Objects.{object_of}
-use Rattle.source_laws.specs.RowLaw.{behind}
+use Rattle.source_laws.specs.RowLaw.{walk_over}
 use Rattle.source_laws.specs.SymbolLaw.{HasNone, EachNamed, WithoutOne}
 
 -- a `.size` of a name
@@ -21,15 +21,15 @@ label_at line name = record { line = line; kind = statement.Label name }
 abbrev pub size_at : ℕ → List ℕ → Stmt
 size_at line name = record { line = line; kind = statement.Size name }
 
--- the last `.size` of a name, behind its label in the same section, counts the bytes between them
+-- the last `.size` of a name, after its label in the same section, counts the bytes between them
 abbrev pub SizesCountBytes : Type 0
 SizesCountBytes =
     (before between more : List Stmt) (line last : ℕ) (name : List ℕ) (object : Object)
     → let front = before ++ label_at line name ∷ between in
     let stmts = front ++ size_at last name ∷ more in
     length stmts < 2 ^ 64 → object_of stmts ≡ Ok object → HasNone (is_size name) more
-    → (here (behind stmts before).at).section ≡ (here (behind stmts front).at).section
-    → EachNamed name (λ symbol. symbol.size ≡ (here (behind stmts front).at).offset - (here (behind stmts before).at).offset) object
+    → (here (walk_over stmts before).at).section ≡ (here (walk_over stmts front).at).section
+    → EachNamed name (λ symbol. symbol.size ≡ (here (walk_over stmts front).at).offset - (here (walk_over stmts before).at).offset) object
 
 -- without one there is no size
 abbrev pub OthersHaveNoSize : Type 0

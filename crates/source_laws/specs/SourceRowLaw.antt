@@ -10,7 +10,7 @@ use Rattle.relocatable_object.specs.declared.object.RowEntry.{RowEntry}
 use Rattle.relocatable_object.specs.declared.object.RowEntry.TheVariants as row
 use Rattle.asm_object.specs.Objects.{object_of}
 use Rattle.source_laws.specs.Functions.{HasNoBound, Function, functions_in, source_of, start_at}
-use Rattle.source_laws.specs.RowLaw.{behind, HasItsRow}
+use Rattle.source_laws.specs.RowLaw.{walk_over, HasItsRow}
 
 -- the function of a source whose number is that of a row
 pub record IsRowOfFunction (stmts : List Stmt) (object : Object) (k : ℕ) : Type 0 where
@@ -32,13 +32,13 @@ RowsRise =
     → length stmts < 2 ^ 64 → object_of stmts ≡ Ok object → j ≤ k → slice_get object.rows j ≡ Some first → slice_get object.rows k ≡ Some second
     → first.offset ≤ second.offset
 
--- and a row behind a function's own begins at its `.fnend` or behind it
-abbrev pub LaterRowsBeginBehind : Type 0
-LaterRowsBeginBehind =
+-- and a row after a function's own begins at its `.fnend` or after it
+abbrev pub LaterRowsBeginAfter : Type 0
+LaterRowsBeginAfter =
     (f : Function) (object : Object) (k : ℕ) (row : IndexRow)
     → HasNoBound f.between → length (source_of f) < 2 ^ 64 → object_of (source_of f) ≡ Ok object
     → functions_in f.before < k → slice_get object.rows k ≡ Some row
-    → (behind (source_of f) (f.before ++ start_at f.start_line ∷ f.between)).at.sizes.text ≤ row.offset
+    → (walk_over (source_of f) (f.before ++ start_at f.start_line ∷ f.between)).at.sizes.text ≤ row.offset
 
 -- a register list of 16 bits, as every one that is read is
 abbrev pub HasShortList : StmtKind → Type 0

@@ -39,11 +39,11 @@ TheLastSays kind sort Holds =
 abbrev pub WithoutOne : (List ℕ → StmtKind → Bool) → (ObjSymbol → Type 0) → Type 0
 WithoutOne sort Holds = (stmts : List Stmt) (name : List ℕ) (object : Object) → object_of stmts ≡ Ok object → HasNone (sort name) stmts → EachNamed name Holds object
 
--- behind the last `.type name, %function` the name is a function
+-- after the last `.type name, %function` the name is a function
 abbrev pub FunctionsAreTyped : Type 0
 FunctionsAreTyped = TheLastSays statement.TypeFunction is_type (λ symbol. symbol.function ≡ true)
 
--- behind the last `.type name, %object` it is none
+-- after the last `.type name, %object` it is none
 abbrev pub ObjectsAreTyped : Type 0
 ObjectsAreTyped = TheLastSays statement.TypeObject is_type (λ symbol. symbol.function ≡ false)
 

@@ -3,8 +3,8 @@
 
 ghost use Rattle.std.specs.Prelude.{◌<◌, ◌^◌, length};
 ghost use Rattle.source_laws.specs.RowLaw.{RowsStandAtTheirFunctions, RowsAreOfFunctions, FunctionsAreClosed};
-ghost use Rattle.source_laws.specs.HandlerLaw.{HandlersStandBehindTheirTables};
-ghost use Rattle.source_laws.specs.SourceRowLaw.{EachRowIsAFunctions, RowsRise, LaterRowsBeginBehind, RowsLieInTheirObjects, HasShortList, HaveShortLists};
+ghost use Rattle.source_laws.specs.HandlerLaw.{HandlersStandAfterTheirTables};
+ghost use Rattle.source_laws.specs.SourceRowLaw.{EachRowIsAFunctions, RowsRise, LaterRowsBeginAfter, RowsLieInTheirObjects, HasShortList, HaveShortLists};
 ghost use Rattle.source_laws.specs.MarkLaw.{MarksTellCode, PoolsAreMarked, LastPoolsAreMarked};
 ghost use Rattle.source_laws.specs.SymbolLaw.{FunctionsAreTyped, ObjectsAreTyped, OthersAreNoFunctions, GlobalsAreGlobal, OthersAreLocal};
 ghost use Rattle.source_laws.specs.SizeLaw.{SizesCountBytes, OthersHaveNoSize};
@@ -25,18 +25,18 @@ pub fn rows_stand_at_their_functions()
     ensures count { RowsAreOfFunctions }
 {}
 
-/// What a source puts behind `.handlerdata` stands right behind the words of the function's table, byte by byte.
-pub fn handlers_stand_behind_their_tables()
-    ensures { HandlersStandBehindTheirTables }
+/// What a source puts after `.handlerdata` stands right after the words of the function's table, byte by byte.
+pub fn handlers_stand_after_their_tables()
+    ensures { HandlersStandAfterTheirTables }
 {}
 
-/// Each row of the object is that of a function of the source. The rows rise, and one behind a function's own begins at its `.fnend` or
-/// behind it. Each lies in its object: it begins in the text, an inline entry is a word with bit 31 set, and a table stands in the
+/// Each row of the object is that of a function of the source. The rows rise, and one after a function's own begins at its `.fnend` or
+/// after it. Each lies in its object: it begins in the text, an inline entry is a word with bit 31 set, and a table stands in the
 /// exception tables at a multiple of 4.
 pub fn rows_are_of_the_source()
     ensures functions { EachRowIsAFunctions }
     ensures rising { RowsRise }
-    ensures later { LaterRowsBeginBehind }
+    ensures later { LaterRowsBeginAfter }
     ensures inside { RowsLieInTheirObjects }
 {}
 
@@ -58,7 +58,7 @@ pub fn symbols_are_described()
     ensures locals { OthersAreLocal }
 {}
 
-/// The last `.size` of a name, behind its label in the same section, counts the bytes between them, and without one there is no size.
+/// The last `.size` of a name, after its label in the same section, counts the bytes between them, and without one there is no size.
 pub fn sizes_count_bytes()
     ensures sizes { SizesCountBytes }
     ensures others { OthersHaveNoSize }

@@ -69,7 +69,7 @@ fn program(alloc: Global, number: u32, functions: u32) -> Option<Vec<u8>> {
     generate(alloc, number, functions).ok()
 }
 
-/// The generated program of a question, and what stands behind its numbers.
+/// The generated program of a question, and what stands after its numbers.
 fn program_of(alloc: Global, question: &str) -> Option<(Vec<u8>, &str)> {
     let (number, words) = first_word(question);
     let (functions, file) = first_word(words);

@@ -32,7 +32,7 @@ fn push_mark(alloc: Global, text: &mut Vec<u8>, mark: &str) -> Option<()> {
     }
 }
 
-/// Adds a mark that ends with `>`, if one does, and what stands behind it.
+/// Adds a mark that ends with `>`, if one does, and what stands after it.
 fn push_part(alloc: Global, text: &mut Vec<u8>, part: &str) -> Option<()> {
     match part.split_once('>') {
         Some((mark, plain)) => {
@@ -88,13 +88,13 @@ fn push_numbers(answer: &mut String, numbers: &str) -> Result<(), AllocError> {
     Ok(())
 }
 
-/// Adds a name by the numbers of its bytes, between double quotes, and what is shown behind it.
+/// Adds a name by the numbers of its bytes, between double quotes, and what is shown after it.
 fn push_name(answer: &mut String, shown: &str) -> Result<(), AllocError> {
-    let (numbers, behind) = shown.split_once("] }").unwrap_or((shown, ""));
+    let (numbers, after) = shown.split_once("] }").unwrap_or((shown, ""));
     answer.push('"')?;
     push_numbers(answer, numbers)?;
     answer.push('"')?;
-    answer.push_str(behind)
+    answer.push_str(after)
 }
 
 /// Adds what is shown of a value, each name in it as a text.

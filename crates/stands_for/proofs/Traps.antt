@@ -7,7 +7,7 @@ use Rattle.prologue_states.specs.thumb_core.declared.regs.Stepped.TheVariants.{T
 use Rattle.prologue_states.specs.eh_bus.Memory.{Memory}
 use Rattle.prologue_states.specs.thumb_core.declared.regs.CoreTrap.{CoreTrap}
 use Rattle.prologue_states.specs.frame_check.Accepts.{Accepted}
-use Rattle.prologue_states.specs.frame_check.Spots.{look}
+use Rattle.prologue_states.specs.frame_check.Roles.{look}
 use Rattle.prologue_states.specs.two_machines.Activations.{Recorded, memory_of}
 use Rattle.prologue_states.specs.two_machines.ActivationLaws.{IsPlain}
 use Rattle.prologue_states.specs.two_machines.Checked.{program_of}
@@ -22,7 +22,7 @@ pub trap_turns : (x : Accepted) (s : Recorded) (input : List ℕ) (what : CoreTr
 unfolding acts.recorded_event acts.passed
 trap_turns x s input what after m k stepped none = record {
   same = plain_match (program_of x) s input (knows s k.corresponds) (subst (λ (o : Stepping). IsPlain s o.0) (sym stepped) none);
-  keeps = by_look (look x.spots s.regs.pc).is_instr;
+  keeps = by_look (look x.roles s.regs.pc).is_instr;
 }
   where
     by_look : (b : Bool) → OnEvent x (acts.onward (program_of x) s (acts.checked (program_of x) s b) input)

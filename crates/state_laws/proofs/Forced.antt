@@ -4,11 +4,12 @@ use Rattle.steps_keep.specs.eh_bus.Lists.{Has}
 use Rattle.steps_keep.specs.eh_bus.Segment.{Segment}
 use Rattle.steps_keep.proofs.eh_bus.MapLaws.{map_trans}
 use Rattle.steps_keep.specs.eh_cxa.Lists.{Lists, slots, Record, Entry, Free, OutOfUse, Live, entry}
-use Rattle.steps_keep.specs.eh_cxa.Words.{Write, put_all, Pool, Wrote, word, object_slot}
+use Rattle.steps_keep.specs.eh_cxa.Words.{Write, put_all, Pool, Wrote, Done, word, object_slot}
 use Rattle.steps_keep.specs.eh_gates.Resuming.{goal_in}
 use Rattle.steps_keep.specs.eh_phase.declared.phase2.Goal.{Goal}
 use Rattle.steps_keep.specs.image_memory.Start.{image_start}
 use Rattle.steps_keep.specs.thumb_core.declared.regs.TheConstants.{SP}
+use Rattle.steps_keep.specs.thumb_isa.declared.instr.Instr.{Instr}
 use Rattle.steps_keep.specs.frame_check.Accepts.{Accepted}
 use Rattle.steps_keep.specs.two_machines.Activations.{Recorded, reg_in, memory_of, with_lists, words_in, heads, lists_of, cleanups_in, InProgress}
 use Rattle.steps_keep.specs.two_machines.Corresponds.{Corresponds}
@@ -27,12 +28,12 @@ use Rattle.steps_keep.proofs.eh_cxa.Pools.{object_small}
 use Rattle.steps_keep.proofs.eh_cxa.ThrowLaws.{FitThrow}
 use Rattle.steps_keep.proofs.eh_cxa.Zeros.{first_same}
 use Rattle.steps_keep.specs.eh_gates.Laws.{AreHeads}
-use Rattle.steps_keep.proofs.two_machines.CallGates.{left}
+use Rattle.steps_keep.proofs.two_machines.CallGates.{InStep, left}
 use Rattle.steps_keep.proofs.two_machines.WithLists.{allocate_keeps}
 use Rattle.steps_keep.proofs.two_machines.InStep.{same_slot, are_heads}
 use Rattle.steps_keep.specs.stands_for.Chain.{StandsAt, code}
 use Rattle.steps_keep.specs.stands_for.Cleanups.{goal_at, IsHeld, IsWithin, AreInProgress}
-use Rattle.steps_keep.specs.stands_for.Stands.{Keeps, IsCounted}
+use Rattle.steps_keep.specs.stands_for.Stands.{Keeps, IsCounted, DoesAt}
 use Rattle.steps_keep.specs.stands_for.Holds.{SameAt, AllSameAt}
 use Rattle.steps_keep.proofs.stands_for.Goes.{chain_top}
 use Rattle.steps_keep.proofs.stands_for.Moved.{SameWords, same_at, all_same_at, holds_moves, chain_lies, chain_moves, held_moves}
@@ -87,6 +88,10 @@ module _ (x : Accepted) (s : Recorded) (k : Keeps x s) (new : Lists) (ws : List 
     holds = holds_moves s.home s.segments segments (code x at.function at.marks).prologue at.fact s.first s.regs inner_same at.holds;
   }
 
+  pub writes_do : (i : Instr) → DoesAt x s i → DoesAt x u i
+  unfolding first_moves
+  writes_do i does = record { reached = does.reached; at = first_moves does.at; size = does.size; stands = does.stands }
+
   pub writes_keep : Keeps x u
   writes_keep = record {
     corresponds = c;
@@ -120,15 +125,21 @@ module _ (s : Recorded) (c : Corresponds s) where
   abbrev allocated : ℕ → Recorded
   allocated size = with_lists (allocate_list l size).lists (allocate_of (words_in l) size).writes s
 
-  allocate_corresponds : (size : ℕ) → size < 2 ^ 32 → Corresponds (allocated size)
-  allocate_corresponds size small =
+  abbrev allocation : ℕ → Done (Result ℕ CxaFault)
+  allocation size = record { answer = (allocate_of w size).answer; globals = heads l; writes = (allocate_of w size).writes }
+
+  pub allocate_in_step : (size : ℕ) → size < 2 ^ 32 → InStep s (allocation size) (allocate_of (words_in l) size).writes (allocate_list l size)
+  allocate_in_step size small =
       let d = allocate_of w size in
-      left s c (record { answer = d.answer; globals = heads l; writes = d.writes }) (allocate_of (words_in l) size).writes (allocate_list l size) (record {
+      record {
         writes = ap (λ (v : Wrote (Result ℕ CxaFault)). v.writes) (same_allocate size);
         follows = allocate_meets (memory_of s) (put_all d.writes (memory_of s)) d.answer size c.map small refl (heads l) l c.stands;
         tops = are_heads w (heads l) l c.stands;
         cleanups = allocate_keeps l size;
-      })
+      }
+
+  allocate_corresponds : (size : ℕ) → size < 2 ^ 32 → Corresponds (allocated size)
+  allocate_corresponds size small = left s c (allocation size) (allocate_of (words_in l) size).writes (allocate_list l size) (allocate_in_step size small)
 
   -- ---- and a throw
 
@@ -183,15 +194,20 @@ module _ (s : Recorded) (c : Corresponds s) where
   abbrev thrown : ℕ → Throw → Recorded
   thrown object t = with_lists (throw_list l (object_slot object) t).lists (start_throw_of (words_in l) (heads l) (object_slot object) t).writes s
 
-  throw_corresponds : (object : ℕ) (t : Throw) → FitThrow t → Corresponds (thrown object t)
-  throw_corresponds object t fit =
+  pub throw_in_step : (object : ℕ) (t : Throw) → FitThrow t
+      → InStep s (start_throw_of w (heads l) (object_slot object) t) (start_throw_of (words_in l) (heads l) (object_slot object) t).writes (throw_list l (object_slot object) t)
+  throw_in_step object t fit =
       let d = start_throw_of w (heads l) (object_slot object) t in
-      left s c d (start_throw_of (words_in l) (heads l) (object_slot object) t).writes (throw_list l (object_slot object) t) (record {
+      record {
         writes = throw_writes (object_slot object) t (λ slot e. object_small object slot e);
         follows = throw_meets (memory_of s) (put_all d.writes (memory_of s)) (heads l) d.globals d.answer object t c.map fit refl l c.stands;
         tops = throw_tops (object_slot object) t;
         cleanups = throw_keeps (object_slot object) t;
-      })
+      }
+
+  throw_corresponds : (object : ℕ) (t : Throw) → FitThrow t → Corresponds (thrown object t)
+  throw_corresponds object t fit =
+      left s c (start_throw_of w (heads l) (object_slot object) t) (start_throw_of (words_in l) (heads l) (object_slot object) t).writes (throw_list l (object_slot object) t) (throw_in_step object t fit)
 
 -- ---- both
 
@@ -203,6 +219,19 @@ pub throw_keeps_all : (x : Accepted) (s : Recorded) (object : ℕ) (t : Throw) �
     → Keeps x (with_lists (throw_list (lists_of s) (object_slot object) t).lists (start_throw_of (words_in (lists_of s)) (heads (lists_of s)) (object_slot object) t).writes s)
 throw_keeps_all x s object t k fit =
     writes_keep x s k (throw_list (lists_of s) (object_slot object) t).lists (start_throw_of (words_in (lists_of s)) (heads (lists_of s)) (object_slot object) t).writes
+    (throw_tame s k.corresponds (words_in (lists_of s)) (heads (lists_of s)) (object_slot object) t (λ slot e. object_small object slot e)) (throw_counts (lists_of s) k.counted (object_slot object) t) (throw_corresponds s k.corresponds object t fit)
+
+-- and the first activation stands at its instruction as before
+
+pub allocate_does : (x : Accepted) (s : Recorded) (size : ℕ) (k : Keeps x s) → size < 2 ^ 32 → (i : Instr) → DoesAt x s i
+    → DoesAt x (with_lists (allocate_list (lists_of s) size).lists (allocate_of (words_in (lists_of s)) size).writes s) i
+allocate_does x s size k small =
+    writes_do x s k (allocate_list (lists_of s) size).lists (allocate_of (words_in (lists_of s)) size).writes (allocate_tame s k.corresponds size) (allocate_counts (lists_of s) k.counted size) (allocate_corresponds s k.corresponds size small)
+
+pub throw_does : (x : Accepted) (s : Recorded) (object : ℕ) (t : Throw) (k : Keeps x s) → FitThrow t → (i : Instr) → DoesAt x s i
+    → DoesAt x (with_lists (throw_list (lists_of s) (object_slot object) t).lists (start_throw_of (words_in (lists_of s)) (heads (lists_of s)) (object_slot object) t).writes s) i
+throw_does x s object t k fit =
+    writes_do x s k (throw_list (lists_of s) (object_slot object) t).lists (start_throw_of (words_in (lists_of s)) (heads (lists_of s)) (object_slot object) t).writes
     (throw_tame s k.corresponds (words_in (lists_of s)) (heads (lists_of s)) (object_slot object) t (λ slot e. object_small object slot e)) (throw_counts (lists_of s) k.counted (object_slot object) t) (throw_corresponds s k.corresponds object t fit)
 
 pub throws_kept : KeepThrows

@@ -1,11 +1,11 @@
--- Registers that may change in any way: those of which the fact says nothing, and behind a gate those that it may change.
+-- Registers that may change in any edge: those of which the fact says nothing, and after a gate those that it may change.
 use Rattle.std.proofs.Common.{ℕ, ◌<◌, ◌≤◌, List, sym, ◌∙◌, arith, ◌≡◌, Bool, true, false, refl, inl, inr, subst, Option, ◌%◌, ◌^◌, ◌⊎◌, Some, slice_index, ap, ◌==◌, ◌+◌}
 use Rattle.std.specs.Prelude.{Contains, take}
 use Rattle.std.proofs.lemmas.List.{get_or-take, length-take}
 use Rattle.std.proofs.lemmas.Option.{same_Some}
 use Rattle.std.specs.List.{list_any}
 use Rattle.steps_keep.specs.frame_facts.declared.facts.Fact.{Fact}
-use Rattle.steps_keep.specs.frame_facts.Facts.{IsAtMost, slot, source, forgotten}
+use Rattle.steps_keep.specs.frame_facts.Facts.{IsAtMost, slot, source, clobbered}
 use Rattle.steps_keep.specs.eh_bus.Segment.{Segment}
 use Rattle.steps_keep.specs.thumb_core.Registers.{reg}
 use Rattle.steps_keep.specs.thumb_core.declared.regs.Regs.{Regs}
@@ -15,33 +15,33 @@ use Rattle.steps_keep.specs.frame_facts.Machine.{Means}
 use Rattle.steps_keep.specs.frame_facts.Saves.{saves_of}
 use Rattle.steps_keep.specs.two_machines.Activations.{Activation, Recorded, reg_in}
 use Rattle.steps_keep.specs.elf_image.Functions.{Function}
-use Rattle.steps_keep.proofs.flow.Ends.{settles}
+use Rattle.steps_keep.proofs.flow.Ends.{solves}
 use Rattle.steps_keep.specs.frame_facts.declared.cause.FrameCause.{FrameCause}
 use Rattle.steps_keep.specs.frame_reach.Marks.{Marks, AreMarks}
 use Rattle.steps_keep.specs.frame_flow.Flows.{flow_of, IsStateOf}
 use Rattle.steps_keep.proofs.frame_flow.Instance.{laws, finite}
 use Rattle.steps_keep.specs.frame_check.Accepts.{Accepted}
 use Rattle.steps_keep.specs.frame_check.Judged.{IsPlaced}
-use Rattle.steps_keep.specs.frame_check.Roots.{scene_of}
+use Rattle.steps_keep.specs.frame_check.Roots.{flow_graph_of}
 use Rattle.steps_keep.proofs.frame_check.Wells.{placed_at}
 use Rattle.steps_keep.specs.flow.Flow.{fact_at}
 use Rattle.steps_keep.proofs.flow.Law.{bounds}
 use Rattle.steps_keep.specs.thumb_core.Laws.{AreSound, AreWords}
 use Rattle.steps_keep.specs.thumb_core.declared.regs.TheConstants.{SP}
 use Rattle.steps_keep.specs.frame_facts.declared.facts.Source.TheVariants.{Other}
-use Rattle.steps_keep.specs.frame_check.Spots.{look}
+use Rattle.steps_keep.specs.frame_check.Roles.{look}
 use Rattle.steps_keep.specs.thumb_core.Words.{listed}
 use Rattle.steps_keep.specs.frame_facts.Branches.{gate_changes}
 use Rattle.steps_keep.specs.image_memory.Start.{begins_function}
 use Rattle.steps_keep.specs.thumb_isa.declared.instr.Instr.TheVariants.{Svc}
-use Rattle.steps_keep.proofs.frame_facts.Described.{forgetting_described}
+use Rattle.steps_keep.proofs.frame_facts.Described.{clobbering_described}
 use Rattle.steps_keep.specs.stands_for.Holds.{Holds}
 use Rattle.steps_keep.specs.stands_for.Chain.{code, StandsAt}
-use Rattle.state_laws.specs.Free.{AreFacts, FreeRegisters, FreeAnywhere, FreeBehindGates}
+use Rattle.state_laws.specs.Free.{AreFacts, FreeRegisters, FreeAnywhere, FreeAfterGates}
 use Rattle.steps_keep.specs.stands_for.Stands.{IsProgram, Keeps, DoesAt}
 use Rattle.steps_keep.proofs.stands_for.Flows.{none_stands}
-use Rattle.steps_keep.proofs.stands_for.Moves.{moved_holds, forgotten_frame}
-use Rattle.steps_keep.proofs.stands_for.Level.{with_regs}
+use Rattle.steps_keep.proofs.stands_for.Moves.{moved_holds, clobbered_frame}
+use Rattle.steps_keep.proofs.stands_for.SimpleTurns.{with_regs}
 use Rattle.steps_keep.proofs.stands_for.Goes.{next_stands}
 
 -- ---- a fact that is no less vague holds too
@@ -82,10 +82,10 @@ vaguer_holds p f h a segments regs m k = record {
 -- ---- the facts of a function: valid, and each of them a state
 
 -- each function of an accepted image has them
-pub has_facts : (x : Accepted) (f : Function) (m : Marks) → IsProgram x → Contains x.image.functions f → AreMarks (scene_of x.image f) m → (facts : List (Option Fact)) × AreFacts x f m facts
+pub has_facts : (x : Accepted) (f : Function) (m : Marks) → IsProgram x → Contains x.image.functions f → AreMarks (flow_graph_of x.image f) m → (facts : List (Option Fact)) × AreFacts x f m facts
 has_facts x f m is c are =
     let placed = subst IsPlaced c.2 (placed_at x.image c.0 f is.image c.1) in
-    let w = settles Fact FrameCause IsAtMost (flow_of (code x f m)) (laws (code x f m)) (finite (code x f m) placed.some) (none_stands x f m is.sound c are) in
+    let w = solves Fact FrameCause IsAtMost (flow_of (code x f m)) (laws (code x f m)) (finite (code x f m) placed.some) (none_stands x f m is.sound c are) in
     (w.0, record { valid = w.1; states = w.2 })
 
 -- ---- registers of which nothing is known
@@ -95,8 +95,8 @@ module _ (x : Accepted) (s : Recorded) (k : Keeps x s) (new : Regs) (pc : new.pc
   sound = record { words = words; small = subst (λ n. n < 2 ^ 32) (sym pc) k.sound.small; is_even = subst (λ n. n % 2 ≡ 0) (sym pc) k.sound.is_even }
 
   -- where no checked instruction stands at pc all may change
-  pub free_anywhere : (look x.spots s.regs.pc).is_instr ≡ false → Keeps x (record s { regs = new })
-  free_anywhere none = with_regs x s k new sound sp (λ reached. absurd (let clash : true ≡ false = sym reached ∙ ap (λ n. (look x.spots n).is_instr) pc ∙ none in cc))
+  pub free_anywhere : (look x.roles s.regs.pc).is_instr ≡ false → Keeps x (record s { regs = new })
+  free_anywhere none = with_regs x s k new sound sp (λ reached. absurd (let clash : true ≡ false = sym reached ∙ ap (λ n. (look x.roles n).is_instr) pc ∙ none in cc))
 
   module _ (at : StandsAt x s.first s.segments s.regs s.regs.pc) where
     at_fact : (h : Fact) → IsStateOf (code x at.function at.marks) at.place h → Holds (code x at.function at.marks).prologue h s.first s.segments new → Keeps x (record s { regs = new })
@@ -125,31 +125,31 @@ module _ (x : Accepted) (s : Recorded) (k : Keeps x s) (new : Regs) (pc : new.pc
         let vaguer = vaguer_holds (code x at.function at.marks).prologue at.fact h s.first s.segments s.regs (subst (IsAtMost at.fact) is w.2) at.holds in
         at_fact h (are.states at.place h e) (moved_holds (code x at.function at.marks).prologue h s.first s.segments s.regs new vaguer same sp)
 
--- ---- behind a gate
+-- ---- after a gate
 
 sp_stays : list_any (λ (i : ℕ). i == 13) gate_changes ≡ false
 unfolding listed
 sp_stays = refl
 
 -- at a checked SVC whose next address is no function's start pc may go there, with any words in r0 to r3 and r12
-pub free_behind_gate : (x : Accepted) (s : Recorded) (number : ℕ) (new : Regs) → IsProgram x → Keeps x s → (does : DoesAt x s (Svc number)) → begins_function x.image.functions (s.regs.pc + does.size) ≡ false
+pub free_after_gate : (x : Accepted) (s : Recorded) (number : ℕ) (new : Regs) → IsProgram x → Keeps x s → (does : DoesAt x s (Svc number)) → begins_function x.image.functions (s.regs.pc + does.size) ≡ false
     → new.pc ≡ s.regs.pc + does.size → AreSound new.r new.pc → ((j : ℕ) → list_any (λ (i : ℕ). i == j) gate_changes ≡ false → reg new j ≡ reg s.regs j) → Keeps x (record s { regs = new })
-free_behind_gate x s number new is k does fresh pc sound same =
-    with_regs x s k new sound sp (λ reached. next_stands x is s k does.at (Svc number) does.size does.stands (forgotten gate_changes does.at.fact) new s.segments s.first refl refl refl pc holds reached
+free_after_gate x s number new is k does fresh pc sound same =
+    with_regs x s k new sound sp (λ reached. next_stands x is s k does.at (Svc number) does.size does.stands (clobbered gate_changes does.at.fact) new s.segments s.first refl refl refl pc holds reached
     (subst (λ n. begins_function x.image.functions n ≡ false) (sym pc) fresh))
   where
     sp : slice_index new.r SP ≡ reg_in s SP
     sp = same 13 sp_stays
 
-    holds : Holds (code x does.at.function does.at.marks).prologue (forgotten gate_changes does.at.fact) s.first s.segments new
+    holds : Holds (code x does.at.function does.at.marks).prologue (clobbered gate_changes does.at.fact) s.first s.segments new
     holds =
         let h = does.at.holds in
-        let frame = forgotten_frame gate_changes does.at.fact in
+        let frame = clobbered_frame gate_changes does.at.fact in
         record {
           entry = h.entry;
           saved = h.saved;
           link = h.link;
-          describes = forgetting_described h.entry s.first.caller.sp gate_changes does.at.fact s.regs new h.describes same sp_stays;
+          describes = clobbering_described h.entry s.first.caller.sp gate_changes does.at.fact s.regs new h.describes same sp_stays;
           lower = omega (arith, h.lower, frame.0, sp);
           saves = λ w e. let one = h.saves w (subst (λ n. Contains (take n (saves_of (code x does.at.function does.at.marks).prologue)) w) frame.1 e) in
               record { low = one.low; deep = omega (arith, one.deep, frame.0); holds = one.holds; slot = one.slot };
@@ -163,5 +163,5 @@ registers x s new k other at facts are h e same = free_by_fact x s k new other.p
 pub anywhere : FreeAnywhere
 anywhere x s new k other none = free_anywhere x s k new other.pc other.words other.sp none
 
-pub behind_gates : FreeBehindGates
-behind_gates = free_behind_gate
+pub after_gates : FreeAfterGates
+after_gates = free_after_gate

@@ -1,5 +1,5 @@
 mod Memories
 mod Frees
 mod Starting
-mod Forced
+pub mod Forced
 mod Barred

@@ -20,7 +20,7 @@ use Rattle.steps_keep.specs.thumb_core.declared.regs.TheConstants.{LR}
 use Rattle.steps_keep.specs.thumb_core.declared.regs.Regs.{Regs}
 use Rattle.steps_keep.specs.frame_facts.Facts.{entered}
 use Rattle.steps_keep.specs.frame_check.Accepts.{Accepted, IsWell}
-use Rattle.steps_keep.specs.frame_check.Roots.{scene_of}
+use Rattle.steps_keep.specs.frame_check.Roots.{flow_graph_of}
 use Rattle.steps_keep.specs.two_machines.Activations.{Caller, Recorded, memory_of, heads, lists_of}
 use Rattle.steps_keep.specs.stands_for.Holds.{recorded, IsWhole}
 use Rattle.steps_keep.specs.stands_for.Chain.{StandsAt}
@@ -76,7 +76,7 @@ module _ (x : Accepted) (is : IsProgram x) (regs : Regs) (entries : List Entry) 
   enters : StandsAt x s.first segments regs regs.pc
   enters =
       let g = begins x.image.functions regs.pc f.begins in
-      let well = All-contains (λ h. IsWell (scene_of x.image h)) x.image.functions g.0 is.sound.functions g.1 in
+      let well = All-contains (λ h. IsWell (flow_graph_of x.image h)) x.image.functions g.0 is.sound.functions g.1 in
       record {
         function = g.0;
         marks = well.marks;

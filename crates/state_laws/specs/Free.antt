@@ -27,7 +27,7 @@ use Rattle.steps_keep.specs.thumb_core.declared.regs.TheConstants.{SP, LR}
 use Rattle.steps_keep.specs.thumb_core.declared.regs.Regs.{Regs}
 use Rattle.steps_keep.specs.thumb_core.Registers.{reg}
 use Rattle.steps_keep.specs.frame_facts.declared.facts.Source.TheVariants.{Other}
-use Rattle.steps_keep.specs.frame_check.Spots.{look}
+use Rattle.steps_keep.specs.frame_check.Roles.{look}
 use Rattle.steps_keep.specs.image_memory.Start.{begins_function, image_start}
 use Rattle.steps_keep.specs.thumb_isa.declared.instr.Instr.TheVariants.{Svc}
 use Rattle.steps_keep.specs.frame_facts.Branches.{gate_changes}
@@ -88,12 +88,12 @@ FreeRegisters = (x : Accepted) (s : Recorded) (new : Regs) → Keeps x s → Oth
 
 -- where no checked instruction stands at pc all of them may change
 abbrev pub FreeAnywhere : Type 0
-FreeAnywhere = (x : Accepted) (s : Recorded) (new : Regs) → Keeps x s → OtherRegisters s new → (look x.spots s.regs.pc).is_instr ≡ false → Keeps x (record s { regs = new })
+FreeAnywhere = (x : Accepted) (s : Recorded) (new : Regs) → Keeps x s → OtherRegisters s new → (look x.roles s.regs.pc).is_instr ≡ false → Keeps x (record s { regs = new })
 
--- ---- behind a gate
+-- ---- after a gate
 
-abbrev pub FreeBehindGates : Type 0
-FreeBehindGates = (x : Accepted) (s : Recorded) (number : ℕ) (new : Regs) → IsProgram x → Keeps x s → (does : DoesAt x s (Svc number)) → begins_function x.image.functions (s.regs.pc + does.size) ≡ false
+abbrev pub FreeAfterGates : Type 0
+FreeAfterGates = (x : Accepted) (s : Recorded) (number : ℕ) (new : Regs) → IsProgram x → Keeps x s → (does : DoesAt x s (Svc number)) → begins_function x.image.functions (s.regs.pc + does.size) ≡ false
     → new.pc ≡ s.regs.pc + does.size → AreSound new.r new.pc → ((j : ℕ) → list_any (λ (i : ℕ). i == j) gate_changes ≡ false → reg new j ≡ reg s.regs j) → Keeps x (record s { regs = new })
 
 -- ---- a start

@@ -1,7 +1,7 @@
 //! What a state that stands for a recorded one rests on, what of it may change, and which states are a start (docs/standing-for.md).
 #![tactic(auto)]
 
-ghost use Rattle.state_laws.specs.Free.{FreeMemory, FreeRegisters, FreeAnywhere, FreeBehindGates, FreeStarts, StartsAreFresh, KeepThrows};
+ghost use Rattle.state_laws.specs.Free.{FreeMemory, FreeRegisters, FreeAnywhere, FreeAfterGates, FreeStarts, StartsAreFresh, KeepThrows};
 ghost use Rattle.state_laws.specs.FactLaws.{FactsAreThere};
 ghost use Rattle.state_laws.specs.Barriers.{FreeBarriers};
 
@@ -27,8 +27,8 @@ pub fn free_anywhere()
 {}
 
 /// At a gate pc may go to the next address with any values in r0 to r3 and r12.
-pub fn free_behind_gates()
-    ensures { FreeBehindGates }
+pub fn free_after_gates()
+    ensures { FreeAfterGates }
 {}
 
 /// A core at a function's start, with sp at the end of its running stack, the return address 0xFFFFFFFF and no exception, stands for one

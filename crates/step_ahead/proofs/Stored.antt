@@ -29,10 +29,10 @@ use Rattle.thumb_core.specs.Branch.{register_effect}
 use Rattle.thumb_core.specs.Lists.{words_of, bytes_of, load_list, ldm_end, pop_to, pop_end}
 use Rattle.thumb_core.specs.Step.{effect, outcome_of, with_second, with_first, step_of, instr_of, instr_of_second, instr_of_first, instr_at}
 use Rattle.thumb_core.specs.Stores.{Span, span, stores_of, stores_of_some}
-use Rattle.step_ahead.specs.declared.kept.Kept.{Kept}
-use Rattle.step_ahead.specs.declared.kept.Kept.TheVariants.{Nothing, Byte, Half}
-use Rattle.step_ahead.specs.declared.kept.TheConstants.{MOST}
-use Rattle.step_ahead.specs.Kept.{put_back, TakesBack, HoldsWords, Keeps, CanLoad, SoFar, spanned, InStack, PushesInStack}
+use Rattle.step_ahead.specs.declared.undo_record.UndoRecord.{UndoRecord}
+use Rattle.step_ahead.specs.declared.undo_record.UndoRecord.TheVariants.{Nothing, Byte, Half}
+use Rattle.step_ahead.specs.declared.undo_record.TheConstants.{MOST}
+use Rattle.step_ahead.specs.UndoRecord.{restore, Restores, HoldsWords, Records, CanLoad, SoFar, spanned, InStack, PushesInStack}
 use Rattle.step_ahead.specs.Ahead.{pushes_some}
 
 same_ok : (r : Result ℕ BusFault) (v w : ℕ) → r ≡ Ok v → r ≡ Ok w → v ≡ w
@@ -244,13 +244,13 @@ done_stored stores m new after o e d = subst (λ (v : Outcome). Did stores m v) 
 
 -- ---- what was kept takes it back
 
-byte_back : (m new : Memory) (a v : ℕ) (kept : Kept) → IsMap m → store 1 m a v ≡ (Ok tt, new) → Keeps m a 1 kept → put_back kept new ≡ m
-byte_back m new a v kept x e k =
+byte_back : (m new : Memory) (a v : ℕ) (undo_record : UndoRecord) → IsMap m → store 1 m a v ≡ (Ok tt, new) → Records m a 1 undo_record → restore undo_record new ≡ m
+byte_back m new a v undo_record x e k =
     let u = store_undoable 1 m a v new x e in
     rw (k.byte (u.loads).0 refl (u.loads).1) (ap (λ (p : Result (Unit {0}) BusFault × Memory). p.1) (u.back (u.loads).0 (u.loads).1))
 
-half_back : (m new : Memory) (a v : ℕ) (kept : Kept) → IsMap m → store 2 m a v ≡ (Ok tt, new) → Keeps m a 2 kept → put_back kept new ≡ m
-half_back m new a v kept x e k =
+half_back : (m new : Memory) (a v : ℕ) (undo_record : UndoRecord) → IsMap m → store 2 m a v ≡ (Ok tt, new) → Records m a 2 undo_record → restore undo_record new ≡ m
+half_back m new a v undo_record x e k =
     let u = store_undoable 2 m a v new x e in
     rw (k.half (u.loads).0 refl (u.loads).1) (ap (λ (p : Result (Unit {0}) BusFault × Memory). p.1) (u.back (u.loads).0 (u.loads).1))
 
@@ -262,9 +262,9 @@ words_low m a (suc n) x low can =
     let top = fault_top 4 (a + 4 * n) (λ s. load_fault 4 (a + 4 * n)) m.segments x.segments (loads_done 4 m.segments (a + 4 * n) l.0 l.1) in
     omega arith
 
-words_back : (m new : Memory) (a : ℕ) (ws : List ℕ) (kept : Kept) → IsMap m → a < 2 ^ 32 → length ws ≤ MOST → store_run m a ws ≡ (Ok tt, new)
-    → Keeps m a (4 * length ws) kept → put_back kept new ≡ m
-words_back m new a ws kept x low few e k =
+words_back : (m new : Memory) (a : ℕ) (ws : List ℕ) (undo_record : UndoRecord) → IsMap m → a < 2 ^ 32 → length ws ≤ MOST → store_run m a ws ≡ (Ok tt, new)
+    → Records m a (4 * length ws) undo_record → restore undo_record new ≡ m
+words_back m new a ws undo_record x low few e k =
     let u = run_undoable m a ws new low x e in
     let h = k.words (length ws) refl few (words_low m a (length ws) x low u.loads) u.loads in
     let all : min (length ws) MOST ≡ length ws = omega arith in
@@ -273,19 +273,19 @@ words_back m new a ws kept x low few e k =
     λ i l. h.all i l ∙ ap Ok (sym (get_or-take (length ws) h.words i 0 l)) in
     rw h.is (subst (λ (n : ℕ). (store_run new a (take n h.words)).1 ≡ m) (sym all) (ap (λ (p : Result (Unit {0}) BusFault × Memory). p.1) (u.back (take (length ws) h.words) count same)))
 
-wrote_back : (s : Span) (m new : Memory) (kept : Kept) → IsMap m → Wrote s m new → Keeps m s.start s.size kept → put_back kept new ≡ m
-wrote_back s m new kept x (wrote_byte v size e) k = byte_back m new s.start v kept x e (subst (λ n. Keeps m s.start n kept) size k)
-wrote_back s m new kept x (wrote_half v size e) k = half_back m new s.start v kept x e (subst (λ n. Keeps m s.start n kept) size k)
-wrote_back s m new kept x (wrote_words ws size few low e) k = words_back m new s.start ws kept x low few e (subst (λ n. Keeps m s.start n kept) size k)
+wrote_back : (s : Span) (m new : Memory) (undo_record : UndoRecord) → IsMap m → Wrote s m new → Records m s.start s.size undo_record → restore undo_record new ≡ m
+wrote_back s m new undo_record x (wrote_byte v size e) k = byte_back m new s.start v undo_record x e (subst (λ n. Records m s.start n undo_record) size k)
+wrote_back s m new undo_record x (wrote_half v size e) k = half_back m new s.start v undo_record x e (subst (λ n. Records m s.start n undo_record) size k)
+wrote_back s m new undo_record x (wrote_words ws size few low e) k = words_back m new s.start ws undo_record x low few e (subst (λ n. Records m s.start n undo_record) size k)
 
 -- of an instruction that stores to these bytes, if there are any
-pub taken_back : (kept : Kept) (regs : Regs) (m : Memory) (start size : ℕ) → IsMap m → AreWords regs
-    → stores_of_some (instr_at m regs.pc) regs ≡ Some (record { start = start; size = size }) → Keeps m start size kept → TakesBack kept regs m
-taken_back kept regs m start size x small e k after new done =
+pub restored : (undo_record : UndoRecord) (regs : Regs) (m : Memory) (start size : ℕ) → IsMap m → AreWords regs
+    → stores_of_some (instr_at m regs.pc) regs ≡ Some (record { start = start; size = size }) → Records m start size undo_record → Restores undo_record regs m
+restored undo_record regs m start size x small e k after new done =
     let d = done_stored (stores_of_some (instr_at m regs.pc) regs) m new after (step_of regs m) done (step_did regs m small) in
-    wrote_back (record { start = start; size = size }) m new kept x (subst (λ (o : Option Span). Stored o m new) e d) k
+    wrote_back (record { start = start; size = size }) m new undo_record x (subst (λ (o : Option Span). Stored o m new) e d) k
 
-pub nothing_back : (regs : Regs) (m : Memory) → AreWords regs → stores_of_some (instr_at m regs.pc) regs ≡ None → TakesBack Nothing regs m
+pub nothing_back : (regs : Regs) (m : Memory) → AreWords regs → stores_of_some (instr_at m regs.pc) regs ≡ None → Restores Nothing regs m
 nothing_back regs m small e after new done =
     let d = done_stored (stores_of_some (instr_at m regs.pc) regs) m new after (step_of regs m) done (step_did regs m small) in
     subst (λ (o : Option Span). Stored o m new) e d
@@ -378,46 +378,46 @@ no_word m at n k fault P below e low can =
     differ r v fault e f = cc
 
 -- what can't be loaded, kept as nothing
-pub keeps_byte : (m : Memory) (at : ℕ) (value : ℕ) → load 1 m at ≡ Ok value → Keeps m at 1 (Byte at value)
-keeps_byte m at value e = record {
+pub records_byte : (m : Memory) (at : ℕ) (value : ℕ) → load 1 m at ≡ Ok value → Records m at 1 (Byte at value)
+records_byte m at value e = record {
   byte = λ v size l. ap (Byte at) (same_ok (load 1 m at) value v e l);
   half = λ v size l. absurd (omega (arith, size));
   words = λ n size few low can. absurd (omega (arith, size));
 }
 
-pub keeps_no_byte : (m : Memory) (at : ℕ) (fault : BusFault) → load 1 m at ≡ Err fault → Keeps m at 1 Nothing
-keeps_no_byte m at fault e = record {
+pub records_no_byte : (m : Memory) (at : ℕ) (fault : BusFault) → load 1 m at ≡ Err fault → Records m at 1 Nothing
+records_no_byte m at fault e = record {
   byte = λ v size l. absurd (not_both (load 1 m at) v fault l e);
   half = λ v size l. absurd (omega (arith, size));
   words = λ n size few low can. absurd (omega (arith, size));
 }
 
-pub keeps_half : (m : Memory) (at : ℕ) (value : ℕ) → load 2 m at ≡ Ok value → Keeps m at 2 (Half at value)
-keeps_half m at value e = record {
+pub records_half : (m : Memory) (at : ℕ) (value : ℕ) → load 2 m at ≡ Ok value → Records m at 2 (Half at value)
+records_half m at value e = record {
   byte = λ v size l. absurd (omega (arith, size));
   half = λ v size l. ap (Half at) (same_ok (load 2 m at) value v e l);
   words = λ n size few low can. absurd (omega (arith, size));
 }
 
-pub keeps_no_half : (m : Memory) (at : ℕ) (fault : BusFault) → load 2 m at ≡ Err fault → Keeps m at 2 Nothing
-keeps_no_half m at fault e = record {
+pub records_no_half : (m : Memory) (at : ℕ) (fault : BusFault) → load 2 m at ≡ Err fault → Records m at 2 Nothing
+records_no_half m at fault e = record {
   byte = λ v size l. absurd (omega (arith, size));
   half = λ v size l. absurd (not_both (load 2 m at) v fault l e);
   words = λ n size few low can. absurd (omega (arith, size));
 }
 
-pub keeps_words : (m : Memory) (at size : ℕ) (kept : Kept) → size ≢ 1 → size ≢ 2
-    → (at + 4 * (size / 4) < 2 ^ 32 → CanLoad m at (size / 4) → HoldsWords m at (size / 4) kept) → Keeps m at size kept
-keeps_words m at size kept one two f = record {
+pub records_words : (m : Memory) (at size : ℕ) (undo_record : UndoRecord) → size ≢ 1 → size ≢ 2
+    → (at + 4 * (size / 4) < 2 ^ 32 → CanLoad m at (size / 4) → HoldsWords m at (size / 4) undo_record) → Records m at size undo_record
+records_words m at size undo_record one two f = record {
   byte = λ v e l. absurd (one e);
   half = λ v e l. absurd (two e);
   words = λ n e few low can.
       let is : n ≡ size / 4 = omega (arith, e) in
-      subst (λ (k : ℕ). HoldsWords m at k kept) (sym is) (f (rw (sym is) low) (subst (λ (k : ℕ). CanLoad m at k) is can));
+      subst (λ (k : ℕ). HoldsWords m at k undo_record) (sym is) (f (rw (sym is) low) (subst (λ (k : ℕ). CanLoad m at k) is can));
 }
 
-pub keeps_none : (m : Memory) (at size : ℕ) → size ≢ 1 → size ≢ 2 → MOST < size / 4 → Keeps m at size Nothing
-keeps_none m at size one two many = record {
+pub records_none : (m : Memory) (at size : ℕ) → size ≢ 1 → size ≢ 2 → MOST < size / 4 → Records m at size Nothing
+records_none m at size one two many = record {
   byte = λ v e l. absurd (one e);
   half = λ v e l. absurd (two e);
   words = λ n e few low can. absurd (omega (arith, e, few, many));
@@ -425,10 +425,10 @@ keeps_none m at size one two many = record {
 
 -- ---- of the instruction that was found at pc
 
-pub back_from : (kept : Kept) (regs : Regs) (m : Memory) (i : Instr) (n start size : ℕ) → IsMap m → AreWords regs → Some (i, n) ≡ instr_at m regs.pc
-    → spanned (Some (start, size)) ≡ stores_of i regs → Keeps m start size kept → TakesBack kept regs m
-back_from kept regs m i n start size x small at e k =
-    taken_back kept regs m start size x small (ap (λ (o : Option (Instr × ℕ)). stores_of_some o regs) (sym at) ∙ sym e) k
+pub back_from : (undo_record : UndoRecord) (regs : Regs) (m : Memory) (i : Instr) (n start size : ℕ) → IsMap m → AreWords regs → Some (i, n) ≡ instr_at m regs.pc
+    → spanned (Some (start, size)) ≡ stores_of i regs → Records m start size undo_record → Restores undo_record regs m
+back_from undo_record regs m i n start size x small at e k =
+    restored undo_record regs m start size x small (ap (λ (o : Option (Instr × ℕ)). stores_of_some o regs) (sym at) ∙ sym e) k
 
-pub back_of_none : (regs : Regs) (m : Memory) (i : Instr) (n : ℕ) → AreWords regs → Some (i, n) ≡ instr_at m regs.pc → spanned None ≡ stores_of i regs → TakesBack Nothing regs m
+pub back_of_none : (regs : Regs) (m : Memory) (i : Instr) (n : ℕ) → AreWords regs → Some (i, n) ≡ instr_at m regs.pc → spanned None ≡ stores_of i regs → Restores Nothing regs m
 back_of_none regs m i n small at e = nothing_back regs m small (ap (λ (o : Option (Instr × ℕ)). stores_of_some o regs) (sym at) ∙ sym e)

@@ -23,8 +23,8 @@ use Rattle.thumb_core.specs.Outcome.{Outcome, with_memory}
 use Rattle.thumb_core.specs.Access.{store_end, loaded, store_reg, mem_reg, mem_imm, mem_sp}
 use Rattle.thumb_core.specs.Lists.{words_of, bytes_of}
 use Rattle.thumb_core.specs.Step.{effect}
-use Rattle.step_ahead.specs.Ahead.{is_level, branches, pushed}
-use Rattle.step_ahead.specs.Kept.{lowest}
+use Rattle.step_ahead.specs.Ahead.{is_fall_through, branches, pushed}
+use Rattle.step_ahead.specs.UndoRecord.{lowest}
 use Rattle.step_ahead.proofs.Stored.{OnGo, AreWords, either}
 
 -- what was done, where n words are pushed
@@ -87,10 +87,10 @@ mem_sp_goes : (is_load : Bool) (t size : ℕ) (off : ℤ) (regs : Regs) (m : Mem
 mem_sp_goes true t size off regs m low = load_goes _ t size regs m low
 mem_sp_goes false t size off regs m low = reg_goes 4 t (forward (reg regs SP) off) size regs m
 
--- sp behind a push of n words, which there is room for
-sp_behind : (regs : Regs) (n : ℕ) → length regs.r ≡ 15 → reg regs SP < 2 ^ 32 → 4 * n ≤ reg regs SP
+-- sp after a push of n words, which there is room for
+sp_after : (regs : Regs) (n : ℕ) → length regs.r ≡ 15 → reg regs SP < 2 ^ 32 → 4 * n ≤ reg regs SP
     → reg (with_reg regs SP ((reg regs SP + (2 ^ 32 - 4 * n)) % 2 ^ 32)) SP ≡ lowest (reg regs SP) n
-sp_behind regs n count small room =
+sp_after regs n count small room =
     let a = (reg regs SP + (2 ^ 32 - 4 * n)) % 2 ^ 32 in
     let read : reg (with_reg regs SP a) SP ≡ word_in SP a = get_or-set_same regs.r 13 (word_in SP a) 0 (omega (arith, count)) in
     let is : a ≡ reg regs SP - 4 * n = omega (arith, small, room) in
@@ -100,7 +100,7 @@ push_goes : (list size : ℕ) (regs : Regs) (m : Memory) → length regs.r ≡ 1
     → Onward (length (listed list)) size regs (effect (Push list) size regs m)
 push_goes list size regs m count small room =
     let n = length (listed list) in
-    let sp = sp_behind regs n count (small 13) room in
+    let sp = sp_after regs n count (small 13) room in
     store_goes (store_run m ((reg regs SP + (2 ^ 32 - bytes_of list)) % 2 ^ 32) (words_of list regs)) n size SP _ regs (omega (arith, sp)) (omega (arith, sp))
 
 stm_goes : (k list size : ℕ) (regs : Regs) (m : Memory) → k < 8 → Onward 0 size regs (effect (Stm k list) size regs m)
@@ -138,7 +138,7 @@ answer_goes a d size regs m low =
     (either (λ (r : List ℕ). slice_index r 13 ≡ reg regs SP) a.written (put regs.r d a.value) regs.r (other regs d a.value low) refl)
 
 high_goes : (d x size : ℕ) (regs : Regs) (m : Memory) → not (d == SP) ≡ true → (d == PC) ≡ false → Onward 0 size regs (Done, write_high d x size regs, m)
-high_goes d x size regs m level taken = go (d == SP) (d == PC) refl level taken
+high_goes d x size regs m fall_through taken = go (d == SP) (d == PC) refl fall_through taken
   where
     go : (a b : Bool) → (d == SP) ≡ a → not a ≡ true → b ≡ false → Onward 0 size regs (Done, cond b (with_pc regs x) (with_next size (with_reg regs d x)), m)
     go true b e f h = absurd (cc)
@@ -153,30 +153,30 @@ branch_goes false off size regs m e = next_goes size regs regs m refl refl
 
 -- ---- every instruction of these
 
-pub effect_goes : (i : Instr) (size : ℕ) (regs : Regs) (m : Memory) → is_level i ≡ true → branches i regs ≡ false → InRange i → length regs.r ≡ 15 → AreWords regs
+pub effect_goes : (i : Instr) (size : ℕ) (regs : Regs) (m : Memory) → is_fall_through i ≡ true → branches i regs ≡ false → InRange i → length regs.r ≡ 15 → AreWords regs
     → 4 * length (pushed i) ≤ reg regs SP → Onward (length (pushed i)) size regs (effect i size regs m)
-effect_goes (MemReg op t n k) size regs m level taken range count small room = mem_reg_goes op t n k size regs m (range.1)
-effect_goes (MemImm op t n off) size regs m level taken range count small room = mem_imm_goes op t n size off regs m (range.1)
-effect_goes (MemSp is_load t off) size regs m level taken range count small room = mem_sp_goes is_load t size off regs m (range.0)
-effect_goes (LdrLit t off) size regs m level taken range count small room = load_goes (load 4 m (forward (base regs) off)) t size regs m (range.0)
-effect_goes (Push list) size regs m level taken range count small room = push_goes list size regs m count small room
-effect_goes (Stm k list) size regs m level taken range count small room = stm_goes k list size regs m (range.0)
-effect_goes (ShiftImm op d k n) size regs m level taken range count small room =
+effect_goes (MemReg op t n k) size regs m fall_through taken range count small room = mem_reg_goes op t n k size regs m (range.1)
+effect_goes (MemImm op t n off) size regs m fall_through taken range count small room = mem_imm_goes op t n size off regs m (range.1)
+effect_goes (MemSp is_load t off) size regs m fall_through taken range count small room = mem_sp_goes is_load t size off regs m (range.0)
+effect_goes (LdrLit t off) size regs m fall_through taken range count small room = load_goes (load 4 m (forward (base regs) off)) t size regs m (range.0)
+effect_goes (Push list) size regs m fall_through taken range count small room = push_goes list size regs m count small room
+effect_goes (Stm k list) size regs m fall_through taken range count small room = stm_goes k list size regs m (range.0)
+effect_goes (ShiftImm op d k n) size regs m fall_through taken range count small room =
     low_goes d (shift_of op (reg regs k) n regs.c).0 size regs (shift_imm op d k n regs) m (range.1) refl refl
-effect_goes (AddSubReg sub d n k) size regs m level taken range count small room =
+effect_goes (AddSubReg sub d n k) size regs m fall_through taken range count small room =
     low_goes d (sum_or_difference sub (reg regs n) (reg regs k)).value size regs (add_sub_reg sub d n k regs) m (range.0) refl refl
-effect_goes (AddSubImm3 sub d n imm) size regs m level taken range count small room =
+effect_goes (AddSubImm3 sub d n imm) size regs m fall_through taken range count small room =
     low_goes d (sum_or_difference sub (reg regs n) imm).value size regs (add_sub_imm sub d n imm regs) m (range.0) refl refl
-effect_goes (Imm8 op d imm) size regs m level taken range count small room = imm8_goes op d imm size regs m (range.1)
-effect_goes (Alu op d k) size regs m level taken range count small room = answer_goes (alu_of op (reg regs d) (reg regs k) regs) d size regs m (range.1)
-effect_goes (AddHigh d k) size regs m level taken range count small room = high_goes d (operand regs d + operand regs k) size regs m level taken
-effect_goes (MovHigh d k) size regs m level taken range count small room = high_goes d (operand regs k) size regs m level taken
-effect_goes (CmpHigh n k) size regs m level taken range count small room = next_goes size regs (cmp_high n k regs) m refl refl
-effect_goes (Adr d off) size regs m level taken range count small room = low_goes d (forward (base regs) off) size regs (adr d off regs) m (range.0) refl refl
-effect_goes (AddRdSp d off) size regs m level taken range count small room = low_goes d (forward (reg regs SP) off) size regs (add_rd_sp d off regs) m (range.0) refl refl
-effect_goes (Extend op d k) size regs m level taken range count small room = low_goes d (extension_of op (reg regs k)) size regs (extend op d k regs) m (range.1) refl refl
-effect_goes (Rev op d k) size regs m level taken range count small room = low_goes d (reversal_of op (reg regs k)) size regs (rev op d k regs) m (range.1) refl refl
-effect_goes (Hint n) size regs m level taken range count small room = next_goes size regs regs m refl refl
-effect_goes (Barrier op option) size regs m level taken range count small room = next_goes size regs regs m refl refl
-effect_goes (BCond c off) size regs m level taken range count small room = branch_goes (passes c regs) off size regs m taken
-effect_goes i size regs m level taken range count small room = absurd (cc)
+effect_goes (Imm8 op d imm) size regs m fall_through taken range count small room = imm8_goes op d imm size regs m (range.1)
+effect_goes (Alu op d k) size regs m fall_through taken range count small room = answer_goes (alu_of op (reg regs d) (reg regs k) regs) d size regs m (range.1)
+effect_goes (AddHigh d k) size regs m fall_through taken range count small room = high_goes d (operand regs d + operand regs k) size regs m fall_through taken
+effect_goes (MovHigh d k) size regs m fall_through taken range count small room = high_goes d (operand regs k) size regs m fall_through taken
+effect_goes (CmpHigh n k) size regs m fall_through taken range count small room = next_goes size regs (cmp_high n k regs) m refl refl
+effect_goes (Adr d off) size regs m fall_through taken range count small room = low_goes d (forward (base regs) off) size regs (adr d off regs) m (range.0) refl refl
+effect_goes (AddRdSp d off) size regs m fall_through taken range count small room = low_goes d (forward (reg regs SP) off) size regs (add_rd_sp d off regs) m (range.0) refl refl
+effect_goes (Extend op d k) size regs m fall_through taken range count small room = low_goes d (extension_of op (reg regs k)) size regs (extend op d k regs) m (range.1) refl refl
+effect_goes (Rev op d k) size regs m fall_through taken range count small room = low_goes d (reversal_of op (reg regs k)) size regs (rev op d k regs) m (range.1) refl refl
+effect_goes (Hint n) size regs m fall_through taken range count small room = next_goes size regs regs m refl refl
+effect_goes (Barrier op option) size regs m fall_through taken range count small room = next_goes size regs regs m refl refl
+effect_goes (BCond c off) size regs m fall_through taken range count small room = branch_goes (passes c regs) off size regs m taken
+effect_goes i size regs m fall_through taken range count small room = absurd (cc)

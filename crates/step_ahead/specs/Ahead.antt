@@ -12,7 +12,7 @@ use Rattle.thumb_core.specs.declared.regs.Stepped.TheVariants.{Done}
 use Rattle.thumb_core.specs.Step.{effect}
 use Rattle.thumb_core.specs.Stores.{stores_of}
 use Rattle.step_ahead.specs.declared.instruction.Ahead.{Ahead as Told}
-use Rattle.step_ahead.specs.declared.instruction.Ahead.TheVariants.{Level, Pushes, Jumps, Other}
+use Rattle.step_ahead.specs.declared.instruction.Ahead.TheVariants.{FallThrough, Pushes, Jumps, Other}
 
 -- a branch that is taken: B, a B whose condition passes, and an ADD or a MOV into pc. Calls and returns are told by what a step answers
 abbrev pub branches : Instr → Regs → Bool
@@ -91,41 +91,41 @@ pushes_some (Some (i, size)) = length (pushed i)
 
 -- the instructions that write sp by a push alone, and are no call, no return, no gate and no branch that is always taken. LDM is left to the
 -- others, which are tested once they are done
-abbrev pub is_level : Instr → Bool
-is_level (AddHigh d m) = not (d == SP)
-is_level (MovHigh d m) = not (d == SP)
-is_level (ShiftImm op d m n) = true
-is_level (AddSubReg sub d n m) = true
-is_level (AddSubImm3 sub d n imm) = true
-is_level (Imm8 op d imm) = true
-is_level (Alu op d m) = true
-is_level (CmpHigh n m) = true
-is_level (LdrLit t off) = true
-is_level (MemReg op t n m) = true
-is_level (MemImm op t n off) = true
-is_level (MemSp load t off) = true
-is_level (Adr d off) = true
-is_level (AddRdSp d off) = true
-is_level (Extend op d m) = true
-is_level (Rev op d m) = true
-is_level (Push list) = true
-is_level (Hint n) = true
-is_level (Stm n list) = true
-is_level (BCond cond off) = true
-is_level (Barrier op option) = true
-is_level (B off) = false
-is_level (Bx m) = false
-is_level (Blx m) = false
-is_level (AddSp off) = false
-is_level (SubSp off) = false
-is_level (Pop list) = false
-is_level (Ldm n list) = false
-is_level (Svc imm) = false
-is_level (Bl off) = false
+abbrev pub is_fall_through : Instr → Bool
+is_fall_through (AddHigh d m) = not (d == SP)
+is_fall_through (MovHigh d m) = not (d == SP)
+is_fall_through (ShiftImm op d m n) = true
+is_fall_through (AddSubReg sub d n m) = true
+is_fall_through (AddSubImm3 sub d n imm) = true
+is_fall_through (Imm8 op d imm) = true
+is_fall_through (Alu op d m) = true
+is_fall_through (CmpHigh n m) = true
+is_fall_through (LdrLit t off) = true
+is_fall_through (MemReg op t n m) = true
+is_fall_through (MemImm op t n off) = true
+is_fall_through (MemSp load t off) = true
+is_fall_through (Adr d off) = true
+is_fall_through (AddRdSp d off) = true
+is_fall_through (Extend op d m) = true
+is_fall_through (Rev op d m) = true
+is_fall_through (Push list) = true
+is_fall_through (Hint n) = true
+is_fall_through (Stm n list) = true
+is_fall_through (BCond cond off) = true
+is_fall_through (Barrier op option) = true
+is_fall_through (B off) = false
+is_fall_through (Bx m) = false
+is_fall_through (Blx m) = false
+is_fall_through (AddSp off) = false
+is_fall_through (SubSp off) = false
+is_fall_through (Pop list) = false
+is_fall_through (Ldm n list) = false
+is_fall_through (Svc imm) = false
+is_fall_through (Bl off) = false
 
 -- .. what is told of one that goes straight on and pushes n words
-pub record IsLevel (i : Instr) (regs : Regs) (n : ℕ) : Type 0 where
-  pub level : is_level i ≡ true
+pub record IsFallThrough (i : Instr) (regs : Regs) (n : ℕ) : Type 0 where
+  pub fall_through : is_fall_through i ≡ true
   pub taken : branches i regs ≡ false
   pub count : n ≡ length (pushed i)
   pub few : n ≤ 16
@@ -143,7 +143,7 @@ pub record IsOther (i : Instr) (regs : Regs) (is_taken : Bool) : Type 0 where
   pub pushes : pushed i ≡ []
 
 abbrev pub IsAhead : Instr → Regs → Told → Type 0
-IsAhead i regs Level = IsLevel i regs 0
-IsAhead i regs (Pushes count) = IsLevel i regs count
+IsAhead i regs FallThrough = IsFallThrough i regs 0
+IsAhead i regs (Pushes count) = IsFallThrough i regs count
 IsAhead i regs (Jumps to) = IsJump i regs to
 IsAhead i regs (Other taken) = IsOther i regs taken

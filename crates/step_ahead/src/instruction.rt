@@ -13,7 +13,7 @@ use thumb_isa::instr::Instr;
 #[derive(Clone, Copy)]
 pub enum Ahead {
     /// It goes on to the next instruction and leaves sp, unless it traps.
-    Level,
+    FallThrough,
     /// It goes on to the next instruction and lowers sp by the words that it pushes, unless it traps.
     Pushes {
         /// How many words it pushes.
@@ -48,7 +48,7 @@ pub fn look_ahead(i: Instr, regs: &Regs) -> Ahead
         Instr::Push { list } => Ahead::Pushes {
             count: count_of(list),
         },
-        Instr::Stm { .. } => Ahead::Level,
+        Instr::Stm { .. } => Ahead::FallThrough,
         Instr::B { off } => Ahead::Jumps {
             to: target_of(off, regs),
         },
@@ -58,14 +58,14 @@ pub fn look_ahead(i: Instr, regs: &Regs) -> Ahead
                     to: target_of(off, regs),
                 }
             } else {
-                Ahead::Level
+                Ahead::FallThrough
             }
         }
         Instr::AddHigh { d, .. } | Instr::MovHigh { d, .. } => {
             if d == SP || d == PC {
                 Ahead::Other { branches: d == PC }
             } else {
-                Ahead::Level
+                Ahead::FallThrough
             }
         }
         Instr::AddSp { .. }
@@ -91,6 +91,6 @@ pub fn look_ahead(i: Instr, regs: &Regs) -> Ahead
         | Instr::Extend { .. }
         | Instr::Rev { .. }
         | Instr::Hint { .. }
-        | Instr::Barrier { .. } => Ahead::Level,
+        | Instr::Barrier { .. } => Ahead::FallThrough,
     }
 }

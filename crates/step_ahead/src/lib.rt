@@ -3,8 +3,8 @@
 #![tactic(auto)]
 
 mod instruction;
-mod kept;
 mod span;
+mod undo_record;
 
 pub use instruction::{Ahead, look_ahead};
-pub use kept::{Kept, keep};
+pub use undo_record::{UndoRecord, undo_record_of};

@@ -3,7 +3,7 @@ ghost use Rattle.std.specs.Prelude.{◌≡◌, ◌+◌, ◌≤◌, length};
 ghost use Rattle.thumb_core.specs.Words.{listed};
 ghost use Rattle.thumb_core.specs.Registers.{reg};
 ghost use Rattle.thumb_core.specs.Stores.{reg_span, imm_span, stores_of};
-ghost use Rattle.step_ahead.specs.Kept.{spanned};
+ghost use Rattle.step_ahead.specs.UndoRecord.{spanned};
 
 use thumb_core::access::{STR_IMM, STR_REG, STRB_IMM, STRB_REG, STRH_IMM, STRH_REG};
 use thumb_core::regs::{Regs, SP};

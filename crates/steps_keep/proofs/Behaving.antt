@@ -10,10 +10,10 @@ use Rattle.stands_for.specs.eh_cxa.Lists.{Lists, slots}
 use Rattle.stands_for.specs.eh_cxa.Words.{Write, object, block_slot, object_slot}
 use Rattle.stands_for.proofs.eh_cxa.Pools.{slot_small, object_small}
 use Rattle.stands_for.specs.eh_gates.declared.gates.TheConstants.{ALLOCATE_GATE, FREE_GATE, THROW_GATE, BEGIN_CATCH_GATE, END_CATCH_GATE, RETHROW_GATE, END_CLEANUP_GATE, UNEXPECTED_GATE, TERMINATE_GATE, UNCAUGHT_GATE}
-use Rattle.stands_for.specs.eh_gates.State.{Guide, behind}
+use Rattle.stands_for.specs.eh_gates.State.{Tables, at_next}
 use Rattle.stands_for.specs.eh_gates.CallGates.{with_r1}
 use Rattle.stands_for.specs.thumb_core.Laws.{AreWords}
-use Rattle.stands_for.specs.two_machines.Machine.{goes_behind}
+use Rattle.stands_for.specs.two_machines.Machine.{goes_after}
 use Rattle.stands_for.specs.two_machines.Activations.{Recorded, reg_in, words_in, heads, with_lists, lists_of, cleanups_in}
 use Rattle.stands_for.specs.two_machines.Corresponds.{Corresponds, WalksNone}
 use Rattle.stands_for.specs.two_machines.ActivationMachine as acts
@@ -30,12 +30,12 @@ module _ (s : Recorded) (c : Corresponds s) where
   -- ---- the gates
 
   module _ (words : AreWords 15 s.regs.r) (number next : ℕ) where
-    allocated_behaves : (new : Lists) (ws : List Write) → AreTame ss ws → goes_behind number ≡ true → (r : Result ℕ CxaFault) → (small_answer s c) r
+    allocated_behaves : (new : Lists) (ws : List Write) → AreTame ss ws → goes_after number ≡ true → (r : Result ℕ CxaFault) → (small_answer s c) r
         → Behaves s number next (acts.allocated next s (with_lists new ws s) r)
     allocated_behaves new ws t on (Ok object) small = (
       on,
       record {
-        regs = behind next (with_r0 object s.regs);
+        regs = at_next next (with_r0 object s.regs);
         lists = new;
         writes = ws;
         is = refl;
@@ -47,12 +47,12 @@ module _ (s : Recorded) (c : Corresponds s) where
     )
     allocated_behaves new ws t on (Err why) small = refl
 
-    caught_behaves : (new : Lists) (ws : List Write) → AreTame ss ws → goes_behind number ≡ true → (r : Result ℕ CxaFault) → (small_answer s c) r
+    caught_behaves : (new : Lists) (ws : List Write) → AreTame ss ws → goes_after number ≡ true → (r : Result ℕ CxaFault) → (small_answer s c) r
         → Behaves s number next (acts.caught next s (with_lists new ws s) r)
     caught_behaves new ws t on (Ok object) small = (
       on,
       record {
-        regs = behind next (with_r0 object s.regs);
+        regs = at_next next (with_r0 object s.regs);
         lists = new;
         writes = ws;
         is = refl;
@@ -64,12 +64,12 @@ module _ (s : Recorded) (c : Corresponds s) where
     )
     caught_behaves new ws t on (Err why) small = refl
 
-    freed_behaves : (new : Lists) (ws : List Write) → AreTame ss ws → goes_behind number ≡ true → (r : Result (Unit {0}) CxaFault)
+    freed_behaves : (new : Lists) (ws : List Write) → AreTame ss ws → goes_after number ≡ true → (r : Result (Unit {0}) CxaFault)
         → Behaves s number next (acts.freed next s (with_lists new ws s) r)
     freed_behaves new ws t on (Ok done) = (
       on,
       record {
-        regs = behind next s.regs;
+        regs = at_next next s.regs;
         lists = new;
         writes = ws;
         is = refl;
@@ -81,12 +81,12 @@ module _ (s : Recorded) (c : Corresponds s) where
     )
     freed_behaves new ws t on (Err why) = refl
 
-    dropped_behaves : (new : Lists) (ws : List Write) → AreTame ss ws → goes_behind number ≡ true → (r : Result (ℕ × ℕ) CxaFault) → (small_pair s c) r
+    dropped_behaves : (new : Lists) (ws : List Write) → AreTame ss ws → goes_after number ≡ true → (r : Result (ℕ × ℕ) CxaFault) → (small_pair s c) r
         → Behaves s number next (acts.dropped next s (with_lists new ws s) r)
     dropped_behaves new ws t on (Ok (object, destructor)) small = (
       on,
       record {
-        regs = behind next (with_r1 destructor (with_r0 object s.regs));
+        regs = at_next next (with_r1 destructor (with_r0 object s.regs));
         lists = new;
         writes = ws;
         is = refl;
@@ -98,11 +98,11 @@ module _ (s : Recorded) (c : Corresponds s) where
     )
     dropped_behaves new ws t on (Err why) small = refl
 
-    uncaught_behaves : s.uncaught < 2 ^ 32 → goes_behind number ≡ true → Behaves s number next (acts.uncaught_gate next s)
+    uncaught_behaves : s.uncaught < 2 ^ 32 → goes_after number ≡ true → Behaves s number next (acts.uncaught_gate next s)
     uncaught_behaves small on = (
       on,
       record {
-        regs = behind next (with_r0 s.uncaught s.regs);
+        regs = at_next next (with_r0 s.uncaught s.regs);
         lists = l;
         writes = [];
         is = refl;
@@ -113,15 +113,15 @@ module _ (s : Recorded) (c : Corresponds s) where
       },
     )
 
-    goes : (n : ℕ) → goes_behind n ≡ true → (number == n) ≡ true → goes_behind number ≡ true
-    goes n on e = subst (λ m. goes_behind m ≡ true) (sym (eqb-true number n e)) on
+    goes : (n : ℕ) → goes_after n ≡ true → (number == n) ≡ true → goes_after number ≡ true
+    goes n on e = subst (λ m. goes_after m ≡ true) (sym (eqb-true number n e)) on
 
     choose : (b : Bool) (q q' : acts.Outcome) → (b ≡ true → Behaves s number next q) → Behaves s number next q' → Behaves s number next (cond b q q')
     choose true q q' h k = h refl
     choose false q q' h k = k
 
     -- a gate that walks no frames
-    pub gate_behaves : (g : Guide) → WalksNone number → s.uncaught < 2 ^ 32 → Behaves s number next (acts.gate_of g number next s)
+    pub gate_behaves : (g : Tables) → WalksNone number → s.uncaught < 2 ^ 32 → Behaves s number next (acts.gate_of g number next s)
     unfolding acts.gate_of
     gate_behaves g w small =
         choose (number == ALLOCATE_GATE) _ _ (λ e. allocated_behaves (allocate_list l (reg_in s 0)).lists (allocate_of (words_in l) (reg_in s 0)).writes ((allocate_tame s c) (reg_in s 0))

@@ -27,16 +27,16 @@ use Rattle.stands_for.specs.step_ahead.Ahead.{pushes_some, pushed}
 use Rattle.stands_for.specs.frame_facts.Branches.{call_changes}
 use Rattle.stands_for.specs.frame_facts.Facts.{entered}
 use Rattle.stands_for.specs.frame_facts.Saves.{saves_of}
-use Rattle.stands_for.proofs.frame_facts.Described.{forgetting_described}
-use Rattle.stands_for.specs.frame_scene.declared.places.Standing.TheVariants.{Instruction}
-use Rattle.stands_for.specs.frame_scene.Places.{standing_at}
+use Rattle.stands_for.proofs.frame_facts.Described.{clobbering_described}
+use Rattle.stands_for.specs.frame_graph.declared.places.Standing.TheVariants.{Instruction}
+use Rattle.stands_for.specs.frame_graph.Places.{standing_at}
 use Rattle.stands_for.proofs.frame_reach.Stands.{stands_inside, stands_size}
 use Rattle.stands_for.specs.frame_flow.Causes.{is_call}
 use Rattle.stands_for.specs.frame_flow.Flows.{NoneStands}
 use Rattle.stands_for.specs.frame_check.Accepts.{Accepted, IsWell}
 use Rattle.stands_for.specs.frame_check.Judged.{IsPlaced}
-use Rattle.stands_for.specs.frame_check.Roots.{scene_of}
-use Rattle.stands_for.specs.frame_check.Spots.{look}
+use Rattle.stands_for.specs.frame_check.Roots.{flow_graph_of}
+use Rattle.stands_for.specs.frame_check.Roles.{look}
 use Rattle.stands_for.proofs.frame_check.Wells.{placed_at}
 use Rattle.stands_for.specs.two_machines.Machine.{sp_end}
 use Rattle.stands_for.specs.two_machines.Activations.{Caller, Recorded, reg_in, memory_of, cleanups_in, InProgress}
@@ -55,10 +55,10 @@ use Rattle.stands_for.specs.Cleanups.{AreInProgress}
 use Rattle.stands_for.specs.Stands.{Keeps, IsProgram, OnEvent, Turns, DoesAt}
 use Rattle.stands_for.proofs.First.{entered_holds}
 use Rattle.stands_for.proofs.Flows.{none_stands, stands_instruction}
-use Rattle.stands_for.proofs.Goes.{settled_level}
-use Rattle.stands_for.proofs.Level.{fetch, none_or}
+use Rattle.stands_for.proofs.Goes.{reguarded_at_one_sp}
+use Rattle.stands_for.proofs.SimpleTurns.{fetch, none_or}
 use Rattle.steps_keep.proofs.Jumps.{next_pc}
-use Rattle.stands_for.proofs.Moves.{forgotten_frame}
+use Rattle.stands_for.proofs.Moves.{clobbered_frame}
 use Rattle.steps_keep.proofs.Rooms.{has_room}
 use Rattle.stands_for.proofs.Callee.{callee_at, callee_count}
 use Rattle.steps_keep.proofs.CallRegisters.{at_sp, sp_stays, recorded_regs}
@@ -81,7 +81,7 @@ begins (f ∷ more) a e = go (f.start == a) refl (begins more a) e
 -- ---- the event
 
 module _ (x : Accepted) (is : IsProgram x) (s : Recorded) (k : Keeps x s) (at : StandsAt x s.first s.segments s.regs s.regs.pc) (i : Instr) (size : ℕ)
-    (stands : standing_at (scene_of x.image at.function) at.place ≡ Instruction i size) (call : is_call i ≡ true) (pushes : pushed i ≡ []) (v : ℕ) where
+    (stands : standing_at (flow_graph_of x.image at.function) at.place ≡ Instruction i size) (call : is_call i ≡ true) (pushes : pushed i ≡ []) (v : ℕ) where
   abbrev target : ℕ
   target = even (v % 2 ^ 32)
 
@@ -112,7 +112,7 @@ module _ (x : Accepted) (is : IsProgram x) (s : Recorded) (k : Keeps x s) (at : 
 
     link_small : link_of size s.regs < 2 ^ 32
     link_small =
-        let inside = stands_inside (scene_of x.image at.function) at.place i size stands in
+        let inside = stands_inside (flow_graph_of x.image at.function) at.place i size stands in
         omega (arith, link, at.address, inside, placed.low)
 
     saved : (j : ℕ) → j < 8 → slice_index c.saved j ≡ slice_index regs.r (j + 4)
@@ -129,7 +129,7 @@ module _ (x : Accepted) (is : IsProgram x) (s : Recorded) (k : Keeps x s) (at : 
         | inr high ↦ subst (λ n. n < 2 ^ 32) (sym (get_or_past c.saved j 0 (let l : length c.saved ≤ j = omega (arith, callee_count regs.r sound.words.count, high) in l))) (omega arith)
       ];
       back = link_small;
-      odd = let four = stands_size (scene_of x.image at.function) at.place i size stands in odd_link four;
+      odd = let four = stands_size (flow_graph_of x.image at.function) at.place i size stands in odd_link four;
       aligned = sound.words.aligned;
     }
       where
@@ -141,13 +141,13 @@ module _ (x : Accepted) (is : IsProgram x) (s : Recorded) (k : Keeps x s) (at : 
     none = none_stands x at.function at.marks is.sound at.of.among at.of.are
 
     room : 4 ≤ at.fact.depth
-    room = has_room (code x at.function at.marks) at.place at.fact none at.state i (stands_instruction (scene_of x.image at.function) at.place i size stands) call
+    room = has_room (code x at.function at.marks) at.place at.fact none at.state i (stands_instruction (flow_graph_of x.image at.function) at.place i size stands) call
 
     -- the one that was first stands at its call
     pub at_call : StandsAtCall x s.segments c s.first
     at_call =
         let h = at.holds in
-        let frame = forgotten_frame call_changes at.fact in
+        let frame = clobbered_frame call_changes at.fact in
         let count = callee_count regs.r sound.words.count in
         let same : (n : ℕ) → list_any (λ (j : ℕ). j == n) call_changes ≡ false → reg (regs_at c) n ≡ reg s.regs n =
         recorded_regs c s.regs count k.sound.words.count (λ j l. saved j l ∙ others j l) sp in
@@ -168,7 +168,7 @@ module _ (x : Accepted) (is : IsProgram x) (s : Recorded) (k : Keeps x s) (at : 
             entry = h.entry;
             saved = h.saved;
             link = h.link;
-            describes = forgetting_described h.entry s.first.caller.sp call_changes at.fact s.regs (regs_at c) h.describes same sp_stays;
+            describes = clobbering_described h.entry s.first.caller.sp call_changes at.fact s.regs (regs_at c) h.describes same sp_stays;
             lower = omega (arith, h.lower, frame.0, there, sp);
             saves = λ w e. let kept = h.saves w (subst (λ n. Contains (take n (saves_of (code x at.function at.marks).prologue)) w) frame.1 e) in
                 record { low = kept.low; deep = omega (arith, kept.deep, frame.0); holds = kept.holds; slot = kept.slot };
@@ -182,7 +182,7 @@ module _ (x : Accepted) (is : IsProgram x) (s : Recorded) (k : Keeps x s) (at : 
     pub enters : begins_function x.image.functions target ≡ true → StandsAt x t.first s.segments regs regs.pc
     enters e =
         let f = begins x.image.functions target e in
-        let well = All-contains (λ g. IsWell (scene_of x.image g)) x.image.functions f.0 is.sound.functions f.1 in
+        let well = All-contains (λ g. IsWell (flow_graph_of x.image g)) x.image.functions f.0 is.sound.functions f.1 in
         record {
           function = f.0;
           marks = well.marks;
@@ -232,10 +232,10 @@ module _ (x : Accepted) (is : IsProgram x) (s : Recorded) (k : Keeps x s) (at : 
       tested (Some end) e = k
       tested None e =
           let none_pushed : pushes_some (instr_at (memory_of s) s.regs.pc) ≡ 0 = ap pushes_some (fetch x is s k at i size stands).stands ∙ ap length pushes in
-          let level : acts.settled_at (program_of x) s regs base ≡ base =
-          settled_level (look x.spots s.regs.pc).saves (pushes_some (instr_at (memory_of s) s.regs.pc)) (reg_in s SP) (slice_index regs.r SP) base none_pushed sp in
-          let way = none_or (sp_end (innermost_in (cleanups_in s.cleanups)) s.home.0 s.regs.pc (reg_in s SP) (slice_index regs.r SP)) _ e in
-          subst (Keeps x) (sym (ap (acts.called target (link_of size s.regs)) level)) (called_keeps (go (begins_function x.image.functions target) way))
+          let same_sp : acts.reguarded_at (program_of x) s regs base ≡ base =
+          reguarded_at_one_sp (look x.roles s.regs.pc).saves (pushes_some (instr_at (memory_of s) s.regs.pc)) (reg_in s SP) (slice_index regs.r SP) base none_pushed sp in
+          let edge = none_or (sp_end (innermost_in (cleanups_in s.cleanups)) s.home.0 s.regs.pc (reg_in s SP) (slice_index regs.r SP)) _ e in
+          subst (Keeps x) (sym (ap (acts.called target (link_of size s.regs)) same_sp)) (called_keeps (go (begins_function x.image.functions target) edge))
         where
           go : (b : Bool) → cond b None (Some (the_end.Trap kind.BadCallTarget target s.regs.pc)) ≡ None → b ≡ true
           go true h = refl
@@ -245,11 +245,11 @@ module _ (x : Accepted) (is : IsProgram x) (s : Recorded) (k : Keeps x s) (at : 
       checked = subst (λ (o : Stepping). OnEvent x (acts.onward (program_of x) s (acts.stepped (program_of x) s o) input)) (sym stepped)
           (tested (acts.tests (program_of x) s (Call target (link_of size s.regs)) regs) refl)
 
-      event : (look x.spots s.regs.pc).is_instr ≡ true → OnEvent x (acts.recorded_event (program_of x) s input)
+      event : (look x.roles s.regs.pc).is_instr ≡ true → OnEvent x (acts.recorded_event (program_of x) s input)
       unfolding acts.recorded_event acts.passed
       event reached = subst (λ (b : Bool). OnEvent x (acts.onward (program_of x) s (acts.checked (program_of x) s b) input)) (sym reached) checked
 
-      pub call_turns : (look x.spots s.regs.pc).is_instr ≡ true → Turns x s input
+      pub call_turns : (look x.roles s.regs.pc).is_instr ≡ true → Turns x s input
       call_turns reached = record {
         same = plain_match (program_of x) s input (knows s k.corresponds) (subst (λ (o : Stepping). IsPlain s o.0) (sym stepped) tt);
         keeps = event reached;

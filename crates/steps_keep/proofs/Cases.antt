@@ -4,25 +4,25 @@ use Rattle.std.proofs.lemmas.Bool.{and_parts, cases_eq, eqb-true, lt-leb}
 use Rattle.std.specs.Prelude.{Contains}
 use Rattle.std.proofs.lemmas.List.Elements.{Contains-append_left}
 use Rattle.stands_for.specs.frame_check.Accepts.{Accepted}
-use Rattle.stands_for.specs.frame_check.Spots.{look}
+use Rattle.stands_for.specs.frame_check.Roles.{look}
 use Rattle.stands_for.specs.two_machines.Activations.{Recorded, bytes_of, memory_of}
 use Rattle.stands_for.specs.two_machines.ActivationLaws.{Matches}
 use Rattle.stands_for.specs.two_machines.Checked.{program_of}
 use Rattle.stands_for.specs.thumb_isa.declared.instr.Decoded.{Decoded}
 use Rattle.stands_for.specs.thumb_isa.declared.instr.Decoded.TheVariants.{Is, Undefined, Unpredictable, NotInProfile}
 use Rattle.stands_for.specs.thumb_isa.Rows.{decoded_of}
-use Rattle.stands_for.specs.frame_scene.Places.{is_udf, standing_at, standing_by, halfword_of, of_decoded, wide_of}
+use Rattle.stands_for.specs.frame_graph.Places.{is_udf, standing_at, standing_by, halfword_of, of_decoded, wide_of}
 use Rattle.stands_for.specs.eh_bus.Memory.{fetch}
 use Rattle.stands_for.proofs.flow.Work.{contains_head}
 use Rattle.stands_for.specs.thumb_isa.declared.instr.Instr.{Instr}
 use Rattle.stands_for.specs.thumb_core.Step.{step_of, outcome_of, instr_at, instr_of}
 use Rattle.stands_for.specs.thumb_core.declared.regs.Stepped.TheVariants.{Trap}
 use Rattle.stands_for.specs.frame_facts.declared.cause.FrameCause.TheVariants.{Undecodable}
-use Rattle.stands_for.specs.frame_scene.declared.places.Standing.{Standing}
-use Rattle.stands_for.specs.frame_scene.declared.places.Standing.TheVariants.{Instruction, Udf, Nothing}
-use Rattle.stands_for.specs.frame_scene.Ways.{is_undecodable, is_nothing}
+use Rattle.stands_for.specs.frame_graph.declared.places.Standing.{Standing}
+use Rattle.stands_for.specs.frame_graph.declared.places.Standing.TheVariants.{Instruction, Udf, Nothing}
+use Rattle.stands_for.specs.frame_graph.Edges.{is_undecodable, is_nothing}
 use Rattle.stands_for.specs.frame_flow.Causes.{shown, found}
-use Rattle.stands_for.specs.frame_check.Roots.{scene_of}
+use Rattle.stands_for.specs.frame_check.Roots.{flow_graph_of}
 use Rattle.stands_for.specs.two_machines.Machine as bytes
 use Rattle.stands_for.specs.two_machines.ActivationMachine as acts
 use Rattle.stands_for.specs.thumb_core.declared.regs.CoreTrap.TheVariants as trap
@@ -35,7 +35,7 @@ use Rattle.stands_for.proofs.Traps.{trap_turns}
 
 -- ---- no checked instruction
 
-pub unreached_turns : (x : Accepted) (s : Recorded) (input : List ℕ) → Keeps x s → (look x.spots s.regs.pc).is_instr ≡ false → Turns x s input
+pub unreached_turns : (x : Accepted) (s : Recorded) (input : List ℕ) → Keeps x s → (look x.roles s.regs.pc).is_instr ≡ false → Turns x s input
 unfolding acts.recorded_event acts.passed bytes.machine_event bytes.passed
 unreached_turns x s input k none = record {
   same = subst (λ (b : Bool). Matches (bytes.onward (program_of x) (bytes_of s) (bytes.checked (program_of x) (bytes_of s) b) input) (acts.onward (program_of x) s (acts.checked (program_of x) s b) input)) (sym none) (refl, refl);
@@ -83,27 +83,27 @@ udf_undefined first e =
 -- ---- what stands at a place with a state
 
 module _ (x : Accepted) (s : Recorded) (input : List ℕ) (is : IsProgram x) (k : Keeps x s) (at : StandsAt x s.first s.segments s.regs s.regs.pc) where
-  not_nothing : standing_at (scene_of x.image at.function) at.place ≡ Nothing → ⊥
+  not_nothing : standing_at (flow_graph_of x.image at.function) at.place ≡ Nothing → ⊥
   unfolding found
   not_nothing e =
       let c = code x at.function at.marks in
-      let yes : is_undecodable c.scene at.place ≡ true = ap is_nothing e in
-      let first : Contains (shown (is_undecodable c.scene at.place) Undecodable) Undecodable = rw yes (contains_head Undecodable []) in
+      let yes : is_undecodable c.flow_graph at.place ≡ true = ap is_nothing e in
+      let first : Contains (shown (is_undecodable c.flow_graph at.place) Undecodable) Undecodable = rw yes (contains_head Undecodable []) in
       not_found c at.place at.fact (none_stands x at.function at.marks is.sound at.of.among at.of.are) at.state Undecodable
-      (Contains-append_left (shown (is_undecodable c.scene at.place) Undecodable) _ Undecodable first)
+      (Contains-append_left (shown (is_undecodable c.flow_graph at.place) Undecodable) _ Undecodable first)
 
-  udf_traps : standing_at (scene_of x.image at.function) at.place ≡ Udf → Turns x s input
+  udf_traps : standing_at (flow_graph_of x.image at.function) at.place ≡ Udf → Turns x s input
   unfolding standing_at
-  udf_traps e = by_halves (halfword_of (scene_of x.image at.function) at.place) (halfword_of (scene_of x.image at.function) (at.place + 1)) refl e
+  udf_traps e = by_halves (halfword_of (flow_graph_of x.image at.function) at.place) (halfword_of (flow_graph_of x.image at.function) (at.place + 1)) refl e
     where
-      step : (first : ℕ) → halfword_of (scene_of x.image at.function) at.place ≡ Some first → is_udf first ≡ true → step_of s.regs (memory_of s) ≡ (Trap (trap.Undefined first), s.regs, memory_of s)
+      step : (first : ℕ) → halfword_of (flow_graph_of x.image at.function) at.place ≡ Some first → is_udf first ≡ true → step_of s.regs (memory_of s) ≡ (Trap (trap.Undefined first), s.regs, memory_of s)
       step first h udf =
           let top : first / 256 ≡ 0xde = eqb-true (first / 256) 0xde udf in
           let fetches : fetch (memory_of s) s.regs.pc ≡ Ok first = rw at.address (code_fetch x.image at.function s.segments is.image at.of.among k.image at.place first h) in
           let narrow : nat_le 0xe800 first ≡ false = lt-leb 0xe800 first (omega (arith, top)) in
           rw (fetches, narrow) (ap (λ (d : Decoded). outcome_of d first s.regs (memory_of s)) (udf_undefined first udf))
 
-      none_at : (first : ℕ) → halfword_of (scene_of x.image at.function) at.place ≡ Some first → is_udf first ≡ true → instr_at (memory_of s) s.regs.pc ≡ None
+      none_at : (first : ℕ) → halfword_of (flow_graph_of x.image at.function) at.place ≡ Some first → is_udf first ≡ true → instr_at (memory_of s) s.regs.pc ≡ None
       none_at first h udf =
           let top : first / 256 ≡ 0xde = eqb-true (first / 256) 0xde udf in
           let fetches : fetch (memory_of s) s.regs.pc ≡ Ok first = rw at.address (code_fetch x.image at.function s.segments is.image at.of.among k.image at.place first h) in
@@ -120,30 +120,30 @@ module _ (x : Accepted) (s : Recorded) (input : List ℕ) (is : IsProgram x) (k 
       wide_not first None h = absurd cc
       wide_not first (Some second) h = of_decoded_not (decoded_of first second) h
 
-      by_udf : (u b : Bool) (first : ℕ) (w : Option ℕ) → halfword_of (scene_of x.image at.function) at.place ≡ Some first → is_udf first ≡ u
+      by_udf : (u b : Bool) (first : ℕ) (w : Option ℕ) → halfword_of (flow_graph_of x.image at.function) at.place ≡ Some first → is_udf first ≡ u
           → cond u Udf (cond b (of_decoded (decoded_of first 0)) (wide_of first w)) ≡ Udf → Turns x s input
       by_udf true b first w h u g = trap_turns x s input (trap.Undefined first) s.regs (memory_of s) k (step first h u)
           (ap (λ (q : Option (Instr × ℕ)). acts.popped_back s (acts.pops_some q)) (none_at first h u))
       by_udf false true first w h u g = absurd (of_decoded_not (decoded_of first 0) g)
       by_udf false false first w h u g = absurd (wide_not first w g)
 
-      by_halves : (o w : Option ℕ) → halfword_of (scene_of x.image at.function) at.place ≡ o → standing_by o w ≡ Udf → Turns x s input
+      by_halves : (o w : Option ℕ) → halfword_of (flow_graph_of x.image at.function) at.place ≡ o → standing_by o w ≡ Udf → Turns x s input
       by_halves None w h g = absurd cc
       by_halves (Some first) w h g = by_udf (is_udf first) _ first w h refl g
 
-  module _ (reached : (look x.spots s.regs.pc).is_instr ≡ true) (each : (i : Instr) → DoesAt x s i → Turns x s input) where
-    by_standing : (t : Standing) → standing_at (scene_of x.image at.function) at.place ≡ t → Turns x s input
+  module _ (reached : (look x.roles s.regs.pc).is_instr ≡ true) (each : (i : Instr) → DoesAt x s i → Turns x s input) where
+    by_standing : (t : Standing) → standing_at (flow_graph_of x.image at.function) at.place ≡ t → Turns x s input
     by_standing (Instruction i size) e = each i (record { reached = reached; at = at; size = size; stands = e })
     by_standing Udf e = udf_traps e
     by_standing Nothing e = absurd (not_nothing e)
 
     at_reached : Turns x s input
-    at_reached = by_standing (standing_at (scene_of x.image at.function) at.place) refl
+    at_reached = by_standing (standing_at (flow_graph_of x.image at.function) at.place) refl
 
 -- An event is that of an instruction which stands at pc, or ends alike in both machines.
 pub turns_by_instruction : (x : Accepted) (s : Recorded) (input : List ℕ) → IsProgram x → Keeps x s → ((i : Instr) → DoesAt x s i → Turns x s input) → Turns x s input
-turns_by_instruction x s input is k each = go (look x.spots s.regs.pc).is_instr refl
+turns_by_instruction x s input is k each = go (look x.roles s.regs.pc).is_instr refl
   where
-    go : (b : Bool) → (look x.spots s.regs.pc).is_instr ≡ b → Turns x s input
+    go : (b : Bool) → (look x.roles s.regs.pc).is_instr ≡ b → Turns x s input
     go true e = at_reached x s input is k (k.first e) e each
     go false e = unreached_turns x s input k e

@@ -5,7 +5,7 @@ use Rattle.stands_for.specs.eh_cxa.Words.{block_slot, word, object_slot}
 use Rattle.stands_for.specs.eh_phase.declared.phase2.Entered.{Entered}
 use Rattle.stands_for.specs.two_machines.Activations.{Activation, Recorded, Caller, reg_in, memory_of, words_in, heads, with_lists, lists_of, InProgress}
 use Rattle.stands_for.specs.eh_phase.declared.phase1.Barrier.{Barrier}
-use Rattle.stands_for.specs.eh_gates.State.{Guide}
+use Rattle.stands_for.specs.eh_gates.State.{Tables}
 use Rattle.stands_for.specs.thumb_core.declared.ends.End.{End}
 use Rattle.stands_for.specs.eh_cxa.declared.globals.BarrierWords.{BarrierWords}
 use Rattle.stands_for.specs.eh_cxa.declared.globals.CxaFault.{CxaFault}
@@ -52,7 +52,7 @@ module _ (s : Recorded) (h : IsCounted (lists_of s)) where
   entered_counts acs block object enters.Unexpected = h
   entered_counts acs block object (enters.Terminate why) = h
 
-throw_to_counts : (g : Guide) (site block : ℕ) (b : Barrier) (s : Recorded) → IsCounted (lists_of s) → Counts (acts.throw_to g site block b s)
+throw_to_counts : (g : Tables) (site block : ℕ) (b : Barrier) (s : Recorded) → IsCounted (lists_of s) → Counts (acts.throw_to g site block b s)
 unfolding acts.throw_to
 throw_to_counts g site block b s h = entered_counts _ h _ block _ _
 
@@ -65,7 +65,7 @@ pick_counts : (further : Barrier → Recorded → acts.Outcome) (b : Bool) (x y 
 pick_counts further true x y p q = p
 pick_counts further false x y p q = q
 
-module _ (g : Guide) (s : Recorded) (h : IsCounted (lists_of s)) where
+module _ (g : Tables) (s : Recorded) (h : IsCounted (lists_of s)) where
   seek_counts : (what : EventKind) (thrown : Thrown) (further : Barrier → Recorded → acts.Outcome) → ((b : Barrier) (t : Recorded) → IsCounted (lists_of t) → Counts (further b t))
       → Counts (acts.from_barrier further (acts.sought g s what thrown))
   unfolding acts.sought

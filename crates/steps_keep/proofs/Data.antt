@@ -1,4 +1,4 @@
--- An instruction of the data group, which works on a low register: both sp and memory stay, and what is known behind it holds.
+-- An instruction of the data group, which works on a low register: both sp and memory stay, and what is known after it holds.
 use Rattle.std.proofs.Common.{◌≡◌, Option, Some, None, Ok, ap, ℕ, ◌<◌, Bool, true, false, cond, List, slice_index, ◌∙◌, arith, ◌+◌, length, take, refl, sym, subst, inl, inr}
 use Rattle.std.specs.Prelude.{slice_set, Contains}
 use Rattle.std.proofs.lemmas.List.{get_or-set_other}
@@ -22,15 +22,15 @@ use Rattle.stands_for.specs.frame_facts.declared.saves.Prologue.{Prologue}
 use Rattle.stands_for.specs.frame_facts.Machine.{Describes, IsRoomy, works_on}
 use Rattle.stands_for.specs.frame_facts.Saves.{saves_of}
 use Rattle.stands_for.proofs.frame_facts.Described.{data_described}
-use Rattle.stands_for.specs.frame_scene.declared.places.Standing.TheVariants.{Instruction}
-use Rattle.stands_for.specs.frame_scene.Places.{address_of, standing_at}
+use Rattle.stands_for.specs.frame_graph.declared.places.Standing.TheVariants.{Instruction}
+use Rattle.stands_for.specs.frame_graph.Places.{address_of, standing_at}
 use Rattle.stands_for.specs.frame_check.Accepts.{Accepted}
 use Rattle.stands_for.specs.frame_check.Judged.{IsPlaced}
-use Rattle.stands_for.specs.frame_check.Spots.{look}
+use Rattle.stands_for.specs.frame_check.Roles.{look}
 use Rattle.stands_for.proofs.frame_check.Wells.{placed_at}
 use Rattle.stands_for.proofs.frame_reach.Stands.{stands_inside, stands_size}
 use Rattle.stands_for.specs.eh_cxa.ListCalls.{innermost_in}
-use Rattle.stands_for.specs.frame_check.Roots.{scene_of}
+use Rattle.stands_for.specs.frame_check.Roots.{flow_graph_of}
 use Rattle.stands_for.specs.two_machines.Machine.{fell_off, sp_end}
 use Rattle.stands_for.specs.two_machines.Activations.{Recorded, reg_in, memory_of, cleanups_in}
 use Rattle.stands_for.specs.two_machines.Checked.{program_of}
@@ -43,7 +43,7 @@ use Rattle.stands_for.specs.Chain.{code, StandsAt}
 use Rattle.stands_for.specs.Stands.{Keeps, IsProgram, OnEvent}
 use Rattle.stands_for.proofs.accepted_code.Fetch.{fetched, IsFetched}
 use Rattle.stands_for.proofs.Flows.{leaves, none_stands, stands_instruction}
-use Rattle.stands_for.proofs.Goes.{settled_level, chain_top, level_keeps}
+use Rattle.stands_for.proofs.Goes.{reguarded_at_one_sp, chain_top, simple_keeps}
 
 gone : (o : Option Fact) (g : Fact) → gone_on None o ≡ Ok g → o ≡ Some g
 gone None g e = absurd cc
@@ -63,7 +63,7 @@ none_or None b e = e
 -- ---- the event
 
 module _ (x : Accepted) (is : IsProgram x) (s : Recorded) (k : Keeps x s) (at : StandsAt x s.first s.segments s.regs s.regs.pc) (i : Instr) (size d : ℕ)
-    (stands : standing_at (scene_of x.image at.function) at.place ≡ Instruction i size) (low : d < 8) (it : IsData i d) (works : works_on i ≡ Some d) where
+    (stands : standing_at (flow_graph_of x.image at.function) at.place ≡ Instruction i size) (low : d < 8) (it : IsData i d) (works : works_on i ≡ Some d) where
   abbrev regs : Regs
   regs = with_next size (data_effect i s.regs)
 
@@ -76,15 +76,15 @@ module _ (x : Accepted) (is : IsProgram x) (s : Recorded) (k : Keeps x s) (at : 
   sound : AreSound regs.r regs.pc
   sound = subst (λ (o : Stepping). AreSound o.1.r o.1.pc) stepped ((step_follows s.regs (memory_of s)).sound k.sound)
 
-  left : (g : Fact) × (after_of (code x at.function at.marks).prologue false (address_of (scene_of x.image at.function) at.place) i at.fact ≡ Ok g)
+  left : (g : Fact) × (after_of (code x at.function at.marks).prologue false (address_of (flow_graph_of x.image at.function) at.place) i at.fact ≡ Ok g)
   left = leaves (code x at.function at.marks) at.place at.fact (none_stands x at.function at.marks is.sound at.of.among at.of.are) at.state i
-      (stands_instruction (scene_of x.image at.function) at.place i size stands)
+      (stands_instruction (flow_graph_of x.image at.function) at.place i size stands)
 
   abbrev p : Prologue
   p = (code x at.function at.marks).prologue
 
-  effects : effect p false (address_of (scene_of x.image at.function) at.place) i at.fact ≡ Some left.0
-  effects = gone _ left.0 (sym (it.plain p false (address_of (scene_of x.image at.function) at.place) at.fact) ∙ left.1)
+  effects : effect p false (address_of (flow_graph_of x.image at.function) at.place) i at.fact ≡ Some left.0
+  effects = gone _ left.0 (sym (it.plain p false (address_of (flow_graph_of x.image at.function) at.place) at.fact) ∙ left.1)
 
   roomy : IsRoomy s.first.caller.sp s.regs
   roomy =
@@ -95,9 +95,9 @@ module _ (x : Accepted) (is : IsProgram x) (s : Recorded) (k : Keeps x s) (at : 
   holds : Holds p left.0 s.first s.segments regs
   holds =
       let h = at.holds in
-      let frame = it.frame p false (address_of (scene_of x.image at.function) at.place) at.fact left.0 effects in
+      let frame = it.frame p false (address_of (flow_graph_of x.image at.function) at.place) at.fact left.0 effects in
       let told : Describes h.entry s.first.caller.sp left.0 (data_effect i s.regs) =
-      data_described h.entry s.first.caller.sp p false (address_of (scene_of x.image at.function) at.place) i d at.fact left.0 s.regs works low roomy h.describes effects in
+      data_described h.entry s.first.caller.sp p false (address_of (flow_graph_of x.image at.function) at.place) i d at.fact left.0 s.regs works low roomy h.describes effects in
       let sp : slice_index (data_effect i s.regs).r SP ≡ reg_in s SP = same_sp d s.regs.r (data_effect i s.regs).r low (it.writes s.regs) in
       record {
         entry = h.entry;
@@ -114,20 +114,20 @@ module _ (x : Accepted) (is : IsProgram x) (s : Recorded) (k : Keeps x s) (at : 
 
   pc : regs.pc ≡ s.regs.pc + size
   pc =
-      let inside = stands_inside (scene_of x.image at.function) at.place i size stands in
+      let inside = stands_inside (flow_graph_of x.image at.function) at.place i size stands in
       let placed : IsPlaced at.function = subst IsPlaced at.of.among.2 (placed_at x.image at.of.among.0 at.function is.image at.of.among.1) in
-      elim (stands_size (scene_of x.image at.function) at.place i size stands) [
+      elim (stands_size (flow_graph_of x.image at.function) at.place i size stands) [
         | inl two ↦ omega (arith, it.stays s.regs, at.address, inside, placed.low, k.sound.is_even, two)
         | inr four ↦ omega (arith, it.stays s.regs, at.address, inside, placed.low, k.sound.is_even, four)
       ]
 
-  -- the tests let it pass only where no function begins behind it
+  -- the tests let it pass only where no function begins after it
   fresh : acts.tests (program_of x) s Done regs ≡ None → begins_function x.image.functions regs.pc ≡ false
   fresh e =
       let landing = sp_end (innermost_in (cleanups_in s.cleanups)) s.home.0 s.regs.pc (reg_in s SP) (slice_index regs.r SP) in
-      let way = none_or landing (acts.way_end_of (program_of x) s (branches_some (instr_at (memory_of s) s.regs.pc) s.regs) Done regs) e in
+      let edge = none_or landing (acts.control_flow_trap_of (program_of x) s (branches_some (instr_at (memory_of s) s.regs.pc) s.regs) Done regs) e in
       let straight : branches_some (instr_at (memory_of s) s.regs.pc) s.regs ≡ false = ap (λ (o : Option (Instr × ℕ)). branches_some o s.regs) fetch.stands ∙ it.taken s.regs in
-      let fell : fell_off (program_of x) s.regs.pc regs.pc ≡ None = subst (λ (b : Bool). cond b None (fell_off (program_of x) s.regs.pc regs.pc) ≡ None) straight way in
+      let fell : fell_off (program_of x) s.regs.pc regs.pc ≡ None = subst (λ (b : Bool). cond b None (fell_off (program_of x) s.regs.pc regs.pc) ≡ None) straight edge in
       go (begins_function x.image.functions regs.pc) fell
     where
       go : (b : Bool) → cond b (Some (the_end.Trap kind.FellOff regs.pc s.regs.pc)) None ≡ None → b ≡ false
@@ -140,18 +140,18 @@ module _ (x : Accepted) (is : IsProgram x) (s : Recorded) (k : Keeps x s) (at : 
     tested None e =
         let none : pushes_some (instr_at (memory_of s) s.regs.pc) ≡ 0 = ap pushes_some fetch.stands ∙ ap length it.pushes in
         let t : Recorded = record s { regs = regs } in
-        subst (Keeps x) (sym (settled_level (look x.spots s.regs.pc).saves (pushes_some (instr_at (memory_of s) s.regs.pc)) (reg_in s SP) (slice_index regs.r SP) t none sp))
-        (level_keeps x is s k at i size stands left.0 regs it.on left.1 pc sp sound holds (fresh e))
+        subst (Keeps x) (sym (reguarded_at_one_sp (look x.roles s.regs.pc).saves (pushes_some (instr_at (memory_of s) s.regs.pc)) (reg_in s SP) (slice_index regs.r SP) t none sp))
+        (simple_keeps x is s k at i size stands left.0 regs it.on left.1 pc sp sound holds (fresh e))
 
     checked : OnEvent x (acts.onward (program_of x) s (acts.stepped (program_of x) s (step_of s.regs (memory_of s))) input)
     checked = subst (λ (o : Stepping). OnEvent x (acts.onward (program_of x) s (acts.stepped (program_of x) s o) input)) (sym stepped) (tested (acts.tests (program_of x) s Done regs) refl)
 
-    event : (look x.spots s.regs.pc).is_instr ≡ true → OnEvent x (acts.recorded_event (program_of x) s input)
+    event : (look x.roles s.regs.pc).is_instr ≡ true → OnEvent x (acts.recorded_event (program_of x) s input)
     unfolding acts.recorded_event acts.passed
     event reached = subst (λ (b : Bool). OnEvent x (acts.onward (program_of x) s (acts.checked (program_of x) s b) input)) (sym reached) checked
 
 -- An event that does an instruction of the data group keeps what every event keeps.
 pub data_keeps : (x : Accepted) → IsProgram x → (s : Recorded) → Keeps x s → (at : StandsAt x s.first s.segments s.regs s.regs.pc) (i : Instr) (size d : ℕ)
-    → standing_at (scene_of x.image at.function) at.place ≡ Instruction i size → d < 8 → works_on i ≡ Some d → (look x.spots s.regs.pc).is_instr ≡ true → (input : List ℕ)
+    → standing_at (flow_graph_of x.image at.function) at.place ≡ Instruction i size → d < 8 → works_on i ≡ Some d → (look x.roles s.regs.pc).is_instr ≡ true → (input : List ℕ)
     → OnEvent x (acts.recorded_event (program_of x) s input)
 data_keeps x is s k at i size d stands low works reached input = event x is s k at i size d stands low (data_is i d works) works input reached

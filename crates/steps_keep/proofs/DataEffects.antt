@@ -13,7 +13,7 @@ use Rattle.stands_for.specs.thumb_core.declared.regs.Stepped.TheVariants.{Done}
 use Rattle.stands_for.specs.step_ahead.Ahead.{branches, pushed}
 use Rattle.stands_for.specs.frame_facts.After.{after_of, effect, gone_on}
 use Rattle.stands_for.specs.frame_facts.declared.saves.Prologue.{Prologue}
-use Rattle.stands_for.specs.frame_scene.Ways.{goes_on}
+use Rattle.stands_for.specs.frame_graph.Edges.{reaches_next}
 use Rattle.stands_for.specs.thumb_isa.declared.instr.Instr.TheVariants.{ShiftImm, AddSubReg, AddSubImm3, Imm8, Alu, Adr, AddRdSp, Extend, Rev}
 use Rattle.stands_for.specs.frame_facts.Facts.{source, with_source, lost, sp_plus}
 use Rattle.stands_for.specs.frame_facts.Shifts.{shift_imm}
@@ -39,7 +39,7 @@ same_either f false g h x y = y
 
 -- it goes on, takes no branch, pushes nothing, shows no cause but by its effect, which leaves depth and kept saves, and is done on registers
 pub record IsData (i : Instr) (d : ℕ) : Type 0 where
-  pub on : goes_on i ≡ true
+  pub on : reaches_next i ≡ true
   pub taken : (regs : Regs) → branches i regs ≡ false
   pub pushes : pushed i ≡ []
   pub plain : (p : Prologue) (lowers : Bool) (at : ℕ) (f : Fact) → after_of p lowers at i f ≡ gone_on None (effect p lowers at i f)

@@ -10,7 +10,7 @@ use Rattle.stands_for.specs.thumb_core.Laws.{AreWords}
 use Rattle.stands_for.specs.thumb_core.declared.regs.Regs.{Regs}
 use Rattle.stands_for.specs.two_machines.Activations.{Recorded, memory_of, words_in, state_word, heads, lists_of, cleanups_in, with_lists}
 use Rattle.stands_for.specs.eh_gates.declared.state.Turned.TheVariants.{Went, Ended}
-use Rattle.stands_for.specs.two_machines.Machine.{goes_behind}
+use Rattle.stands_for.specs.two_machines.Machine.{goes_after}
 use Rattle.stands_for.specs.thumb_core.declared.regs.TheConstants.{SP}
 use Rattle.stands_for.specs.eh_cxa.declared.layout.TheConstants.{SLOTS, SLOT_WORDS, STATE, SIZE, COUNT, NEXT_CAUGHT, DESTRUCTOR, BARRIER_OBJECT, OBJECT_BYTES}
 use Rattle.stands_for.specs.eh_bus.Lists.{Has}
@@ -31,7 +31,7 @@ use Rattle.stands_for.specs.two_machines.Corresponds.{Corresponds}
 use Rattle.stands_for.specs.two_machines.ActivationMachine as acts
 use Rattle.stands_for.proofs.Tame.{AreTame, IsTame, tame_append, tame_zeros}
 
-pub record Behind (s : Recorded) (next : ℕ) (t : Recorded) : Type 0 where
+pub record After (s : Recorded) (next : ℕ) (t : Recorded) : Type 0 where
   pub regs : Regs
   pub lists : Lists
   pub writes : List Write
@@ -43,7 +43,7 @@ pub record Behind (s : Recorded) (next : ℕ) (t : Recorded) : Type 0 where
 
 -- an end leaves the state
 abbrev pub Behaves : Recorded → ℕ → ℕ → acts.Outcome → Type 0
-Behaves s number next (Went, t) = (goes_behind number ≡ true) × Behind s next t
+Behaves s number next (Went, t) = (goes_after number ≡ true) × After s next t
 Behaves s number next (Ended end, t) = t ≡ s
 
 pub set_words : (r : List ℕ) (d v : ℕ) → d < 2 → v < 2 ^ 32 → AreWords 15 r → AreWords 15 (set r d v)

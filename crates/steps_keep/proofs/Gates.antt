@@ -1,5 +1,5 @@
 -- A gate that walks no frames: both machines do the same, and what every event keeps is kept. Of the registers that a gate may change nothing
--- is known behind it, and the words that it writes lie in the pool.
+-- is known after it, and the words that it writes lie in the pool.
 use Rattle.std.proofs.Common.{◌≡◌, ℕ, zero, suc, ◌≤◌, ◌==◌, false, arith, refl, Bool, true, Some, None, ◌+◌, ◌%◌, ◌^◌, ◌<◌, nat_lt, inl, inr, cond, List, [], ◌∷◌, drop, Option, slice_index, sym, ap, subst, ◌∙◌}
 use Rattle.std.specs.List.{list_any}
 use Rattle.std.specs.Prelude.{if◌then◌else◌, Contains, slice_get, take}
@@ -30,16 +30,16 @@ use Rattle.stands_for.specs.thumb_core.declared.regs.TheConstants.{SP}
 use Rattle.stands_for.specs.thumb_core.declared.regs.Regs.{Regs}
 use Rattle.stands_for.specs.thumb_core.declared.regs.Stepped.TheVariants.{Gate}
 use Rattle.stands_for.specs.frame_facts.declared.saves.Prologue.{Prologue}
-use Rattle.stands_for.specs.frame_facts.Facts.{forgotten}
+use Rattle.stands_for.specs.frame_facts.Facts.{clobbered}
 use Rattle.stands_for.specs.frame_facts.Saves.{saves_of}
-use Rattle.stands_for.proofs.frame_facts.Described.{forgetting_described}
-use Rattle.stands_for.specs.frame_scene.declared.places.Standing.TheVariants.{Instruction}
-use Rattle.stands_for.specs.frame_scene.Places.{standing_at}
+use Rattle.stands_for.proofs.frame_facts.Described.{clobbering_described}
+use Rattle.stands_for.specs.frame_graph.declared.places.Standing.TheVariants.{Instruction}
+use Rattle.stands_for.specs.frame_graph.Places.{standing_at}
 use Rattle.stands_for.specs.frame_check.Accepts.{Accepted}
-use Rattle.stands_for.specs.frame_check.Roots.{scene_of}
-use Rattle.stands_for.specs.frame_check.Spots.{look}
-use Rattle.stands_for.specs.two_machines.Program.{guide}
-use Rattle.stands_for.specs.two_machines.Machine.{sp_end, goes_behind}
+use Rattle.stands_for.specs.frame_check.Roots.{flow_graph_of}
+use Rattle.stands_for.specs.frame_check.Roles.{look}
+use Rattle.stands_for.specs.two_machines.Program.{program_tables}
+use Rattle.stands_for.specs.two_machines.Machine.{sp_end, goes_after}
 use Rattle.stands_for.specs.two_machines.Activations.{Recorded, reg_in, memory_of, lists_of, cleanups_in, InProgress, with_lists}
 use Rattle.stands_for.specs.two_machines.Corresponds.{Corresponds, WalksNone, IsInPlace}
 use Rattle.stands_for.specs.two_machines.Checked.{program_of}
@@ -55,12 +55,12 @@ use Rattle.stands_for.specs.Cleanups.{goal_at, IsHeld, IsWithin, AreInProgress}
 use Rattle.stands_for.specs.Stands.{Keeps, IsProgram, OnEvent, Turns, IsCounted, DoesAt}
 use Rattle.steps_keep.proofs.Counted.{gate_counts}
 use Rattle.stands_for.proofs.Goes.{next_stands, chain_top}
-use Rattle.stands_for.proofs.Level.{fetch, none_or}
+use Rattle.stands_for.proofs.SimpleTurns.{fetch, none_or}
 use Rattle.steps_keep.proofs.Jumps.{next_pc}
-use Rattle.stands_for.proofs.Moves.{forgotten_frame}
+use Rattle.stands_for.proofs.Moves.{clobbered_frame}
 use Rattle.stands_for.proofs.Moved.{SameWords, LieIn, AllLieIn, same_at, all_same_at, holds_moves, chain_lies, chain_moves, held_moves}
 use Rattle.stands_for.proofs.Tame.{IsKeptByWrites, tame_keeps}
-use Rattle.steps_keep.proofs.Gated.{Behind, Behaves, set_words, set_others}
+use Rattle.steps_keep.proofs.Gated.{After, Behaves, set_words, set_others}
 use Rattle.steps_keep.proofs.Behaving.{gate_behaves}
 
 -- what a gate may change
@@ -79,7 +79,7 @@ no_fall true end h = absurd cc
 no_fall false end h = refl
 
 module _ (x : Accepted) (is : IsProgram x) (s : Recorded) (k : Keeps x s) (at : StandsAt x s.first s.segments s.regs s.regs.pc) (number size : ℕ)
-    (stands : standing_at (scene_of x.image at.function) at.place ≡ Instruction (Svc number) size) where
+    (stands : standing_at (flow_graph_of x.image at.function) at.place ≡ Instruction (Svc number) size) where
   abbrev p : Prologue
   p = (code x at.function at.marks).prologue
 
@@ -89,9 +89,9 @@ module _ (x : Accepted) (is : IsProgram x) (s : Recorded) (k : Keeps x s) (at : 
   stepped : step_of s.regs (memory_of s) ≡ (Gate number, regs, memory_of s)
   stepped = (fetch x is s k at (Svc number) size stands).step
 
-  -- ---- behind it
+  -- ---- after it
 
-  module _ (t : Recorded) (b : Behind s regs.pc t) where
+  module _ (t : Recorded) (b : After s regs.pc t) where
     abbrev segments : List Segment
     segments = (put_all b.writes (memory_of s)).segments
 
@@ -122,15 +122,15 @@ module _ (x : Accepted) (is : IsProgram x) (s : Recorded) (k : Keeps x s) (at : 
     sp : slice_index b.regs.r SP ≡ reg_in s SP
     sp = b.others SP (omega arith)
 
-    holds : Holds p (forgotten gate_changes at.fact) s.first segments b.regs
+    holds : Holds p (clobbered gate_changes at.fact) s.first segments b.regs
     holds =
         let h = holds_moves s.home s.segments segments p at.fact s.first s.regs first_same at.holds in
-        let frame = forgotten_frame gate_changes at.fact in
+        let frame = clobbered_frame gate_changes at.fact in
         record {
           entry = h.entry;
           saved = h.saved;
           link = h.link;
-          describes = forgetting_described h.entry s.first.caller.sp gate_changes at.fact s.regs b.regs h.describes (λ j kept_reg. b.others j (not_changed j kept_reg)) sp_stays;
+          describes = clobbering_described h.entry s.first.caller.sp gate_changes at.fact s.regs b.regs h.describes (λ j kept_reg. b.others j (not_changed j kept_reg)) sp_stays;
           lower = omega (arith, h.lower, frame.0, sp);
           saves = λ w e. let one = h.saves w (subst (λ n. Contains (take n (saves_of p)) w) frame.1 e) in
               record { low = one.low; deep = omega (arith, one.deep, frame.0); holds = one.holds; slot = one.slot };
@@ -160,8 +160,8 @@ module _ (x : Accepted) (is : IsProgram x) (s : Recorded) (k : Keeps x s) (at : 
         let next : AreSound regs.r regs.pc = subst (λ (o : Stepping). AreSound o.1.r o.1.pc) stepped ((step_follows s.regs (memory_of s)).sound k.sound) in
         record { words = b.words; small = subst (λ n. n < 2 ^ 32) (sym b.pc) next.small; is_even = subst (λ n. n % 2 ≡ 0) (sym b.pc) next.is_even }
 
-    behind_u : IsCounted b.lists → Corresponds u → begins_function x.image.functions regs.pc ≡ false → Keeps x u
-    behind_u counted c fresh = record {
+    after_u : IsCounted b.lists → Corresponds u → begins_function x.image.functions regs.pc ≡ false → Keeps x u
+    after_u counted c fresh = record {
       corresponds = c;
       counted = counted;
       image = map_trans (image_start x.image).memory.segments s.segments segments k.image kept.map;
@@ -170,27 +170,27 @@ module _ (x : Accepted) (is : IsProgram x) (s : Recorded) (k : Keeps x s) (at : 
       high = subst (λ n. n ≤ s.first.caller.sp) (sym sp) k.high;
       whole = k.whole;
       slots = subst (λ n. (g : ℕ) → Has s.first.slots g → (n ≤ g) × (g + 4 ≤ s.first.caller.sp)) (sym sp) k.slots;
-      first = λ reached. next_stands x is s k at (Svc number) size stands (forgotten gate_changes at.fact) b.regs segments s.first refl refl refl pc holds reached
+      first = λ reached. next_stands x is s k at (Svc number) size stands (clobbered gate_changes at.fact) b.regs segments s.first refl refl refl pc holds reached
           (subst (λ n. begins_function x.image.functions n ≡ false) (sym b.pc) fresh);
       beyond = k.beyond;
       chain = chain_moves s.home s.segments segments x s.first.caller s.outer outer_same k.chain;
       cleanups = subst (λ n. AreInProgress x u n s.cleanups) (sym sp) (in_progress (reg_in s SP) s.cleanups same_goal k.cleanups);
     }
 
-    pub behind_keeps : IsCounted (lists_of t) → Corresponds t → begins_function x.image.functions regs.pc ≡ false → Keeps x t
-    behind_keeps counted c fresh = subst (Keeps x) (sym b.is) (behind_u (subst (λ (v : Recorded). IsCounted (lists_of v)) b.is counted) (subst Corresponds b.is c) fresh)
+    pub after_keeps : IsCounted (lists_of t) → Corresponds t → begins_function x.image.functions regs.pc ≡ false → Keeps x t
+    after_keeps counted c fresh = subst (Keeps x) (sym b.is) (after_u (subst (λ (v : Recorded). IsCounted (lists_of v)) b.is counted) (subst Corresponds b.is c) fresh)
 
   -- ---- the event
 
   module _ (walks : WalksNone number) (input : List ℕ) (bytes : byte_or_end (slice_get input 0) < 2 ^ 32) where
     abbrev Fresh : Type 0
-    Fresh = goes_behind number ≡ true → begins_function x.image.functions regs.pc ≡ false
+    Fresh = goes_after number ≡ true → begins_function x.image.functions regs.pc ≡ false
 
     -- gates of every machine
-    plain_behind : (after : Regs) → after.pc ≡ regs.pc → AreWords 15 after.r → ((j : ℕ) → 2 ≤ j → slice_index after.r j ≡ slice_index s.regs.r j) → begins_function x.image.functions regs.pc ≡ false
+    plain_after : (after : Regs) → after.pc ≡ regs.pc → AreWords 15 after.r → ((j : ℕ) → 2 ≤ j → slice_index after.r j ≡ slice_index s.regs.r j) → begins_function x.image.functions regs.pc ≡ false
         → Keeps x (record s { regs = after })
-    plain_behind after pc words others fresh =
-        behind_keeps (record s { regs = after }) (record { regs = after; lists = lists_of s; writes = []; is = refl; tame = tt; pc = pc; words = words; others = others })
+    plain_after after pc words others fresh =
+        after_keeps (record s { regs = after }) (record { regs = after; lists = lists_of s; writes = []; is = refl; tame = tt; pc = pc; words = words; others = others })
         k.counted (record { map = k.corresponds.map; stands = k.corresponds.stands }) fresh
 
     low_event : Fresh → OnEvent x (acts.in_state s (gate_event number s.regs regs input))
@@ -203,30 +203,30 @@ module _ (x : Accepted) (is : IsProgram x) (s : Recorded) (k : Keeps x s) (at : 
             → OnEvent x (acts.in_state s (cond a (Ends (the_end.Exit (r0 regs)) s.regs) (cond b (Goes regs (r0 regs % 256 ∷ []) input)
             (cond c (Goes (with_r0 (byte_or_end (slice_get input 0)) regs) [] (drop 1 input)) (Ends (the_end.Trap kind.UnknownGate number s.regs.pc) s.regs)))))
         go true b e c f = ended
-        go false true e c f = plain_behind regs refl k.sound.words (λ j far. refl) (fresh (subst (λ n. goes_behind n ≡ true) (sym (eqb-true number OUTPUT_GATE e)) refl))
+        go false true e c f = plain_after regs refl k.sound.words (λ j far. refl) (fresh (subst (λ n. goes_after n ≡ true) (sym (eqb-true number OUTPUT_GATE e)) refl))
         go false false e true f =
-            plain_behind (with_r0 (byte_or_end (slice_get input 0)) regs) refl (set_words s.regs.r 0 (byte_or_end (slice_get input 0)) (omega arith) bytes k.sound.words)
-            (λ j far. set_others s.regs.r 0 (byte_or_end (slice_get input 0)) j (omega arith) far) (fresh (subst (λ n. goes_behind n ≡ true) (sym (eqb-true number INPUT_GATE f)) refl))
+            plain_after (with_r0 (byte_or_end (slice_get input 0)) regs) refl (set_words s.regs.r 0 (byte_or_end (slice_get input 0)) (omega arith) bytes k.sound.words)
+            (λ j far. set_others s.regs.r 0 (byte_or_end (slice_get input 0)) j (omega arith) far) (fresh (subst (λ n. goes_after n ≡ true) (sym (eqb-true number INPUT_GATE f)) refl))
         go false false e false f = ended
 
     high_event : (q : acts.Outcome) → Behaves s number regs.pc q → IsCounted (lists_of q.1) → Corresponds q.1 → Fresh → OnEvent x (acts.event_of q input)
-    high_event (Went, t) h counted c fresh = behind_keeps t h.1 counted c (fresh h.0)
+    high_event (Went, t) h counted c fresh = after_keeps t h.1 counted c (fresh h.0)
     high_event (Ended end, t) h counted c fresh = subst (Keeps x) (sym h) k
 
     gated : Fresh → OnEvent x (acts.gated (program_of x) number s regs input)
     gated fresh = go (nat_lt INPUT_GATE number)
       where
-        go : (b : Bool) → OnEvent x (cond b (acts.event_of (acts.gate_of (guide (program_of x)) number regs.pc s) input) (acts.in_state s (gate_event number s.regs regs input)))
+        go : (b : Bool) → OnEvent x (cond b (acts.event_of (acts.gate_of (program_tables (program_of x)) number regs.pc s) input) (acts.in_state s (gate_event number s.regs regs input)))
         go true =
-            high_event (acts.gate_of (guide (program_of x)) number regs.pc s) (gate_behaves s k.corresponds k.sound.words number regs.pc (guide (program_of x)) walks k.counted) (gate_counts (guide (program_of x)) s k.counted number regs.pc)
-            (gates_match (guide (program_of x)) number regs.pc s k.corresponds (k.sound.words.small 0) walks).still fresh
+            high_event (acts.gate_of (program_tables (program_of x)) number regs.pc s) (gate_behaves s k.corresponds k.sound.words number regs.pc (program_tables (program_of x)) walks k.counted) (gate_counts (program_tables (program_of x)) s k.counted number regs.pc)
+            (gates_match (program_tables (program_of x)) number regs.pc s k.corresponds (k.sound.words.small 0) walks).still fresh
         go false = low_event fresh
 
     tested : (o : Option End) → acts.tests (program_of x) s (Gate number) regs ≡ o → OnEvent x (acts.onward (program_of x) s (acts.tested (program_of x) s (Gate number) regs (memory_of s) o) input)
     tested (Some end) e = k
     tested None e =
-        let way = none_or (sp_end (innermost_in (cleanups_in s.cleanups)) s.home.0 s.regs.pc (reg_in s SP) (slice_index regs.r SP)) _ e in
-        gated (λ on. fresh (goes_behind number) on way)
+        let edge = none_or (sp_end (innermost_in (cleanups_in s.cleanups)) s.home.0 s.regs.pc (reg_in s SP) (slice_index regs.r SP)) _ e in
+        gated (λ on. fresh (goes_after number) on edge)
       where
         fresh : (b : Bool) → b ≡ true → cond b (if begins_function x.image.functions regs.pc then Some (the_end.Trap kind.FellOff regs.pc s.regs.pc) else None) None ≡ None → begins_function x.image.functions regs.pc ≡ false
         fresh true on w = no_fall (begins_function x.image.functions regs.pc) (the_end.Trap kind.FellOff regs.pc s.regs.pc) w
@@ -235,11 +235,11 @@ module _ (x : Accepted) (is : IsProgram x) (s : Recorded) (k : Keeps x s) (at : 
     checked : OnEvent x (acts.onward (program_of x) s (acts.stepped (program_of x) s (step_of s.regs (memory_of s))) input)
     checked = subst (λ (o : Stepping). OnEvent x (acts.onward (program_of x) s (acts.stepped (program_of x) s o) input)) (sym stepped) (tested (acts.tests (program_of x) s (Gate number) regs) refl)
 
-    event : (look x.spots s.regs.pc).is_instr ≡ true → OnEvent x (acts.recorded_event (program_of x) s input)
+    event : (look x.roles s.regs.pc).is_instr ≡ true → OnEvent x (acts.recorded_event (program_of x) s input)
     unfolding acts.recorded_event acts.passed
     event reached = subst (λ (b : Bool). OnEvent x (acts.onward (program_of x) s (acts.checked (program_of x) s b) input)) (sym reached) checked
 
-    pub svc_event : (look x.spots s.regs.pc).is_instr ≡ true → Turns x s input
+    pub svc_event : (look x.roles s.regs.pc).is_instr ≡ true → Turns x s input
     svc_event reached = record {
       same = calls_match.events (program_of x) s input k.corresponds (k.sound.words.small 0) (subst (λ (o : Stepping). IsInPlace s o.0) (sym stepped) walks);
       keeps = event reached;

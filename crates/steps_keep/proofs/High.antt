@@ -1,4 +1,4 @@
--- MOV and ADD of any two registers, where sp is not written: both machines do the same, and what is known behind it holds. That pc is not
+-- MOV and ADD of any two registers, where sp is not written: both machines do the same, and what is known after it holds. That pc is not
 -- written the checker saw to.
 use Rattle.std.proofs.Common.{◌≡◌, ℕ, ◌<◌, ◌==◌, ◌⊎◌, inl, inr, false, cond, refl, sym, ap, subst, ◌∙◌, arith, ◌+◌, length, get_or, set, ◌-◌, ◌%◌, ◌^◌, Bool, true, ◌≤◌, nat_le, Some, None, ℤ, pos, negsuc, List, [], Ok, Err, Result, not}
 use Rattle.std.proofs.lemmas.Bool.{cases_eq, cases_lt, lt-ltb, le-ltb, eqb-true, leb-true}
@@ -26,10 +26,10 @@ use Rattle.stands_for.specs.thumb_core.Step.{step_of}
 use Rattle.stands_for.specs.thumb_core.declared.regs.Stepped.TheVariants.{Done}
 use Rattle.stands_for.specs.step_ahead.Ahead.{branches, pushed}
 use Rattle.stands_for.specs.frame_facts.After.{after_of, gone_on}
-use Rattle.stands_for.specs.frame_scene.Places.{address_of}
-use Rattle.stands_for.specs.frame_scene.Ways.{goes_on}
-use Rattle.stands_for.specs.frame_check.Roots.{scene_of}
-use Rattle.stands_for.specs.two_machines.Machine.{way_end}
+use Rattle.stands_for.specs.frame_graph.Places.{address_of}
+use Rattle.stands_for.specs.frame_graph.Edges.{reaches_next}
+use Rattle.stands_for.specs.frame_check.Roots.{flow_graph_of}
+use Rattle.stands_for.specs.two_machines.Machine.{control_flow_trap}
 use Rattle.stands_for.specs.two_machines.Checked.{program_of}
 use Rattle.stands_for.specs.frame_facts.declared.cause.FrameCause.{FrameCause}
 use Rattle.stands_for.specs.frame_facts.declared.cause.FrameCause.TheVariants.{IndirectBranch}
@@ -39,7 +39,7 @@ use Rattle.stands_for.specs.Holds.{Holds}
 use Rattle.stands_for.specs.Chain.{code, StandsAt}
 use Rattle.stands_for.specs.Stands.{Keeps, IsProgram, Turns, DoesAt}
 use Rattle.stands_for.proofs.Goes.{chain_top}
-use Rattle.stands_for.proofs.Level.{level_turns, fetch}
+use Rattle.stands_for.proofs.SimpleTurns.{simple_turns, fetch}
 use Rattle.steps_keep.proofs.Jumps.{next_pc, straight_first}
 use Rattle.stands_for.proofs.Flows.{leaves, none_stands, stands_instruction}
 
@@ -169,8 +169,8 @@ module _ (x : Accepted) (is : IsProgram x) (s : Recorded) (k : Keeps x s) (at : 
         }
 
 module _ (x : Accepted) (s : Recorded) (i : Instr) (d v : ℕ) (g : Source) (input : List ℕ) (is : IsProgram x) (k : Keeps x s) (does : DoesAt x s i) (no_sp : d ≡ 13 → ⊥) (no_pc : (d == PC) ≡ false)
-    (means : Means does.at.holds.entry s.first.caller.sp g (word_in d v)) (on : goes_on i ≡ true) (taken : branches i s.regs ≡ false) (pushes : pushed i ≡ [])
-    (after : after_of (code x does.at.function does.at.marks).prologue false (address_of (scene_of x.image does.at.function) does.at.place) i does.at.fact ≡ Ok (with_source does.at.fact d g))
+    (means : Means does.at.holds.entry s.first.caller.sp g (word_in d v)) (on : reaches_next i ≡ true) (taken : branches i s.regs ≡ false) (pushes : pushed i ≡ [])
+    (after : after_of (code x does.at.function does.at.marks).prologue false (address_of (flow_graph_of x.image does.at.function) does.at.place) i does.at.fact ≡ Ok (with_source does.at.fact d g))
     (step : step_of s.regs (memory_of s) ≡ (Done, write_high d v does.size s.regs, memory_of s)) where
   abbrev regs : Regs
   regs = with_next does.size (with_reg s.regs d v)
@@ -180,9 +180,9 @@ module _ (x : Accepted) (s : Recorded) (i : Instr) (d v : ℕ) (g : Source) (inp
 
   pub high_event : Turns x s input
   high_event =
-      level_turns x is s k does.at i does.size does.stands regs stepped (get_or-set_other s.regs.r d SP (word_in d v) 0 (λ e. no_sp (sym e))) pushes
+      simple_turns x is s k does.at i does.size does.stands regs stepped (get_or-set_other s.regs.r d SP (word_in d v) 0 (λ e. no_sp (sym e))) pushes
       (λ w. straight_first x is s k does.at i does.size does.stands (with_source does.at.fact d g) regs on after (next_pc x is s k does.at i does.size does.stands)
-      (high_holds x is s k does.at d v no_sp g means does.size) (subst (λ (b : Bool). way_end (program_of x) b s.regs.pc Done regs ≡ None) taken w))
+      (high_holds x is s k does.at d v no_sp g means does.size) (subst (λ (b : Bool). control_flow_trap (program_of x) b s.regs.pc Done regs ≡ None) taken w))
       input does.reached
 
 -- what an instruction that may write pc or sp leaves, where no cause stands
@@ -199,7 +199,7 @@ module _ (x : Accepted) (s : Recorded) (d m : ℕ) (input : List ℕ) (is : IsPr
   p = (code x does.at.function does.at.marks).prologue
 
   abbrev here : ℕ
-  here = address_of (scene_of x.image does.at.function) does.at.place
+  here = address_of (flow_graph_of x.image does.at.function) does.at.place
 
   by_add : (g : Fact) × (after_of p false here (AddHigh d m) does.at.fact ≡ Ok g) → Turns x s input
   by_add w =
@@ -210,7 +210,7 @@ module _ (x : Accepted) (s : Recorded) (d m : ℕ) (input : List ℕ) (is : IsPr
 
   add_high_is : Turns x s input
   add_high_is = by_add (leaves (code x does.at.function does.at.marks) does.at.place does.at.fact (none_stands x does.at.function does.at.marks is.sound does.at.of.among does.at.of.are) does.at.state (AddHigh d m)
-      (stands_instruction (scene_of x.image does.at.function) does.at.place (AddHigh d m) does.size does.stands))
+      (stands_instruction (flow_graph_of x.image does.at.function) does.at.place (AddHigh d m) does.size does.stands))
 
 pub add_high_turns : (x : Accepted) (s : Recorded) (d m : ℕ) (input : List ℕ) → IsProgram x → Keeps x s → DoesAt x s (AddHigh d m) → Turns x s input
 add_high_turns x s d m input is k does = add_high_is x s d m input is k does
@@ -220,7 +220,7 @@ module _ (x : Accepted) (s : Recorded) (d m : ℕ) (input : List ℕ) (is : IsPr
   q = (code x does.at.function does.at.marks).prologue
 
   abbrev there : ℕ
-  there = address_of (scene_of x.image does.at.function) does.at.place
+  there = address_of (flow_graph_of x.image does.at.function) does.at.place
 
   no_13 : (d == 13) ≡ false
   no_13 = elim (cases_eq d 13) [
@@ -240,7 +240,7 @@ module _ (x : Accepted) (s : Recorded) (d m : ℕ) (input : List ℕ) (is : IsPr
 
   mov_high_is : Turns x s input
   mov_high_is = by_mov (leaves (code x does.at.function does.at.marks) does.at.place does.at.fact (none_stands x does.at.function does.at.marks is.sound does.at.of.among does.at.of.are) does.at.state (MovHigh d m)
-      (stands_instruction (scene_of x.image does.at.function) does.at.place (MovHigh d m) does.size does.stands))
+      (stands_instruction (flow_graph_of x.image does.at.function) does.at.place (MovHigh d m) does.size does.stands))
 
 pub mov_high_turns : (x : Accepted) (s : Recorded) (d m : ℕ) (input : List ℕ) → IsProgram x → Keeps x s → DoesAt x s (MovHigh d m) → (d ≡ 13 → ⊥) → Turns x s input
 mov_high_turns x s d m input is k does no_sp = mov_high_is x s d m input is k does no_sp

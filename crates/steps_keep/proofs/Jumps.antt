@@ -1,4 +1,4 @@
--- Where the first activation stands behind an instruction that leaves memory and sp: behind it, or where a branch leads. So for all that
+-- Where the first activation stands after an instruction that leaves memory and sp: after it, or where a branch leads. So for all that
 -- write no register: compares of any registers, hints, barriers and branches.
 use Rattle.std.proofs.Common.{ℕ, ◌≡◌, ◌%◌, ◌==◌, ◌&&◌, ◌||◌, Bool, true, false, refl, sym, subst, Some, None, ◌+◌, ◌-◌, ◌/◌, ◌^◌, ◌<◌, not, nat_le, nat_lt, inl, inr, List, [], Option, Ok, ℤ, slice_index, ap, ◌∙◌, arith, cond}
 use Rattle.std.specs.Prelude.{Contains, if◌then◌else◌, option_and_then}
@@ -29,19 +29,19 @@ use Rattle.stands_for.specs.thumb_core.declared.regs.Stepped.TheVariants.{Done}
 use Rattle.stands_for.specs.frame_facts.declared.cause.FrameCause.TheVariants.{Undecodable, BranchOut}
 use Rattle.stands_for.specs.frame_facts.declared.saves.Prologue.{Prologue}
 use Rattle.stands_for.specs.frame_facts.After.{after_of}
-use Rattle.stands_for.specs.frame_scene.declared.places.Standing.{Standing}
-use Rattle.stands_for.specs.frame_scene.declared.places.Standing.TheVariants.{Instruction}
-use Rattle.stands_for.specs.frame_scene.declared.ways.Way.{Way}
-use Rattle.stands_for.specs.frame_scene.Scene.{Scene}
-use Rattle.stands_for.specs.frame_scene.Places.{address_of, place_of, is_code_of, standing_at}
-use Rattle.stands_for.specs.frame_scene.Sites.{site_at, ways_of, ways_from}
-use Rattle.stands_for.specs.frame_scene.Ways.{goes_on, branch_target, ways_to, onward, straight_by, straight_ways, is_undecodable, branches_out, instruction_at}
+use Rattle.stands_for.specs.frame_graph.declared.places.Standing.{Standing}
+use Rattle.stands_for.specs.frame_graph.declared.places.Standing.TheVariants.{Instruction}
+use Rattle.stands_for.specs.frame_graph.declared.edges.Edge.{Edge}
+use Rattle.stands_for.specs.frame_graph.FlowGraph.{FlowGraph}
+use Rattle.stands_for.specs.frame_graph.Places.{address_of, place_of, is_code_of, standing_at}
+use Rattle.stands_for.specs.frame_graph.Sites.{site_at, edges_of, edges_from}
+use Rattle.stands_for.specs.frame_graph.Edges.{reaches_next, branch_target, edges_to, onward, straight_by, straight_edges, is_undecodable, branches_out, instruction_at}
 use Rattle.stands_for.proofs.frame_reach.Stands.{stands_inside, stands_size}
 use Rattle.stands_for.specs.frame_check.Accepts.{Accepted}
 use Rattle.stands_for.specs.frame_check.Judged.{IsPlaced}
-use Rattle.stands_for.specs.frame_check.Roots.{scene_of}
+use Rattle.stands_for.specs.frame_check.Roots.{flow_graph_of}
 use Rattle.stands_for.proofs.frame_check.Wells.{placed_at}
-use Rattle.stands_for.specs.two_machines.Machine.{way_end}
+use Rattle.stands_for.specs.two_machines.Machine.{control_flow_trap}
 use Rattle.stands_for.specs.two_machines.Activations.{Recorded, memory_of}
 use Rattle.stands_for.specs.two_machines.Checked.{program_of}
 use Rattle.stands_for.specs.thumb_isa.declared.instr.Instr.TheVariants.{B, CmpHigh, Hint, Barrier, BCond}
@@ -56,7 +56,7 @@ use Rattle.stands_for.specs.Stands.{Keeps, IsProgram, Turns, DoesAt}
 use Rattle.stands_for.proofs.Flows.{none_stands, goes_straight, stands_instruction}
 use Rattle.stands_for.proofs.Goes.{next_stands}
 use Rattle.stands_for.proofs.Moves.{moved_holds}
-use Rattle.stands_for.proofs.Level.{fetch, level_turns}
+use Rattle.stands_for.proofs.SimpleTurns.{fetch, simple_turns}
 
 -- what is found at a place with a state stands there
 pub not_found : (c : Framed) (p : ℕ) (f : Fact) → NoneStands c → IsStateOf c p f → (cause : FrameCause) → Contains (found c p f) cause → ⊥
@@ -77,15 +77,15 @@ no_fall true end h = absurd cc
 no_fall false end h = refl
 
 module _ (x : Accepted) (is : IsProgram x) (s : Recorded) (k : Keeps x s) (at : StandsAt x s.first s.segments s.regs s.regs.pc) (i : Instr) (size : ℕ)
-    (stands : standing_at (scene_of x.image at.function) at.place ≡ Instruction i size) where
-  abbrev scene : Scene
-  scene = scene_of x.image at.function
+    (stands : standing_at (flow_graph_of x.image at.function) at.place ≡ Instruction i size) where
+  abbrev flow_graph : FlowGraph
+  flow_graph = flow_graph_of x.image at.function
 
   placed : IsPlaced at.function
   placed = subst IsPlaced at.of.among.2 (placed_at x.image at.of.among.0 at.function is.image at.of.among.1)
 
   abbrev here : ℕ
-  here = address_of scene at.place
+  here = address_of flow_graph at.place
 
   abbrev p : Prologue
   p = (code x at.function at.marks).prologue
@@ -96,68 +96,68 @@ module _ (x : Accepted) (is : IsProgram x) (s : Recorded) (k : Keeps x s) (at : 
   -- the next address
   pub next_pc : even ((s.regs.pc + size) % 2 ^ 32) ≡ s.regs.pc + size
   next_pc =
-      let inside = stands_inside scene at.place i size stands in
-      elim (stands_size scene at.place i size stands) [
+      let inside = stands_inside flow_graph at.place i size stands in
+      elim (stands_size flow_graph at.place i size stands) [
         | inl two ↦ omega (arith, at.address, inside, placed.low, k.sound.is_even, two)
         | inr four ↦ omega (arith, at.address, inside, placed.low, k.sound.is_even, four)
       ]
 
-  -- on behind it, where the tests let it pass
-  pub straight_first : (g : Fact) (regs : Regs) → goes_on i ≡ true → after_of p false here i at.fact ≡ Ok g → regs.pc ≡ s.regs.pc + size → Holds p g s.first s.segments regs
-      → way_end (program_of x) false s.regs.pc Done regs ≡ None → StandsFirst x (record s { regs = regs })
-  straight_first g regs on e pc holds way reached =
-      next_stands x is s k at i size stands g regs s.segments s.first refl on e pc holds reached (no_fall (begins_function x.image.functions regs.pc) (the_end.Trap kind.FellOff regs.pc s.regs.pc) way)
+  -- on after it, where the tests let it pass
+  pub straight_first : (g : Fact) (regs : Regs) → reaches_next i ≡ true → after_of p false here i at.fact ≡ Ok g → regs.pc ≡ s.regs.pc + size → Holds p g s.first s.segments regs
+      → control_flow_trap (program_of x) false s.regs.pc Done regs ≡ None → StandsFirst x (record s { regs = regs })
+  straight_first g regs on e pc holds edge reached =
+      next_stands x is s k at i size stands g regs s.segments s.first refl on e pc holds reached (no_fall (begins_function x.image.functions regs.pc) (the_end.Trap kind.FellOff regs.pc s.regs.pc) edge)
 
   -- ---- a branch that is taken
 
   module _ (t : ℕ) (to : branch_target here i ≡ Some t) where
-    at_instr : instruction_at scene at.place ≡ Some i
-    at_instr = stands_instruction scene at.place i size stands
+    at_instr : instruction_at flow_graph at.place ≡ Some i
+    at_instr = stands_instruction flow_graph at.place i size stands
 
-    not_out : (b : Bool) → branches_out scene at.place ≡ b → b ≡ false
+    not_out : (b : Bool) → branches_out flow_graph at.place ≡ b → b ≡ false
     unfolding found
     not_out true e = absurd (not_found (code x at.function at.marks) at.place at.fact none at.state BranchOut
-        (let first : Contains (shown (branches_out scene at.place) BranchOut) BranchOut = rw e (contains_head BranchOut []) in
-        Contains-append_right (shown (is_undecodable scene at.place) Undecodable) _ BranchOut (Contains-append_left (shown (branches_out scene at.place) BranchOut) _ BranchOut first)))
+        (let first : Contains (shown (branches_out flow_graph at.place) BranchOut) BranchOut = rw e (contains_head BranchOut []) in
+        Contains-append_right (shown (is_undecodable flow_graph at.place) Undecodable) _ BranchOut (Contains-append_left (shown (branches_out flow_graph at.place) BranchOut) _ BranchOut first)))
     not_out false e = refl
 
-    is_code : is_code_of scene t ≡ true
-    is_code = go (is_code_of scene t) (sym (ap (λ (o : Option Instr). option_map_or (λ a. not (is_code_of scene a)) (option_and_then (branch_target here) o) false) at_instr
-        ∙ ap (λ (o : Option ℕ). option_map_or (λ a. not (is_code_of scene a)) o false) to) ∙ not_out (branches_out scene at.place) refl)
+    is_code : is_code_of flow_graph t ≡ true
+    is_code = go (is_code_of flow_graph t) (sym (ap (λ (o : Option Instr). option_map_or (λ a. not (is_code_of flow_graph a)) (option_and_then (branch_target here) o) false) at_instr
+        ∙ ap (λ (o : Option ℕ). option_map_or (λ a. not (is_code_of flow_graph a)) o false) to) ∙ not_out (branches_out flow_graph at.place) refl)
       where
         go : (b : Bool) → not b ≡ false → b ≡ true
         go true h = refl
         go false h = absurd cc
 
-    parts : (nat_le scene.start t && nat_lt t scene.end ≡ true) × (((t == scene.start) || is_code_in x.image t) ≡ true)
-    parts = and_parts (nat_le scene.start t && nat_lt t scene.end) ((t == scene.start) || is_code_in x.image t) is_code
+    parts : (nat_le flow_graph.start t && nat_lt t flow_graph.end ≡ true) × (((t == flow_graph.start) || is_code_in x.image t) ≡ true)
+    parts = and_parts (nat_le flow_graph.start t && nat_lt t flow_graph.end) ((t == flow_graph.start) || is_code_in x.image t) is_code
 
     pub target_even : t % 2 ≡ 0
-    target_even = even_code x.image scene.start t placed.even parts.1
+    target_even = even_code x.image flow_graph.start t placed.even parts.1
 
-    place_is : t ≡ address_of scene ((t - scene.start) / 2)
-    place_is = let low = leb-true scene.start t (and_parts (nat_le scene.start t) (nat_lt t scene.end) parts.0).0 in omega (arith, low, target_even, placed.even)
+    place_is : t ≡ address_of flow_graph ((t - flow_graph.start) / 2)
+    place_is = let low = leb-true flow_graph.start t (and_parts (nat_le flow_graph.start t) (nat_lt t flow_graph.end) parts.0).0 in omega (arith, low, target_even, placed.even)
 
-    way : Contains (ways_of scene at.place) (record { to = (t - scene.start) / 2; forgets = 0 })
-    unfolding ways_of
-    way =
-        let w : Way = record { to = (t - scene.start) / 2; forgets = 0 } in
-        let there : place_of scene t ≡ Some ((t - scene.start) / 2) = ap (λ (b : Bool). if b then Some ((t - scene.start) / 2) else None) is_code in
-        let one : Contains (ways_to 0 (option_and_then (place_of scene) (branch_target here i))) w =
-        subst (λ (o : Option ℕ). Contains (ways_to 0 (option_and_then (place_of scene) o)) w) (sym to) (subst (λ (o : Option ℕ). Contains (ways_to 0 o) w) (sym there) (contains_head w [])) in
-        let straight : Contains (straight_ways scene at.place) w = subst (λ (u : Standing). Contains (straight_by scene here u) w) (sym stands)
-        (Contains-append_right (onward scene here i size) (ways_to 0 (option_and_then (place_of scene) (branch_target here i))) w one) in
-        Contains-append_left (straight_ways scene at.place) (ways_from scene (site_at scene at.place)) w straight
+    edge : Contains (edges_of flow_graph at.place) (record { to = (t - flow_graph.start) / 2; clobbers = 0 })
+    unfolding edges_of
+    edge =
+        let w : Edge = record { to = (t - flow_graph.start) / 2; clobbers = 0 } in
+        let there : place_of flow_graph t ≡ Some ((t - flow_graph.start) / 2) = ap (λ (b : Bool). if b then Some ((t - flow_graph.start) / 2) else None) is_code in
+        let one : Contains (edges_to 0 (option_and_then (place_of flow_graph) (branch_target here i))) w =
+        subst (λ (o : Option ℕ). Contains (edges_to 0 (option_and_then (place_of flow_graph) o)) w) (sym to) (subst (λ (o : Option ℕ). Contains (edges_to 0 o) w) (sym there) (contains_head w [])) in
+        let straight : Contains (straight_edges flow_graph at.place) w = subst (λ (u : Standing). Contains (straight_by flow_graph here u) w) (sym stands)
+        (Contains-append_right (onward flow_graph here i size) (edges_to 0 (option_and_then (place_of flow_graph) (branch_target here i))) w one) in
+        Contains-append_left (straight_edges flow_graph at.place) (edges_from flow_graph (site_at flow_graph at.place)) w straight
 
     pub jump_first : (g : Fact) (regs : Regs) → after_of p false here i at.fact ≡ Ok g → regs.pc ≡ t → Holds p g s.first s.segments regs → StandsAt x s.first s.segments regs regs.pc
     jump_first g regs e pc holds = record {
       function = at.function;
       marks = at.marks;
       of = at.of;
-      place = (t - scene.start) / 2;
+      place = (t - flow_graph.start) / 2;
       address = pc ∙ place_is;
       fact = g;
-      state = goes_straight (code x at.function at.marks) at.place at.fact none at.state i g ((t - scene.start) / 2) at_instr e way;
+      state = goes_straight (code x at.function at.marks) at.place at.fact none at.state i g ((t - flow_graph.start) / 2) at_instr e edge;
       holds = holds;
     }
 
@@ -169,8 +169,8 @@ module _ (x : Accepted) (is : IsProgram x) (s : Recorded) (k : Keeps x s) (at : 
   module _ (off : ℤ) (to : branch_target here i ≡ Some (forward (here + 4) off)) where
     pub lands_there : (with_pc s.regs (target_of off s.regs)).pc ≡ forward (here + 4) off
     lands_there =
-        let inside = stands_inside scene at.place i size stands in
-        let four : (s.regs.pc + 4) % 2 ^ 32 ≡ here + 4 = elim (stands_size scene at.place i size stands) [
+        let inside = stands_inside flow_graph at.place i size stands in
+        let four : (s.regs.pc + 4) % 2 ^ 32 ≡ here + 4 = elim (stands_size flow_graph at.place i size stands) [
           | inl two ↦ omega (arith, at.address, inside, placed.low, two)
           | inr wide ↦ omega (arith, at.address, inside, placed.low, wide)
         ] in
@@ -190,19 +190,19 @@ module _ (x : Accepted) (is : IsProgram x) (s : Recorded) (k : Keeps x s) (at : 
 
 pub b_turns : (x : Accepted) (s : Recorded) (off : ℤ) (input : List ℕ) → IsProgram x → Keeps x s → DoesAt x s (B off) → Turns x s input
 b_turns x s off input is k does =
-    level_turns x is s k does.at (B off) does.size does.stands (with_pc s.regs (target_of off s.regs)) (fetch x is s k does.at (B off) does.size does.stands).step refl refl
+    simple_turns x is s k does.at (B off) does.size does.stands (with_pc s.regs (target_of off s.regs)) (fetch x is s k does.at (B off) does.size does.stands).step refl refl
     (λ w. branch_first x is s k does.at (B off) does.size does.stands off refl refl) input does.reached
 
--- what goes on behind it with the registers as they were
-quiet_turns : (x : Accepted) (s : Recorded) (i : Instr) (between : Regs) (input : List ℕ) → IsProgram x → Keeps x s → (does : DoesAt x s i) → goes_on i ≡ true → branches i s.regs ≡ false
+-- what goes on after it with the registers as they were
+quiet_turns : (x : Accepted) (s : Recorded) (i : Instr) (between : Regs) (input : List ℕ) → IsProgram x → Keeps x s → (does : DoesAt x s i) → reaches_next i ≡ true → branches i s.regs ≡ false
     → pushed i ≡ [] → ((q : Prologue) (at : ℕ) (f : Fact) → after_of q false at i f ≡ Ok f) → step_of s.regs (memory_of s) ≡ (Done, with_next does.size between, memory_of s)
     → between.r ≡ s.regs.r → between.pc ≡ s.regs.pc → Turns x s input
 quiet_turns x s i between input is k does on taken pushes plain stepped same pc =
     let to : (with_next does.size between).pc ≡ s.regs.pc + does.size = ap (λ n. even ((n + does.size) % 2 ^ 32)) pc ∙ next_pc x is s k does.at i does.size does.stands in
-    level_turns x is s k does.at i does.size does.stands (with_next does.size between) stepped (ap (λ (r : List ℕ). slice_index r SP) same) pushes
-    (λ w. straight_first x is s k does.at i does.size does.stands does.at.fact (with_next does.size between) on (plain (code x does.at.function does.at.marks).prologue (address_of (scene_of x.image does.at.function) does.at.place) does.at.fact) to
+    simple_turns x is s k does.at i does.size does.stands (with_next does.size between) stepped (ap (λ (r : List ℕ). slice_index r SP) same) pushes
+    (λ w. straight_first x is s k does.at i does.size does.stands does.at.fact (with_next does.size between) on (plain (code x does.at.function does.at.marks).prologue (address_of (flow_graph_of x.image does.at.function) does.at.place) does.at.fact) to
     (same_holds x is s k does.at i does.size does.stands (with_next does.size between) same)
-    (subst (λ (b : Bool). way_end (program_of x) b s.regs.pc Done (with_next does.size between) ≡ None) taken w))
+    (subst (λ (b : Bool). control_flow_trap (program_of x) b s.regs.pc Done (with_next does.size between) ≡ None) taken w))
     input does.reached
 
 pub cmp_high_turns : (x : Accepted) (s : Recorded) (n m : ℕ) (input : List ℕ) → IsProgram x → Keeps x s → DoesAt x s (CmpHigh n m) → Turns x s input
@@ -224,7 +224,7 @@ bcond_turns x s cc off input is k does = go (passes cc s.regs) refl
 
     go : (b : Bool) → passes cc s.regs ≡ b → Turns x s input
     go true e =
-        level_turns x is s k does.at (BCond cc off) does.size does.stands (with_pc s.regs (target_of off s.regs))
+        simple_turns x is s k does.at (BCond cc off) does.size does.stands (with_pc s.regs (target_of off s.regs))
         (step ∙ ap (λ (b : Bool). let o : Stepping = (Done, cond b (with_pc s.regs (target_of off s.regs)) (with_next does.size s.regs), memory_of s) in o) e) refl refl
         (λ w. branch_first x is s k does.at (BCond cc off) does.size does.stands off refl refl) input does.reached
     go false e =

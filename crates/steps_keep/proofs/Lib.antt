@@ -3,7 +3,7 @@ pub use Rattle.stands_for.proofs.two_machines
 pub use Rattle.stands_for.proofs.frame_check
 pub use Rattle.stands_for.proofs.frame_flow
 pub use Rattle.stands_for.proofs.frame_reach
-pub use Rattle.stands_for.proofs.frame_scene
+pub use Rattle.stands_for.proofs.frame_graph
 pub use Rattle.stands_for.proofs.frame_facts
 pub use Rattle.stands_for.proofs.flow
 pub use Rattle.stands_for.proofs.eh_phase
@@ -17,7 +17,7 @@ mod Data
 pub mod DataTurns
 pub mod Jumps
 pub mod High
-mod Levels
+mod SimpleLaw
 pub mod Cases
 mod Counted
 pub mod Gated

@@ -17,17 +17,17 @@ use Rattle.stands_for.specs.eh_bytecode.declared.recipe.Recipe.{Recipe}
 use Rattle.stands_for.specs.frame_facts.declared.saves.Prologue.{Prologue}
 use Rattle.stands_for.specs.frame_facts.Agrees.{fails, answer, agreed, is_lost}
 use Rattle.stands_for.specs.frame_facts.Branches.{call_changes}
-use Rattle.stands_for.specs.frame_facts.Facts.{forgotten}
-use Rattle.stands_for.specs.frame_scene.declared.unwinding.Unwinding.{Unwinding}
-use Rattle.stands_for.specs.frame_scene.declared.unwinding.Unwinding.TheVariants.{Finds, Refused, BadBytecode as BadCodes, GenericModel as Generic}
+use Rattle.stands_for.specs.frame_facts.Facts.{clobbered}
+use Rattle.stands_for.specs.frame_graph.declared.unwinding.Unwinding.{Unwinding}
+use Rattle.stands_for.specs.frame_graph.declared.unwinding.Unwinding.TheVariants.{Finds, Refused, BadBytecode as BadCodes, GenericModel as Generic}
 use Rattle.stands_for.specs.thumb_isa.declared.instr.Instr.{Instr}
 use Rattle.stands_for.specs.thumb_isa.declared.instr.Instr.TheVariants.{Bl, Blx}
-use Rattle.stands_for.specs.frame_scene.Sites.{site_of, site_at, unwinding_at, pads_out}
-use Rattle.stands_for.specs.frame_scene.Places.{address_of}
-use Rattle.stands_for.specs.frame_scene.Ways.{instruction_at, is_undecodable, branches_out, calls_nothing}
+use Rattle.stands_for.specs.frame_graph.Sites.{site_of, site_at, unwinding_at, pads_out}
+use Rattle.stands_for.specs.frame_graph.Places.{address_of}
+use Rattle.stands_for.specs.frame_graph.Edges.{instruction_at, is_undecodable, branches_out, calls_nothing}
 use Rattle.stands_for.specs.frame_flow.Flows.{IsStateOf, NoneStands}
 use Rattle.stands_for.specs.frame_flow.Framed.{Framed}
-use Rattle.stands_for.proofs.Moves.{forgotten_frame}
+use Rattle.stands_for.proofs.Moves.{clobbered_frame}
 use Rattle.steps_keep.proofs.Jumps.{not_found}
 
 -- ---- a call has a word on the stack
@@ -51,14 +51,14 @@ no_room_shown : (f : Fact) → f.depth < 4 → Shows (shown (nat_lt f.depth 4) (
 no_room_shown f low = (CallState LR, rw (lt-ltb f.depth 4 low) (contains_head (CallState LR) []))
 
 no_room_fails : (q : Prologue) (r : Recipe) (f : Fact) → f.depth < 4 → Shows (answered (agreed q r true f))
-no_room_fails q r f low = go (find (fails q r true (forgotten call_changes f)) numbers) refl
+no_room_fails q r f low = go (find (fails q r true (clobbered call_changes f)) numbers) refl
   where
-    test : fails q r true (forgotten call_changes f) 14 ≡ true
-    test = let depth = (forgotten_frame call_changes f).0 in rw (lt-ltb (forgotten call_changes f).depth 4 (omega (arith, depth, low))) refl
+    test : fails q r true (clobbered call_changes f) 14 ≡ true
+    test = let depth = (clobbered_frame call_changes f).0 in rw (lt-ltb (clobbered call_changes f).depth 4 (omega (arith, depth, low))) refl
 
-    go : (o : Option ℕ) → find (fails q r true (forgotten call_changes f)) numbers ≡ o → Shows (answered (answer o (is_lost r (forgotten call_changes f)) r.base))
+    go : (o : Option ℕ) → find (fails q r true (clobbered call_changes f)) numbers ≡ o → Shows (answered (answer o (is_lost r (clobbered call_changes f)) r.base))
     go (Some reg) e = (CallState reg, contains_head (CallState reg) [])
-    go None e = absurd (let clash : true ≡ false = sym test ∙ find_none (fails q r true (forgotten call_changes f)) numbers 14 e fourteen in cc)
+    go None e = absurd (let clash : true ≡ false = sym test ∙ find_none (fails q r true (clobbered call_changes f)) numbers 14 e fourteen in cc)
 
 no_room : (q : Prologue) (u : Unwinding) (f : Fact) → f.depth < 4 → Shows (unwound q u true f)
 no_room q (Finds r) f low = no_room_fails q r f low
@@ -71,24 +71,24 @@ call_site a (Bl off) e = ((a + 2) % 2 ^ 32, refl)
 call_site a (Blx m) e = (a, refl)
 call_site a i e = absurd cc
 
-module _ (c : Framed) (p : ℕ) (f : Fact) (none : NoneStands c) (state : IsStateOf c p f) (i : Instr) (at : instruction_at c.scene p ≡ Some i) (call : is_call i ≡ true) where
-  site : (site : ℕ) × (site_at c.scene p ≡ Some site)
-  site = let w = call_site (address_of c.scene p) i call in (w.0, ap (λ (o : Option Instr). option_and_then (site_of (address_of c.scene p)) o) at ∙ w.1)
+module _ (c : Framed) (p : ℕ) (f : Fact) (none : NoneStands c) (state : IsStateOf c p f) (i : Instr) (at : instruction_at c.flow_graph p ≡ Some i) (call : is_call i ≡ true) where
+  site : (site : ℕ) × (site_at c.flow_graph p ≡ Some site)
+  site = let w = call_site (address_of c.flow_graph p) i call in (w.0, ap (λ (o : Option Instr). option_and_then (site_of (address_of c.flow_graph p)) o) at ∙ w.1)
 
   shown_at_call : f.depth < 4 → Shows (found c p f)
   unfolding found
   shown_at_call low =
-      let w = no_room c.prologue (unwinding_at c.scene site.0) f low in
+      let w = no_room c.prologue (unwinding_at c.flow_graph site.0) f low in
       let here : Contains (site_causes c true f site.0) w.0 =
-      Contains-append_left (unwound c.prologue (unwinding_at c.scene site.0) true f) (shown (pads_out c.scene site.0) PadDepth ++ shown (throws_in_leaf c.scene site.0 true f) ThrowInLeafScope) w.0 w.1 in
-      let by_site : Contains (option_map_or (site_causes c (is_call i) f) (site_at c.scene p) []) w.0 =
+      Contains-append_left (unwound c.prologue (unwinding_at c.flow_graph site.0) true f) (shown (pads_out c.flow_graph site.0) PadDepth ++ shown (throws_in_leaf c.flow_graph site.0 true f) ThrowInLeafScope) w.0 w.1 in
+      let by_site : Contains (option_map_or (site_causes c (is_call i) f) (site_at c.flow_graph p) []) w.0 =
       subst (λ (o : Option ℕ). Contains (option_map_or (site_causes c (is_call i) f) o []) w.0) (sym site.1) (subst (λ (b : Bool). Contains (site_causes c b f site.0) w.0) (sym call) here) in
       let by_instr : Contains (instruction_causes c p f i) w.0 = Contains-append_right (answered (after_at c p f i)) _ w.0 by_site in
-      let last : Contains (option_map_or (instruction_causes c p f) (instruction_at c.scene p) []) w.0 =
+      let last : Contains (option_map_or (instruction_causes c p f) (instruction_at c.flow_graph p) []) w.0 =
       subst (λ (o : Option Instr). Contains (option_map_or (instruction_causes c p f) o []) w.0) (sym at) by_instr in (
         w.0,
-        Contains-append_right (shown (is_undecodable c.scene p) Undecodable) _ w.0
-            (Contains-append_right (shown (branches_out c.scene p) BranchOut) _ w.0 (Contains-append_right (shown (calls_nothing c.scene p) CallNotFunction) _ w.0 last)),
+        Contains-append_right (shown (is_undecodable c.flow_graph p) Undecodable) _ w.0
+            (Contains-append_right (shown (branches_out c.flow_graph p) BranchOut) _ w.0 (Contains-append_right (shown (calls_nothing c.flow_graph p) CallNotFunction) _ w.0 last)),
       )
 
   pub has_room : 4 ≤ f.depth

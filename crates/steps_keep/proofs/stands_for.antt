@@ -4,7 +4,7 @@ pub use Rattle.stands_for.proofs.CountedLists
 pub use Rattle.stands_for.proofs.First
 pub use Rattle.stands_for.proofs.Flows
 pub use Rattle.stands_for.proofs.Goes
-pub use Rattle.stands_for.proofs.Level
+pub use Rattle.stands_for.proofs.SimpleTurns
 pub use Rattle.stands_for.proofs.Moved
 pub use Rattle.stands_for.proofs.Moves
 pub use Rattle.stands_for.proofs.Onward

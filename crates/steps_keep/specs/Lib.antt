@@ -3,7 +3,7 @@ pub use Rattle.stands_for.specs.two_machines
 pub use Rattle.stands_for.specs.frame_check
 pub use Rattle.stands_for.specs.frame_flow
 pub use Rattle.stands_for.specs.frame_reach
-pub use Rattle.stands_for.specs.frame_scene
+pub use Rattle.stands_for.specs.frame_graph
 pub use Rattle.stands_for.specs.frame_facts
 pub use Rattle.stands_for.specs.flow
 pub use Rattle.stands_for.specs.eh_gates

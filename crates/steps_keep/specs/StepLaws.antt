@@ -3,24 +3,24 @@ use Rattle.std.specs.Prelude.{◌≡◌, ℕ, false, List}
 use Rattle.stands_for.specs.thumb_isa.declared.instr.Instr.{Instr}
 use Rattle.stands_for.specs.thumb_isa.declared.instr.Instr.TheVariants.{AddHigh, CmpHigh, MovHigh, Hint, Barrier, B, BCond}
 use Rattle.stands_for.specs.frame_check.Accepts.{Accepted}
-use Rattle.stands_for.specs.frame_check.Spots.{look}
+use Rattle.stands_for.specs.frame_check.Roles.{look}
 use Rattle.stands_for.specs.two_machines.Activations.{Recorded}
 use Rattle.stands_for.specs.Stands.{Keeps, IsProgram, DoesAt, Turns}
 
 -- ADD and MOV of any two registers, sp as the target of MOV apart; CMP of any two, branches, hints and barriers
-abbrev pub IsLevel : Instr → Type 0
-IsLevel (AddHigh d m) = Unit {0}
-IsLevel (MovHigh d m) = d ≡ 13 → ⊥
-IsLevel (CmpHigh n m) = Unit {0}
-IsLevel (B off) = Unit {0}
-IsLevel (BCond cc off) = Unit {0}
-IsLevel (Hint n) = Unit {0}
-IsLevel (Barrier op option) = Unit {0}
-IsLevel i = ⊥
+abbrev pub IsSimple : Instr → Type 0
+IsSimple (AddHigh d m) = Unit {0}
+IsSimple (MovHigh d m) = d ≡ 13 → ⊥
+IsSimple (CmpHigh n m) = Unit {0}
+IsSimple (B off) = Unit {0}
+IsSimple (BCond cc off) = Unit {0}
+IsSimple (Hint n) = Unit {0}
+IsSimple (Barrier op option) = Unit {0}
+IsSimple i = ⊥
 
-abbrev pub LevelTurns : Type 0
-LevelTurns = (x : Accepted) (s : Recorded) (i : Instr) (input : List ℕ) → IsProgram x → Keeps x s → DoesAt x s i → IsLevel i → Turns x s input
+abbrev pub SimpleTurns : Type 0
+SimpleTurns = (x : Accepted) (s : Recorded) (i : Instr) (input : List ℕ) → IsProgram x → Keeps x s → DoesAt x s i → IsSimple i → Turns x s input
 
 -- where the checker reached no instruction at pc
 abbrev pub UnreachedTurns : Type 0
-UnreachedTurns = (x : Accepted) (s : Recorded) (input : List ℕ) → Keeps x s → (look x.spots s.regs.pc).is_instr ≡ false → Turns x s input
+UnreachedTurns = (x : Accepted) (s : Recorded) (input : List ℕ) → Keeps x s → (look x.roles s.regs.pc).is_instr ≡ false → Turns x s input

@@ -3,19 +3,19 @@
 #![tactic(auto)]
 
 ghost use Rattle.steps_keep.specs.Steps.{DataTurns};
-ghost use Rattle.steps_keep.specs.StepLaws.{LevelTurns, UnreachedTurns};
+ghost use Rattle.steps_keep.specs.StepLaws.{SimpleTurns, UnreachedTurns};
 ghost use Rattle.steps_keep.specs.GateEvents.{GatesTurn};
 ghost use Rattle.steps_keep.specs.CallEvents.{BlTurns, BlxTurns};
 
-/// An instruction that works on one of r0 to r7 and touches neither memory nor sp does the same in both machines, and behind it they stand for
+/// An instruction that works on one of r0 to r7 and touches neither memory nor sp does the same in both machines, and after it they stand for
 /// each other.
 pub fn data_turns()
     ensures { DataTurns }
 {}
 
 /// So do the same ADD, MOV and CMP of any registers but into sp, branches, hints and barriers.
-pub fn level_turns()
-    ensures { LevelTurns }
+pub fn simple_turns()
+    ensures { SimpleTurns }
 {}
 
 /// Where the checker reached no instruction both machines end alike, and the state stays.

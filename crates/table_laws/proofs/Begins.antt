@@ -3,24 +3,24 @@ use Rattle.std.proofs.Common.{◌≡◌, ℕ, ◌+◌, ◌*◌, ◌/◌, ◌%◌
 use Rattle.std.specs.Prelude.{slice_index, Ok}
 use Rattle.std.proofs.lemmas.Bool.Decides.{nat_tests}
 use Rattle.eh_word.specs.Words.{number_at}
-use Rattle.unwind_codes.specs.Words.{personality_of_word, code_words_behind}
+use Rattle.unwind_codes.specs.Words.{personality_of_word, code_words_after}
 use Rattle.eh_bytecode.specs.Codes.{table_codes}
 use Rattle.eh_bytecode.proofs.CodesLaws.{FirstWord, word_of, short_first, long_first}
-use Rattle.eh_desc.specs.Grammar.{items_from, items_behind, where_codes}
+use Rattle.eh_desc.specs.Grammar.{items_from, items_after, where_codes}
 use Rattle.table_laws.specs.Tables.{Begin, table_bytes, IndexZeroIsNarrow, LongIndices}
 use Rattle.table_laws.proofs.Reading.{number_there}
 
 first_number : (a b c d : ℕ) (more : List ℕ) → number_at 4 (a ∷ b ∷ c ∷ d ∷ more) 0 ≡ Some (word_of a b c d)
 first_number a b c d more = number_there (a ∷ b ∷ c ∷ d ∷ more) 0 (omega arith)
 
--- readable codes, a first word, its width and how many words of code stand behind it
+-- readable codes, a first word, its width and how many words of code stand after it
 begin : (start address a b c d place : ℕ) (more codes : List ℕ) (wide : Bool) → table_codes (a ∷ b ∷ c ∷ d ∷ more) ≡ Ok codes
-    → (personality_of_word (word_of a b c d) == 2) ≡ wide → 4 + 4 * code_words_behind (word_of a b c d) ≡ place → Begin start address (a ∷ b ∷ c ∷ d ∷ more) place wide
+    → (personality_of_word (word_of a b c d) == 2) ≡ wide → 4 + 4 * code_words_after (word_of a b c d) ≡ place → Begin start address (a ∷ b ∷ c ∷ d ∷ more) place wide
 begin start address a b c d place more codes wide readable width further =
     let bytes : List ℕ = a ∷ b ∷ c ∷ d ∷ more in
-    ap (λ r. where_codes r (items_behind start address bytes (number_at 4 bytes 0))) readable
-    ∙ ap (items_behind start address bytes) (first_number a b c d more)
-    ∙ ap (λ w. items_from (record { bytes = bytes; address = address; start = start; wide = w }) (4 + 4 * code_words_behind (word_of a b c d))) width
+    ap (λ r. where_codes r (items_after start address bytes (number_at 4 bytes 0))) readable
+    ∙ ap (items_after start address bytes) (first_number a b c d more)
+    ∙ ap (λ w. items_from (record { bytes = bytes; address = address; start = start; wide = w }) (4 + 4 * code_words_after (word_of a b c d))) width
     ∙ ap (λ p. items_from (record { bytes = bytes; address = address; start = start; wide = wide }) p) further
 
 first : (a b c d : ℕ) → a < 256 → b < 256 → c < 256 → d < 256 → FirstWord a b c d

@@ -6,7 +6,7 @@ use Rattle.std.proofs.lemmas.List.Elements.{All-nil, All-cons}
 use Rattle.unwind_codes.specs.declared.code.Code.{Code}
 use Rattle.unwind_codes.specs.declared.code.Code.TheVariants.{Raise, Lower, Refuse, PopMask, Restore, PopRange, PopRangeAndLr, Finish, PopLow, RaiseLong}
 use Rattle.unwind_codes.specs.Bytes.{code_bytes, shortest_uleb128, IsCode, HasBytes}
-use Rattle.unwind_codes.specs.Cut.{Is, Bad, cut, cut_from, cut_behind}
+use Rattle.unwind_codes.specs.Cut.{Is, Bad, cut, cut_from, cut_after}
 use Rattle.unwind_codes.specs.Table.{code_front}
 use Rattle.unwind_codes.proofs.CutLaws.{law_of_codes}
 use Rattle.unwind_codes.proofs.Table.{refuse, restore_none, finish}
@@ -25,7 +25,7 @@ written code bytes is has e =
     ∙ law_of_codes (code ∷ Finish ∷ []) 0 [] (All-cons IsCode code (Finish ∷ []) is (All-cons IsCode Finish [] tt (All-nil IsCode)))
     (All-cons HasBytes code (Finish ∷ []) has (All-cons HasBytes Finish [] tt (All-nil HasBytes)))
 
-begins : (first size : ℕ) (more : List ℕ) (code : Code) → code_front first more ≡ Some (code, size) → cut (first ∷ more) ≡ Is code ∷ cut_behind (size - 1) 1 more
+begins : (first size : ℕ) (more : List ℕ) (code : Code) → code_front first more ≡ Some (code, size) → cut (first ∷ more) ≡ Is code ∷ cut_after (size - 1) 1 more
 unfolding cut_from
 begins first size more code e = rw e refl
 

@@ -8,15 +8,15 @@ use Rattle.byteorder.specs.Endian.{little_number}
 use Rattle.eh_word.specs.Words.{moved, number_at, prel31_of}
 use Rattle.table_laws.specs.Words.{HalfStands, WordStands, led_to}
 
-byte_behind : (bytes : List ℕ) (place k : ℕ) → slice_index (drop place bytes) k ≡ slice_index bytes (place + k)
-byte_behind bytes place k = get_or-drop place bytes k 0
+byte_after : (bytes : List ℕ) (place k : ℕ) → slice_index (drop place bytes) k ≡ slice_index bytes (place + k)
+byte_after bytes place k = get_or-drop place bytes k 0
 
 first_byte : (bytes : List ℕ) (place : ℕ) → slice_index (drop place bytes) 0 ≡ slice_index bytes place
-first_byte bytes place = byte_behind bytes place 0 ∙ ap (λ k. slice_index bytes k) (let e : place + 0 ≡ place = omega arith in e)
+first_byte bytes place = byte_after bytes place 0 ∙ ap (λ k. slice_index bytes k) (let e : place + 0 ≡ place = omega arith in e)
 
 pub four_bytes : (bytes : List ℕ) (place : ℕ) → little_number 4 (drop place bytes)
     ≡ slice_index bytes place + 256 * slice_index bytes (place + 1) + 65536 * slice_index bytes (place + 2) + 16777216 * slice_index bytes (place + 3)
-four_bytes bytes place = omega (arith, first_byte bytes place, byte_behind bytes place 1, byte_behind bytes place 2, byte_behind bytes place 3)
+four_bytes bytes place = omega (arith, first_byte bytes place, byte_after bytes place 1, byte_after bytes place 2, byte_after bytes place 3)
 
 pub number_there : (bytes : List ℕ) (place : ℕ) → place + 4 ≤ length bytes → number_at 4 bytes place ≡ Some (little_number 4 (drop place bytes))
 unfolding number_at

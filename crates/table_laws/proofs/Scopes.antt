@@ -12,8 +12,8 @@ use Rattle.table_laws.proofs.Reading.{word_there, halves_there}
 pub zero_ends : ZeroEnds
 zero_ends t place w = over t place (sym (rw (word_there t.bytes place 0 w) refl))
 
-narrow : (t : Form) (place length offset behind : ℕ) → t.wide ≡ false → ScopeBy false t.bytes place length offset behind → found_at t place ≡ kind_at t place length offset behind
-narrow t place length offset behind w s =
+narrow : (t : Form) (place length offset after : ℕ) → t.wide ≡ false → ScopeBy false t.bytes place length offset after → found_at t place ≡ kind_at t place length offset after
+narrow t place length offset after w s =
     let first : ℕ = length + 65536 * offset in
     let there : word_at t place ≡ Some first = halves_there t.bytes place length offset s.0 s.1 in
     let low : length < 65536 = omega (arith, s.0.low, s.0.high, s.0.is) in
@@ -22,21 +22,21 @@ narrow t place length offset behind w s =
     let upper : first / 2 ^ 16 ≡ offset = omega arith in
     rw (there, some, w, lower, upper) (ap (λ b. kind_at t place length offset b) (sym s.3))
 
-wide : (t : Form) (place length offset behind : ℕ) → t.wide ≡ true → ScopeBy true t.bytes place length offset behind → found_at t place ≡ kind_at t place length offset behind
-wide t place length offset behind w s =
+wide : (t : Form) (place length offset after : ℕ) → t.wide ≡ true → ScopeBy true t.bytes place length offset after → found_at t place ≡ kind_at t place length offset after
+wide t place length offset after w s =
     let there : word_at t place ≡ Some length = word_there t.bytes place length s.0 in
     let next : word_at t (place + 4) ≡ Some offset = word_there t.bytes (place + 4) offset s.1 in
     let some : (length == 0) ≡ false = grind (arith, nat_tests, s.2) in
     rw (there, some, w, next) (ap (λ b. kind_at t place length offset b) (sym s.3))
 
-pub scope_read : (t : Form) (place length offset behind : ℕ) → ScopeStands t place length offset behind → found_at t place ≡ kind_at t place length offset behind
-scope_read t place length offset behind s = by_width t.wide refl s
+pub scope_read : (t : Form) (place length offset after : ℕ) → ScopeStands t place length offset after → found_at t place ≡ kind_at t place length offset after
+scope_read t place length offset after s = by_width t.wide refl s
   where
-    by_width : (b : Bool) → t.wide ≡ b → ScopeBy b t.bytes place length offset behind → found_at t place ≡ kind_at t place length offset behind
-    by_width false e s = narrow t place length offset behind e s
-    by_width true e s = wide t place length offset behind e s
+    by_width : (b : Bool) → t.wide ≡ b → ScopeBy b t.bytes place length offset after → found_at t place ≡ kind_at t place length offset after
+    by_width false e s = narrow t place length offset after e s
+    by_width true e s = wide t place length offset after e s
 
--- a descriptor of this kind and scope, and the place behind it
+-- a descriptor of this kind and scope, and the place after it
 abbrev pub described : Form → ℕ → ℕ → ℕ → DescKind → ℕ → Found
 described t place length offset kind next =
     One (record { at = (t.address + place) % 4294967296; next = (t.address + next) % 4294967296; start = (t.start + offset) % 4294967296; size = length; kind = kind }) next

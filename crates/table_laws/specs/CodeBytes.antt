@@ -27,7 +27,7 @@ Lowers = (segments : List Segment) (r : List ℕ) (x : ℕ) → x < 64 → Moves
 abbrev pub LeastLongRaise : Type 0
 LeastLongRaise = (segments : List Segment) (r : List ℕ) → Moves segments r (0xB2 ∷ 0 ∷ 0xB0 ∷ []) (slice_index r 13 + 516)
 
--- B2 and a number raise it by four times as much more; a byte of the number from 80 on has another one behind it
+-- B2 and a number raise it by four times as much more; a byte of the number from 80 on has another one after it
 abbrev pub LongRaises : Type 0
 LongRaises =
     (segments : List Segment) (r : List ℕ) (low high : ℕ) → low < 128 → high < 128 → 0 < high

@@ -10,25 +10,25 @@ use Rattle.table_laws.specs.Words.{HalfStands, WordStands, led_to}
 
 -- ---- scopes
 
--- a length and, behind it, an offset: two halfwords, or two words, whose first one isn't 0; and the place behind them
+-- a length and, after it, an offset: two halfwords, or two words, whose first one isn't 0; and the place after them
 abbrev pub ScopeBy : Bool → List ℕ → ℕ → ℕ → ℕ → ℕ → Type 0
-ScopeBy false bytes place length offset behind = HalfStands bytes place length × HalfStands bytes (place + 2) offset × (0 < length + offset) × (behind ≡ place + 4)
-ScopeBy true bytes place length offset behind = WordStands bytes place length × WordStands bytes (place + 4) offset × (0 < length) × (behind ≡ place + 8)
+ScopeBy false bytes place length offset after = HalfStands bytes place length × HalfStands bytes (place + 2) offset × (0 < length + offset) × (after ≡ place + 4)
+ScopeBy true bytes place length offset after = WordStands bytes place length × WordStands bytes (place + 4) offset × (0 < length) × (after ≡ place + 8)
 
 abbrev pub ScopeStands : Form → ℕ → ℕ → ℕ → ℕ → Type 0
-ScopeStands t place length offset behind = ScopeBy t.wide t.bytes place length offset behind
+ScopeStands t place length offset after = ScopeBy t.wide t.bytes place length offset after
 
--- the list of descriptors goes on at a place with one of this kind, whose scope has this length and begins so far behind the start of
--- its function, and then behind it
+-- the list of descriptors goes on at a place with one of this kind, whose scope has this length and begins so far after the start of
+-- its function, and then after it
 abbrev pub IsRead : Form → ℕ → ℕ → ℕ → DescKind → ℕ → Type 0
-IsRead t place length offset kind behind =
+IsRead t place length offset kind after =
     items_from t place ≡ Ok (record {
       at = (t.address + place) % 4294967296;
-      next = (t.address + behind) % 4294967296;
+      next = (t.address + after) % 4294967296;
       start = (t.start + offset) % 4294967296;
       size = length;
       kind = kind;
-    }) ∷ items_from t behind
+    }) ∷ items_from t after
 
 -- the landing pad of the word at a place: bit 0 is no part of it
 abbrev pub pad_by : Form → ℕ → ℕ → ℕ
@@ -68,7 +68,7 @@ EverythingIsCaught = (t : Form) → IsCatch t 0xFFFFFFFF All
 abbrev pub EverythingFails : Type 0
 EverythingFails = (t : Form) → IsCatch t 0xFFFFFFFE AllFails
 
--- any other type word but 0 leads to a type, so many bytes behind its own address
+-- any other type word but 0 leads to a type, so many bytes after its own address
 abbrev pub TypesAreCaught : Type 0
 TypesAreCaught =
     (t : Form) (place length offset at pad type : ℕ) (reference : Bool) → length % 2 ≡ 0 → offset % 2 ≡ 0 → pad < 2147483648
@@ -88,7 +88,7 @@ SpecificationsAreRead =
     → WordStands t.bytes at count → at + 4 + 4 * count ≤ length t.bytes
     → IsRead t place len offset (Spec ((t.address + (at + 4)) % 4294967296) count None) (at + 4 + 4 * count)
 
--- where bit 31 of the number is set, a landing pad stands behind the types
+-- where bit 31 of the number is set, a landing pad stands after the types
 abbrev pub PaddedSpecificationsAreRead : Type 0
 PaddedSpecificationsAreRead =
     (t : Form) (place len offset at count pad : ℕ) → len % 2 ≡ 0 → offset % 2 ≡ 0 → count ≤ 1024 → ScopeStands t place len (offset + 1) at

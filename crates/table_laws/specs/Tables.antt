@@ -15,13 +15,13 @@ abbrev pub Begin : ℕ → ℕ → List ℕ → ℕ → Bool → Type 0
 Begin start address bytes place wide =
     items_of (record { start = start; body = Table address }) (Some bytes) ≡ items_from (record { bytes = bytes; address = address; start = start; wide = wide }) place
 
--- with a top byte of 80, personality index 0, they stand behind the first word, and are narrow
+-- with a top byte of 80, personality index 0, they stand after the first word, and are narrow
 abbrev pub IndexZeroIsNarrow : Type 0
 IndexZeroIsNarrow =
     (start address count b a : ℕ) (more : List ℕ) → count < 256 → b < 256 → a < 256
     → Begin start address (table_bytes 0x80 count b a more) 4 false
 
--- with 81 and 82, indices 1 and 2, the byte below counts the words of code behind the first; index 1 is narrow, index 2 wide
+-- with 81 and 82, indices 1 and 2, the byte below counts the words of code after the first; index 1 is narrow, index 2 wide
 abbrev pub LongIndices : Type 0
 LongIndices =
     (start address count b a : ℕ) (more : List ℕ) → count < 256 → b < 256 → a < 256 → 4 * count ≤ length more → ((i : ℕ) → slice_index more i < 256)
@@ -40,7 +40,7 @@ pub record IsThere (segments : List Segment) (address word : ℕ) : Type 0 where
   pub begins : segment.start ≤ address
   pub stands : WordStands segment.bytes (address - segment.start) word
 
--- type i of a specification stands so many bytes behind its own word as that word says; a word of 0 is no type, and there are only as
+-- type i of a specification stands so many bytes after its own word as that word says; a word of 0 is no type, and there are only as
 -- many as are counted
 pub record TypesOf (segments : List Segment) (types count : ℕ) (pad : Option ℕ) : Type 0 where
   pub named : (i word : ℕ) → i < count → types + 4 * i < 4294967296 → IsThere segments (types + 4 * i) word → word ≢ 0

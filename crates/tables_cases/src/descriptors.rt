@@ -72,7 +72,7 @@ fn kind_text(alloc: Global, kind: DescKind) -> Result<String, AllocError> {
     }
 }
 
-/// A descriptor: where it stands, the one behind it, its scope, and what it says.
+/// A descriptor: where it stands, the one after it, its scope, and what it says.
 fn text_of(alloc: Global, desc: &Desc) -> Result<String, AllocError> {
     let what = kind_text(alloc, desc.kind)?;
     let (at, next, start, size) = (desc.at, desc.next, desc.start, desc.size);

@@ -16,7 +16,7 @@ use case_rows::{Unanswered, run_file};
 use codes::Recipes;
 use descriptors::Tables;
 use matching::Hierarchy;
-use object::graph_of;
+use object::{graph_of, listed};
 use phases::Phases;
 use rows::Rows;
 use std::fs;
@@ -24,19 +24,24 @@ use std::io::Error;
 use types::Images;
 use unwinding::Unwindings;
 
+/// Asks what is caught among types, with objects of them.
+fn run_types(host: &HostRuntime, name: &str, types: &str, objects: &str) -> Result<(), Unanswered> {
+    let listed = listed(host.alloc(), types)?;
+    let graph = graph_of(host.alloc(), &listed)?;
+    let hierarchy = Hierarchy {
+        types,
+        objects,
+        graph: &graph,
+    };
+    Ok(run_file(host, name, &hierarchy)?)
+}
+
 /// Asks what is caught in a hierarchy of types, with its objects.
 fn run_hierarchy(host: &HostRuntime, name: &str, types: &str, objects: &str) -> Result<(), Error> {
     let types = fs::read_to_string(host, types)?;
     let objects = fs::read_to_string(host, objects)?;
-    match graph_of(host.alloc(), types.as_str()) {
-        Ok(graph) => {
-            let hierarchy = Hierarchy {
-                types: types.as_str(),
-                objects: objects.as_str(),
-                graph: &graph,
-            };
-            run_file(host, name, &hierarchy)
-        }
+    match run_types(host, name, types.as_str(), objects.as_str()) {
+        Ok(()) => Ok(()),
         Err(Unanswered::Failed(fault)) => Err(fault),
         Err(_why) => println!(host; "{name}: no graph"),
     }

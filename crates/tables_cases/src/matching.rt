@@ -11,13 +11,13 @@ const POINTER: u32 = 0x3FFF_D000;
 
 /// What is caught among types, with objects of them.
 #[derive(Drop)]
-pub struct Hierarchy<'a> {
+pub struct Hierarchy<'a, 'b> {
     pub types: &'a str,
     pub objects: &'a str,
-    pub graph: &'a TypeGraph,
+    pub graph: &'a TypeGraph<'b>,
 }
 
-impl<'a> Asked for Hierarchy<'a> {
+impl<'a, 'b> Asked for Hierarchy<'a, 'b> {
     fn answer(&self, alloc: Global, question: &str) -> Result<String, Unanswered> {
         let (what, rest) = first_word(question);
         match what {
@@ -72,7 +72,7 @@ fn pointee<'a>(types: &'a str, name: &str) -> &'a str {
     ""
 }
 
-impl<'a> Hierarchy<'a> {
+impl<'a, 'b> Hierarchy<'a, 'b> {
     fn found(
         &self,
         bus: &FlatBus,

@@ -22,7 +22,7 @@ const NAME_IN: u32 = 0x40;
 
 /// The address of the objects.
 pub const OBJECT: u32 = 0x3FFF_E000;
-/// Where the objects' vtables point to; one stands 64 bytes behind the other.
+/// Where the objects' vtables point to; one stands 64 bytes after the other.
 const VTABLES: u32 = 0x3FFF_E840;
 
 /// The address of the type of a name, the first where several have it; of `@` and digits that address.
@@ -54,12 +54,12 @@ fn push_bases(
         if rest.is_empty() {
             break;
         }
-        let (base, behind) = first_word(rest);
-        let (flags, behind) = first_word(behind);
+        let (base, after) = first_word(rest);
+        let (flags, after) = first_word(after);
         pairs.push(address(types, base)?)?;
         pairs.push(number(flags)?)?;
         count = count.wrapping_add(1);
-        rest = behind;
+        rest = after;
     }
     words.push(0)?;
     words.push(count)?;
@@ -67,7 +67,7 @@ fn push_bases(
     Ok(())
 }
 
-/// The words behind a type's name.
+/// The words after a type's name.
 fn push_further(
     alloc: Global,
     types: &str,
@@ -115,7 +115,15 @@ fn put_type(
 }
 
 /// The file of an image of types, and their addresses.
-fn file_of(alloc: Global, types: &str, addresses: &mut Vec<u32>) -> Result<Vec<u8>, Unanswered> {
+#[derive(Drop)]
+pub struct ListedTypes {
+    file: Vec<u8>,
+    addresses: Vec<u32>,
+}
+
+/// The types that a text lists.
+pub fn listed(alloc: Global, types: &str) -> Result<ListedTypes, Unanswered> {
+    let mut addresses = Vec::new(alloc);
     let mut draft = Draft::new(alloc);
     draft.set_entry(0x8000);
     draft.set_index(0x8000, 0);
@@ -129,15 +137,16 @@ fn file_of(alloc: Global, types: &str, addresses: &mut Vec<u32>) -> Result<Vec<u
         at = at.wrapping_add(STRIDE);
     }
     draft.put_bytes(at, &[0])?;
-    draft.into_file()
+    Ok(ListedTypes {
+        file: draft.into_file()?,
+        addresses,
+    })
 }
 
 /// The graph that types are read as.
-pub fn graph_of(alloc: Global, types: &str) -> Result<TypeGraph, Unanswered> {
-    let mut addresses = Vec::new(alloc);
-    let file = file_of(alloc, types, &mut addresses)?;
-    let image = opened(alloc, &file)?;
-    match TypeGraph::read(alloc, &image, &addresses) {
+pub fn graph_of<'a>(alloc: Global, listed: &'a ListedTypes) -> Result<TypeGraph<'a>, Unanswered> {
+    let image = opened(alloc, &listed.file)?;
+    match TypeGraph::read(alloc, &image, &listed.addresses) {
         Ok(graph) => Ok(graph),
         Err(TypeFault::OutOfMemory) => Err(want_of_memory()),
         Err(_fault) => Err(Unanswered::Because("no graph")),

@@ -41,7 +41,7 @@ impl Asked for Phases {
     }
 }
 
-fn types_of(alloc: Global, image: &Image) -> Result<TypeGraph, Unanswered> {
+fn types_of<'a>(alloc: Global, image: &Image<'a>) -> Result<TypeGraph<'a>, Unanswered> {
     TypeGraph::read(alloc, image, &[]).map_err(|_fault| want_of_memory())
 }
 

@@ -5,7 +5,7 @@ ghost use Rattle.unwind_codes.specs.Bytes.{HasBytes};
 use case_rows::{Asked, Unanswered, first_word, number, number_at, numbers};
 use std::alloc::{AllocError, Global};
 use unwind_codes::{
-    Code, Entry, EntryBody, body_of, code_words_behind, entry_of, personality_of_word, prel31_to,
+    Code, Entry, EntryBody, body_of, code_words_after, entry_of, personality_of_word, prel31_to,
     push_code, push_row, push_rows, second_word,
 };
 
@@ -64,11 +64,11 @@ fn entry(alloc: Global, given: &[u32]) -> Result<String, Unanswered> {
     Ok(format!(in alloc; "{start:X} {body}")?)
 }
 
-/// `first WORD`: the personality of an entry's first word, and how many words of codes stand behind it.
+/// `first WORD`: the personality of an entry's first word, and how many words of codes stand after it.
 fn first(alloc: Global, word: u32) -> Result<String, Unanswered> {
     let personality = personality_of_word(word);
-    let behind = code_words_behind(word);
-    Ok(format!(in alloc; "personality {personality}, {behind} words behind")?)
+    let after = code_words_after(word);
+    Ok(format!(in alloc; "personality {personality}, {after} words behind")?)
 }
 
 /// `can't unwind`, `inline WORD` or `table ADDRESS`.
@@ -110,7 +110,7 @@ fn row(alloc: Global, rest: &str) -> Result<String, Unanswered> {
     Ok(bytes_text(alloc, &bytes)?)
 }
 
-/// `rows PLACE START BODY, START BODY, ..`: the byte EE and the bytes of rows behind it.
+/// `rows PLACE START BODY, START BODY, ..`: the byte EE and the bytes of rows after it.
 fn many_rows(alloc: Global, rest: &str) -> Result<String, Unanswered> {
     let (place, rest) = first_word(rest);
     let mut rows = Vec::new(alloc);

@@ -10,11 +10,11 @@ use eh_bus::bus::Bus;
 use eh_bytecode::Vrs;
 use std::alloc::Global;
 
-/// What stands in front of main's table, and behind it.
+/// What stands in front of main's table, and after it.
 const FRONT: &str =
     "entry 8000 ; index 9100 40 ; function _start 8000 10 ; segment 8000 2000 ; words 9000 ";
 
-const BEHIND: &str =
+const AFTER: &str =
     " ; words 9100 >8000 >9000 >801C 80A8B0B0 >8040 80B0B0B0 >8050 80A8B0B0 >8060 8040B0B0 >8070 808400B0 >8080 803FB0B0 >8090 1";
 
 /// What lies on the stack in a throw from f: r4 and lr of f, of main and of the start.
@@ -49,7 +49,7 @@ pub fn start_of(text: &str) -> Result<Start, Unanswered> {
 
 /// The file of the image with main's table.
 pub fn file_of(alloc: Global, table: &str) -> Result<Vec<u8>, Unanswered> {
-    let text = format!(in alloc; "{FRONT}{table}{BEHIND}")?;
+    let text = format!(in alloc; "{FRONT}{table}{AFTER}")?;
     image_of(alloc, text.as_str())
 }
 

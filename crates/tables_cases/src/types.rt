@@ -3,7 +3,7 @@ use bus_memories::flat::FlatBus;
 use case_images::{image_of, opened};
 use case_rows::{Asked, Unanswered, decimal, first_word, number, numbers, want_of_memory};
 use eh_match::{Match, type_match};
-use eh_types::{Base, TypeFault, TypeGraph, TypeKind};
+use eh_types::{Bases, TypeFault, TypeGraph, TypeKind};
 use std::alloc::{AllocError, Global};
 
 /// What stands in front of each image's own parts; the types begin at 8060, the names at 9000.
@@ -20,26 +20,47 @@ impl<'a> Asked for Images<'a> {
     fn answer(&self, alloc: Global, question: &str) -> Result<String, Unanswered> {
         let (what, rest) = first_word(question);
         match what {
-            "read" => told(alloc, read(alloc, rest)?),
-            "chain" => told(alloc, read(alloc, chain(alloc, rest, "9000")?.as_str())?),
+            "read" => told_of(alloc, rest),
+            "chain" => told_of(alloc, chain(alloc, rest, "9000")?.as_str()),
             "ends" => ends(alloc, rest),
-            "wide" => told(alloc, read(alloc, wide(alloc, rest)?.as_str())?),
-            "name" => told(alloc, read(alloc, long_name(alloc, rest)?.as_str())?),
+            "wide" => told_of(alloc, wide(alloc, rest)?.as_str()),
+            "name" => told_of(alloc, long_name(alloc, rest)?.as_str()),
             _ => self.known(alloc, what, rest),
         }
     }
 }
 
-/// The graph of `ROOTS from IMAGE`, or the refusal.
-fn read(alloc: Global, text: &str) -> Result<Result<TypeGraph, TypeFault>, Unanswered> {
+/// An image's file, and the addresses of the roots that are asked for.
+#[derive(Drop)]
+struct RootedFile {
+    file: Vec<u8>,
+    roots: Vec<u32>,
+}
+
+/// The file and the roots of `ROOTS from IMAGE`.
+fn rooted(alloc: Global, text: &str) -> Result<RootedFile, Unanswered> {
     let Some((roots, parts)) = text.split_once(" from ") else {
         return Err(Unanswered::NoWord);
     };
     let roots = numbers(alloc, roots.strip_prefix("nothing").unwrap_or(roots))?;
     let text = format!(in alloc; "{FRONT}{parts}")?;
     let file = image_of(alloc, text.as_str())?;
-    let image = opened(alloc, &file)?;
-    Ok(TypeGraph::read(alloc, &image, &roots))
+    Ok(RootedFile { file, roots })
+}
+
+/// The graph of the roots, or the refusal.
+fn read<'a>(
+    alloc: Global,
+    rooted: &'a RootedFile,
+) -> Result<Result<TypeGraph<'a>, TypeFault>, Unanswered> {
+    let image = opened(alloc, &rooted.file)?;
+    Ok(TypeGraph::read(alloc, &image, &rooted.roots))
+}
+
+/// What is told of `ROOTS from IMAGE`.
+fn told_of(alloc: Global, text: &str) -> Result<String, Unanswered> {
+    let rooted = rooted(alloc, text)?;
+    told(alloc, read(alloc, &rooted)?)
 }
 
 /// A graph, or the refusal.
@@ -79,7 +100,7 @@ fn wide(alloc: Global, count: &str) -> Result<String, Unanswered> {
     Ok(text)
 }
 
-/// `name COUNT`: a class with a name of so many bytes; `name COUNT open`: without a zero byte behind it.
+/// `name COUNT`: a class with a name of so many bytes; `name COUNT open`: without a zero byte after it.
 fn long_name(alloc: Global, rest: &str) -> Result<String, Unanswered> {
     let (count, end) = first_word(rest);
     let part = if end == "open" { "text" } else { "names" };
@@ -93,7 +114,8 @@ fn long_name(alloc: Global, rest: &str) -> Result<String, Unanswered> {
 /// `ends COUNT`: a thrown object of the first class of a chain without names as the last, and of the last as the first.
 fn ends(alloc: Global, count: &str) -> Result<String, Unanswered> {
     let text = chain(alloc, count, "9001")?;
-    let Ok(graph) = read(alloc, text.as_str())? else {
+    let rooted = rooted(alloc, text.as_str())?;
+    let Ok(graph) = read(alloc, &rooted)? else {
         return Err(Unanswered::Because("no graph"));
     };
     let Ok(bus) = FlatBus::build(alloc, &[]) else {
@@ -127,7 +149,7 @@ fn kind_text(alloc: Global, kind: Option<TypeKind>) -> Result<String, AllocError
     }
 }
 
-fn bases_text(alloc: Global, bases: &[Base]) -> Result<String, AllocError> {
+fn bases_text(alloc: Global, bases: Bases) -> Result<String, AllocError> {
     let mut text = format!(in alloc; "bases")?;
     for base in bases {
         let (ty, offset) = (base.ty, base.offset);
@@ -179,7 +201,8 @@ impl<'a> Images<'a> {
         for line in self.named.lines() {
             let (other, text) = first_word(line);
             if other == name {
-                return match read(alloc, text)? {
+                let rooted = rooted(alloc, text)?;
+                return match read(alloc, &rooted)? {
                     Ok(graph) => known_in(alloc, &graph, what, number(ty)?, rest),
                     Err(fault) => told(alloc, Err(fault)),
                 };

@@ -68,9 +68,9 @@ pub fn push_changed(
     alloc: Global,
     text: &mut String,
     before: &[u32; 16],
-    behind: &[u32; 16],
+    after: &[u32; 16],
 ) -> Result<(), AllocError> {
-    for (k, (old, new)) in before.iter().zip(behind).enumerate() {
+    for (k, (old, new)) in before.iter().zip(after).enumerate() {
         if old != new {
             text.push_str(format!(in alloc; " r{k}={new:X}")?.as_str())?;
         }

@@ -11,8 +11,8 @@ use Rattle.frames_same.specs.eh_match.declared.rules.Match.TheVariants.{Failed, 
 use Rattle.frames_same.specs.eh_bus.declared.fault.BusFault.{BusFault}
 use Rattle.frames_same.specs.eh_types.Graph.{Row, kind_of, same_type}
 use Rattle.frames_same.specs.eh_types.declared.kind.Base.{Base}
-use Rattle.frames_same.specs.eh_match.Address.{or_address, read, shifted, by_vtable, moved, address}
-use Rattle.frames_same.specs.eh_match.Paths.{behind}
+use Rattle.frames_same.specs.eh_match.Address.{or_address, read, shifted, by_vtable, stepped_to, address}
+use Rattle.frames_same.specs.eh_match.Paths.{at_offset}
 use Rattle.frames_same.specs.eh_match.Rules.{is_class_type, is_void, is_function, object_at, pointer_to, pointer_at, pointee_match, loses_qualifier, pointer_of, pointer_match, match_of}
 use Rattle.frames_same.specs.eh_match.Subobjects.{chosen}
 use Rattle.frames_same.specs.eh_types.declared.kind.TypeKind.{TypeKind}
@@ -65,7 +65,7 @@ module _ (ss : List Segment) (bytes : All (λ (s : Segment). AreBytes s.bytes) s
       go None = number_small ss bytes a
       go (Some fault) = tt
 
-  moved_small : (at : Result ℕ ℕ) (b : Base) → SmallOk at → SmallOk (moved ss at b)
+  moved_small : (at : Result ℕ ℕ) (b : Base) → SmallOk at → SmallOk (stepped_to ss at b)
   moved_small (Err refused) b h = tt
   moved_small (Ok a) b h = go b.is_virtual
     where
@@ -74,16 +74,16 @@ module _ (ss : List Segment) (bytes : All (λ (s : Segment). AreBytes s.bytes) s
       by_word (Err refused) = tt
 
       virtual : (r : Result ℕ ℕ) → SmallOk (by_vtable ss a b.offset r)
-      virtual (Ok v) = by_word (read ss (behind v b.offset))
+      virtual (Ok v) = by_word (read ss (at_offset v b.offset))
       virtual (Err refused) = tt
 
-      go : (v : Bool) → SmallOk (cond v (by_vtable ss a b.offset (read ss a)) (Ok (behind a b.offset)))
+      go : (v : Bool) → SmallOk (cond v (by_vtable ss a b.offset (read ss a)) (Ok (at_offset a b.offset)))
       go true = virtual (read ss a)
       go false = omega arith
 
   address_small : (steps : List Base) (at : Result ℕ ℕ) → SmallOk at → SmallOk (address ss at steps)
   address_small [] at h = h
-  address_small (b ∷ more) at h = address_small more (moved ss at b) (moved_small at b h)
+  address_small (b ∷ more) at h = address_small more (stepped_to ss at b) (moved_small at b h)
 
   if_match : (b : Bool) (x y : Match) → SmallMatch x → SmallMatch y → SmallMatch (cond b x y)
   if_match true x y p q = p

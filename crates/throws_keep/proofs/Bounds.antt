@@ -1,4 +1,4 @@
--- A throw's barrier stands at or below the landing sp of the innermost cleanup in progress; and cleanups in progress are kept behind a landing
+-- A throw's barrier stands at or below the landing sp of the innermost cleanup in progress; and cleanups in progress are kept after a landing
 -- that is there too.
 use Rattle.std.proofs.Common.{ℕ, ◌≤◌, List, [], ◌∷◌, Option, Some, None, ◌≡◌, ◌==◌, inl, inr, Bool, true, false, cond, length, arith, ◌++◌, sym, subst, ◌∙◌, ◌<◌, ◌+◌, ◌*◌, refl}
 use Rattle.std.specs.Prelude.{Result, Ok, Err, slice_index}
@@ -36,7 +36,7 @@ use Rattle.frames_same.specs.stands_for.Chain.{Chain}
 use Rattle.frames_same.specs.stands_for.Cleanups.{IsHeld, goal_at, IsWithin, AreInProgress}
 use Rattle.frames_same.proofs.Outwards.{at_sp}
 use Rattle.frames_same.proofs.stands_for.Written.{landings_rise}
-use Rattle.throws_keep.proofs.Behind.{held_there, held_outside}
+use Rattle.throws_keep.proofs.After.{held_there, held_outside}
 use Rattle.frames_same.proofs.Located.{Rest}
 
 -- ---- frames up to a cleanup's activation
@@ -122,7 +122,7 @@ puts_other [] m slot t j h differ l = refl
 puts_other (w ∷ more) m slot t j h differ l =
     puts_other more (put m w.slot w.place w.value) slot t j h.2 differ l ∙ put_other m w.slot t w.place j w.value (λ e. differ (sym e ∙ h.0)) h.1 l
 
--- ---- cleanups behind a landing
+-- ---- cleanups after a landing
 
 module _ (x : Accepted) (s t : Recorded) (sp : ℕ) (cut : List Activation) (a : Activation) (more : List Activation) (all : s.first ∷ s.outer ≡ cut ++ a ∷ more) (first : t.first ≡ a) (outer : t.outer ≡ more)
     (rest : Rest s.home.1 sp cut a more) (above : STACK_START ≤ sp) (roof : s.home.1 ≤ STACK_END) (stack_same : (g : ℕ) → STACK_START ≤ g → g + 4 ≤ STACK_END → loads 4 t.segments g ≡ loads 4 s.segments g) where

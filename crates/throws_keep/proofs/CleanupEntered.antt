@@ -19,25 +19,25 @@ use Rattle.frames_same.specs.eh_phase.declared.phase2.Goal.{Goal}
 use Rattle.frames_same.specs.thumb_core.Registers.{reg, all_of}
 use Rattle.frames_same.specs.thumb_core.declared.regs.TheConstants.{SP}
 use Rattle.frames_same.specs.frame_facts.Branches.{call_changes}
-use Rattle.frames_same.specs.frame_facts.Facts.{forgotten}
-use Rattle.frames_same.specs.frame_scene.Sites.{covers, cleans, is_one, is_scoped, is_cleanup, site_at, items_at}
+use Rattle.frames_same.specs.frame_facts.Facts.{clobbered}
+use Rattle.frames_same.specs.frame_graph.Sites.{covers, cleans, is_one, is_scoped, is_cleanup, site_at, items_at}
 use Rattle.frames_same.specs.frame_flow.Causes.{is_call}
 use Rattle.frames_same.specs.frame_check.Accepts.{Accepted}
-use Rattle.frames_same.specs.frame_check.Roots.{scene_of}
+use Rattle.frames_same.specs.frame_check.Roots.{flow_graph_of}
 use Rattle.frames_same.specs.two_machines.Activations.{Activation, Recorded, frames_at}
 use Rattle.frames_same.specs.stands_for.Chain.{code, regs_at}
 use Rattle.frames_same.specs.stands_for.Cleanups.{by_sp, IsEntered}
 use Rattle.frames_same.specs.stands_for.Stands.{Keeps, IsProgram}
 use Rattle.frames_same.specs.Frames.{IsSiteOf}
 use Rattle.frames_same.proofs.Agreement.{called_site, same_registers}
-use Rattle.throws_keep.proofs.Behind.{Enters}
+use Rattle.throws_keep.proofs.After.{Enters}
 use Rattle.frames_same.proofs.CodeBytes.{codes_are_recipes}
 use Rattle.frames_same.specs.Landings.{IsCleanupOf, Reads, AtFirst, AtCall}
 use Rattle.frames_same.proofs.Located.{covered_items}
 use Rattle.frames_same.proofs.Outwards.{at_sp}
 use Rattle.frames_same.proofs.Pads.{any_there, no_leaf}
 use Rattle.frames_same.proofs.PadStands.{sp_same}
-use Rattle.frames_same.proofs.Sites.{forgotten_depth, forgotten_below, forgotten_kept, kept_same}
+use Rattle.frames_same.proofs.Sites.{clobbered_depth, clobbered_below, clobbered_kept, kept_same}
 
 -- ---- words of the barrier
 
@@ -93,7 +93,7 @@ module _ (x : Accepted) (is : IsProgram x) (s : Recorded) (k : Keeps x s) (site 
   reads = n.located.0
 
   -- a gate in the scope of a descriptor has something on the stack, and so has a call
-  not_flat : site_at (scene_of x.image here.at.function) here.at.place ≡ Some n.frame.site → is_scoped (scene_of x.image here.at.function) n.frame.site ≡ true → here.at.fact.depth ≡ 0 → ⊥
+  not_flat : site_at (flow_graph_of x.image here.at.function) here.at.place ≡ Some n.frame.site → is_scoped (flow_graph_of x.image here.at.function) n.frame.site ≡ true → here.at.fact.depth ≡ 0 → ⊥
   not_flat there scoped flat = go (is_call here.instr) refl
     where
       leaf : (a b d : Bool) → a ≡ false → b ≡ true → d ≡ true → (not a && b && d) ≡ true
@@ -106,15 +106,15 @@ module _ (x : Accepted) (is : IsProgram x) (s : Recorded) (k : Keeps x s) (site 
       go true e = let room = deep e in omega (arith, room, flat)
       go false e =
           no_leaf x is here.at.function here.at.marks s.first.function here.at.of here.at.place here.at.fact here.at.state here.instr here.stands n.frame.site there
-          (leaf (is_call here.instr) (here.at.fact.depth == 0) (is_scoped (scene_of x.image here.at.function) n.frame.site) e (let t : (here.at.fact.depth == 0) ≡ true = grind (arith, nat_tests) in t) scoped)
+          (leaf (is_call here.instr) (here.at.fact.depth == 0) (is_scoped (flow_graph_of x.image here.at.function) n.frame.site) e (let t : (here.at.fact.depth == 0) ≡ true = grind (arith, nat_tests) in t) scoped)
 
   at_first : AtFirst site (all_of s.regs) s.first n.frame n.first → IsEntered x s.segments g begun n.first n.more
   at_first one =
       let at = here.at in
-      let items : items_at (scene_of x.image at.function) n.frame.site ≡ c.before ++ Ok c.desc ∷ c.after = covered_items (scene_of x.image at.function) n.frame.site reads.covered reads.covers ∙ sym reads.items ∙ c.items in
-      let there : site_at (scene_of x.image at.function) at.place ≡ Some n.frame.site = here.is_site ∙ ap Some (sym one.site) in
+      let items : items_at (flow_graph_of x.image at.function) n.frame.site ≡ c.before ++ Ok c.desc ∷ c.after = covered_items (flow_graph_of x.image at.function) n.frame.site reads.covered reads.covers ∙ sym reads.items ∙ c.items in
+      let there : site_at (flow_graph_of x.image at.function) at.place ≡ Some n.frame.site = here.is_site ∙ ap Some (sym one.site) in
       let sp_is : n.frame.sp ≡ reg s.regs SP = sym n.register ∙ ap (λ (r : List ℕ). slice_index r SP) one.registers ∙ same_registers s.regs k.sound SP (omega arith) in
-      let scoped : is_scoped (scene_of x.image at.function) n.frame.site ≡ true =
+      let scoped : is_scoped (flow_graph_of x.image at.function) n.frame.site ≡ true =
       ap (list_any (is_one (covers n.frame.site))) items ∙ any_there (is_one (covers n.frame.site)) c.before (Ok c.desc) c.after c.scope in
       let lower = at.holds.lower in
       subst (λ (a : Activation). IsEntered x s.segments g begun a n.more) (sym one.is) (record {
@@ -126,7 +126,7 @@ module _ (x : Accepted) (is : IsProgram x) (s : Recorded) (k : Keeps x s) (site 
         state = at.state;
         site = there;
         lower = omega (arith, sp_is, lower);
-        level = λ b. let e = at.holds.describes.sp b in omega (arith, sp_is, e);
+        at_depth = λ b. let e = at.holds.describes.sp b in omega (arith, sp_is, e);
         below = elim (cases_eq at.fact.depth 0) [
           | inl flat ↦ absurd (not_flat there scoped flat)
           | inr deep ↦ omega (arith, sp_is, lower, deep)
@@ -144,12 +144,12 @@ module _ (x : Accepted) (is : IsProgram x) (s : Recorded) (k : Keeps x s) (site 
   at_call : AtCall x s.segments n.frame n.first → IsEntered x s.segments g begun n.first n.more
   at_call two =
       let out = two.stands in
-      let items : items_at (scene_of x.image out.function) n.frame.site ≡ c.before ++ Ok c.desc ∷ c.after = covered_items (scene_of x.image out.function) n.frame.site reads.covered reads.covers ∙ sym reads.items ∙ c.items in
-      let there : site_at (scene_of x.image out.function) out.place ≡ Some n.frame.site =
+      let items : items_at (flow_graph_of x.image out.function) n.frame.site ≡ c.before ++ Ok c.desc ∷ c.after = covered_items (flow_graph_of x.image out.function) n.frame.site reads.covered reads.covers ∙ sym reads.items ∙ c.items in
+      let there : site_at (flow_graph_of x.image out.function) out.place ≡ Some n.frame.site =
       called_site x is (codes_are_recipes x is) s.segments k.corresponds.map.segments two.inside n.first out two.whole ∙ ap Some (sym two.site) in
       let sp_is : n.frame.sp ≡ reg (regs_at two.inside) SP = sym n.register ∙ ap (λ (r : List ℕ). slice_index r SP) two.registers ∙ sp_same two.inside two.whole.count in
       let lower = out.holds.lower in
-      let depth = forgotten_depth call_changes out.fact in
+      let depth = clobbered_depth call_changes out.fact in
       let room = out.room in
       let high = n.rest.rise.1 in
       record {
@@ -161,9 +161,9 @@ module _ (x : Accepted) (is : IsProgram x) (s : Recorded) (k : Keeps x s) (site 
         state = out.state;
         site = there;
         lower = omega (arith, sp_is, lower, depth);
-        level = λ b. let e = out.holds.describes.sp (forgotten_below call_changes out.fact ∙ b) in omega (arith, sp_is, e, depth);
+        at_depth = λ b. let e = out.holds.describes.sp (clobbered_below call_changes out.fact ∙ b) in omega (arith, sp_is, e, depth);
         below = below two sp_is;
-        saves = kept_same (code x out.function out.marks).prologue (forgotten call_changes out.fact) out.fact n.first s.segments (sym depth) (sym (forgotten_kept call_changes out.fact)) out.holds.saves;
+        saves = kept_same (code x out.function out.marks).prologue (clobbered call_changes out.fact) out.fact n.first s.segments (sym depth) (sym (clobbered_kept call_changes out.fact)) out.holds.saves;
         before = c.before;
         cleanup = c.desc;
         after = c.after;

@@ -1,4 +1,4 @@
--- Behind the landing of a throw in a cleanup what every event keeps is kept, where the barrier is within reach from the cleanup on.
+-- After the landing of a throw in a cleanup what every event keeps is kept, where the barrier is within reach from the cleanup on.
 use Rattle.std.proofs.Common.{ℕ, Some, refl, arith, ◌≡◌, ap, ◌^◌, ◌<◌, ◌≤◌, inl, true, List, ◌∷◌, length, Option, None, sym, subst, ◌∙◌}
 use Rattle.std.specs.Prelude.{slice_index}
 use Rattle.frames_same.specs.eh_cxa.Cleanup.{cleanup_at}
@@ -7,7 +7,7 @@ use Rattle.frames_same.specs.eh_cxa.declared.globals.CleanupWords.{CleanupWords}
 use Rattle.frames_same.specs.eh_cxa.declared.globals.Globals.{Globals}
 use Rattle.frames_same.specs.eh_cxa.declared.layout.TheConstants.{BARRIER_SP, BARRIER_DESCRIPTOR}
 use Rattle.frames_same.specs.eh_bus.Memory.{Memory}
-use Rattle.frames_same.specs.frame_scene.Sites.{pad_of}
+use Rattle.frames_same.specs.frame_graph.Sites.{pad_of}
 use Rattle.frames_same.specs.frame_check.Accepts.{Accepted}
 use Rattle.frames_same.specs.two_machines.Activations.{Recorded, Activation, memory_of, heads, with_words, with_lists, frames_at, cleanups_in, InProgress, lists_of}
 use Rattle.frames_same.specs.eh_bus.Lists.{Has}
@@ -34,10 +34,10 @@ use Rattle.throws_keep.proofs.Bounds.{AreOf, still_in_progress}
 use Rattle.throws_keep.proofs.CleanupEntered.{AreElse, puts_else, barrier_sp, barrier_desc, cleanup_entered}
 use Rattle.frames_same.specs.stands_for.Stands.{Keeps, IsProgram, IsCounted}
 use Rattle.frames_same.specs.Frames.{IsSiteOf}
-use Rattle.throws_keep.proofs.Behind.{Enters, left, landed_keeps, entered_there, released_same, all_released_same}
+use Rattle.throws_keep.proofs.After.{Enters, left, landed_keeps, entered_there, released_same, all_released_same}
 use Rattle.frames_same.specs.Landings.{Offers, IsCleanupOf}
 use Rattle.frames_same.specs.stands_for.Cleanups.{by_sp, goal_at, IsEntered, IsWithin, AreInProgress}
-use Rattle.throws_keep.proofs.Handler.{Wrote, wrote_one, wrote_then, map_with, same_goals, wrote_behind, map_behind}
+use Rattle.throws_keep.proofs.Handler.{Wrote, wrote_one, wrote_then, map_with, same_goals, wrote_after, map_after}
 
 pub begins_of : (g : Globals) (slot : ℕ) (w : CleanupWords) → AreOf slot (cleanup_at g (block slot) w (Some slot)).writes
 begins_of g slot w = (refl, omega arith, (refl, omega arith, (refl, omega arith, (refl, omega arith, tt))))
@@ -83,15 +83,15 @@ module _ (x : Accepted) (is : IsProgram x) (s : Recorded) (k : Keeps x s) (site 
   abbrev segments : List Segment
   segments = (put_all begin_writes (memory_of before_landing)).segments
 
-  to_behind : Wrote slot s before_landing
-  to_behind = wrote_behind x is s k site here n pad offers slot writes flown flight cleanups_same of_slot counted within e b
+  to_after : Wrote slot s before_landing
+  to_after = wrote_after x is s k site here n pad offers slot writes flown flight cleanups_same of_slot counted within e b
 
   map_there : IsMap (memory_of before_landing)
-  map_there = map_behind x is s k site here n pad offers slot writes flown flight cleanups_same of_slot counted within e b
+  map_there = map_after x is s k site here n pad offers slot writes flown flight cleanups_same of_slot counted within e b
 
   abbrev kept : Recorded
   kept = left x is s k site here n pad 0 (omega arith) offers (lists_of before_landing) (entered ∷ s.cleanups) segments (pushed (pushed s.events e) logs)
-      (λ g low high. (wrote_one slot begin_writes before_landing (record before_landing { segments = segments }) flight.small (begins_of (heads (lists_of before_landing)) slot words) map_there refl).stack g low high ∙ to_behind.stack g low high)
+      (λ g low high. (wrote_one slot begin_writes before_landing (record before_landing { segments = segments }) flight.small (begins_of (heads (lists_of before_landing)) slot words) map_there refl).stack g low high ∙ to_after.stack g low high)
 
   same_state : goes_in (Some slot) ≡ kept
   same_state =
@@ -105,7 +105,7 @@ module _ (x : Accepted) (is : IsProgram x) (s : Recorded) (k : Keeps x s) (site 
       ap (λ (r : Recorded). machine.logged r logs) stays
 
   wrote : Wrote slot s kept
-  wrote = wrote_then slot s before_landing kept to_behind (wrote_one slot begin_writes before_landing kept flight.small (begins_of (heads (lists_of before_landing)) slot words) map_there refl)
+  wrote = wrote_then slot s before_landing kept to_after (wrote_one slot begin_writes before_landing kept flight.small (begins_of (heads (lists_of before_landing)) slot words) map_there refl)
 
   differs : (u : ℕ) → Has (slots (cleanups_in s.cleanups)) u → u ≡ slot → ⊥
   differs u h e = flight.idle (subst (λ (cs : List Cleanup). Has (slots cs) slot) (sym cleanups_same) (subst (Has (slots (cleanups_in s.cleanups))) e h))

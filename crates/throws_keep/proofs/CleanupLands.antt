@@ -16,7 +16,7 @@ use Rattle.frames_same.specs.eh_trace.declared.event.Event.{Event}
 use Rattle.frames_same.specs.thumb_isa.declared.instr.Instr.TheVariants.{Svc}
 use Rattle.frames_same.specs.thumb_core.declared.regs.TheConstants.{SP}
 use Rattle.frames_same.specs.frame_check.Accepts.{Accepted}
-use Rattle.frames_same.specs.eh_gates.State.{Guide}
+use Rattle.frames_same.specs.eh_gates.State.{Tables}
 use Rattle.frames_same.specs.eh_gates.Landing.{pad_event, words_of}
 use Rattle.frames_same.specs.eh_gates.Throwing.{barrier_words}
 use Rattle.frames_same.specs.two_machines.Activations.{Recorded, with_lists, with_words, cleanups_in}
@@ -28,7 +28,7 @@ use Rattle.frames_same.specs.eh_phase.declared.phase2.Entered.TheVariants as ent
 use Rattle.frames_same.specs.eh_trace.declared.event.EventKind.TheVariants as event
 use Rattle.frames_same.specs.two_machines.ActivationMachine as machine
 use Rattle.frames_same.specs.stands_for.Stands.{Keeps, IsProgram, DoesAt, IsCounted}
-use Rattle.throws_keep.proofs.Behind.{Enters}
+use Rattle.throws_keep.proofs.After.{Enters}
 use Rattle.throws_keep.proofs.Bounds.{AreOf}
 use Rattle.throws_keep.proofs.CleanupKeeps.{cleanup_keeps}
 use Rattle.throws_keep.proofs.FlightLands.{ours, EntersCleanup}
@@ -38,7 +38,7 @@ use Rattle.frames_same.proofs.ReachBySp.{reached_by_sp}
 use Rattle.throws_keep.proofs.ThrowGates.{can_land}
 use Rattle.throws_keep.proofs.ThrowKeeps.{here, throw_enters, enters_of, throw_within, throw_reaches, cleanup_within}
 
-module _ (x : Accepted) (is : IsProgram x) (s : Recorded) (k : Keeps x s) (imm : ℕ) (does : DoesAt x s (Svc imm)) (g : Guide) (thrown : Thrown) (small : thrown.object < 2 ^ 32) (slot : ℕ) (writes : List Write) (flown : Lists)
+module _ (x : Accepted) (is : IsProgram x) (s : Recorded) (k : Keeps x s) (imm : ℕ) (does : DoesAt x s (Svc imm)) (g : Tables) (thrown : Thrown) (small : thrown.object < 2 ^ 32) (slot : ℕ) (writes : List Write) (flown : Lists)
     (e : Event) (b : Barrier) (flight : HasFlown s slot writes flown) (same : flown.cleanups ≡ cleanups_in s.cleanups) (of_slot : AreOf slot writes) (counted : IsCounted flown) (search : machine.searched (ours x is s k imm does g) s thrown ≡ found.Barrier b) where
   abbrev m : Meeting
   m = meeting x.image g.types s.segments thrown

@@ -1,4 +1,4 @@
--- Behind a throw's landing in a cleanup the barrier is within reach, over the frames from the entered activation on.
+-- After a throw's landing in a cleanup the barrier is within reach, over the frames from the entered activation on.
 use Rattle.std.proofs.Common.{◌≡◌, ℕ, true, ◌∷◌, None, ap, subst, ◌∙◌}
 use Rattle.frames_same.specs.eh_bytecode.declared.frame.Vrs.{Vrs}
 use Rattle.frames_same.specs.eh_phase.Cleanups.{is_reached}
@@ -14,7 +14,7 @@ use Rattle.frames_same.specs.eh_phase.declared.phase1.Found.TheVariants as found
 use Rattle.frames_same.specs.eh_phase.declared.phase2.Entered.TheVariants as enters
 use Rattle.frames_same.specs.Frames.{ThrowsAt}
 use Rattle.frames_same.specs.stands_for.Stands.{Keeps, IsProgram}
-use Rattle.throws_keep.proofs.FramesBehind.{frames_behind}
+use Rattle.throws_keep.proofs.FramesAfter.{frames_after}
 use Rattle.frames_same.specs.Landings.{LandsIn, ReachesOn}
 use Rattle.throws_keep.proofs.ThrowLands.{recorded_frames, throw_lands}
 use Rattle.throws_keep.proofs.ThrowReached.{throw_in_order, throw_reached}
@@ -28,4 +28,4 @@ module _ (x : Accepted) (is : IsProgram x) (s : Recorded) (k : Keeps x s) (site 
       → is_reached (goal_of b) next (frames_at x.image None there.frame.site there.frame.r there.first there.more).frames ≡ true
   cleanup_reach vrs pad next at e =
       let on = subst (ReachesOn (goal_of b) there.frame there.outer) e (there.reach (throw_in_order x is s k site throws) (throw_reached x is s k site throws m b search)) in
-      ap (is_reached (goal_of b) next) (frames_behind x.image site (all_of s.regs) s.first s.outer there.inner there.frame there.outer there.cut there.first there.more there.frames there.all there.beside) ∙ on
+      ap (is_reached (goal_of b) next) (frames_after x.image site (all_of s.regs) s.first s.outer there.inner there.frame there.outer there.cut there.first there.more there.frames there.all there.beside) ∙ on

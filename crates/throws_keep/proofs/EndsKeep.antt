@@ -77,13 +77,13 @@ module _ (x : Accepted) (s : Recorded) (k : Keeps x s) (lists : Lists) (segments
         (λ u h. same_goals slot s poured wrote u (λ e. idle (subst (Has (slots (cleanups_in s.cleanups))) e h))) k.cleanups;
   }
 
--- behind the words of a throw and of its barrier: the state that an end by a specification without a pad leaves
-pub behind_keeps : (x : Accepted) (s : Recorded) → Keeps x s → (slot : ℕ) (writes : List Write) (flown : Lists) → HasFlown s slot writes flown → flown.cleanups ≡ cleanups_in s.cleanups → AreOf slot writes → IsCounted flown → (e : Event)
+-- after the words of a throw and of its barrier: the state that an end by a specification without a pad leaves
+pub after_keeps : (x : Accepted) (s : Recorded) → Keeps x s → (slot : ℕ) (writes : List Write) (flown : Lists) → HasFlown s slot writes flown → flown.cleanups ≡ cleanups_in s.cleanups → AreOf slot writes → IsCounted flown → (e : Event)
     (b : BarrierWords) → Corresponds (with_words (set_barrier_of (Some slot) b) (with_lists flown writes (machine.logged s e))) → Keeps x (with_words (set_barrier_of (Some slot) b) (with_lists flown writes (machine.logged s e)))
-behind_keeps x s k slot writes flown flight same of_slot counted e b corresponds =
+after_keeps x s k slot writes flown flight same of_slot counted e b corresponds =
     let thrown : Recorded = with_lists flown writes (machine.logged s e) in
-    let behind : Recorded = with_words (set_barrier_of (Some slot) b) thrown in
-    poured_keeps x s k flown behind.segments behind.events counted slot
-    (wrote_then slot s thrown behind (wrote_one slot writes s thrown flight.small of_slot k.corresponds.map refl)
-    (wrote_one slot (set_barrier_of (Some slot) b) thrown behind flight.small (barred_of slot b) (map_with writes s k.corresponds.map) refl))
+    let after : Recorded = with_words (set_barrier_of (Some slot) b) thrown in
+    poured_keeps x s k flown after.segments after.events counted slot
+    (wrote_then slot s thrown after (wrote_one slot writes s thrown flight.small of_slot k.corresponds.map refl)
+    (wrote_one slot (set_barrier_of (Some slot) b) thrown after flight.small (barred_of slot b) (map_with writes s k.corresponds.map) refl))
     (λ h. flight.idle (subst (λ (cs : List Cleanup). Has (slots cs) slot) (sym same) h)) corresponds

@@ -19,7 +19,7 @@ use Rattle.frames_same.specs.eh_trace.declared.event.Event.{Event}
 use Rattle.frames_same.specs.thumb_isa.declared.instr.Instr.TheVariants.{Svc}
 use Rattle.frames_same.specs.thumb_core.declared.regs.TheConstants.{SP}
 use Rattle.frames_same.specs.frame_check.Accepts.{Accepted}
-use Rattle.frames_same.specs.eh_gates.State.{Guide}
+use Rattle.frames_same.specs.eh_gates.State.{Tables}
 use Rattle.frames_same.specs.eh_gates.Landing.{pad_event}
 use Rattle.frames_same.specs.eh_gates.Throwing.{handed, barrier_words}
 use Rattle.frames_same.specs.two_machines.Activations.{Activation, Recorded, with_lists, with_words, cleanups_in}
@@ -33,14 +33,14 @@ use Rattle.frames_same.specs.two_machines.ActivationMachine as machine
 use Rattle.frames_same.specs.Frames.{ThrowsAt}
 use Rattle.frames_same.specs.stands_for.Stands.{Keeps, IsProgram, DoesAt, IsCounted}
 use Rattle.throws_keep.proofs.Bounds.{AreOf}
-use Rattle.throws_keep.proofs.EndsKeep.{behind_keeps}
+use Rattle.throws_keep.proofs.EndsKeep.{after_keeps}
 use Rattle.frames_same.proofs.FramesSame.{throws_see_alike}
 use Rattle.throws_keep.proofs.ThrowGates.{can_land}
 use Rattle.throws_keep.proofs.ThrowKeeps.{throw_enters, enters_passed, catch_keeps, spec_keeps}
 use Rattle.throws_keep.proofs.ThrowLands.{recorded_frames}
 
-module _ (x : Accepted) (is : IsProgram x) (s : Recorded) (k : Keeps x s) (imm : ℕ) (does : DoesAt x s (Svc imm)) (g : Guide) where
-  abbrev pub ours : Guide
+module _ (x : Accepted) (is : IsProgram x) (s : Recorded) (k : Keeps x s) (imm : ℕ) (does : DoesAt x s (Svc imm)) (g : Tables) where
+  abbrev pub ours : Tables
   ours = record g { image = x.image }
 
   abbrev throws : ThrowsAt x s s.regs.pc
@@ -81,8 +81,8 @@ module _ (x : Accepted) (is : IsProgram x) (s : Recorded) (k : Keeps x s) (imm :
           catch_keeps x is s k s.regs.pc throws m b search slot writes flown flight same of_slot counted e words (pad_event event.Catch pad (slice_index vrs.r SP) (handed (block slot) b.hit)) vrs pad is_there still
       by_entered (enters.Spec vrs pad) is_there still =
           spec_keeps x is s k s.regs.pc throws m b search slot writes flown flight same of_slot counted e words (pad_event event.Unexpected pad (slice_index vrs.r SP) 0) vrs pad is_there still
-      by_entered enters.Unexpected is_there still = behind_keeps x s k slot writes flown flight same of_slot counted e words still
-      by_entered (enters.Terminate why) is_there still = behind_keeps x s k slot writes flown flight same of_slot counted e words still
+      by_entered enters.Unexpected is_there still = after_keeps x s k slot writes flown flight same of_slot counted e words still
+      by_entered (enters.Terminate why) is_there still = after_keeps x s k slot writes flown flight same of_slot counted e words still
 
       passed : drop (machine.passed_by (goal_of b) 0 frames.frames) (s.first ∷ s.outer) ≡ (throw_enters x is s k s.regs.pc throws m b search).first ∷ (throw_enters x is s k s.regs.pc throws m b search).more
       passed = enters_passed x is s k s.regs.pc throws m b search

@@ -1,4 +1,4 @@
--- What a throw and a rethrow leave is kept, given what phase 2 enters behind the words of the flight.
+-- What a throw and a rethrow leave is kept, given what phase 2 enters after the words of the flight.
 use Rattle.std.proofs.Common.{◌≡◌, ℕ, List, ◌<◌, ◌^◌, Bool, true, false, cond, [], ◌∷◌, length, set, Option, Some, None, Result, Ok, Err, refl, sym, ap, subst, ◌∙◌, arith, get_or-set_same, neg_ℤ}
 use Rattle.std.specs.Prelude.{is_some}
 use Rattle.frames_same.specs.eh_cxa.Lists.{Lists, Entry, Free, OutOfUse, Live, entry, slots, state_in, Outcome as Call}
@@ -7,7 +7,7 @@ use Rattle.frames_same.specs.eh_phase.declared.phase1.Barrier.{Barrier}
 use Rattle.frames_same.specs.eh_phase.declared.verdict.Thrown.{Thrown}
 use Rattle.frames_same.specs.eh_trace.declared.event.Event.{Event}
 use Rattle.frames_same.specs.frame_check.Accepts.{Accepted}
-use Rattle.frames_same.specs.eh_gates.State.{Guide}
+use Rattle.frames_same.specs.eh_gates.State.{Tables}
 use Rattle.frames_same.specs.two_machines.Activations.{Recorded, with_lists, reg_in, memory_of, heads, words_in, lists_of, cleanups_in}
 use Rattle.frames_same.proofs.two_machines.Flying.{HasFlown}
 use Rattle.frames_same.specs.eh_bus.Lists.{Has}
@@ -39,12 +39,12 @@ use Rattle.frames_same.specs.stands_for.Stands.{Keeps, IsCounted}
 use Rattle.throws_keep.proofs.Bounds.{AreOf}
 use Rattle.frames_same.proofs.stands_for.CountedLists.{more_small}
 
--- what is left behind the words of a flight of one slot, for a barrier that was found
-abbrev pub FlightKeeps : Guide → Accepted → Recorded → Thrown → Type 0
+-- what is left after the words of a flight of one slot, for a barrier that was found
+abbrev pub FlightKeeps : Tables → Accepted → Recorded → Thrown → Type 0
 FlightKeeps g x s thrown = (slot : ℕ) (writes : List Write) (flown : Lists) (e : Event) (b : Barrier) → HasFlown s slot writes flown → flown.cleanups ≡ cleanups_in s.cleanups → AreOf slot writes → IsCounted flown
     → machine.searched g s thrown ≡ found.Barrier b → Keeps x (machine.throw_to g s.regs.pc (block slot) b (with_lists flown writes (machine.logged s e))).1
 
-module _ (g : Guide) (x : Accepted) (s : Recorded) (k : Keeps x s) where
+module _ (g : Tables) (x : Accepted) (s : Recorded) (k : Keeps x s) where
   abbrev c : Corresponds s
   c = k.corresponds
 

@@ -1,4 +1,4 @@
--- Behind the landing of a throw in a handler what every event keeps is kept.
+-- After the landing of a throw in a handler what every event keeps is kept.
 use Rattle.std.proofs.Common.{◌≡◌, ℕ, ◌+◌, ◌<◌, ◌≤◌, List, [], ◌∷◌, arith, refl, sym, ap, subst, ◌∙◌, Some, Bool, true, false, ◌^◌, Option}
 use Rattle.std.specs.Prelude.{slice_index}
 use Rattle.frames_same.specs.eh_bus.Map.{SameMap, IsMap}
@@ -29,7 +29,7 @@ use Rattle.frames_same.proofs.two_machines.Beyond.{outside_stay}
 use Rattle.frames_same.specs.two_machines.ActivationMachine as machine
 use Rattle.throws_keep.proofs.Bounds.{AreOf, puts_other, still_in_progress}
 use Rattle.frames_same.proofs.Agreement.{pool_stack}
-use Rattle.throws_keep.proofs.Behind.{pool_map, Enters, left, landed_keeps, released_same, all_released_same}
+use Rattle.throws_keep.proofs.After.{pool_map, Enters, left, landed_keeps, released_same, all_released_same}
 use Rattle.frames_same.specs.stands_for.Cleanups.{goal_at, IsWithin}
 use Rattle.frames_same.specs.stands_for.Stands.{Keeps, IsProgram, IsCounted}
 use Rattle.frames_same.proofs.stands_for.CountedLists.{land_counts}
@@ -88,38 +88,38 @@ module _ (x : Accepted) (is : IsProgram x) (s : Recorded) (k : Keeps x s) (site 
   abbrev pub thrown : Recorded
   thrown = with_lists flown writes (machine.logged s e)
 
-  -- behind the words of the barrier
-  abbrev pub behind : BarrierWords → Recorded
-  behind b = with_words (set_barrier_of (Some slot) b) thrown
+  -- after the words of the barrier
+  abbrev pub after : BarrierWords → Recorded
+  after b = with_words (set_barrier_of (Some slot) b) thrown
 
   map_thrown : IsMap (memory_of thrown)
   map_thrown = map_with writes s k.corresponds.map
 
-  pub wrote_behind : (b : BarrierWords) → Wrote slot s (behind b)
-  wrote_behind b =
-      wrote_then slot s thrown (behind b) (wrote_one slot writes s thrown flight.small of_slot k.corresponds.map refl)
-      (wrote_one slot (set_barrier_of (Some slot) b) thrown (behind b) flight.small (barred_of slot b) map_thrown refl)
+  pub wrote_after : (b : BarrierWords) → Wrote slot s (after b)
+  wrote_after b =
+      wrote_then slot s thrown (after b) (wrote_one slot writes s thrown flight.small of_slot k.corresponds.map refl)
+      (wrote_one slot (set_barrier_of (Some slot) b) thrown (after b) flight.small (barred_of slot b) map_thrown refl)
 
-  pub map_behind : (b : BarrierWords) → IsMap (memory_of (behind b))
-  map_behind b = map_with (set_barrier_of (Some slot) b) thrown map_thrown
+  pub map_after : (b : BarrierWords) → IsMap (memory_of (after b))
+  map_after b = map_with (set_barrier_of (Some slot) b) thrown map_thrown
 
   module _ (b : BarrierWords) (logs : Event) where
     abbrev pub flies_on : Option ℕ → Recorded
-    flies_on o = machine.logged (machine.at_pad (machine.flown (behind b) o) (n.first ∷ n.more) n.frame.r pad (block slot)) logs
+    flies_on o = machine.logged (machine.at_pad (machine.flown (after b) o) (n.first ∷ n.more) n.frame.r pad (block slot)) logs
 
     abbrev land_writes : List Write
     land_writes = land_of (words_in flown) (Some slot)
 
     abbrev landed : Lists
-    landed = land_list (lists_of (behind b)) slot
+    landed = land_list (lists_of (after b)) slot
 
     abbrev segments : List Segment
-    segments = (put_all land_writes (memory_of (behind b))).segments
+    segments = (put_all land_writes (memory_of (after b))).segments
 
     abbrev kept : Recorded
     kept = left x is s k site here n pad (block slot) (let l = flight.small in omega (arith, l)) offers landed s.cleanups segments (pushed (pushed s.events e) logs)
-        (λ g low high. (wrote_one slot land_writes (behind b) (record (behind b) { segments = segments }) flight.small (land_of_slot slot (is_flying (named (words_in flown slot STATE)))) (map_behind b) refl).stack g low high
-        ∙ (wrote_behind b).stack g low high)
+        (λ g low high. (wrote_one slot land_writes (after b) (record (after b) { segments = segments }) flight.small (land_of_slot slot (is_flying (named (words_in flown slot STATE)))) (map_after b) refl).stack g low high
+        ∙ (wrote_after b).stack g low high)
 
     small_block : block slot < 2 ^ 32
     small_block = let l = flight.small in omega (arith, l)
@@ -128,16 +128,16 @@ module _ (x : Accepted) (is : IsProgram x) (s : Recorded) (k : Keeps x s) (site 
     same_state =
         let sp = slice_index n.frame.r SP in
         let e = n.register in
-        let stays : machine.at_pad (machine.flown (behind b) (Some slot)) (n.first ∷ n.more) n.frame.r pad (block slot) ≡ record (machine.at_pad (machine.flown (behind b) (Some slot)) (n.first ∷ n.more) n.frame.r pad (block slot)) { first = n.first; outer = n.more; beyond = s.beyond } =
-        ap (λ (f : Activation). record (machine.at_pad (machine.flown (behind b) (Some slot)) (n.first ∷ n.more) n.frame.r pad (block slot)) { first = f }) (released_same s.home sp n.frame.sp n.first (omega (arith, e)) n.rest.rise.0)
-        ∙ ap (λ (acts : List Activation). record (machine.at_pad (machine.flown (behind b) (Some slot)) (n.first ∷ n.more) n.frame.r pad (block slot)) { first = n.first; outer = acts })
+        let stays : machine.at_pad (machine.flown (after b) (Some slot)) (n.first ∷ n.more) n.frame.r pad (block slot) ≡ record (machine.at_pad (machine.flown (after b) (Some slot)) (n.first ∷ n.more) n.frame.r pad (block slot)) { first = n.first; outer = n.more; beyond = s.beyond } =
+        ap (λ (f : Activation). record (machine.at_pad (machine.flown (after b) (Some slot)) (n.first ∷ n.more) n.frame.r pad (block slot)) { first = f }) (released_same s.home sp n.frame.sp n.first (omega (arith, e)) n.rest.rise.0)
+        ∙ ap (λ (acts : List Activation). record (machine.at_pad (machine.flown (after b) (Some slot)) (n.first ∷ n.more) n.frame.r pad (block slot)) { first = n.first; outer = acts })
         (all_released_same s.home s.home.1 sp n.first.caller.sp n.more (let up = n.rest.rise.1 in omega (arith, e, up)) n.rest.rise.3)
-        ∙ ap (λ (gs : List ℕ). record (machine.at_pad (machine.flown (behind b) (Some slot)) (n.first ∷ n.more) n.frame.r pad (block slot)) { first = n.first; outer = n.more; beyond = gs })
+        ∙ ap (λ (gs : List ℕ). record (machine.at_pad (machine.flown (after b) (Some slot)) (n.first ∷ n.more) n.frame.r pad (block slot)) { first = n.first; outer = n.more; beyond = gs })
         (outside_stay s.home sp s.beyond (let up = n.rest.rise.1 in let top = n.rest.rise.2 in omega (arith, e, up, top)) k.beyond) in
         ap (λ (r : Recorded). machine.logged r logs) stays
 
     wrote : Wrote slot s kept
-    wrote = wrote_then slot s (behind b) kept (wrote_behind b) (wrote_one slot land_writes (behind b) kept flight.small (land_of_slot slot (is_flying (named (words_in flown slot STATE)))) (map_behind b) refl)
+    wrote = wrote_then slot s (after b) kept (wrote_after b) (wrote_one slot land_writes (after b) kept flight.small (land_of_slot slot (is_flying (named (words_in flown slot STATE)))) (map_after b) refl)
 
     differs : (u : ℕ) → Has (slots (cleanups_in s.cleanups)) u → u ≡ slot → ⊥
     differs u h e = flight.idle (subst (λ (cs : List Cleanup). Has (slots cs) slot) (sym cleanups_same) (subst (Has (slots (cleanups_in s.cleanups))) e h))
@@ -147,7 +147,7 @@ module _ (x : Accepted) (is : IsProgram x) (s : Recorded) (k : Keeps x s) (site 
     handler_keeps still =
         subst (λ (o : Option ℕ). Keeps x (flies_on o)) (sym is_slot)
         (subst (Keeps x) (sym same_state)
-        (landed_keeps x is s k site here n pad (block slot) small_block offers landed s.cleanups segments (pushed (pushed s.events e) logs) wrote.stack (land_counts (lists_of (behind b)) counted slot)
+        (landed_keeps x is s k site here n pad (block slot) small_block offers landed s.cleanups segments (pushed (pushed s.events e) logs) wrote.stack (land_counts (lists_of (after b)) counted slot)
         (subst Corresponds same_state (subst (λ (o : Option ℕ). Corresponds (flies_on o)) is_slot still)) wrote.map
         (still_in_progress x s kept n.frame.sp n.cut n.first n.more n.all refl refl n.rest
         (let a = k.corresponds.map.home.low in let b = k.low in let c = n.low in omega (arith, a, b, c)) k.corresponds.map.home.high wrote.stack

@@ -5,13 +5,13 @@ use Rattle.std.proofs.lemmas.Option.{same_Some, none-some}
 use Rattle.frames_same.specs.eh_desc.declared.descriptor.Desc.{Desc}
 use Rattle.frames_same.specs.eh_desc.declared.descriptor.DescFault.{DescFault}
 use Rattle.frames_same.specs.eh_desc.declared.descriptor.Found.{Found}
-use Rattle.frames_same.specs.eh_desc.Grammar.{with_word, Form, word_at, cleanup_at, catch_at, has_types, padded_at, types_at, specification_at, kind_at, found_at, listed, items_in, items_from, items_behind, where_codes, body_items, items_of}
+use Rattle.frames_same.specs.eh_desc.Grammar.{with_word, Form, word_at, cleanup_at, catch_at, has_types, padded_at, types_at, specification_at, kind_at, found_at, listed, items_in, items_from, items_after, where_codes, body_items, items_of}
 use Rattle.frames_same.specs.eh_desc.declared.descriptor.DescFault.TheVariants.{Short}
 use Rattle.frames_same.specs.eh_desc.declared.descriptor.DescKind.TheVariants.{Spec}
 use Rattle.frames_same.specs.eh_word.Words.{number_at}
 use Rattle.frames_same.specs.unwind_codes.declared.row.EntryBody.{EntryBody}
 use Rattle.frames_same.specs.unwind_codes.declared.row.EntryBody.TheVariants.{CantUnwind, Inline, Table}
-use Rattle.frames_same.specs.unwind_codes.Words.{code_words_behind}
+use Rattle.frames_same.specs.unwind_codes.Words.{code_words_after}
 use Rattle.frames_same.specs.eh_bytecode.Codes.{table_codes}
 use Rattle.frames_same.specs.eh_bytecode.declared.codes.CodesFault.{CodesFault}
 use Rattle.frames_same.specs.unwind_codes.declared.row.Entry.{Entry}
@@ -115,10 +115,10 @@ body_small start CantUnwind bytes = tt
 body_small start (Inline word) bytes = tt
 body_small start (Table a) bytes = go (table_codes bytes) (number_at 4 bytes 0)
   where
-    go : (r : Result (List ℕ) CodesFault) (o : Option ℕ) → AreSmall (where_codes r (items_behind start a bytes o))
+    go : (r : Result (List ℕ) CodesFault) (o : Option ℕ) → AreSmall (where_codes r (items_after start a bytes o))
     go (Err fault) o = tt
     go (Ok codes) None = tt
-    go (Ok codes) (Some first) = from_small _ (4 + 4 * code_words_behind first)
+    go (Ok codes) (Some first) = from_small _ (4 + 4 * code_words_after first)
 
 entry_small : (e : Entry) (o : Option (List ℕ)) → AreSmall (items_of e o)
 entry_small e None = tt

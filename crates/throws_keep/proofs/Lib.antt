@@ -10,7 +10,7 @@ pub use Rattle.frames_same.proofs.accepted_code
 pub use Rattle.frames_same.proofs.stands_for
 pub use Rattle.frames_same.proofs.steps_keep
 pub use Rattle.frames_same.proofs.accesses_keep
-pub mod Behind
+pub mod After
 pub mod Bounds
 pub mod Handler
 pub mod CleanupEntered
@@ -21,7 +21,7 @@ pub mod Landable
 mod Barriers
 pub mod ThrowGates
 pub mod ThrowReached
-pub mod FramesBehind
+pub mod FramesAfter
 mod CleanupReach
 pub mod ThrowKeeps
 mod Flights

@@ -19,7 +19,7 @@ use Rattle.frames_same.specs.thumb_core.Registers.{all_of}
 use Rattle.frames_same.specs.thumb_core.declared.regs.TheConstants.{SP}
 use Rattle.frames_same.specs.frame_check.Accepts.{Accepted}
 use Rattle.frames_same.specs.eh_gates.Gates.{gate_of}
-use Rattle.frames_same.specs.eh_gates.State.{Guide}
+use Rattle.frames_same.specs.eh_gates.State.{Tables}
 use Rattle.frames_same.specs.eh_gates.Throwing.{handed, pointed}
 use Rattle.frames_same.specs.eh_gates.declared.gates.TheConstants.{THROW_GATE, RETHROW_GATE}
 use Rattle.frames_same.specs.two_machines.Activations.{Recorded, reg_in, bytes_of, heads, first_place, outside, lists_of}
@@ -28,7 +28,7 @@ use Rattle.frames_same.specs.two_machines.Throws.{CanLand}
 use Rattle.frames_same.proofs.two_machines.Throwing.{throws_match}
 use Rattle.frames_same.proofs.two_machines.Rethrowing.{rethrows_match}
 use Rattle.frames_same.specs.two_machines.Checked.{program_of}
-use Rattle.frames_same.specs.two_machines.Program.{guide}
+use Rattle.frames_same.specs.two_machines.Program.{program_tables}
 use Rattle.frames_same.specs.eh_phase.declared.phase1.Found.TheVariants as found
 use Rattle.frames_same.specs.eh_phase.declared.verdict.Verdict.TheVariants as says
 use Rattle.frames_same.specs.two_machines.ActivationMachine as machine
@@ -98,8 +98,8 @@ module _ (x : Accepted) (is : IsProgram x) (s : Recorded) (k : Keeps x s) (imm :
   pointed_small (PointerToBase p) h = h
   pointed_small (Unreadable a) h = omega arith
 
-  module _ (g : Guide) where
-    abbrev ours : Guide
+  module _ (g : Tables) where
+    abbrev ours : Tables
     ours = record g { image = x.image }
 
     pub can_land : (thrown : Thrown) (slot : ℕ) (b : Barrier) → thrown.object < 2 ^ 32 → machine.searched ours s thrown ≡ found.Barrier b → CanLand ours s s.regs.pc slot b
@@ -135,4 +135,4 @@ module _ (x : Accepted) (is : IsProgram x) (s : Recorded) (k : Keeps x s) (imm :
 
 -- gates of a program
 pub throw_gates_match : ThrowGatesMatch
-throw_gates_match x s next imm is k does = (throw_matches x is s k imm does (guide (program_of x)) next, rethrow_matches x is s k imm does (guide (program_of x)) next)
+throw_gates_match x s next imm is k does = (throw_matches x is s k imm does (program_tables (program_of x)) next, rethrow_matches x is s k imm does (program_tables (program_of x)) next)

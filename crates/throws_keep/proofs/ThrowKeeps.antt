@@ -24,7 +24,7 @@ use Rattle.frames_same.specs.two_machines.ActivationMachine as machine
 use Rattle.frames_same.specs.stands_for.Cleanups.{IsWithin, AreInProgress}
 use Rattle.frames_same.specs.Frames.{ThrowsAt, IsSiteOf}
 use Rattle.frames_same.specs.stands_for.Stands.{Keeps, IsProgram, IsCounted}
-use Rattle.throws_keep.proofs.Behind.{Enters}
+use Rattle.throws_keep.proofs.After.{Enters}
 use Rattle.throws_keep.proofs.Bounds.{AreOf, barrier_within}
 use Rattle.throws_keep.proofs.CleanupReach.{cleanup_reach}
 use Rattle.frames_same.proofs.FramesSame.{site_is}
@@ -115,7 +115,7 @@ module _ (x : Accepted) (is : IsProgram x) (s : Recorded) (k : Keeps x s) (site 
   pub moved_within : (n : ℕ) → n ≡ b.sp → IsWithin n (cleanups_in s.cleanups)
   moved_within n e = subst (λ (v : ℕ). IsWithin v (cleanups_in s.cleanups)) (sym e) throw_within
 
-  -- in a handler: behind the words of the throw and of its barrier
+  -- in a handler: after the words of the throw and of its barrier
   module _ (slot : ℕ) (writes : List Write) (flown : Lists) (flight : HasFlown s slot writes flown) (cleanups_same : flown.cleanups ≡ cleanups_in s.cleanups) (of_slot : AreOf slot writes) (counted : IsCounted flown) (e : Event) (w : BarrierWords) (logs : Event) where
     abbrev pub before_landing : Recorded
     before_landing = with_words (set_barrier_of (Some slot) w) (with_lists flown writes (machine.logged s e))

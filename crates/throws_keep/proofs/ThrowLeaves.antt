@@ -4,7 +4,7 @@ use Rattle.frames_same.specs.eh_cxa.Words.{object}
 use Rattle.frames_same.specs.eh_cxa.declared.layout.TheConstants.{SLOTS}
 use Rattle.frames_same.specs.thumb_isa.declared.instr.Instr.TheVariants.{Svc}
 use Rattle.frames_same.specs.frame_check.Accepts.{Accepted}
-use Rattle.frames_same.specs.eh_gates.State.{Guide}
+use Rattle.frames_same.specs.eh_gates.State.{Tables}
 use Rattle.frames_same.specs.eh_gates.declared.gates.TheConstants.{THROW_GATE, RETHROW_GATE}
 use Rattle.frames_same.specs.two_machines.Activations.{Recorded, lists_of}
 use Rattle.frames_same.specs.two_machines.ActivationMachine as machine
@@ -13,7 +13,7 @@ use Rattle.throws_keep.proofs.CleanupLands.{cleanup_lands}
 use Rattle.throws_keep.proofs.Flights.{throw_leaves, rethrow_leaves}
 use Rattle.throws_keep.proofs.FlightLands.{ours, flight_keeps}
 
-module _ (x : Accepted) (is : IsProgram x) (s : Recorded) (k : Keeps x s) (imm : ℕ) (does : DoesAt x s (Svc imm)) (g : Guide) where
+module _ (x : Accepted) (is : IsProgram x) (s : Recorded) (k : Keeps x s) (imm : ℕ) (does : DoesAt x s (Svc imm)) (g : Tables) where
   pub throw_gate_keeps : (next : ℕ) → Keeps x (machine.gate_of (ours x is s k imm does g) THROW_GATE next s).1
   unfolding machine.gate_of
   throw_gate_keeps next =

@@ -1,7 +1,7 @@
 -- What the crates above cite of frames_same.
 pub use Rattle.frames_same.proofs.Agreement
 pub use Rattle.frames_same.proofs.CodeBytes
-pub use Rattle.frames_same.proofs.Forgets
+pub use Rattle.frames_same.proofs.Clobbers
 pub use Rattle.frames_same.proofs.FramePlaces
 pub use Rattle.frames_same.proofs.FramesSame
 pub use Rattle.frames_same.proofs.GoesHere

@@ -3,7 +3,7 @@ pub use Rattle.frames_same.specs.two_machines
 pub use Rattle.frames_same.specs.frame_check
 pub use Rattle.frames_same.specs.frame_flow
 pub use Rattle.frames_same.specs.frame_reach
-pub use Rattle.frames_same.specs.frame_scene
+pub use Rattle.frames_same.specs.frame_graph
 pub use Rattle.frames_same.specs.frame_facts
 pub use Rattle.frames_same.specs.eh_gates
 pub use Rattle.frames_same.specs.eh_phase

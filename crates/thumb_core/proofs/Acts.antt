@@ -26,7 +26,7 @@ use Rattle.thumb_core.specs.Lists.{words_of, bytes_of, load_list, ldm_end, pop_t
 use Rattle.thumb_core.specs.Step.{effect, outcome_of, with_second, with_first, step_of, instr_of, instr_of_second, instr_of_first, instr_at}
 use Rattle.thumb_core.specs.Stores.{Span, span, SameApart, KeepsApart, stores_of, stores_of_some}
 use Rattle.thumb_core.specs.Laws.{Popped, Acts}
-use Rattle.thumb_core.proofs.PopLaws.{last_word, sp_behind, kept_register}
+use Rattle.thumb_core.proofs.PopLaws.{last_word, sp_after, kept_register}
 use Rattle.thumb_core.proofs.Follows.{either}
 use Rattle.thumb_core.proofs.StoreLaws.{IsWidth, store_same, run_same}
 
@@ -178,7 +178,7 @@ pop_acts mask size regs m count (Ok r) e = go (bit_at mask PC == 1) refl
           word = pc.word;
           last = pc.loaded;
           target = rw pc.last (omega arith);
-          sp = sp_behind mask a (a + bytes_of mask) regs m r count e;
+          sp = sp_after mask a (a + bytes_of mask) regs m r count e;
           others = λ k other clear. kept_register mask a k (a + bytes_of mask) regs m r count e other clear;
         }
 

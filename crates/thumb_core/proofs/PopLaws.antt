@@ -129,8 +129,8 @@ kept_register mask a k v regs m words count e other clear = by (cases_lt k 15)
         ∙ list_keeps mask a k regs m words clear e ∙ get_or_append_left regs.r (regs.pc ∷ []) 0 k (rw count low)
     by (inr high) = get_or_past (take 15 (put words SP v)) k 0 (rw size high) ∙ sym (get_or_past regs.r k 0 (rw count high))
 
-pub sp_behind : (mask a v : ℕ) (regs : Regs) (m : Memory) (words : List ℕ) → length regs.r ≡ 15 → load_list mask a regs m ≡ Ok words
+pub sp_after : (mask a v : ℕ) (regs : Regs) (m : Memory) (words : List ℕ) → length regs.r ≡ 15 → load_list mask a regs m ≡ Ok words
     → get_or (take 15 (put words SP v)) 13 0 ≡ word_in SP v
-sp_behind mask a v regs m words count e =
+sp_after mask a v regs m words count e =
     let size = list_length mask a regs m words count e in
     get_or-take 15 (put words SP v) 13 0 (omega arith) ∙ get_or-set_at words 13 13 (word_in SP v) 0 refl (omega arith)

@@ -1,4 +1,4 @@
--- A POP and an LDM in two parts: the low registers, and pc's word behind them.
+-- A POP and an LDM in two parts: the low registers, and pc's word after them.
 use Rattle.std.proofs.Common.{◌≡◌, ℕ, ◌+◌, ◌%◌, ◌^◌, ◌<◌, List, [], ◌∷◌, ◌++◌, refl, ap, subst, ◌∙◌, arith, length, take, slice_index, Err, Ok, append-nil, length-append}
 use Rattle.std.specs.Int.{bit_at}
 use Rattle.std.proofs.Math.ListN.{length-set, set}
@@ -119,9 +119,9 @@ pub ldm_kept : (n mask size : ℕ) (regs : Regs) (m : Memory) (r : List ℕ) →
     → ldm n mask size regs m ≡ plain_outcome size (record regs { r = r }) m
 ldm_kept n mask size regs m r low l b = rw (list_low mask (reg regs n) regs m r low (low_none mask l), b, front r regs.pc low.size) refl
 
-pub ldm_behind : (n mask size : ℕ) (regs : Regs) (m : Memory) (r : List ℕ) → Low mask (reg regs n) regs m r → mask < 2 ^ 8 → n < 15 → bit_at mask n ≡ 0
+pub ldm_after : (n mask size : ℕ) (regs : Regs) (m : Memory) (r : List ℕ) → Low mask (reg regs n) regs m r → mask < 2 ^ 8 → n < 15 → bit_at mask n ≡ 0
     → ldm n mask size regs m ≡ plain_outcome size (with_reg (record regs { r = r }) n ((reg regs n + low_bytes mask) % 2 ^ 32)) m
-ldm_behind n mask size regs m r low l k b =
+ldm_after n mask size regs m r low l k b =
     let a = reg regs n in
     let high = low_none mask l in
     let same : word_in n (a + low_bytes mask) ≡ word_in n ((a + low_bytes mask) % 2 ^ 32) = word_same n _ _ (omega arith) in

@@ -37,12 +37,12 @@ OnTrap (Gate number) P = Unit {0}
 
 -- where pc stands after what was done: at the even target of a call, whose odd return address is in lr; at the target of
 -- a return with bit 0 clear, which was set; else at an even address. Of a trap `OnTrap` speaks
-abbrev pub Stands : Stepped → Regs → Type 0
-Stands Done regs = regs.pc % 2 ≡ 0
-Stands (Call target ret) regs = (regs.pc ≡ target) × (target % 2 ≡ 0) × (slice_index regs.r LR ≡ ret) × (ret % 2 ≡ 1)
-Stands (Return to) regs = (regs.pc + 1 ≡ to) × (to % 2 ≡ 1)
-Stands (Gate number) regs = regs.pc % 2 ≡ 0
-Stands (Trap trap) regs = Unit {0}
+abbrev pub PcStands : Stepped → Regs → Type 0
+PcStands Done regs = regs.pc % 2 ≡ 0
+PcStands (Call target ret) regs = (regs.pc ≡ target) × (target % 2 ≡ 0) × (slice_index regs.r LR ≡ ret) × (ret % 2 ≡ 1)
+PcStands (Return to) regs = (regs.pc + 1 ≡ to) × (to % 2 ≡ 1)
+PcStands (Gate number) regs = regs.pc % 2 ≡ 0
+PcStands (Trap trap) regs = Unit {0}
 
 -- what no instruction changes of a memory: where its segments lie, their rights, the bytes of those that may not be
 -- written, which words are guarded and what they hold, the closed words of the pool, and the running stack
@@ -56,13 +56,13 @@ pub record KeepsMap (old new : Memory) : Type 0 where
 -- what an outcome has of these, from registers and a memory
 pub record Follows (regs : Regs) (m : Memory) (o : Outcome) : Type 0 where
   pub trap : OnTrap o.0 ((o.1 ≡ regs) × (o.2 ≡ m))
-  pub stands : length regs.r ≡ 15 → Stands o.0 o.1
+  pub stands : length regs.r ≡ 15 → PcStands o.0 o.1
   pub sound : AreSound regs.r regs.pc → AreSound o.1.r o.1.pc
   pub memory : KeepsMap m o.2
 
 -- ---- what all but `Done` leave
 
--- a POP into pc: the words of its list were loaded, sp stands behind them, and pc goes to the last of them. The other
+-- a POP into pc: the words of its list were loaded, sp stands after them, and pc goes to the last of them. The other
 -- registers and the flags are as before
 pub record Popped (mask to : ℕ) (regs : Regs) (m : Memory) (after : Regs) : Type 0 where
   pub takes_pc : bit_at mask PC ≡ 1
@@ -82,7 +82,7 @@ Returned at to regs m after =
     ⊎ ((mask size : ℕ) × (at ≡ Some (Pop mask, size)) × Popped mask to regs m after)
 
 -- the registers after what was done, from those before it and the instruction at pc: a call changes lr and pc, a return
--- is as said, a gate goes on behind its SVC, and a trap changes nothing
+-- is as said, a gate goes on after its SVC, and a trap changes nothing
 abbrev pub Leaves : Option (Instr × ℕ) → Stepped → Regs → Memory → Regs → Type 0
 Leaves at Done regs m after = Unit {0}
 Leaves at (Call target ret) regs m after = after ≡ with_pc (with_reg regs LR ret) target

@@ -27,7 +27,7 @@ push mask size regs m =
     let a = (reg regs SP + (2 ^ 32 - bytes_of mask)) % 2 ^ 32 in
     store_end (store_run m a (words_of mask regs)) size regs (with_reg regs SP a)
 
--- STM: the words stand from register n on, which then stands behind them. Its own word is the old value
+-- STM: the words stand from register n on, which then stands after them. Its own word is the old value
 abbrev pub stm : ℕ → ℕ → ℕ → Regs → Memory → Outcome
 stm n mask size regs m =
     store_end (store_run m (reg regs n) (words_of mask regs)) size regs (with_reg regs n (reg regs n + bytes_of mask))
@@ -36,7 +36,7 @@ stm n mask size regs m =
 abbrev pub load_list : ℕ → ℕ → Regs → Memory → Result (List ℕ) BusFault
 load_list mask a regs m = load_words m.segments a (loads_from 0 (listed mask)) (all_of regs)
 
--- the registers after an LDM; the base stands behind the words, unless it was loaded itself
+-- the registers after an LDM; the base stands after the words, unless it was loaded itself
 abbrev pub ldm_end : Result (List ℕ) BusFault → ℕ → ℕ → ℕ → Regs → Memory → Outcome
 ldm_end (Ok r) n mask size regs m =
     plain_outcome size (with_all regs (if bit_at mask n == 1 then r else put r n (reg regs n + bytes_of mask))) m
@@ -51,7 +51,7 @@ abbrev pub pop_to : Bool → ℕ → ℕ → Regs → Regs → Stepped × Regs
 pop_to true target size regs after = if_odd target regs (return_to target after)
 pop_to false target size regs after = (Done, with_next size after)
 
--- the registers after a POP; sp stands behind the words
+-- the registers after a POP; sp stands after the words
 abbrev pub pop_end : Result (List ℕ) BusFault → ℕ → ℕ → Regs → Memory → Outcome
 pop_end (Ok r) mask size regs m =
     with_memory

@@ -73,9 +73,9 @@ instr_at m a = instr_of_first (fetch m a) m a
 
 -- ---- what a fetch answers: the instruction at pc with its size, or the trap of a step there
 
-abbrev pub found : Result (Instr × ℕ) CoreTrap → Option (Instr × ℕ)
-found (Ok (i, size)) = Some (i, size)
-found (Err trap) = None
+abbrev pub fetched_instr : Result (Instr × ℕ) CoreTrap → Option (Instr × ℕ)
+fetched_instr (Ok (i, size)) = Some (i, size)
+fetched_instr (Err trap) = None
 
 -- that instruction acts; a trap changes nothing
 abbrev pub outcome_from : Result (Instr × ℕ) CoreTrap → Regs → Memory → Outcome

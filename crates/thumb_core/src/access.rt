@@ -38,7 +38,7 @@ pub const STRH_IMM: u8 = 4;
 
 pub const LDRH_IMM: u8 = 5;
 
-/// Goes on behind a store, or refuses as it was refused.
+/// Goes on after a store, or refuses as it was refused.
 fn end_store(answer: Result<(), BusFault>, size: u32, regs: &mut Regs) -> Stepped
     ensures { (result, regs.new) ≡ stored answer size regs.old regs.old }
 {

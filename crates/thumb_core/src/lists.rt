@@ -125,17 +125,17 @@ pub(crate) fn pop<B: Bus>(list: u16, size: u32, regs: &mut Regs, bus: &B) -> Ste
 {
     let a = regs.reg(SP);
     let mut r = regs.r;
-    let behind = match load_low((list % 0x100) as u8, a, &mut r, bus) {
+    let after = match load_low((list % 0x100) as u8, a, &mut r, bus) {
         Ok(bytes) => a.wrapping_add(bytes),
         Err(fault) => return Stepped::Trap(CoreTrap::Memory(fault)),
     };
     if (list >> PC) & 1 == 0 {
         regs.r = r;
-        regs.put(SP, behind);
+        regs.put(SP, after);
         regs.advance(size);
         return Stepped::Done;
     }
-    let target = match bus.load32(behind) {
+    let target = match bus.load32(after) {
         Ok(word) => word,
         Err(fault) => return Stepped::Trap(CoreTrap::Memory(fault)),
     };
@@ -143,7 +143,7 @@ pub(crate) fn pop<B: Bus>(list: u16, size: u32, regs: &mut Regs, bus: &B) -> Ste
         return Stepped::Trap(CoreTrap::EvenTarget(target));
     }
     regs.r = r;
-    regs.put(SP, behind.wrapping_add(4));
+    regs.put(SP, after.wrapping_add(4));
     regs.go_to(target);
     Stepped::Return { to: target }
 }

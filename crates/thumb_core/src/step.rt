@@ -1,8 +1,8 @@
 //! A step: fetches, decodes and does the instruction at pc (docs/core.md, "One step, in order").
 ghost use Rattle.std.specs.Prelude.{◌≡◌, IfOk, Some};
 ghost use Rattle.thumb_isa.specs.Range.{InRange};
-ghost use Rattle.thumb_core.specs.Laws.{AreSound, KeepsMap, Leaves, LeavesMemory, OnTrap, Stands};
-ghost use Rattle.thumb_core.specs.Step.{step_of, effect, instr_at, found, outcome_from};
+ghost use Rattle.thumb_core.specs.Laws.{AreSound, KeepsMap, Leaves, LeavesMemory, OnTrap, PcStands};
+ghost use Rattle.thumb_core.specs.Step.{step_of, effect, instr_at, fetched_instr, outcome_from};
 ghost use Rattle.thumb_core.specs.Stores.{KeepsApart, stores_at, stores_of};
 
 use crate::access::{load_word, mem_imm, mem_reg, mem_sp};
@@ -29,7 +29,7 @@ pub fn step<B: Bus>(regs: &mut Regs, bus: &mut B) -> Stepped
 
     // What follows of it for every instruction.
     ensures trap { OnTrap result ((regs.new ≡ regs.old) × (B.memory bus.new ≡ B.memory bus.old)) }
-    ensures stands { Stands result regs.new }
+    ensures stands { PcStands result regs.new }
     ensures sound { AreSound regs.old.r regs.old.pc → AreSound regs.new.r regs.new.pc }
     ensures memory { KeepsMap (B.memory bus.old) (B.memory bus.new) }
     ensures apart { KeepsApart (stores_at (B.memory bus.old) regs.old) (B.memory bus.old) (B.memory bus.new) }
@@ -55,7 +55,7 @@ fn perform<B: Bus>(regs: &mut Regs, bus: &mut B) -> Stepped
 /// then `execute`.
 #[inline(always)]
 pub fn fetch<B: Bus>(regs: &Regs, bus: &B) -> Result<(Instr, u32), CoreTrap>
-    ensures there { instr_at (B.memory bus.now) regs.now.pc ≡ found result }
+    ensures there { instr_at (B.memory bus.now) regs.now.pc ≡ fetched_instr result }
     ensures range { IfOk result (λ at. InRange at.0) }
     ensures does { step_of regs.now (B.memory bus.now) ≡ outcome_from result regs.now (B.memory bus.now) }
 {
@@ -85,7 +85,7 @@ pub fn execute<B: Bus>(i: Instr, size: u32, regs: &mut Regs, bus: &mut B) -> Ste
     requires { InRange i }
     ensures effect { (result, regs.new, B.memory bus.new) ≡ effect i size regs.old (B.memory bus.old) }
     ensures trap { OnTrap result ((regs.new ≡ regs.old) × (B.memory bus.new ≡ B.memory bus.old)) }
-    ensures stands { Stands result regs.new }
+    ensures stands { PcStands result regs.new }
     ensures sound { AreSound regs.old.r regs.old.pc → AreSound regs.new.r regs.new.pc }
     ensures memory { KeepsMap (B.memory bus.old) (B.memory bus.new) }
     ensures apart { KeepsApart (stores_of i regs.old) (B.memory bus.old) (B.memory bus.new) }
@@ -96,7 +96,7 @@ pub fn execute<B: Bus>(i: Instr, size: u32, regs: &mut Regs, bus: &mut B) -> Ste
     act(i, size, regs, bus)
 }
 
-/// The one match by instruction. What the arms of data leave goes on behind the instruction.
+/// The one match by instruction. What the arms of data leave goes on after the instruction.
 #[inline(always)]
 fn act<B: Bus>(i: Instr, size: u32, regs: &mut Regs, bus: &mut B) -> Stepped
     requires { InRange i }

@@ -211,14 +211,14 @@ pub decoded_near : (low n second : ℕ) (first : ℕ) → low ≤ first → firs
 decoded_near low n second = decoded_by (near rows low n) low n second (near_drops rows low n)
 
 -- the place of the row that this halfword fits
-abbrev pub place_of : List Row → ℕ → ℕ
-place_of [] first = 0
-place_of (row ∷ more) first = let later = suc (place_of more first) in cond (bit_and first row.mask == row.value) 0 later
+abbrev pub row_place : List Row → ℕ → ℕ
+row_place [] first = 0
+row_place (row ∷ more) first = let later = suc (row_place more first) in cond (bit_and first row.mask == row.value) 0 later
 
 -- the n halfwords from low up have the meaning of the row that the lowest fits
-pub decoded_like : (low n second : ℕ) → stops_in (place_of rows low) rows low n ≡ true
-    → (first : ℕ) → low ≤ first → first < low + n → decoded_of first second ≡ meaning_at (place_of rows low) rows first second
-decoded_like low n second = decoded_at (place_of rows low) low n second
+pub decoded_like : (low n second : ℕ) → stops_in (row_place rows low) rows low n ≡ true
+    → (first : ℕ) → low ≤ first → first < low + n → decoded_of first second ≡ meaning_at (row_place rows low) rows first second
+decoded_like low n second = decoded_at (row_place rows low) low n second
 
 -- the place of the row that this pair fits
 abbrev pub place_of_pair : List Row → ℕ → ℕ → ℕ

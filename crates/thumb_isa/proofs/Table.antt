@@ -5,7 +5,7 @@ use Rattle.thumb_isa.specs.declared.instr.Instr.TheVariants.{ShiftImm, AddSubReg
 use Rattle.thumb_isa.specs.declared.instr.Decoded.TheVariants.{Is, Undefined, Unpredictable, NotInProfile}
 use Rattle.thumb_isa.specs.Fields.{field, signed}
 use Rattle.thumb_isa.specs.Rows.{rows, decoded_of, bl_offset, high_register, right_amount}
-use Rattle.thumb_isa.proofs.Search.{decoded_like, decoded_where, decoded_pair, unpredictable_where, place_of}
+use Rattle.thumb_isa.proofs.Search.{decoded_like, decoded_where, decoded_pair, unpredictable_where, row_place}
 
 pub lsl : (h s : ℕ) → h < 0x0800 → decoded_of h s ≡ Is (ShiftImm 0 (field h 0 3) (field h 3 3) (field h 6 5)) 2
 lsl h s = decoded_like 0x0000 0x800 s refl h (omega arith)
@@ -43,7 +43,7 @@ cmp_high_test n m a b e = grind (arith, nat_tests)
 pub cmp_high : (h s : ℕ) → 0x4500 ≤ h → h < 0x4600 → high_register h < 15 → field h 3 4 < 15 → ((8 ≤ high_register h) ⊎ (8 ≤ field h 3 4))
     → decoded_of h s ≡ Is (CmpHigh (high_register h) (field h 3 4)) 2
 cmp_high h s a b n m e =
-    decoded_where cmp_high_fits (place_of rows 0x4540) 0x4500 0x100 s refl h a b (cmp_high_test (high_register h) (field h 3 4) n m e)
+    decoded_where cmp_high_fits (row_place rows 0x4540) 0x4500 0x100 s refl h a b (cmp_high_test (high_register h) (field h 3 4) n m e)
 
 cmp_low_test : (n m : ℕ) → n < 8 → m < 8 → (nat_lt n 8 && nat_lt m 8) ≡ true
 cmp_low_test n m a b = grind (arith, nat_tests)
@@ -74,10 +74,10 @@ bx_test : (n m : ℕ) → n ≡ 0 → m < 15 → ((n == 0) && nat_lt m 15) ≡ t
 bx_test n m e l = grind (arith, nat_tests)
 
 pub bx : (h s : ℕ) → 0x4700 ≤ h → h < 0x4780 → field h 0 3 ≡ 0 → field h 3 4 < 15 → decoded_of h s ≡ Is (Bx (field h 3 4)) 2
-bx h s a b n m = decoded_where bx_fits (place_of rows 0x4700) 0x4700 0x80 s refl h a b (bx_test (field h 0 3) (field h 3 4) n m)
+bx h s a b n m = decoded_where bx_fits (row_place rows 0x4700) 0x4700 0x80 s refl h a b (bx_test (field h 0 3) (field h 3 4) n m)
 
 pub blx : (h s : ℕ) → 0x4780 ≤ h → h < 0x4800 → field h 0 3 ≡ 0 → field h 3 4 < 15 → decoded_of h s ≡ Is (Blx (field h 3 4)) 2
-blx h s a b n m = decoded_where bx_fits (place_of rows 0x4780) 0x4780 0x80 s refl h a b (bx_test (field h 0 3) (field h 3 4) n m)
+blx h s a b n m = decoded_where bx_fits (row_place rows 0x4780) 0x4780 0x80 s refl h a b (bx_test (field h 0 3) (field h 3 4) n m)
 
 not_0_test : (n : ℕ) → 0 < n → not (n == 0) ≡ true
 not_0_test n l = grind (arith, nat_tests)
@@ -169,10 +169,10 @@ is_0_test : (n : ℕ) → n ≡ 0 → (n == 0) ≡ true
 is_0_test n e = grind (arith, nat_tests)
 
 pub hint : (h s : ℕ) → 0xbf00 ≤ h → h < 0xc000 → field h 0 4 ≡ 0 → decoded_of h s ≡ Is (Hint (field h 4 4)) 2
-hint h s a b e = decoded_where (λ h. field h 0 4 == 0) (place_of rows 0xbf00) 0xbf00 0x100 s refl h a b (is_0_test (field h 0 4) e)
+hint h s a b e = decoded_where (λ h. field h 0 4 == 0) (row_place rows 0xbf00) 0xbf00 0x100 s refl h a b (is_0_test (field h 0 4) e)
 
 pub none_bf01 : (h s : ℕ) → 0xbf00 ≤ h → h < 0xc000 → 0 < field h 0 4 → decoded_of h s ≡ Undefined
-none_bf01 h s a b l = decoded_where (λ h. not (field h 0 4 == 0)) (place_of rows 0xbf01) 0xbf00 0x100 s refl h a b (not_0_test (field h 0 4) l)
+none_bf01 h s a b l = decoded_where (λ h. not (field h 0 4 == 0)) (row_place rows 0xbf01) 0xbf00 0x100 s refl h a b (not_0_test (field h 0 4) l)
 
 -- the base is in the list, and so is a lower register
 abbrev pub base_bit : ℕ → ℕ
@@ -188,7 +188,7 @@ stm_test : (list bit low : ℕ) → 0 < list → ((bit ≡ 0) ⊎ (low ≡ 0)) �
 stm_test list bit low l e = grind (arith, nat_tests)
 
 pub stm : (h s : ℕ) → 0xc000 ≤ h → h < 0xc800 → 0 < field h 0 8 → ((base_bit h ≡ 0) ⊎ (below_base h ≡ 0)) → decoded_of h s ≡ Is (Stm (field h 8 3) (field h 0 8)) 2
-stm h s a b l e = decoded_where stm_fits (place_of rows 0xc001) 0xc000 0x800 s refl h a b (stm_test (field h 0 8) (base_bit h) (below_base h) l e)
+stm h s a b l e = decoded_where stm_fits (row_place rows 0xc001) 0xc000 0x800 s refl h a b (stm_test (field h 0 8) (base_bit h) (below_base h) l e)
 
 stm_base_test : (bit low : ℕ) → bit ≡ 1 → 0 < low → ((bit == 1) && not (low == 0)) ≡ true
 stm_base_test bit low e l = grind (arith, nat_tests)
@@ -202,7 +202,7 @@ list_none h s a b e =
     unpredictable_where (λ h. field h 0 8 == 0) 0xc000 0x1000 s refl h a b (is_0_test (field h 0 8) e)
 
 pub ldm : (h s : ℕ) → 0xc800 ≤ h → h < 0xd000 → 0 < field h 0 8 → decoded_of h s ≡ Is (Ldm (field h 8 3) (field h 0 8)) 2
-ldm h s a b l = decoded_where (λ h. not (field h 0 8 == 0)) (place_of rows 0xc801) 0xc800 0x800 s refl h a b (not_0_test (field h 0 8) l)
+ldm h s a b l = decoded_where (λ h. not (field h 0 8 == 0)) (row_place rows 0xc801) 0xc800 0x800 s refl h a b (not_0_test (field h 0 8) l)
 
 pub b_cond_low : (h s : ℕ) → 0xd000 ≤ h → h < 0xd800 → decoded_of h s ≡ Is (BCond (field h 8 4) (signed 9 (field h 0 8 * 2))) 2
 b_cond_low h s = decoded_like 0xd000 0x800 s refl h

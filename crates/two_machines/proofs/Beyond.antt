@@ -1,4 +1,4 @@
--- Guarded words beyond the running stack stay behind every event.
+-- Guarded words beyond the running stack stay after every event.
 use Rattle.std.proofs.Common.{◌≡◌, ℕ, ◌<◌, ◌≤◌, ◌⊎◌, inl, inr, ◌==◌, ◌&&◌, nat_lt, Bool, true, false, cond, List, [], ◌∷◌, length, filter, slice_index, Option, Some, None, Result, Ok, Err, refl, ap, ◌∙◌, arith}
 use Rattle.std.specs.Prelude.{is_some}
 use Rattle.event_runs.specs.Runs.{Event, Goes, Ends}
@@ -32,10 +32,10 @@ use Rattle.thumb_core.specs.declared.ends.End.TheVariants as the_end
 use Rattle.thumb_core.specs.declared.ends.TrapKind.TheVariants as kind
 use Rattle.eh_gates.specs.declared.gates.TheConstants.{ALLOCATE_GATE, FREE_GATE, THROW_GATE, BEGIN_CATCH_GATE, END_CATCH_GATE, RETHROW_GATE, END_CLEANUP_GATE, UNEXPECTED_GATE, TERMINATE_GATE, UNCAUGHT_GATE}
 use Rattle.eh_gates.specs.declared.state.Turned.TheVariants.{Went, Ended}
-use Rattle.eh_gates.specs.State.{Guide}
+use Rattle.eh_gates.specs.State.{Tables}
 use Rattle.eh_gates.specs.Landing.{words_of}
 use Rattle.eh_gates.specs.Throwing.{barrier_in, throw_event}
-use Rattle.two_machines.specs.Program.{Program, guide}
+use Rattle.two_machines.specs.Program.{Program, program_tables}
 use Rattle.two_machines.specs.Activations.{Activation, InProgress, Recorded, reg_in, memory_of, staying, words_in, heads, with_lists, lists_of}
 use Rattle.two_machines.specs.ActivationMachine as acts
 use Rattle.two_machines.specs.RecordedSlots.{AreOutside, LeavesBeyond, WordsBeyondStay}
@@ -96,11 +96,11 @@ module _ (home : ℕ × ℕ) (beyond : List ℕ) (out : AreOutside home beyond) 
 
   -- ---- throws
 
-  throw_to : (g : Guide) (site blk : ℕ) (b : Barrier) (s : Recorded) → Has s → Leaves (acts.throw_to g site blk b s)
+  throw_to : (g : Tables) (site blk : ℕ) (b : Barrier) (s : Recorded) → Has s → Leaves (acts.throw_to g site blk b s)
   unfolding acts.throw_to
   throw_to g site blk b s h = entered _ _ blk _ _ h
 
-  sought : (g : Guide) (s : Recorded) (what : EventKind) (thrown : Thrown) (further : Barrier → Recorded → acts.Outcome)
+  sought : (g : Tables) (s : Recorded) (what : EventKind) (thrown : Thrown) (further : Barrier → Recorded → acts.Outcome)
       → ((b : Barrier) (t : Recorded) → Has t → Leaves (further b t)) → Has s → Leaves (acts.from_barrier further (acts.sought g s what thrown))
   unfolding acts.sought
   sought g s what thrown further f h = go (is_some (row_of g.types thrown.ty))
@@ -115,16 +115,16 @@ module _ (home : ℕ × ℕ) (beyond : List ℕ) (out : AreOutside home beyond) 
       go true = by_found (barrier_in s.regs.pc (acts.searched g s thrown)) _ h
       go false = h
 
-  throws : (g : Guide) (s : Recorded) (r : Result ℕ CxaFault) → Has s → Leaves (acts.throws g s r)
+  throws : (g : Tables) (s : Recorded) (r : Result ℕ CxaFault) → Has s → Leaves (acts.throws g s r)
   throws g s (Ok blk) h = sought g s event.Throw (acts.thrown_first s) (λ b t. acts.throw_to g s.regs.pc blk b (acts.flies_first t)) (λ b t i. throw_to g s.regs.pc blk b (acts.flies_first t) i) h
   throws g s (Err why) h = h
 
-  rethrows : (g : Guide) (s : Recorded) (r : Result ℕ CxaFault) → Has s → Leaves (acts.rethrows g s r)
+  rethrows : (g : Tables) (s : Recorded) (r : Result ℕ CxaFault) → Has s → Leaves (acts.rethrows g s r)
   rethrows g s (Ok blk) h =
       sought g s event.Rethrow (acts.thrown_of_slot (lists_of s) (block_slot blk)) (λ b t. acts.throw_to g s.regs.pc blk b (acts.flies_again t)) (λ b t i. throw_to g s.regs.pc blk b (acts.flies_again t) i) h
   rethrows g s (Err why) h = h
 
-  resumes_in : (g : Guide) (s : Recorded) (p : InProgress) (more : List InProgress) (xs : List Activation) → Has s → Leaves (acts.resumes_in g s p more xs)
+  resumes_in : (g : Tables) (s : Recorded) (p : InProgress) (more : List InProgress) (xs : List Activation) → Has s → Leaves (acts.resumes_in g s p more xs)
   resumes_in g s p more [] h = h
   resumes_in g s p more (a ∷ outer) h = go ((s.first.caller.sp == p.cleanup.sp) && (length outer == p.place))
     where
@@ -133,7 +133,7 @@ module _ (home : ℕ × ℕ) (beyond : List ℕ) (out : AreOutside home beyond) 
       go true = entered (record s { cleanups = more }) _ _ _ _ h
       go false = h
 
-  resumes : (g : Guide) (s : Recorded) (ps : List InProgress) → Has s → Leaves (acts.resumes g s ps)
+  resumes : (g : Tables) (s : Recorded) (ps : List InProgress) → Has s → Leaves (acts.resumes g s ps)
   resumes g s [] h = h
   resumes g s (p ∷ more) h = go (acts.can_unwind (covered_at g.image s.regs.pc))
     where
@@ -163,7 +163,7 @@ module _ (home : ℕ × ℕ) (beyond : List ℕ) (out : AreOutside home beyond) 
   either true x y p q = p
   either false x y p q = q
 
-  gate : (g : Guide) (number next : ℕ) (s : Recorded) → Has s → Leaves (acts.gate_of g number next s)
+  gate : (g : Tables) (number next : ℕ) (s : Recorded) → Has s → Leaves (acts.gate_of g number next s)
   unfolding acts.gate_of
   gate g number next s h =
       either (number == ALLOCATE_GATE) _ _ (allocated next s (with_lists (allocate_list (lists_of s) (reg_in s 0)).lists (allocate_of (words_in (lists_of s)) (reg_in s 0)).writes s) (allocate_list (lists_of s) (reg_in s 0)).answer h h)
@@ -190,12 +190,12 @@ module _ (p : Program) (s : Recorded) (input : List ℕ) (out : AreOutside s.hom
   gated : (number : ℕ) (regs : Regs) → LeavesBeyond s (acts.gated p number s regs input)
   gated number regs = go (nat_lt INPUT_GATE number)
     where
-      go : (b : Bool) → LeavesBeyond s (cond b (acts.event_of (acts.gate_of (guide p) number regs.pc s) input) (acts.in_state s (gate_event number s.regs regs input)))
-      go true = by_outcome (acts.gate_of (guide p) number regs.pc s) (gate s.home s.beyond out (guide p) number regs.pc s (refl, refl))
+      go : (b : Bool) → LeavesBeyond s (cond b (acts.event_of (acts.gate_of (program_tables p) number regs.pc s) input) (acts.in_state s (gate_event number s.regs regs input)))
+      go true = by_outcome (acts.gate_of (program_tables p) number regs.pc s) (gate s.home s.beyond out (program_tables p) number regs.pc s (refl, refl))
       go false = low_gate (gate_event number s.regs regs input)
 
-  settled : (regs : Regs) → slice_index regs.r SP ≤ s.home.1 → staying s.home (reg_in s SP) (slice_index regs.r SP) s.beyond ≡ s.beyond
-  settled regs l = freed_outside s.home (reg_in s SP) (slice_index regs.r SP) s.beyond l out
+  reguarded : (regs : Regs) → slice_index regs.r SP ≤ s.home.1 → staying s.home (reg_in s SP) (slice_index regs.r SP) s.beyond ≡ s.beyond
+  reguarded regs l = freed_outside s.home (reg_in s SP) (slice_index regs.r SP) s.beyond l out
 
   left : (xs : List Activation) (u : Recorded) → (u.home ≡ s.home) × (reg_in u SP ≤ s.home.1 → u.beyond ≡ s.beyond)
       → ((acts.left_by xs u).home ≡ s.home) × (reg_in (acts.left_by xs u) SP ≤ s.home.1 → (acts.left_by xs u).beyond ≡ s.beyond)
@@ -204,13 +204,13 @@ module _ (p : Program) (s : Recorded) (input : List ℕ) (out : AreOutside s.hom
 
   tested : (what : Stepped) (regs : Regs) (m : Memory) (o : Option End) → LeavesBeyond s (acts.onward p s (acts.tested p s what regs m o) input)
   tested what regs m (Some end) = (refl, refl)
-  tested Done regs m None = (refl, settled regs)
-  tested (Call target ret) regs m None = (refl, settled regs)
+  tested Done regs m None = (refl, reguarded regs)
+  tested (Call target ret) regs m None = (refl, reguarded regs)
   tested (Return to) regs m None =
-      let base = acts.settled_at p s regs (record s { regs = regs; segments = m.segments }) in
-      left base.outer base (refl, settled regs)
+      let base = acts.reguarded_at p s regs (record s { regs = regs; segments = m.segments }) in
+      left base.outer base (refl, reguarded regs)
   tested (Gate number) regs m None = gated number regs
-  tested (Trap trap) regs m None = (refl, settled regs)
+  tested (Trap trap) regs m None = (refl, reguarded regs)
 
   stepped : (o : Stepping) → LeavesBeyond s (acts.onward p s (acts.stepped p s o) input)
   stepped (Trap trap, regs, m) = go (acts.pops_back s)

@@ -13,7 +13,7 @@ use Rattle.thumb_core.specs.Step.{step_of}
 use Rattle.thumb_core.specs.declared.regs.Stepped.{Stepped}
 use Rattle.thumb_core.specs.declared.regs.Stepped.TheVariants.{Done, Call, Return, Gate, Trap}
 use Rattle.eh_gates.specs.Gates.{gate_of}
-use Rattle.two_machines.specs.Program.{Program, guide}
+use Rattle.two_machines.specs.Program.{Program, program_tables}
 use Rattle.two_machines.specs.Start.{start_of}
 use Rattle.two_machines.specs.Machine as bytes
 use Rattle.two_machines.specs.Activations.{Recorded, reg_in, memory_of, heads, bytes_of, recorded_start, lists_of}
@@ -39,10 +39,10 @@ module _ (p : Program) (s : Recorded) (c : Corresponds s) (small : reg_in s 0 < 
   at_gate : (number : ℕ) → WalksNone number → CanMatch p s (Gate number)
   at_gate number w regs input = go (nat_lt INPUT_GATE number)
     where
-      go : (b : Bool) → Matches (cond b (bytes.event_of (gate_of (guide p) number regs.pc (bytes_of s)) input) (bytes.in_state (bytes_of s) (gate_event number s.regs regs input)))
-          (cond b (acts.event_of (acts.gate_of (guide p) number regs.pc s) input) (acts.in_state s (gate_event number s.regs regs input)))
+      go : (b : Bool) → Matches (cond b (bytes.event_of (gate_of (program_tables p) number regs.pc (bytes_of s)) input) (bytes.in_state (bytes_of s) (gate_event number s.regs regs input)))
+          (cond b (acts.event_of (acts.gate_of (program_tables p) number regs.pc s) input) (acts.in_state s (gate_event number s.regs regs input)))
       go true =
-          outcome_event (gate_of (guide p) number regs.pc (bytes_of s)) (acts.gate_of (guide p) number regs.pc s) input (gates_match (guide p) number regs.pc s c small w).same
+          outcome_event (gate_of (program_tables p) number regs.pc (bytes_of s)) (acts.gate_of (program_tables p) number regs.pc s) input (gates_match (program_tables p) number regs.pc s c small w).same
       go false = in_state_alike p s (knows s c) (gate_event number s.regs regs input)
 
   can : (what : Stepped) → IsInPlace s what → CanMatch p s what

@@ -24,7 +24,7 @@ use Rattle.eh_cxa.proofs.Pools.{slot_small, object_small, all_is_map}
 use Rattle.eh_cxa.proofs.Zeros.{first_same}
 use Rattle.eh_gates.specs.Laws.{AreHeads}
 use Rattle.eh_gates.specs.declared.gates.TheConstants.{ALLOCATE_GATE, FREE_GATE, THROW_GATE, BEGIN_CATCH_GATE, END_CATCH_GATE, RETHROW_GATE, END_CLEANUP_GATE, UNEXPECTED_GATE, TERMINATE_GATE, UNCAUGHT_GATE}
-use Rattle.eh_gates.specs.State.{State, Guide, Outcome, behind}
+use Rattle.eh_gates.specs.State.{State, Tables, Outcome, at_next}
 use Rattle.eh_gates.specs.CallGates.{with_r1, allocated, freed, caught, dropped, allocate_gate, free_gate, begin_catch_gate, end_catch_gate, uncaught_gate}
 use Rattle.eh_gates.specs.Gates.{gate_of}
 use Rattle.two_machines.specs.Activations.{Recorded, reg_in, memory_of, words_in, head_of, heads, with_lists, bytes_of, lists_of, cleanups_in}
@@ -150,9 +150,9 @@ module _ (s : Recorded) (c : Corresponds s) where
   allocated_match : (next : ℕ) (r : Result ℕ CxaFault) (l : Lists) (ws : List Write) → Corresponds (with_lists l ws s) → l.cleanups ≡ cleanups_in s.cleanups → heads (lists_of s) ≡ heads l
       → GateMatches (allocated next (bytes_of s) (r, put_all ws (memory_of s))) (acts.allocated next s (with_lists l ws s) r)
   allocated_match next (Ok object) l ws k q e =
-      let one : Memory → State = λ m. record (bytes_of s) { regs = with_r0 object (behind next s.regs); memory = m } in
+      let one : Memory → State = λ m. record (bytes_of s) { regs = with_r0 object (at_next next s.regs); memory = m } in
       let two : Globals → State = λ g.
-      record { regs = with_r0 object (behind next s.regs); globals = g; memory = record (memory_of s) { segments = (put_all ws (memory_of s)).segments }; events = s.events }
+      record { regs = with_r0 object (at_next next s.regs); globals = g; memory = record (memory_of s) { segments = (put_all ws (memory_of s)).segments }; events = s.events }
       in
       record { same = ap one (alone ws) ∙ ap two (e ∙ sym (heads_same l ws s q)); still = record { map = k.map; stands = k.stands } }
   allocated_match next (Err why) l ws k q e = record { same = (refl, refl); still = c }
@@ -160,9 +160,9 @@ module _ (s : Recorded) (c : Corresponds s) where
   freed_match : (next : ℕ) (r : Result (Unit {0}) CxaFault) (l : Lists) (ws : List Write) → Corresponds (with_lists l ws s) → l.cleanups ≡ cleanups_in s.cleanups → heads (lists_of s) ≡ heads l
       → GateMatches (freed next (bytes_of s) (r, put_all ws (memory_of s))) (acts.freed next s (with_lists l ws s) r)
   freed_match next (Ok done) l ws k q e =
-      let one : Memory → State = λ m. record (bytes_of s) { regs = behind next s.regs; memory = m } in
+      let one : Memory → State = λ m. record (bytes_of s) { regs = at_next next s.regs; memory = m } in
       let two : Globals → State = λ g.
-      record { regs = behind next s.regs; globals = g; memory = record (memory_of s) { segments = (put_all ws (memory_of s)).segments }; events = s.events }
+      record { regs = at_next next s.regs; globals = g; memory = record (memory_of s) { segments = (put_all ws (memory_of s)).segments }; events = s.events }
       in
       record { same = ap one (alone ws) ∙ ap two (e ∙ sym (heads_same l ws s q)); still = record { map = k.map; stands = k.stands } }
   freed_match next (Err why) l ws k q e = record { same = (refl, refl); still = c }
@@ -171,8 +171,8 @@ module _ (s : Recorded) (c : Corresponds s) where
       → GateMatches (caught next (bytes_of s) (r, heads l, put_all ws (memory_of s))) (acts.caught next s (with_lists l ws s) r)
   caught_match next (Ok object) l ws k q = record {
     same =
-        ap (λ (m : Memory). record (bytes_of s) { regs = with_r0 object (behind next s.regs); globals = heads l; memory = m }) (alone ws)
-        ∙ ap (λ (g : Globals). record (bytes_of s) { regs = with_r0 object (behind next s.regs); globals = g; memory = memory_of (with_lists l ws s) }) (sym (heads_same l ws s q));
+        ap (λ (m : Memory). record (bytes_of s) { regs = with_r0 object (at_next next s.regs); globals = heads l; memory = m }) (alone ws)
+        ∙ ap (λ (g : Globals). record (bytes_of s) { regs = with_r0 object (at_next next s.regs); globals = g; memory = memory_of (with_lists l ws s) }) (sym (heads_same l ws s q));
     still = record { map = k.map; stands = k.stands };
   }
   caught_match next (Err why) l ws k q = record { same = (refl, refl); still = c }
@@ -181,8 +181,8 @@ module _ (s : Recorded) (c : Corresponds s) where
       → GateMatches (dropped next (bytes_of s) (r, heads l, put_all ws (memory_of s))) (acts.dropped next s (with_lists l ws s) r)
   dropped_match next (Ok (object, destructor)) l ws k q = record {
     same =
-        ap (λ (m : Memory). record (bytes_of s) { regs = with_r1 destructor (with_r0 object (behind next s.regs)); globals = heads l; memory = m }) (alone ws)
-        ∙ ap (λ (g : Globals). record (bytes_of s) { regs = with_r1 destructor (with_r0 object (behind next s.regs)); globals = g; memory = memory_of (with_lists l ws s) })
+        ap (λ (m : Memory). record (bytes_of s) { regs = with_r1 destructor (with_r0 object (at_next next s.regs)); globals = heads l; memory = m }) (alone ws)
+        ∙ ap (λ (g : Globals). record (bytes_of s) { regs = with_r1 destructor (with_r0 object (at_next next s.regs)); globals = g; memory = memory_of (with_lists l ws s) })
         (sym (heads_same l ws s q));
     still = record { map = k.map; stands = k.stands };
   }
@@ -267,7 +267,7 @@ choose : (b : Bool) (o o' : Outcome) (q q' : acts.Outcome) → (b ≡ true → G
 choose true o o' q q' h k = h refl
 choose false o o' q q' h k = k
 
-pub gates_match : (g : Guide) (number next : ℕ) (s : Recorded) → Corresponds s → reg_in s 0 < 2 ^ 32 → WalksNone number
+pub gates_match : (g : Tables) (number next : ℕ) (s : Recorded) → Corresponds s → reg_in s 0 < 2 ^ 32 → WalksNone number
     → GateMatches (gate_of g number next (bytes_of s)) (acts.gate_of g number next s)
 unfolding gate_of acts.gate_of
 gates_match g number next s c small w =

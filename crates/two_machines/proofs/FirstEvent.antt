@@ -21,12 +21,12 @@ use Rattle.thumb_core.specs.declared.regs.Stepped.{Stepped}
 use Rattle.thumb_core.specs.declared.regs.Stepped.TheVariants.{Done, Call, Return, Gate, Trap}
 use Rattle.eh_gates.specs.declared.gates.TheConstants.{ALLOCATE_GATE, FREE_GATE, THROW_GATE, BEGIN_CATCH_GATE, END_CATCH_GATE, RETHROW_GATE, END_CLEANUP_GATE, UNEXPECTED_GATE, TERMINATE_GATE, UNCAUGHT_GATE}
 use Rattle.eh_gates.specs.declared.state.Turned.TheVariants.{Went, Ended}
-use Rattle.eh_gates.specs.State.{Outcome, behind}
+use Rattle.eh_gates.specs.State.{Outcome, at_next}
 use Rattle.eh_gates.specs.CallGates.{allocated, allocate_gate, free_gate, begin_catch_gate, end_catch_gate, uncaught_gate}
 use Rattle.eh_gates.specs.Throwing.{throw_gate, rethrow_gate}
 use Rattle.eh_gates.specs.Resuming.{end_cleanup_gate}
 use Rattle.eh_gates.specs.Gates.{gate_of}
-use Rattle.two_machines.specs.Program.{Program, guide}
+use Rattle.two_machines.specs.Program.{Program, program_tables}
 use Rattle.two_machines.specs.Start.{start_of}
 use Rattle.two_machines.specs.Machine as bytes
 use Rattle.two_machines.specs.Activations.{words_in, with_lists, recorded_start}
@@ -68,7 +68,7 @@ module _ (p : Program) (next : ℕ) where
       (acts.allocated next (recorded_start p) (with_lists (allocate_in nothing 0 q).lists (allocate_at 0 r).writes (recorded_start p)) (allocate_in nothing 0 q).answer)
   allocate_by o q r eo eq er =
       rw (eo, eq, er)
-      (ap (λ (m : Memory). record (start_of p) { regs = behind next (with_r0 (object 0) (start_of p).regs); memory = m }) (segments_alone (allocate_at 0 (Some 0)).writes (start_of p).memory))
+      (ap (λ (m : Memory). record (start_of p) { regs = at_next next (with_r0 (object 0) (start_of p).regs); memory = m }) (segments_alone (allocate_at 0 (Some 0)).writes (start_of p).memory))
 
   allocate_matches : OutcomesMatch (allocate_gate next (start_of p)) (acts.allocate_gate next (recorded_start p))
   allocate_matches =
@@ -79,7 +79,7 @@ module _ (p : Program) (next : ℕ) where
   unfolding object_slot
   free_matches = (refl, refl)
 
-  throw_matches : OutcomesMatch (throw_gate (guide p) (start_of p)) (acts.throw_gate (guide p) (recorded_start p))
+  throw_matches : OutcomesMatch (throw_gate (program_tables p) (start_of p)) (acts.throw_gate (program_tables p) (recorded_start p))
   unfolding object_slot
   throw_matches = (refl, refl)
 
@@ -91,18 +91,18 @@ module _ (p : Program) (next : ℕ) where
   unfolding block_slot
   end_matches = (refl, refl)
 
-  rethrow_matches : OutcomesMatch (rethrow_gate (guide p) (start_of p)) (acts.rethrow_gate (guide p) (recorded_start p))
+  rethrow_matches : OutcomesMatch (rethrow_gate (program_tables p) (start_of p)) (acts.rethrow_gate (program_tables p) (recorded_start p))
   unfolding block_slot
   rethrow_matches = (refl, refl)
 
-  resume_matches : OutcomesMatch (end_cleanup_gate (guide p) (start_of p)) (acts.end_cleanup_gate (guide p) (recorded_start p))
+  resume_matches : OutcomesMatch (end_cleanup_gate (program_tables p) (start_of p)) (acts.end_cleanup_gate (program_tables p) (recorded_start p))
   unfolding block_slot
   resume_matches = (refl, refl)
 
   uncaught_matches : OutcomesMatch (uncaught_gate next (start_of p)) (acts.uncaught_gate next (recorded_start p))
   uncaught_matches = refl
 
-  gates_match : (number : ℕ) → OutcomesMatch (gate_of (guide p) number next (start_of p)) (acts.gate_of (guide p) number next (recorded_start p))
+  gates_match : (number : ℕ) → OutcomesMatch (gate_of (program_tables p) number next (start_of p)) (acts.gate_of (program_tables p) number next (recorded_start p))
   unfolding gate_of acts.gate_of
   gates_match number =
       both (number == ALLOCATE_GATE) _ _ _ _ allocate_matches (both (number == FREE_GATE) _ _ _ _ free_matches (both (number == THROW_GATE) _ _ _ _ throw_matches (
@@ -120,9 +120,9 @@ module _ (p : Program) where
   at_gate : (number : ℕ) → CanMatch p (recorded_start p) (Gate number)
   at_gate number regs input = go (nat_lt INPUT_GATE number)
     where
-      go : (c : Bool) → Matches (cond c (bytes.event_of (gate_of (guide p) number regs.pc (start_of p)) input) (bytes.in_state (start_of p) (gate_event number (start_of p).regs regs input)))
-          (cond c (acts.event_of (acts.gate_of (guide p) number regs.pc (recorded_start p)) input) (acts.in_state (recorded_start p) (gate_event number (start_of p).regs regs input)))
-      go true = outcome_event (gate_of (guide p) number regs.pc (start_of p)) (acts.gate_of (guide p) number regs.pc (recorded_start p)) input (gates_match p regs.pc number)
+      go : (c : Bool) → Matches (cond c (bytes.event_of (gate_of (program_tables p) number regs.pc (start_of p)) input) (bytes.in_state (start_of p) (gate_event number (start_of p).regs regs input)))
+          (cond c (acts.event_of (acts.gate_of (program_tables p) number regs.pc (recorded_start p)) input) (acts.in_state (recorded_start p) (gate_event number (start_of p).regs regs input)))
+      go true = outcome_event (gate_of (program_tables p) number regs.pc (start_of p)) (acts.gate_of (program_tables p) number regs.pc (recorded_start p)) input (gates_match p regs.pc number)
       go false = in_state_alike p (recorded_start p) (start_knows p) (gate_event number (start_of p).regs regs input)
 
   can_match : (what : Stepped) → IsNoReturn (recorded_start p) what → CanMatch p (recorded_start p) what

@@ -12,7 +12,7 @@ use Rattle.eh_bus.specs.declared.fault.BusFault.TheVariants.{Unmapped, Unaligned
 use Rattle.eh_bus.specs.declared.map.TheConstants.{STACK_END}
 use Rattle.guest_gates.specs.declared.gates.TheConstants.{NO_CALLER}
 use Rattle.image_memory.specs.Start.{start_regs}
-use Rattle.thumb_core.specs.Laws.{AreWords, Leaves, Returned, Stands}
+use Rattle.thumb_core.specs.Laws.{AreWords, Leaves, Returned, PcStands}
 use Rattle.thumb_core.specs.Lists.{bytes_of, load_list}
 use Rattle.thumb_core.specs.Words.{listed, numbers, loads_from, load_words}
 use Rattle.thumb_core.specs.Outcome.{Outcome as Stepping}
@@ -161,7 +161,7 @@ module _ (p : Program) (map : IsMap (start_of p).memory) (to : ℕ) (regs : Regs
       (step_acts (start_of p).regs (start_of p).memory (record { count = words.count; words = words.small })).leaves
 
   odd : to % 2 ≡ 1
-  odd = (subst (λ (o : Stepping). Stands o.0 o.1) e ((step_follows (start_of p).regs (start_of p).memory).stands refl)).1
+  odd = (subst (λ (o : Stepping). PcStands o.0 o.1) e ((step_follows (start_of p).regs (start_of p).memory).stands refl)).1
 
   by_register : (k : ℕ) → is_some (instr_at (start_of p).memory (start_of p).regs.pc) ≡ true → to ≡ operand (start_of p).regs k % 2 ^ 32 → to ≡ NO_CALLER
   by_register k at is = go (k == PC) refl is

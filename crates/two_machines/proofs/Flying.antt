@@ -29,7 +29,7 @@ use Rattle.eh_trace.specs.declared.event.Event.{Event}
 use Rattle.eh_trace.specs.declared.event.EventKind.{EventKind}
 use Rattle.thumb_core.specs.declared.ends.TrapKind.TheVariants as trap
 use Rattle.thumb_core.specs.declared.ends.End.TheVariants as the_end
-use Rattle.eh_gates.specs.State.{State, Guide, Outcome, logged}
+use Rattle.eh_gates.specs.State.{State, Tables, Outcome, logged}
 use Rattle.eh_gates.specs.Landing.{entered}
 use Rattle.eh_gates.specs.Throwing as bytes
 use Rattle.eh_gates.specs.Throwing.{handed, barrier_words, throw_event, barrier_in, from_barrier}
@@ -57,11 +57,11 @@ pub record HasFlown (s : Recorded) (slot : ℕ) (writes : List Write) (flown : L
   pub idle : Has (slots flown.cleanups) slot → ⊥
   pub in_pool : (more : List Write) → AreInPool more → AreInPool (writes ++ more)
 
--- the same over bytes, behind the event of the throw
+-- the same over bytes, after the event of the throw
 abbrev pub flown_bytes : Recorded → List Write → Lists → Event → State
 flown_bytes s writes flown e = record { regs = s.regs; globals = heads flown; memory = put_all writes (memory_of s); events = pushed s.events e }
 
-module _ (g : Guide) (s : Recorded) (c : Corresponds s) where
+module _ (g : Tables) (s : Recorded) (c : Corresponds s) where
   -- ---- to its barrier
 
   module _ (slot : ℕ) (writes : List Write) (flown : Lists) (flight : HasFlown s slot writes flown) (events : Trace) (site : ℕ) (alike : AdvancesAlike g s site) (b : Barrier)
@@ -69,35 +69,35 @@ module _ (g : Guide) (s : Recorded) (c : Corresponds s) where
     abbrev barred : List Write
     barred = set_barrier_of (block_slot (block slot)) (barrier_words (block slot) b)
 
-    abbrev behind : Recorded
-    behind = with_words barred (with_lists flown writes (record s { events = events }))
+    abbrev following : Recorded
+    following = with_words barred (with_lists flown writes (record s { events = events }))
 
     abbrev middle : Memory
     middle = put_all writes (memory_of s)
 
-    memory_is : put_all barred middle ≡ memory_of behind
+    memory_is : put_all barred middle ≡ memory_of following
     memory_is =
         ap (put_all barred) (segments_alone writes (memory_of s)) ∙ segments_alone barred (record (memory_of s) { segments = middle.segments })
 
-    flown_is : lists_of behind ≡ flown
+    flown_is : lists_of following ≡ flown
     flown_is = lists_are flown writes s flight.cleanups
 
-    corresponds : Corresponds behind
+    corresponds : Corresponds following
     corresponds = record {
       map = subst (λ (m : Memory). IsMap m) memory_is (all_is_map barred middle (all_is_map writes (memory_of s) c.map));
-      stands = subst (λ (l : Lists). Stands (word (memory_of behind)) (heads l) l) (sym flown_is) (subst (λ (m : Memory). Stands (word m) (heads flown) flown) memory_is
+      stands = subst (λ (l : Lists). Stands (word (memory_of following)) (heads l) l) (sym flown_is) (subst (λ (m : Memory). Stands (word m) (heads flown) flown) memory_is
           (barrier_meets middle (put_all barred middle) (block slot) (barrier_words (block slot) b) (all_is_map writes (memory_of s) c.map)
           (record { sp = can.sp; object = can.object; desc = can.desc; pointer = can.pointer }) refl (heads flown) flown flight.stands));
     }
 
-    in_flight : IsInFlight behind slot
+    in_flight : IsInFlight following slot
     in_flight = record { small = flight.small; flies = flight.flies; idle = λ h. flight.idle (subst (λ (cs : List Cleanup). Has (slots cs) slot) (sym flight.cleanups) h) }
 
     abbrev goes : Entered
     goes = phase2 (goal_of b) 0 (machine.frames_from g s None site)
 
-    landed_match : GateMatches (entered (bytes_of behind) (block slot) (handed (block slot) b.hit) goes) (machine.entered behind (can.first ∷ can.more) (block slot) (handed (block slot) b.hit) goes)
-    landed_match = landings_match behind can.cut can.first can.more slot (handed (block slot) b.hit) goes corresponds in_flight can.all can.lands
+    landed_match : GateMatches (entered (bytes_of following) (block slot) (handed (block slot) b.hit) goes) (machine.entered following (can.first ∷ can.more) (block slot) (handed (block slot) b.hit) goes)
+    landed_match = landings_match following can.cut can.first can.more slot (handed (block slot) b.hit) goes corresponds in_flight can.all can.lands
 
     barred_in : AreInPool barred
     barred_in =
@@ -108,7 +108,7 @@ module _ (g : Guide) (s : Recorded) (c : Corresponds s) where
     abbrev after : Memory → State
     after m = record { regs = s.regs; globals = heads flown; memory = m; events = events }
 
-    bytes_same : bytes.throw_to g (after middle) site (block slot) b ≡ entered (bytes_of behind) (block slot) (handed (block slot) b.hit) goes
+    bytes_same : bytes.throw_to g (after middle) site (block slot) b ≡ entered (bytes_of following) (block slot) (handed (block slot) b.hit) goes
     unfolding bytes.throw_to
     bytes_same =
         let one = are_one (bytes.frames_from g (after (put_all barred middle)) None site) (machine.frames_from g s None site)
@@ -116,17 +116,17 @@ module _ (g : Guide) (s : Recorded) (c : Corresponds s) where
         (alike (writes ++ barred) (flight.in_pool barred barred_in))) in
         one.bytes (goal_of b) 0 (after (put_all barred middle)) (block slot) (handed (block slot) b.hit)
         ∙ ap (λ (m : Memory). entered (after m) (block slot) (handed (block slot) b.hit) goes) memory_is
-        ∙ ap (λ (k : Globals). entered (record { regs = s.regs; globals = k; memory = memory_of behind; events = events }) (block slot) (handed (block slot) b.hit) goes)
+        ∙ ap (λ (k : Globals). entered (record { regs = s.regs; globals = k; memory = memory_of following; events = events }) (block slot) (handed (block slot) b.hit) goes)
         (sym (ap heads flown_is))
 
-    recorded_same : machine.throw_to g site (block slot) b (with_lists flown writes (record s { events = events })) ≡ machine.entered behind (can.first ∷ can.more) (block slot) (handed (block slot) b.hit) goes
+    recorded_same : machine.throw_to g site (block slot) b (with_lists flown writes (record s { events = events })) ≡ machine.entered following (can.first ∷ can.more) (block slot) (handed (block slot) b.hit) goes
     unfolding machine.throw_to
-    recorded_same = ap (λ (acts : List Activation). machine.entered behind acts (block slot) (handed (block slot) b.hit) goes) can.passed
+    recorded_same = ap (λ (acts : List Activation). machine.entered following acts (block slot) (handed (block slot) b.hit) goes) can.passed
 
     thrown_match : GateMatches (bytes.throw_to g (after middle) site (block slot) b) (machine.throw_to g site (block slot) b (with_lists flown writes (record s { events = events })))
     thrown_match =
         subst (λ (o : Outcome). GateMatches o (machine.throw_to g site (block slot) b (with_lists flown writes (record s { events = events })))) (sym bytes_same)
-        (subst (λ (q : machine.Outcome). GateMatches (entered (bytes_of behind) (block slot) (handed (block slot) b.hit) goes) q) (sym recorded_same) landed_match)
+        (subst (λ (q : machine.Outcome). GateMatches (entered (bytes_of following) (block slot) (handed (block slot) b.hit) goes) q) (sym recorded_same) landed_match)
 
     -- .. however it was said
     pub flies_match : (o : Outcome) (t : Recorded) → o ≡ bytes.throw_to g (after middle) site (block slot) b → t ≡ with_lists flown writes (record s { events = events })
@@ -137,7 +137,7 @@ module _ (g : Guide) (s : Recorded) (c : Corresponds s) where
 
 -- ---- the search before it
 
-module _ (g : Guide) (s : Recorded) (c : Corresponds s) (sees : SeesAlike g s) where
+module _ (g : Tables) (s : Recorded) (c : Corresponds s) (sees : SeesAlike g s) where
   module _ (what : EventKind) (thrown : Thrown) (on_bytes : Barrier → State → Outcome) (on_lists : Barrier → Recorded → machine.Outcome)
       (same_size : size_at (word (memory_of s)) (object_slot thrown.object) ≡ machine.size_of (lists_of s) (object_slot thrown.object))
       (flies : (e : Event) (b : Barrier) → machine.searched g s thrown ≡ found.Barrier b → GateMatches (on_bytes b (logged (bytes_of s) e)) (on_lists b (machine.logged s e))) where

@@ -44,7 +44,7 @@ module _ (image : Image) where
   abbrev at : Frames → ℕ → List ℕ → Frames
   at further site r = framed_at further site r (covered_at image site)
 
-  -- ---- behind the activation of a cleanup
+  -- ---- after the activation of a cleanup
 
   cleanup_step : (n k : ℕ) (further : Frames) (site : ℕ) (r sites : List ℕ) → n ≤ k → (AllUnwind image (take (k - n) sites) → Ends further (k - n) LeavesCleanup)
       → AllUnwind image (take (suc k - n) (site ∷ sites)) → Ends (at further site r) (suc k - n) LeavesCleanup
@@ -65,7 +65,7 @@ module _ (image : Image) where
           let below : n ≤ length more = grind (arith, nat_tests) in
           cleanup_step n (length more) (outside image (Some n) a.caller more) (site_of (registers_of c)) (registers_of c) (recorded_sites a.caller more) below (i below) all
 
-  -- ---- behind the outermost
+  -- ---- after the outermost
 
   outermost : (c : Caller) (outer : List Activation) → AllUnwind image (recorded_sites c outer) → Ends (outside image None c outer) (length outer) NoHandler
   outermost c [] all = (refl, refl)

@@ -23,13 +23,13 @@ use Rattle.thumb_core.specs.declared.regs.Stepped.TheVariants.{Done, Call, Retur
 use Rattle.thumb_core.specs.declared.ends.End.{End}
 use Rattle.two_machines.specs.Program.{Program}
 use Rattle.two_machines.specs.Activations.{Caller, Activation, Recorded, memory_of, callee, registers_of, ends_at, where_unwound, framed_at, outside}
-use Rattle.two_machines.specs.ActivationMachine.{returned, tested, tests, moved, checked, passed, stepped, pops_back, trapped_by, onward, recorded_event, left_by, settled_at}
-use Rattle.two_machines.specs.ActivationLaws.{IsBack, IsWhole, IsReturn, AreWhole, ReturnsGiveBack, place_of, recorded_places, FramesAreActivations}
+use Rattle.two_machines.specs.ActivationMachine.{returned, tested, tests, moved, checked, passed, stepped, pops_back, trapped_by, onward, recorded_event, left_by, reguarded_at}
+use Rattle.two_machines.specs.ActivationLaws.{IsBack, IsWhole, IsReturn, AreWhole, ReturnsGiveBack, site_and_sp, recorded_places, FramesAreActivations}
 
 -- ---- registers that a caller left
 
-sp_behind : (xs : List ℕ) (a sp : ℕ) (more : List ℕ) → length xs ≡ 8 → slice_index (xs ++ (a ∷ sp ∷ more)) 9 ≡ sp
-sp_behind xs a sp more h = ap (λ (n : ℕ). slice_index (xs ++ (a ∷ sp ∷ more)) (n + 1)) (sym h) ∙ get_or-append-add xs (a ∷ sp ∷ more) 1 0
+sp_after : (xs : List ℕ) (a sp : ℕ) (more : List ℕ) → length xs ≡ 8 → slice_index (xs ++ (a ∷ sp ∷ more)) 9 ≡ sp
+sp_after xs a sp more h = ap (λ (n : ℕ). slice_index (xs ++ (a ∷ sp ∷ more)) (n + 1)) (sym h) ∙ get_or-append-add xs (a ∷ sp ∷ more) 1 0
 
 saved_are : (xs ys : List ℕ) → length xs ≡ 8 → take 8 (xs ++ ys) ≡ xs
 saved_are xs ys h = ap (λ (n : ℕ). take n (xs ++ ys)) (sym h) ∙ take-append_seam xs ys
@@ -43,7 +43,7 @@ left_regs (a ∷ more) s = refl
 is_back : (c : Caller) (t : Recorded) (regs : Regs) → length c.saved ≡ 8 → t.regs ≡ returned c regs → IsBack c t
 is_back c t regs h e = record {
   pc = ap (λ (r : Regs). r.pc) e;
-  sp = ap (λ (r : Regs). slice_index r.r SP) e ∙ sp_behind c.saved _ c.sp _ h;
+  sp = ap (λ (r : Regs). slice_index r.r SP) e ∙ sp_after c.saved _ c.sp _ h;
   saved = ap (λ (r : Regs). callee r.r) e ∙ saved_are c.saved _ h;
 }
 
@@ -54,7 +54,7 @@ module _ (p : Program) (s t : Recorded) (input text left : List ℕ) (whole : Is
       let after : Regs = returned s.first.caller regs in
       let goes : ◌≡◌ {A = Event Recorded End} (Goes (moved p s (Return to) after m) [] input) (Goes t text left) = e in
       let state : moved p s (Return to) after m ≡ t = cc in
-      let base = settled_at p s after (record s { regs = after; segments = m.segments }) in
+      let base = reguarded_at p s after (record s { regs = after; segments = m.segments }) in
       is_back s.first.caller t regs whole (ap (λ (x : Recorded). x.regs) (sym state) ∙ left_regs base.outer base)
 
   from_trap : (trap : CoreTrap) (o : Option Regs) → IsSome o → onward p s (trapped_by p s trap o) input ≡ Goes t text left → IsBack s.first.caller t
@@ -79,7 +79,7 @@ gives_back p s t input text left h e whole = from_check p s t input text left wh
 -- ---- the frames of a throw
 
 abbrev Firsts : Frames → List (ℕ × ℕ) → Type 0
-Firsts fs all = map place_of fs.frames ≡ take (length fs.frames) all
+Firsts fs all = map site_and_sp fs.frames ≡ take (length fs.frames) all
 
 framed_firsts : (further : Frames) (site : ℕ) (r : List ℕ) (c : Option Covered) (all : List (ℕ × ℕ)) → Firsts further all
     → Firsts (framed_at further site r c) ((site, slice_index r SP) ∷ all)
@@ -103,7 +103,7 @@ outside_firsts image place c (a ∷ more) h w = go (ends_at place (length (a ∷
     go true i = refl
     go false i =
         subst (λ (sp : ℕ). Firsts (framed_at (outside image place a.caller more) (site_of (registers_of c)) (registers_of c) (covered_at image (site_of (registers_of c)))) ((site_of (registers_of c), sp) ∷ recorded_places a.caller more))
-        (sp_behind c.saved 0 c.sp (0 ∷ c.back ∷ []) h)
+        (sp_after c.saved 0 c.sp (0 ∷ c.back ∷ []) h)
         (framed_firsts (outside image place a.caller more) (site_of (registers_of c)) (registers_of c) (covered_at image (site_of (registers_of c))) (recorded_places a.caller more) i)
 
 pub frames_are : FramesAreActivations

@@ -19,9 +19,9 @@ use Rattle.thumb_core.specs.declared.regs.Regs.{Regs}
 use Rattle.thumb_core.specs.declared.regs.Stepped.{Stepped}
 use Rattle.thumb_core.specs.declared.regs.Stepped.TheVariants.{Done, Call, Return, Gate, Trap}
 use Rattle.thumb_core.specs.declared.ends.End.{End}
-use Rattle.two_machines.specs.Program.{Program, guide}
+use Rattle.two_machines.specs.Program.{Program, program_tables}
 use Rattle.two_machines.specs.Activations.{Activation, Recorded, memory_of, heads, lists_of}
-use Rattle.two_machines.specs.ActivationMachine.{left_by, settled_at, moved, tested, tests, stepped, checked, passed, onward, gated, in_state, event_of, gate_of, registers_behind, returned, pops_back, trapped_by, recorded_event}
+use Rattle.two_machines.specs.ActivationMachine.{left_by, reguarded_at, moved, tested, tests, stepped, checked, passed, onward, gated, in_state, event_of, gate_of, registers_after, returned, pops_back, trapped_by, recorded_event}
 use Rattle.two_machines.specs.Corresponds.{IsNoCall, KeepLists, ListsAreKept}
 
 keeps_same : (m : Memory) → KeepsMap m m
@@ -76,7 +76,7 @@ module _ (s : Recorded) (x : Stands (word (memory_of s)) (heads (lists_of s)) (l
     by_number : (number : ℕ) (regs : Regs) → number ≤ INPUT_GATE → KeptBy (gated p number s regs input)
     by_number number regs h = go (nat_lt INPUT_GATE number) (le-ltb INPUT_GATE number h)
       where
-        go : (b : Bool) → b ≡ false → KeptBy (cond b (event_of (gate_of (guide p) number regs.pc s) input) (in_state s (gate_event number s.regs regs input)))
+        go : (b : Bool) → b ≡ false → KeptBy (cond b (event_of (gate_of (program_tables p) number regs.pc s) input) (in_state s (gate_event number s.regs regs input)))
         go true e = absurd (cc)
         go false e = by_gate (gate_event number s.regs regs input)
 
@@ -85,7 +85,7 @@ module _ (s : Recorded) (x : Stands (word (memory_of s)) (heads (lists_of s)) (l
     by_test Done h regs m k None = kept (moved p s Done regs m) m k refl refl refl
     by_test (Call target ret) h regs m k None = kept (moved p s (Call target ret) regs m) m k refl refl refl
     by_test (Return to) h regs m k None =
-        let base = settled_at p s regs (record s { regs = regs; segments = m.segments }) in
+        let base = reguarded_at p s regs (record s { regs = regs; segments = m.segments }) in
         by_left base.outer base m k refl refl refl
     by_test (Gate number) h regs m k None = by_number number regs h
     by_test (Trap trap) h regs m k None = kept (moved p s (Trap trap) regs m) m k refl refl refl
@@ -100,7 +100,7 @@ module _ (s : Recorded) (x : Stands (word (memory_of s)) (heads (lists_of s)) (l
     by_step (Done, regs, m) h k = by_test Done h regs m k (tests p s Done regs)
     by_step (Call target ret, regs, m) h k = by_test (Call target ret) h regs m k (tests p s (Call target ret) regs)
     by_step (Return to, regs, m) h k =
-        by_test (Return to) h (registers_behind s.first.caller (Return to) regs) m k (tests p s (Return to) (registers_behind s.first.caller (Return to) regs))
+        by_test (Return to) h (registers_after s.first.caller (Return to) regs) m k (tests p s (Return to) (registers_after s.first.caller (Return to) regs))
     by_step (Gate number, regs, m) h k = by_test (Gate number) h regs m k (tests p s (Gate number) regs)
 
     by_check : (b : Bool) → IsNoCall (step_of s.regs (memory_of s)).0 → KeptBy (onward p s (checked p s b) input)

@@ -53,7 +53,7 @@ slots_released home sp beyond (a ∷ more) =
     ∙ sym (filter-append (stays_guarded home sp) a.slots (guarded_of beyond more))
 
 module _ (s : Recorded) (c : Corresponds s) (cut : List Activation) (a : Activation) (more : List Activation) (all : s.first ∷ s.outer ≡ cut ++ a ∷ more) where
-  -- the guards behind a landing are the slots of what it leaves, and the words beyond that stay
+  -- the guards after a landing are the slots of what it leaves, and the words beyond that stay
   abbrev left_slots : ℕ → List ℕ
   left_slots sp = guarded_of (filter (stays_guarded s.home sp) s.beyond) (map (λ (b : Activation). released_in s.home sp b) (a ∷ more))
 
@@ -70,7 +70,7 @@ module _ (s : Recorded) (c : Corresponds s) (cut : List Activation) (a : Activat
       ∙ sym (slots_released s.home sp s.beyond (a ∷ more))
       )
 
-  -- the memory behind a landing, with words written before it
+  -- the memory after a landing, with words written before it
   abbrev left_memory : List Write → ℕ → Memory
   left_memory ws sp = record {
     segments = (put_all ws (memory_of s)).segments;
@@ -183,7 +183,7 @@ module _ (s : Recorded) (c : Corresponds s) (cut : List Activation) (a : Activat
     handler_match : (r : List ℕ) (pad : ℕ) (e : Event) → AreBelow s cut (slice_index r SP)
         → (enter_handler (bytes_of s) (block slot) r pad e ≡ bytes_of (acts.enter_handler s (a ∷ more) (block slot) r pad e)) × Corresponds (acts.enter_handler s (a ∷ more) (block slot) r pad e)
     handler_match r pad e below =
-        let behind : Memory → State = λ m. record {
+        let after : Memory → State = λ m. record {
           regs = landed s.regs r pad (block slot);
           globals = heads (lists_of s);
           memory = m;
@@ -196,7 +196,7 @@ module _ (s : Recorded) (c : Corresponds s) (cut : List Activation) (a : Activat
           events = pushed s.events e;
         } in
         let same =
-        ap (λ (ws : List Write). behind (released (put_all ws (memory_of s)) (slice_index r SP))) same_land ∙ ap behind (memory_left land_writes (slice_index r SP) below) ∙ ap two (sym land_heads ∙ sym (ap heads land_is)) in
+        ap (λ (ws : List Write). after (released (put_all ws (memory_of s)) (slice_index r SP))) same_land ∙ ap after (memory_left land_writes (slice_index r SP) below) ∙ ap two (sym land_heads ∙ sym (ap heads land_is)) in
         subst (λ (o : Option ℕ).
         (enter_handler (bytes_of s) (block slot) r pad e ≡ bytes_of (acts.logged (acts.at_pad (acts.flown s o) (a ∷ more) r pad (block slot)) e))
         × Corresponds (acts.logged (acts.at_pad (acts.flown s o) (a ∷ more) r pad (block slot)) e)) (sym is_slot) (

@@ -15,7 +15,7 @@ use Rattle.eh_gates.specs.State.{State, Outcome}
 use Rattle.eh_gates.specs.Gates.{gate_of}
 use Rattle.eh_gates.specs.Laws.{IsLeft}
 use Rattle.eh_gates.proofs.Leaving.{Leaves, gate_left}
-use Rattle.two_machines.specs.Program.{Program, guide}
+use Rattle.two_machines.specs.Program.{Program, program_tables}
 use Rattle.two_machines.specs.Machine.{Passed, tests, tested, stepped, checked, passed, event_of, in_state, gated, acted, onward, machine_event}
 
 abbrev pub EventLeaves : State → Event State End → Type 0
@@ -64,7 +64,7 @@ plain_left s number regs input =
 
 gated_left : (p : Program) (number : ℕ) (s : State) (regs : Regs) (input : List ℕ) → EventLeaves s (gated p number s regs input)
 gated_left p number s regs input =
-    either (EventLeaves s) (nat_lt INPUT_GATE number) _ _ (outcome_left s (gate_of (guide p) number regs.pc s) input (gate_left (guide p) number regs.pc s))
+    either (EventLeaves s) (nat_lt INPUT_GATE number) _ _ (outcome_left s (gate_of (program_tables p) number regs.pc s) input (gate_left (program_tables p) number regs.pc s))
     (plain_left s number regs input)
 
 acted_left : (p : Program) (s : State) (what : Stepped) (t : State) (input : List ℕ) → EventLeaves s (acted p s what t input)

@@ -19,7 +19,7 @@ use Rattle.thumb_core.specs.declared.regs.Stepped.TheVariants.{Done, Call, Retur
 use Rattle.thumb_core.specs.declared.ends.End.{End}
 use Rattle.eh_gates.specs.State.{State}
 use Rattle.eh_gates.specs.Gates.{gate_of}
-use Rattle.two_machines.specs.Program.{Program, guide}
+use Rattle.two_machines.specs.Program.{Program, program_tables}
 use Rattle.two_machines.specs.Start.{start_of}
 use Rattle.two_machines.specs.Machine as bytes
 use Rattle.two_machines.specs.Activations.{Recorded, memory_of, bytes_of, recorded_start}
@@ -50,37 +50,37 @@ same_memory s m k =
     ap one k.guards ∙ ap two k.home
 
 module _ (p : Program) (s : Recorded) (knows : KnowsLanding s) where
-  pub settles : (regs : Regs) (m : Memory) → KeepsMap (memory_of s) m
-      → record (bytes_of s) { regs = regs; memory = bytes.settled_at p (bytes_of s) regs m } ≡ bytes_of (acts.settled_at p s regs (record s { regs = regs; segments = m.segments }))
-  settles regs m k =
+  pub reguards : (regs : Regs) (m : Memory) → KeepsMap (memory_of s) m
+      → record (bytes_of s) { regs = regs; memory = bytes.reguarded_at p (bytes_of s) regs m } ≡ bytes_of (acts.reguarded_at p s regs (record s { regs = regs; segments = m.segments }))
+  reguards regs m k =
       let saves = (p.look s.regs.pc).saves in
       let count = pushes_some (instr_at (memory_of s) s.regs.pc) in
       let old = slice_index s.regs.r SP in
       let new = slice_index regs.r SP in
       let one : Memory → State = λ n. record (bytes_of s) { regs = regs; memory = n } in
-      ap one (ap (bytes.settled saves count old new) (same_memory s m k) ∙ same_slots s.home m.segments saves count old new s.first s.outer s.beyond)
+      ap one (ap (bytes.reguarded saves count old new) (same_memory s m k) ∙ same_slots s.home m.segments saves count old new s.first s.outer s.beyond)
 
   module _ (regs : Regs) (m : Memory) (k : KeepsMap (memory_of s) m) where
     tests_done : bytes.tests p (bytes_of s) Done regs ≡ acts.tests p s Done regs
-    tests_done = ap (λ (l : Option ℕ). option_or (bytes.sp_end l s.home.0 s.regs.pc (slice_index s.regs.r SP) (slice_index regs.r SP)) (bytes.way_end p (branches_some (instr_at (memory_of s) s.regs.pc) s.regs) s.regs.pc Done regs)) knows
+    tests_done = ap (λ (l : Option ℕ). option_or (bytes.sp_end l s.home.0 s.regs.pc (slice_index s.regs.r SP) (slice_index regs.r SP)) (bytes.control_flow_trap p (branches_some (instr_at (memory_of s) s.regs.pc) s.regs) s.regs.pc Done regs)) knows
 
     tests_call : (target ret : ℕ) → bytes.tests p (bytes_of s) (Call target ret) regs ≡ acts.tests p s (Call target ret) regs
-    tests_call target ret = ap (λ (l : Option ℕ). option_or (bytes.sp_end l s.home.0 s.regs.pc (slice_index s.regs.r SP) (slice_index regs.r SP)) (bytes.way_end p (branches_some (instr_at (memory_of s) s.regs.pc) s.regs) s.regs.pc (Call target ret) regs)) knows
+    tests_call target ret = ap (λ (l : Option ℕ). option_or (bytes.sp_end l s.home.0 s.regs.pc (slice_index s.regs.r SP) (slice_index regs.r SP)) (bytes.control_flow_trap p (branches_some (instr_at (memory_of s) s.regs.pc) s.regs) s.regs.pc (Call target ret) regs)) knows
 
     tests_gate : (number : ℕ) → bytes.tests p (bytes_of s) (Gate number) regs ≡ acts.tests p s (Gate number) regs
-    tests_gate number = ap (λ (l : Option ℕ). option_or (bytes.sp_end l s.home.0 s.regs.pc (slice_index s.regs.r SP) (slice_index regs.r SP)) (bytes.way_end p (branches_some (instr_at (memory_of s) s.regs.pc) s.regs) s.regs.pc (Gate number) regs)) knows
+    tests_gate number = ap (λ (l : Option ℕ). option_or (bytes.sp_end l s.home.0 s.regs.pc (slice_index s.regs.r SP) (slice_index regs.r SP)) (bytes.control_flow_trap p (branches_some (instr_at (memory_of s) s.regs.pc) s.regs) s.regs.pc (Gate number) regs)) knows
 
     done_alike : (o : Option End) → Alike p s (bytes.tested p (bytes_of s) Done regs m o) (acts.tested p s Done regs m o)
     done_alike (Some end) = (refl, refl)
-    done_alike None = (refl, settles regs m k, tt)
+    done_alike None = (refl, reguards regs m k, tt)
 
     call_alike : (target ret : ℕ) (o : Option End) → Alike p s (bytes.tested p (bytes_of s) (Call target ret) regs m o) (acts.tested p s (Call target ret) regs m o)
     call_alike target ret (Some end) = (refl, refl)
-    call_alike target ret None = (refl, settles regs m k, tt)
+    call_alike target ret None = (refl, reguards regs m k, tt)
 
     gate_alike : (number : ℕ) → CanMatch p s (Gate number) → (o : Option End) → Alike p s (bytes.tested p (bytes_of s) (Gate number) regs m o) (acts.tested p s (Gate number) regs m o)
     gate_alike number h (Some end) = (refl, refl)
-    gate_alike number h None = (refl, settles regs m k, h)
+    gate_alike number h None = (refl, reguards regs m k, h)
 
   stepped_alike : (o : Stepping) → KeepsMap (memory_of s) o.2 → CanMatch p s o.0 → Alike p s (bytes.stepped p (bytes_of s) o) (acts.stepped p s o)
   stepped_alike (Trap trap, regs, m) k h =
@@ -113,8 +113,8 @@ module _ (p : Program) (s : Recorded) (knows : KnowsLanding s) where
   gated_alike number regs input h = go (nat_lt INPUT_GATE number) (le-ltb INPUT_GATE number h)
     where
       go : (b : Bool) → b ≡ false
-          → Matches (cond b (bytes.event_of (gate_of (guide p) number regs.pc (bytes_of s)) input) (bytes.in_state (bytes_of s) (gate_event number s.regs regs input)))
-          (cond b (acts.event_of (acts.gate_of (guide p) number regs.pc s) input) (acts.in_state s (gate_event number s.regs regs input)))
+          → Matches (cond b (bytes.event_of (gate_of (program_tables p) number regs.pc (bytes_of s)) input) (bytes.in_state (bytes_of s) (gate_event number s.regs regs input)))
+          (cond b (acts.event_of (acts.gate_of (program_tables p) number regs.pc s) input) (acts.in_state s (gate_event number s.regs regs input)))
       go true e = absurd (cc)
       go false e = in_state_alike (gate_event number s.regs regs input)
 

@@ -31,7 +31,7 @@ use Rattle.thumb_core.specs.declared.ends.TrapKind.TheVariants as kind
 use Rattle.thumb_core.specs.declared.ends.End.{End}
 use Rattle.thumb_core.specs.declared.ends.End.TheVariants as the_end
 use Rattle.eh_gates.specs.declared.state.Turned.TheVariants.{Ended}
-use Rattle.eh_gates.specs.State.{Guide}
+use Rattle.eh_gates.specs.State.{Tables}
 use Rattle.eh_gates.specs.Throwing.{barrier_in, throw_event}
 use Rattle.eh_gates.specs.Resuming.{goal_in}
 use Rattle.two_machines.specs.Activations.{Caller, Activation, InProgress, Recorded, registers_of, memory_of, ends_at, where_unwound, framed_at, outside, frames_at, released_in, lists_of}
@@ -42,14 +42,14 @@ use Rattle.two_machines.specs.RecordedGates.{EndsAlone, FailedSearchesAddTheirEv
 
 -- ---- a throw that finds no barrier
 
-module _ (g : Guide) (s : Recorded) (what : EventKind) (thrown : Thrown) (why : End) (holds : is_some (row_of g.types thrown.ty) ≡ true) (none : barrier_in s.regs.pc (searched g s thrown) ≡ Err why) where
-  abbrev behind : Recorded
-  behind = logged s (throw_event what (memory_of s) thrown (size_of (lists_of s) (object_slot thrown.object)))
+module _ (g : Tables) (s : Recorded) (what : EventKind) (thrown : Thrown) (why : End) (holds : is_some (row_of g.types thrown.ty) ≡ true) (none : barrier_in s.regs.pc (searched g s thrown) ≡ Err why) where
+  abbrev after : Recorded
+  after = logged s (throw_event what (memory_of s) thrown (size_of (lists_of s) (object_slot thrown.object)))
 
-  found_none : ◌≡◌ {A = Result Barrier End × Recorded} (sought g s what thrown) (Err why, behind)
+  found_none : ◌≡◌ {A = Result Barrier End × Recorded} (sought g s what thrown) (Err why, after)
   unfolding sought
   found_none =
-      let one : Result Barrier End → Result Barrier End × Recorded = λ r. (r, behind) in
+      let one : Result Barrier End → Result Barrier End × Recorded = λ r. (r, after) in
       rw holds (ap one none)
 
   alone : (further : Barrier → Recorded → Outcome) (o : Outcome) → from_barrier further (sought g s what thrown) ≡ o → EndsAlone what why s o
@@ -157,7 +157,7 @@ module _ (s : Recorded) (c : Cleanup) (more : List InProgress) (h : c.slot < SLO
     advances_so : IsResumed s c more (phase2 g from fs) (advances ended_one s.outer (block c.slot) object g from fs)
     advances_so = advanced (drop j s.outer) refl
 
-module _ (g : Guide) (s : Recorded) (p : InProgress) (more : List InProgress) (cleanups : s.cleanups ≡ p ∷ more) where
+module _ (g : Tables) (s : Recorded) (p : InProgress) (more : List InProgress) (cleanups : s.cleanups ≡ p ∷ more) where
   abbrev c : Cleanup
   c = p.cleanup
 

@@ -6,13 +6,13 @@ use Rattle.std.specs.List.{filter}
 use Rattle.eh_bus.specs.Lists.{Has}
 use Rattle.eh_bus.specs.Memory.{Memory, released, stays_guarded}
 use Rattle.eh_bus.proofs.GuardLaws.{has_filter, in_filter}
-use Rattle.two_machines.specs.Machine.{settled}
+use Rattle.two_machines.specs.Machine.{reguarded}
 use Rattle.two_machines.specs.Laws.{AreReleased}
 
-rose_is : (saves old new : ℕ) (m : Memory) → old < new → settled saves 0 old new m ≡ released m new
+rose_is : (saves old new : ℕ) (m : Memory) → old < new → reguarded saves 0 old new m ≡ released m new
 rose_is saves old new m h = rw (lt-ltb old new h) refl
 
-fell_is : (saves old new : ℕ) (m : Memory) → new ≤ old → settled saves 0 old new m ≡ m
+fell_is : (saves old new : ℕ) (m : Memory) → new ≤ old → reguarded saves 0 old new m ≡ m
 fell_is saves old new m h = rw (le-ltb old new h) refl
 
 pub where_it_stays : (low a g : ℕ) → (nat_le a g || nat_lt g low) ≡ true → (a ≤ g) ⊎ (g < low)

@@ -25,7 +25,7 @@ use Rattle.eh_phase.specs.declared.phase1.Found.TheVariants as found
 use Rattle.eh_trace.specs.Trace.{pushed}
 use Rattle.eh_trace.specs.declared.event.Event.{Event}
 use Rattle.eh_trace.specs.declared.event.EventKind.TheVariants as kind
-use Rattle.eh_gates.specs.State.{State, Guide, Outcome, logged}
+use Rattle.eh_gates.specs.State.{State, Tables, Outcome, logged}
 use Rattle.eh_gates.specs.Gates.{gate_of}
 use Rattle.eh_gates.specs.Throwing as bytes
 use Rattle.eh_gates.specs.Throwing.{from_barrier}
@@ -36,7 +36,7 @@ use Rattle.two_machines.specs.Throws.{SeesAlike, CanLand, RethrowsMatch}
 use Rattle.two_machines.proofs.InStep.{same_slot, same_count}
 use Rattle.two_machines.proofs.Flying.{HasFlown, flown_bytes, flies_match, sought_match}
 
-module _ (g : Guide) (s : Recorded) (c : Corresponds s) (sees : SeesAlike g s) where
+module _ (g : Tables) (s : Recorded) (c : Corresponds s) (sees : SeesAlike g s) where
   module _ (slot : ℕ) (rest : List ℕ) (top : s.caught ≡ slot ∷ rest) (st : Stage) (name : named (word (memory_of s) slot STATE) ≡ Some st)
       (live_is : entry (lists_of s) slot ≡ Live (record_of st (word (memory_of s)) slot)) (caught : is_caught (Some st) ≡ true) where
     head : block_slot (heads (lists_of s)).caught ≡ Some slot

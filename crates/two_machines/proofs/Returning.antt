@@ -28,7 +28,7 @@ use Rattle.two_machines.specs.Activations.{Activation, Recorded, reg_in, guarded
 use Rattle.two_machines.specs.ActivationMachine as acts
 use Rattle.two_machines.specs.ActivationLaws.{Matches, KnowsLanding}
 use Rattle.two_machines.specs.RecordedSlots.{FindsCaller, ReturnsMatch}
-use Rattle.two_machines.proofs.Matching.{settles}
+use Rattle.two_machines.proofs.Matching.{reguards}
 
 -- ---- a return pushes nothing
 
@@ -64,7 +64,7 @@ module _ (p : Program) (s : Recorded) (knows : KnowsLanding s) (to : ℕ) (regs 
           none_there s.first.slots (λ g h. let f = finds.slots g h in let a = f.1 in let b = f.2 in omega arith)
 
   abbrev base : Recorded
-  base = acts.settled_at p s regs (record s { regs = regs; segments = m.segments })
+  base = acts.reguarded_at p s regs (record s { regs = regs; segments = m.segments })
 
   base_slots : base.first.slots ≡ []
   base_slots =
@@ -86,7 +86,7 @@ module _ (p : Program) (s : Recorded) (knows : KnowsLanding s) (to : ℕ) (regs 
 
   same_tests : bytes.tests p (bytes_of s) (Return to) regs ≡ acts.tests p s (Return to) regs
   same_tests =
-      ap (λ (l : Option ℕ). option_or (sp_end l s.home.0 s.regs.pc (reg_in s SP) new) (bytes.way_end p (branches_some (instr_at (memory_of s) s.regs.pc) s.regs) s.regs.pc (Return to) regs)) knows
+      ap (λ (l : Option ℕ). option_or (sp_end l s.home.0 s.regs.pc (reg_in s SP) new) (bytes.control_flow_trap p (branches_some (instr_at (memory_of s) s.regs.pc) s.regs) s.regs.pc (Return to) regs)) knows
       ∙ ap (λ (w : Option End). option_or (sp_end (innermost_in (cleanups_in s.cleanups)) s.home.0 s.regs.pc (reg_in s SP) new) w) (same_way s.outer refl)
 
   module _ (input : List ℕ) where
@@ -95,7 +95,7 @@ module _ (p : Program) (s : Recorded) (knows : KnowsLanding s) (to : ℕ) (regs 
 
     tested_match : (o : Option End) → Match (bytes.tested p (bytes_of s) (Return to) regs m o) (acts.tested p s (Return to) regs m o)
     tested_match (Some end) = (refl, refl)
-    tested_match None = (settles p s knows regs m k ∙ left_same base.outer base refl base_slots, refl, refl)
+    tested_match None = (reguards p s knows regs m k ∙ left_same base.outer base refl base_slots, refl, refl)
 
     stepped_match : Match (bytes.stepped p (bytes_of s) (Return to, regs, m)) (acts.stepped p s (Return to, regs, m))
     stepped_match =

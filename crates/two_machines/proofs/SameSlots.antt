@@ -1,11 +1,11 @@
--- The slots of activations and the guarded words of a memory: alike behind every instruction.
+-- The slots of activations and the guarded words of a memory: alike after every instruction.
 use Rattle.std.proofs.Common.{◌≡◌, ℕ, ◌++◌, nat_lt, Bool, true, false, cond, List, [], ◌∷◌, map, filter, refl, sym, ap, ◌∙◌, arith}
 use Rattle.std.proofs.lemmas.List.Elements.{filter-append}
 use Rattle.eh_bus.specs.Guards.{inserted, insert_all}
 use Rattle.eh_bus.specs.Memory.{Memory, stays_guarded}
 use Rattle.eh_bus.specs.Segment.{Segment}
 use Rattle.eh_bus.proofs.GuardLaws.{Rising, filter_inserted, inserted_rising, guard_all-is, insert_append}
-use Rattle.two_machines.specs.Machine.{saved_words, freed_below, settled}
+use Rattle.two_machines.specs.Machine.{saved_words, freed_below, reguarded}
 use Rattle.two_machines.specs.Activations.{Activation, guarded_of, freed_in, staying, with_slots}
 
 all_rise : (xs : List ℕ) → Rising 0 (insert_all xs [])
@@ -54,7 +54,7 @@ slots_stay home ws old new a outer beyond =
     ∙ sym (stay_append home old new (ws ++ a.slots) (guarded_of beyond outer)) ∙ ap (stay home old new) (append_more ws a.slots (guarded_of beyond outer))
 
 pub same_slots : (home : ℕ × ℕ) (segments : List Segment) (saves count old new : ℕ) (a : Activation) (outer : List Activation) (beyond : List ℕ)
-    → settled saves count old new (record { segments = segments; guards = insert_all (guarded_of beyond (a ∷ outer)) []; home = home })
+    → reguarded saves count old new (record { segments = segments; guards = insert_all (guarded_of beyond (a ∷ outer)) []; home = home })
     ≡ record {
       segments = segments;
       guards =

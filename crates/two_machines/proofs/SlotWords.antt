@@ -27,7 +27,7 @@ use Rattle.thumb_core.specs.declared.regs.Stepped.TheVariants.{Return, Trap}
 use Rattle.thumb_core.specs.declared.regs.TheConstants.{SP, LR, PC}
 use Rattle.two_machines.specs.Program.{Program}
 use Rattle.two_machines.specs.Activations.{Activation, Caller, Recorded, reg_in, slots_of, memory_of, with_caller}
-use Rattle.two_machines.specs.ActivationMachine.{returned, activations_behind, left_by, settled_in, moved, tests, tested, with_tests, popped, popped_back, pops_some, pops_back, trapped_by, stepped, checked, passed, onward, recorded_event}
+use Rattle.two_machines.specs.ActivationMachine.{returned, activations_after, left_by, reguarded_in, moved, tests, tested, with_tests, popped, popped_back, pops_some, pops_back, trapped_by, stepped, checked, passed, onward, recorded_event}
 use Rattle.two_machines.specs.SlotWords.{over, event_over, is_free, LoadNoSlot, DifferInSlots, ReturnsReadNoSlot}
 
 -- ---- loads from both
@@ -159,8 +159,8 @@ module _ (p : Program) (s : Recorded) (segments : List Segment) (input : List �
 
   moved_same : (to : ℕ) (regs : Regs) → moved p t (Return to) regs (memory_of t) ≡ over segments (moved p s (Return to) regs (memory_of s))
   moved_same to regs =
-      let base : ℕ → Recorded = λ n. settled_in (p.look s.regs.pc).saves n (reg_in s SP) (slice_index regs.r SP) (record s { regs = regs }) in
-      ap (λ (n : ℕ). activations_behind (Return to) (over segments (base n))) (ap pushes_some same_instr)
+      let base : ℕ → Recorded = λ n. reguarded_in (p.look s.regs.pc).saves n (reg_in s SP) (slice_index regs.r SP) (record s { regs = regs }) in
+      ap (λ (n : ℕ). activations_after (Return to) (over segments (base n))) (ap pushes_some same_instr)
       ∙ left_over (base (pushes_some (instr_at (memory_of s) s.regs.pc))).outer (base (pushes_some (instr_at (memory_of s) s.regs.pc)))
 
   back_same : (to : ℕ) (regs : Regs) → onward p t (with_tests p t (Return to) regs (memory_of t)) input ≡ event_over segments (onward p s (with_tests p s (Return to) regs (memory_of s)) input)
@@ -197,8 +197,8 @@ module _ (p : Program) (s : Recorded) (segments : List Segment) (input : List �
           ∙ ap (λ (q : Option Regs). event_over segments (onward p s (trapped_by p s (trap.EvenTarget (operand s.regs k)) q) input)) (sym (no_pop s e))
       go false = back_same ((operand s.regs k) % 2 ^ 32) (returned s.first.caller (with_pc s.regs (operand s.regs k)))
 
-  same_behind : (c : Caller) (x : ℕ) (r q : List ℕ) → Alike r q → with_caller c (take 15 (put r SP x)) ≡ with_caller c (take 15 (put q SP x))
-  same_behind c x r q a =
+  same_after : (c : Caller) (x : ℕ) (r q : List ℕ) → Alike r q → with_caller c (take 15 (put r SP x)) ≡ with_caller c (take 15 (put q SP x))
+  same_after c x r q a =
       let at : (k : ℕ) → k < 15 → is_free k ≡ true → (k ≡ SP → ⊥) → slice_index (take 15 (put r SP x)) k ≡ slice_index (take 15 (put q SP x)) k =
       λ k low free n. get_or-take 15 (put r SP x) k 0 low ∙ get_or-set_other r SP k (word_in SP x) 0 n ∙ a.same k free
       ∙ sym (get_or-set_other q SP k (word_in SP x) 0 n) ∙ sym (get_or-take 15 (put q SP x) k 0 low) in
@@ -218,13 +218,13 @@ module _ (p : Program) (s : Recorded) (segments : List Segment) (input : List �
       (load_both s segments d (reg_in s SP) (loads_from 0 (listed list)) (all_of s.regs) (all_of s.regs) (record { size = refl; same = λ k f. refl }) n)
       ∙ ap (event_over segments) (sym (pop_event p s input list size e takes))
     where
-      behind : List ℕ → List ℕ
-      behind r = with_caller s.first.caller (take 15 (put r SP (reg_in s SP + bytes_of list)))
+      following : List ℕ → List ℕ
+      following r = with_caller s.first.caller (take 15 (put r SP (reg_in s SP + bytes_of list)))
 
       go : (o q : Result (List ℕ) BusFault) → Both o q → by_load p t input list o ≡ event_over segments (by_load p s input list q)
       go (Ok r) (Ok w) a =
           ap (λ (rs : List ℕ). onward p t (with_tests p t (Return s.first.caller.back) (record (returned s.first.caller s.regs) { r = rs }) (memory_of t)) input)
-          (same_behind s.first.caller (reg_in s SP + bytes_of list) r w a)
+          (same_after s.first.caller (reg_in s SP + bytes_of list) r w a)
           ∙ back_same s.first.caller.back (returned s.first.caller (with_all s.regs (put w SP (reg_in s SP + bytes_of list))))
       go (Err f) (Err g) a = ap (λ (why : BusFault). Ends (trap_end (trap.Memory why) s.regs.pc) t) a
       go (Ok r) (Err g) a = absurd a

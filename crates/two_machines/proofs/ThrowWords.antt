@@ -23,7 +23,7 @@ use Rattle.thumb_core.specs.declared.regs.TheConstants.{SP}
 use Rattle.thumb_core.specs.declared.ends.TrapKind.TheVariants as kind
 use Rattle.thumb_core.specs.declared.ends.End.{End}
 use Rattle.thumb_core.specs.declared.ends.End.TheVariants as the_end
-use Rattle.eh_gates.specs.State.{Guide}
+use Rattle.eh_gates.specs.State.{Tables}
 use Rattle.eh_gates.specs.Landing.{pad_event, words_of}
 use Rattle.eh_gates.specs.Throwing.{handed, barrier_words, throw_event, barrier_in}
 use Rattle.two_machines.specs.Activations.{Activation, Recorded, memory_of, with_words, lists_of}
@@ -60,7 +60,7 @@ entered_over u xs blk object (enters.Spec vrs pad) = (refl, handler_over u xs vr
 entered_over u xs blk object enters.Unexpected = (refl, refl)
 entered_over u xs blk object (enters.Terminate why) = (refl, refl)
 
-module _ (g : Guide) (site blk : ℕ) (b : Barrier) where
+module _ (g : Tables) (site blk : ℕ) (b : Barrier) where
   without : (u : Recorded) → SameBut (acts.throw_to g site blk b u) (acts.throw_to g site blk b (over [] u))
   unfolding acts.throw_to
   without u =
@@ -80,7 +80,7 @@ module _ (g : Guide) (site blk : ℕ) (b : Barrier) where
 
 -- ---- the search
 
-module _ (g : Guide) (s : Recorded) (segments : List Segment) (what : EventKind) (thrown : Thrown) (alike : ReadsAlike g s segments thrown) (further : Barrier → Recorded → acts.Outcome)
+module _ (g : Tables) (s : Recorded) (segments : List Segment) (what : EventKind) (thrown : Thrown) (alike : ReadsAlike g s segments thrown) (further : Barrier → Recorded → acts.Outcome)
     (respects : (b : Barrier) (u v : Recorded) → over [] u ≡ over [] v → SameBut (further b u) (further b v)) where
   abbrev t : Recorded
   t = over segments s
@@ -111,7 +111,7 @@ module _ (g : Guide) (s : Recorded) (segments : List Segment) (what : EventKind)
 
 -- ---- the gates
 
-module _ (g : Guide) (s : Recorded) (segments : List Segment) where
+module _ (g : Tables) (s : Recorded) (segments : List Segment) where
   throw_same : (r : Result ℕ CxaFault) → ReadsAlike g s segments (acts.thrown_first s) → SameBut (acts.throws g (over segments s) r) (acts.throws g s r)
   throw_same (Err why) alike = (refl, refl)
   throw_same (Ok blk) alike =

@@ -22,7 +22,7 @@ use Rattle.eh_phase.specs.declared.phase1.Found.TheVariants as found
 use Rattle.eh_trace.specs.Trace.{pushed}
 use Rattle.eh_trace.specs.declared.event.Event.{Event}
 use Rattle.eh_trace.specs.declared.event.EventKind.TheVariants as kind
-use Rattle.eh_gates.specs.State.{State, Guide, Outcome, logged}
+use Rattle.eh_gates.specs.State.{State, Tables, Outcome, logged}
 use Rattle.eh_gates.specs.Gates.{gate_of}
 use Rattle.eh_gates.specs.Throwing as bytes
 use Rattle.two_machines.specs.Activations.{Recorded, reg_in, memory_of, heads, with_lists, words_in, bytes_of, lists_of, cleanups_in}
@@ -32,7 +32,7 @@ use Rattle.two_machines.specs.Throws.{SeesAlike, CanLand, ThrowsMatch}
 use Rattle.two_machines.proofs.Flying.{HasFlown, flown_bytes, flies_match, sought_match}
 use Rattle.two_machines.proofs.InStep.{same_slot}
 
-module _ (g : Guide) (s : Recorded) (c : Corresponds s) (ty : reg_in s 1 < 2 ^ 32) (destructor : reg_in s 2 < 2 ^ 32) (sees : SeesAlike g s) where
+module _ (g : Tables) (s : Recorded) (c : Corresponds s) (ty : reg_in s 1 < 2 ^ 32) (destructor : reg_in s 2 < 2 ^ 32) (sees : SeesAlike g s) where
   abbrev with_type : Throw
   with_type = machine.thrown_words s
 

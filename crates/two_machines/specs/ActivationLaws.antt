@@ -127,8 +127,8 @@ CallsRecord =
 -- ---- the frames of a throw
 
 -- where an activation stands, and its sp
-abbrev pub place_of : Frame → ℕ × ℕ
-place_of f = (f.site, f.sp)
+abbrev pub site_and_sp : Frame → ℕ × ℕ
+site_and_sp f = (f.site, f.sp)
 
 -- of each activation, by what the one inside it recorded
 abbrev pub recorded_places : Caller → List Activation → List (ℕ × ℕ)
@@ -139,7 +139,7 @@ recorded_places c (a ∷ more) = (site_of (registers_of c), c.sp) ∷ recorded_p
 abbrev pub FramesAreActivations : Type 0
 FramesAreActivations =
     (image : Image) (place : Option ℕ) (site : ℕ) (r : List ℕ) (a : Activation) (outer : List Activation) → AreWhole (a ∷ outer)
-    → map place_of (frames_at image place site r a outer).frames
+    → map site_and_sp (frames_at image place site r a outer).frames
     ≡ take (length (frames_at image place site r a outer).frames) ((site, slice_index r SP) ∷ recorded_places a.caller outer)
 
 -- ---- a landing
@@ -152,7 +152,7 @@ StandsIn f (enters.Spec vrs pad) = vrs ≡ vrs_of f
 StandsIn f enters.Unexpected = Unit {0}
 StandsIn f (enters.Terminate why) = Unit {0}
 
--- behind the frames that are passed stands the one that phase 2 enters; where all are passed it ends by the cause by which they end
+-- after the frames that are passed stands the one that phase 2 enters; where all are passed it ends by the cause by which they end
 pub record IsPassed (g : Goal) (from : ℕ) (fs : Frames) : Type 0 where
   pub lands : (f : Frame) (rest : List Frame) → drop (passed_by g from fs.frames) fs.frames ≡ f ∷ rest → StandsIn f (phase2 g from fs)
   pub ends : drop (passed_by g from fs.frames) fs.frames ≡ [] → phase2 g from fs ≡ enters.Terminate fs.last

@@ -64,13 +64,13 @@ use Rattle.thumb_core.specs.declared.ends.End.TheVariants as the_end
 use Rattle.eh_gates.specs.declared.gates.TheConstants.{ALLOCATE_GATE, FREE_GATE, THROW_GATE, BEGIN_CATCH_GATE, END_CATCH_GATE, RETHROW_GATE, END_CLEANUP_GATE, UNEXPECTED_GATE, TERMINATE_GATE, UNCAUGHT_GATE}
 use Rattle.eh_gates.specs.declared.state.Turned.{Turned}
 use Rattle.eh_gates.specs.declared.state.Turned.TheVariants.{Went, Ended}
-use Rattle.eh_gates.specs.State.{Guide, behind}
+use Rattle.eh_gates.specs.State.{Tables, at_next}
 use Rattle.eh_gates.specs.CallGates.{fault_end, with_r1}
 use Rattle.eh_gates.specs.Landing.{landed, pad_event, words_of}
 use Rattle.eh_gates.specs.Throwing.{handed, barrier_words, throw_event, barrier_in, rethrow_end}
 use Rattle.eh_gates.specs.Resuming.{goal_in}
-use Rattle.two_machines.specs.Program.{Program, guide}
-use Rattle.two_machines.specs.Machine.{sp_end, way_end, fell_off, saved_words}
+use Rattle.two_machines.specs.Program.{Program, program_tables}
+use Rattle.two_machines.specs.Machine.{sp_end, control_flow_trap, fell_off, saved_words}
 use Rattle.two_machines.specs.Activations.{Caller, Activation, InProgress, Recorded, callee, with_caller, registers_of, released_in, freed_in, staying, with_slots, lists_of, reg_in, memory_of, words_in, heads, with_words, with_lists, first_place, frames_at, cleanups_in}
 
 -- ---- what a gate does
@@ -91,9 +91,9 @@ refused why given s = (Ended (fault_end why given s.regs.pc), s)
 abbrev pub logged : Recorded → Traced → Recorded
 logged s e = record s { events = pushed s.events e }
 
--- on behind the gate, with its answers in r0 and r1
+-- on after the gate, with its answers in r0 and r1
 abbrev pub went : ℕ → Recorded → Outcome
-went next s = (Went, record s { regs = behind next s.regs })
+went next s = (Went, record s { regs = at_next next s.regs })
 
 abbrev pub with_answer : ℕ → Recorded → Recorded
 with_answer x s = record s { regs = with_r0 x s.regs }
@@ -213,19 +213,19 @@ advances s acts block object g from fs = entered s (drop (passed_by g from fs.fr
 -- ---- a throw
 
 -- the innermost frame stands at a site with the registers as they are
-abbrev pub frames_from : Guide → Recorded → Option ℕ → ℕ → Frames
+abbrev pub frames_from : Tables → Recorded → Option ℕ → ℕ → Frames
 frames_from g s place site = frames_at g.image place site (all_of s.regs) s.first s.outer
 
 -- of a throw at a gate that is the gate's own address. Phase 1 goes no further than the activation of the innermost cleanup in progress
-abbrev pub searched : Guide → Recorded → Thrown → Found
+abbrev pub searched : Tables → Recorded → Thrown → Found
 searched g s thrown = phase1 (meeting g.image g.types s.segments thrown) (frames_from g s (first_place s.cleanups) s.regs.pc)
 
 abbrev pub size_of : Lists → Option ℕ → ℕ
 size_of l None = 0
 size_of l (Some slot) = size_in (entry l slot)
 
--- of a type that the graph holds, behind the event of the throw
-unfoldable pub sought : Guide → Recorded → EventKind → Thrown → Result Barrier End × Recorded
+-- of a type that the graph holds, after the event of the throw
+unfoldable pub sought : Tables → Recorded → EventKind → Thrown → Result Barrier End × Recorded
 sought g s what thrown =
     if is_some (row_of g.types thrown.ty)
     then (
@@ -239,10 +239,10 @@ from_barrier further (Ok b, s) = further b s
 from_barrier further (Err end, s) = (Ended end, s)
 
 -- the barrier is written, and phase 2 goes to it from a site
-abbrev pub lands : Guide → Recorded → ℕ → ℕ → Barrier → Outcome
+abbrev pub lands : Tables → Recorded → ℕ → ℕ → Barrier → Outcome
 lands g s site block b = advances s (s.first ∷ s.outer) block (handed block b.hit) (goal_of b) 0 (frames_from g s None site)
 
-unfoldable pub throw_to : Guide → ℕ → ℕ → Barrier → Recorded → Outcome
+unfoldable pub throw_to : Tables → ℕ → ℕ → Barrier → Recorded → Outcome
 throw_to g site block b s = lands g (with_words (set_barrier_of (block_slot block) (barrier_words block b)) s) site block b
 
 -- of the object at r0, of the type at r1, with the destructor at r2
@@ -265,11 +265,11 @@ first_flight s = flight_of (reg_in s 0) (thrown_words s) s
 abbrev pub flies_first : Recorded → Recorded
 flies_first s = in_flight (reg_in s 0) (thrown_words s) s
 
-abbrev pub throws : Guide → Recorded → Result ℕ CxaFault → Outcome
+abbrev pub throws : Tables → Recorded → Result ℕ CxaFault → Outcome
 throws g s (Err why) = refused why (reg_in s 0) s
 throws g s (Ok block) = from_barrier (λ b t. throw_to g s.regs.pc block b (flies_first t)) (sought g s event.Throw (thrown_first s))
 
-abbrev pub throw_gate : Guide → Recorded → Outcome
+abbrev pub throw_gate : Tables → Recorded → Outcome
 throw_gate g s = throws g s (first_flight s).answer
 
 -- a rethrow of the top of the caught stack
@@ -286,24 +286,24 @@ thrown_of_slot l (Some slot) = record { object = object slot; ty = type_in (entr
 abbrev pub flies_again : Recorded → Recorded
 flies_again s = with_lists (rethrow_list (lists_of s)).lists (rethrow_of (words_in (lists_of s)) (heads (lists_of s))).writes s
 
-abbrev pub rethrows : Guide → Recorded → Result ℕ CxaFault → Outcome
+abbrev pub rethrows : Tables → Recorded → Result ℕ CxaFault → Outcome
 rethrows g s (Err why) = (Ended (rethrow_end why (heads (lists_of s)).caught s.regs.pc), s)
 rethrows g s (Ok block) =
     from_barrier (λ b t. throw_to g s.regs.pc block b (flies_again t)) (sought g s event.Rethrow (thrown_of_slot (lists_of s) (block_slot block)))
 
-abbrev pub rethrow_gate : Guide → Recorded → Outcome
+abbrev pub rethrow_gate : Tables → Recorded → Outcome
 rethrow_gate g s = rethrows g s (rethrow_list (lists_of s)).answer
 
 -- ---- the end of a cleanup
 
 -- phase 2 goes on in the cleanup's activation, from its site and next descriptor, to the barrier of its exception; the registers there are
 -- those at the call of the gate's function
-abbrev pub goes_on : Guide → Recorded → Cleanup → Caller → Activation → List Activation → BarrierWords → Outcome
+abbrev pub goes_on : Tables → Recorded → Cleanup → Caller → Activation → List Activation → BarrierWords → Outcome
 goes_on g s c gate a outer b =
     advances s (a ∷ outer) (block c.slot) b.object (goal_in b) c.next (frames_at g.image None c.site (registers_of gate) a outer)
 
 -- the cleanup's activation is the one outside the gate's; it isn't in progress any more then
-abbrev pub resumes_in : Guide → Recorded → InProgress → List InProgress → List Activation → Outcome
+abbrev pub resumes_in : Tables → Recorded → InProgress → List InProgress → List Activation → Outcome
 resumes_in g s p more [] = refused fault.CleanupElsewhere s.first.caller.sp s
 resumes_in g s p more (a ∷ outer) =
     if (s.first.caller.sp == p.cleanup.sp) && (length outer == p.place)
@@ -319,17 +319,17 @@ abbrev pub can_unwind : Option Covered → Bool
 can_unwind None = false
 can_unwind (Some c) = has_recipe (recipe (cut c.codes))
 
-abbrev pub resumes : Guide → Recorded → List InProgress → Outcome
+abbrev pub resumes : Tables → Recorded → List InProgress → Outcome
 resumes g s [] = refused fault.NoCleanup 0 s
 resumes g s (p ∷ more) =
     if can_unwind (covered_at g.image s.regs.pc) then resumes_in g s p more s.outer else refused fault.CleanupElsewhere 0 s
 
-abbrev pub end_cleanup_gate : Guide → Recorded → Outcome
+abbrev pub end_cleanup_gate : Tables → Recorded → Outcome
 end_cleanup_gate g s = resumes g s s.cleanups
 
 -- ---- gates by their numbers, in the state before the instruction, where the next one is at `next`
 
-unfoldable pub gate_of : Guide → ℕ → ℕ → Recorded → Outcome
+unfoldable pub gate_of : Tables → ℕ → ℕ → Recorded → Outcome
 gate_of g number next s =
     if number == ALLOCATE_GATE then allocate_gate next s
     else (if number == FREE_GATE then free_gate next s
@@ -344,48 +344,48 @@ gate_of g number next s =
 
 -- ---- up to the gates
 
--- the registers behind an instruction: a return gives the caller's, as they were recorded at its call
+-- the registers after an instruction: a return gives the caller's, as they were recorded at its call
 abbrev pub returned : Caller → Regs → Regs
 returned c regs = record regs { r = with_caller c regs.r; pc = even c.back }
 
-abbrev pub registers_behind : Caller → Stepped → Regs → Regs
-registers_behind c Done regs = regs
-registers_behind c (Calls target ret) regs = regs
-registers_behind c (Return to) regs = returned c regs
-registers_behind c (Gate number) regs = regs
-registers_behind c (Trap trap) regs = regs
+abbrev pub registers_after : Caller → Stepped → Regs → Regs
+registers_after c Done regs = regs
+registers_after c (Calls target ret) regs = regs
+registers_after c (Return to) regs = returned c regs
+registers_after c (Gate number) regs = regs
+registers_after c (Trap trap) regs = regs
 
 -- the last activation returns to nobody, and that ends the run with r0
 abbrev pub return_end : Program → ℕ → List Activation → Regs → Option End
 return_end p pc [] regs = Some (the_end.Exit (r0 regs))
 return_end p pc (a ∷ more) regs = fell_off p pc regs.pc
 
-abbrev pub way_end_of : Program → Recorded → Bool → Stepped → Regs → Option End
-way_end_of p s branches Done regs = way_end p branches s.regs.pc Done regs
-way_end_of p s branches (Calls target ret) regs = way_end p branches s.regs.pc (Calls target ret) regs
-way_end_of p s branches (Return to) regs = return_end p s.regs.pc s.outer regs
-way_end_of p s branches (Gate number) regs = way_end p branches s.regs.pc (Gate number) regs
-way_end_of p s branches (Trap trap) regs = None
+abbrev pub control_flow_trap_of : Program → Recorded → Bool → Stepped → Regs → Option End
+control_flow_trap_of p s branches Done regs = control_flow_trap p branches s.regs.pc Done regs
+control_flow_trap_of p s branches (Calls target ret) regs = control_flow_trap p branches s.regs.pc (Calls target ret) regs
+control_flow_trap_of p s branches (Return to) regs = return_end p s.regs.pc s.outer regs
+control_flow_trap_of p s branches (Gate number) regs = control_flow_trap p branches s.regs.pc (Gate number) regs
+control_flow_trap_of p s branches (Trap trap) regs = None
 
 abbrev pub tests : Program → Recorded → Stepped → Regs → Option End
 tests p s what regs =
     option_or (sp_end (innermost_in (cleanups_in s.cleanups)) s.home.0 s.regs.pc (reg_in s SP) (slice_index regs.r SP))
-    (way_end_of p s (branches_some (instr_at (memory_of s) s.regs.pc) s.regs) what regs)
+    (control_flow_trap_of p s (branches_some (instr_at (memory_of s) s.regs.pc) s.regs) what regs)
 
--- the slots behind an instruction: a push adds those of its words that are saves to the first activation's, and where sp rose those below
+-- the slots after an instruction: a push adds those of its words that are saves to the first activation's, and where sp rose those below
 -- it leave
-abbrev pub settled_in : ℕ → ℕ → ℕ → ℕ → Recorded → Recorded
-settled_in saves count old new s = record s {
+abbrev pub reguarded_in : ℕ → ℕ → ℕ → ℕ → Recorded → Recorded
+reguarded_in saves count old new s = record s {
   first = freed_in s.home old new (with_slots (saved_words saves count new) s.first);
   outer = map (λ a. freed_in s.home old new a) s.outer;
   beyond = staying s.home old new s.beyond;
 }
 
-abbrev pub settled_at : Program → Recorded → Regs → Recorded → Recorded
-settled_at p s regs t =
-    settled_in (p.look s.regs.pc).saves (pushes_some (instr_at (memory_of s) s.regs.pc)) (reg_in s SP) (slice_index regs.r SP) t
+abbrev pub reguarded_at : Program → Recorded → Regs → Recorded → Recorded
+reguarded_at p s regs t =
+    reguarded_in (p.look s.regs.pc).saves (pushes_some (instr_at (memory_of s) s.regs.pc)) (reg_in s SP) (slice_index regs.r SP) t
 
--- the activations behind it: a call has a new one in front, and a return takes the first off
+-- the activations after it: a call has a new one in front, and a return takes the first off
 abbrev pub called : ℕ → ℕ → Recorded → Recorded
 called target ret s = record s {
   first = record { function = target; caller = record { back = ret; sp = reg_in s SP; saved = callee s.regs.r }; slots = [] };
@@ -396,15 +396,15 @@ abbrev pub left_by : List Activation → Recorded → Recorded
 left_by [] s = s
 left_by (a ∷ more) s = record s { first = a; outer = more }
 
-abbrev pub activations_behind : Stepped → Recorded → Recorded
-activations_behind Done s = s
-activations_behind (Calls target ret) s = called target ret s
-activations_behind (Return to) s = left_by s.outer s
-activations_behind (Gate number) s = s
-activations_behind (Trap trap) s = s
+abbrev pub activations_after : Stepped → Recorded → Recorded
+activations_after Done s = s
+activations_after (Calls target ret) s = called target ret s
+activations_after (Return to) s = left_by s.outer s
+activations_after (Gate number) s = s
+activations_after (Trap trap) s = s
 
 abbrev pub moved : Program → Recorded → Stepped → Regs → Memory → Recorded
-moved p s what regs m = activations_behind what (settled_at p s regs (record s { regs = regs; segments = m.segments }))
+moved p s what regs m = activations_after what (reguarded_at p s regs (record s { regs = regs; segments = m.segments }))
 
 abbrev pub Passed : Type 0
 Passed = Result Stepped End × Recorded
@@ -446,7 +446,7 @@ trapped_by p s trap (Some regs) = with_tests p s (Return s.first.caller.back) (r
 
 abbrev pub stepped : Program → Recorded → Stepping → Passed
 stepped p s (Trap trap, regs, m) = trapped_by p s trap (pops_back s)
-stepped p s (what, regs, m) = with_tests p s what (registers_behind s.first.caller what regs) m
+stepped p s (what, regs, m) = with_tests p s what (registers_after s.first.caller what regs) m
 
 abbrev pub checked : Program → Recorded → Bool → Passed
 checked p s true = stepped p s (step_of s.regs (memory_of s))
@@ -468,7 +468,7 @@ in_state s (Ends end regs) = Ends end (record s { regs = regs })
 
 abbrev pub gated : Program → ℕ → Recorded → Regs → List ℕ → Event Recorded End
 gated p number s regs input =
-    if nat_lt INPUT_GATE number then event_of (gate_of (guide p) number regs.pc s) input
+    if nat_lt INPUT_GATE number then event_of (gate_of (program_tables p) number regs.pc s) input
     else in_state s (gate_event number s.regs regs input)
 
 abbrev pub acted : Program → Recorded → Stepped → Recorded → List ℕ → Event Recorded End

@@ -62,7 +62,7 @@ abbrev pub slots_of : List Activation → List ℕ
 slots_of [] = []
 slots_of (a ∷ more) = a.slots ++ slots_of more
 
--- those, and behind them guarded words beyond the running stack
+-- those, and after them guarded words beyond the running stack
 abbrev pub guarded_of : List ℕ → List Activation → List ℕ
 guarded_of beyond [] = beyond
 guarded_of beyond (a ∷ more) = a.slots ++ guarded_of beyond more
@@ -186,7 +186,7 @@ abbrev pub framed_at : Frames → ℕ → List ℕ → Option Covered → Frames
 framed_at further site r None = ended CannotUnwind
 framed_at further site r (Some c) = framed (frame_of site r c) (where_unwound (recipe (cut c.codes)) further)
 
--- the frames outside an activation, from what it records of its caller: none behind the activation of the innermost cleanup in progress
+-- the frames outside an activation, from what it records of its caller: none after the activation of the innermost cleanup in progress
 abbrev pub outside : Image → Option ℕ → Caller → List Activation → Frames
 outside image place c [] = if ends_at place 0 then ended LeavesCleanup else ended NoHandler
 outside image place c (a ∷ more) =

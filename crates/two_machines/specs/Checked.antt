@@ -1,13 +1,13 @@
 -- An accepted image as the checked program that a run sees (docs/machine.md).
 use Rattle.frame_check.specs.Accepts.{Accepted}
-use Rattle.frame_check.specs.Spots.{look}
+use Rattle.frame_check.specs.Roles.{look}
 use Rattle.image_memory.specs.Start.{begins_function}
-use Rattle.two_machines.specs.Program.{Program, Spot}
+use Rattle.two_machines.specs.Program.{Program, Role}
 
 -- its image and its types, and of each address what the checker found there; a function begins where the image has one
 abbrev pub program_of : Accepted → Program
 program_of a = record {
   image = a.image;
   types = a.types;
-  look = λ x. record { is_instr = (look a.spots x).is_instr; is_function = begins_function a.image.functions x; saves = (look a.spots x).saves };
+  look = λ x. record { is_instr = (look a.roles x).is_instr; is_function = begins_function a.image.functions x; saves = (look a.roles x).saves };
 }

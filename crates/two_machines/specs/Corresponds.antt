@@ -10,7 +10,7 @@ use Rattle.thumb_core.specs.declared.regs.Stepped.{Stepped}
 use Rattle.thumb_core.specs.declared.regs.Stepped.TheVariants.{Done, Call, Return, Gate, Trap}
 use Rattle.eh_gates.specs.declared.gates.TheConstants.{THROW_GATE, RETHROW_GATE, END_CLEANUP_GATE}
 use Rattle.eh_gates.specs.declared.state.Turned.TheVariants.{Went, Ended}
-use Rattle.eh_gates.specs.State.{Guide, Outcome}
+use Rattle.eh_gates.specs.State.{Tables, Outcome}
 use Rattle.eh_gates.specs.Gates.{gate_of}
 use Rattle.two_machines.specs.Program.{Program}
 use Rattle.two_machines.specs.Machine.{machine_event}
@@ -54,7 +54,7 @@ pub record CallsMatch : Type 0 where
   pub start : (p : Program) → IsMap (start_of p).memory → Corresponds (recorded_start p)
   pub landing : (s : Recorded) → Corresponds s → KnowsLanding s
   pub gates :
-      (g : Guide) (number next : ℕ) (s : Recorded) → Corresponds s → reg_in s 0 < 2 ^ 32 → WalksNone number
+      (g : Tables) (number next : ℕ) (s : Recorded) → Corresponds s → reg_in s 0 < 2 ^ 32 → WalksNone number
       → GateMatches (gate_of g number next (bytes_of s)) (acts.gate_of g number next s)
   pub events :
       (p : Program) (s : Recorded) (input : List ℕ) → Corresponds s → reg_in s 0 < 2 ^ 32 → IsInPlace s (step_of s.regs (memory_of s)).0
@@ -68,7 +68,7 @@ IsNoCall (Return to) = Unit {0}
 IsNoCall (Gate number) = number ≤ INPUT_GATE
 IsNoCall (Trap trap) = Unit {0}
 
--- behind an instruction that is no gate of exceptions the lists and the places of cleanups are the same, and the words of the pool stand for
+-- after an instruction that is no gate of exceptions the lists and the places of cleanups are the same, and the words of the pool stand for
 -- the lists still
 pub record KeepLists (s t : Recorded) : Type 0 where
   pub lists : lists_of t ≡ lists_of s

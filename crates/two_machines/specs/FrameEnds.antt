@@ -31,7 +31,7 @@ abbrev pub last_frame : Option Covered → ℕ
 last_frame None = 0
 last_frame (Some c) = 1
 
--- where all that are seen can be unwound, each has a frame, and they end behind the cleanup's activation, or behind the outermost where no
+-- where all that are seen can be unwound, each has a frame, and they end after the cleanup's activation, or after the outermost where no
 -- cleanup is in progress; else they end at the first that can't be
 pub record EndAsTold (image : Image) (place : Option ℕ) (sites : List ℕ) (fs : Frames) : Type 0 where
   pub in_cleanup :

@@ -25,7 +25,7 @@ use Rattle.thumb_core.specs.declared.regs.Stepped.TheVariants.{Done, Call, Retur
 use Rattle.thumb_core.specs.declared.ends.TrapKind.TheVariants as kind
 use Rattle.thumb_core.specs.declared.ends.End.{End}
 use Rattle.thumb_core.specs.declared.ends.End.TheVariants as the_end
-use Rattle.two_machines.specs.Program.{Program, guide}
+use Rattle.two_machines.specs.Program.{Program, program_tables}
 
 -- ---- the tests of sp
 
@@ -46,27 +46,27 @@ sp_end landing low pc old new =
 abbrev pub fell_off : Program → ℕ → ℕ → Option End
 fell_off p pc to = if (p.look to).is_function then Some (the_end.Trap kind.FellOff to pc) else None
 
--- the gates behind which a run goes on
-abbrev pub goes_behind : ℕ → Bool
-goes_behind n =
+-- the gates after which a run goes on
+abbrev pub goes_after : ℕ → Bool
+goes_after n =
     n == OUTPUT_GATE || (n == INPUT_GATE || (n == ALLOCATE_GATE || (n == FREE_GATE || (n == BEGIN_CATCH_GATE || (n == END_CATCH_GATE || n == UNCAUGHT_GATE)))))
 
 -- by what was done: an instruction that takes no branch goes on to the next one, a call to a function's start, a return to where nobody
--- called ends the run with r0, and any other return goes on behind its call
-abbrev pub way_end : Program → Bool → ℕ → Stepped → Regs → Option End
-way_end p branches pc Done regs = if branches then None else fell_off p pc regs.pc
-way_end p branches pc (Call target ret) regs =
+-- called ends the run with r0, and any other return goes on after its call
+abbrev pub control_flow_trap : Program → Bool → ℕ → Stepped → Regs → Option End
+control_flow_trap p branches pc Done regs = if branches then None else fell_off p pc regs.pc
+control_flow_trap p branches pc (Call target ret) regs =
     if (p.look target).is_function then None else Some (the_end.Trap kind.BadCallTarget target pc)
-way_end p branches pc (Return to) regs = if to == NO_CALLER then Some (the_end.Exit (r0 regs)) else fell_off p pc regs.pc
-way_end p branches pc (Gate number) regs = if goes_behind number then fell_off p pc regs.pc else None
-way_end p branches pc (Trap trap) regs = None
+control_flow_trap p branches pc (Return to) regs = if to == NO_CALLER then Some (the_end.Exit (r0 regs)) else fell_off p pc regs.pc
+control_flow_trap p branches pc (Gate number) regs = if goes_after number then fell_off p pc regs.pc else None
+control_flow_trap p branches pc (Trap trap) regs = None
 
 -- the end by a test: first of sp, by the landing sp of the innermost cleanup, the start of the running stack, and pc and sp before the
 -- instruction; then of where the run goes on
 abbrev pub refusal : Program → Option ℕ × ℕ → ℕ × ℕ → Bool → Stepped → Regs → Option End
-refusal p stack at branches what regs = option_or (sp_end stack.0 stack.1 at.0 at.1 (slice_index regs.r SP)) (way_end p branches at.0 what regs)
+refusal p stack at branches what regs = option_or (sp_end stack.0 stack.1 at.0 at.1 (slice_index regs.r SP)) (control_flow_trap p branches at.0 what regs)
 
--- .. of what was done in a state and the registers behind it
+-- .. of what was done in a state and the registers after it
 abbrev pub tests : Program → State → Stepped → Regs → Option End
 tests p s what regs =
     refusal p (innermost_of (word s.memory) s.globals, s.memory.home.0) (s.regs.pc, reg s SP) (branches_some (instr_at s.memory s.regs.pc) s.regs) what regs
@@ -82,21 +82,21 @@ abbrev pub freed_below : ℕ → ℕ → Memory → Memory
 freed_below old new m = if nat_lt old new then released m new else m
 
 -- the words of a push that are saves are guarded
-abbrev pub settled : ℕ → ℕ → ℕ → ℕ → Memory → Memory
-settled saves count old new m = freed_below old new (guard_all (saved_words saves count new) m)
+abbrev pub reguarded : ℕ → ℕ → ℕ → ℕ → Memory → Memory
+reguarded saves count old new m = freed_below old new (guard_all (saved_words saves count new) m)
 
-abbrev pub settled_at : Program → State → Regs → Memory → Memory
-settled_at p s regs m =
-    settled (p.look s.regs.pc).saves (pushes_some (instr_at s.memory s.regs.pc)) (reg s SP) (slice_index regs.r SP) m
+abbrev pub reguarded_at : Program → State → Regs → Memory → Memory
+reguarded_at p s regs m =
+    reguarded (p.look s.regs.pc).saves (pushes_some (instr_at s.memory s.regs.pc)) (reg s SP) (slice_index regs.r SP) m
 
--- ---- up to the gates: the end, which leaves the state as it was, or what was done and the state behind it
+-- ---- up to the gates: the end, which leaves the state as it was, or what was done and the state after it
 
 abbrev pub Passed : Type 0
 Passed = Result Stepped End × State
 
 abbrev pub tested : Program → State → Stepped → Regs → Memory → Option End → Passed
 tested p s what regs m (Some end) = (Err end, s)
-tested p s what regs m None = (Ok what, record s { regs = regs; memory = settled_at p s regs m })
+tested p s what regs m None = (Ok what, record s { regs = regs; memory = reguarded_at p s regs m })
 
 abbrev pub stepped : Program → State → Stepping → Passed
 stepped p s (Trap trap, regs, m) = (Err (trap_end trap s.regs.pc), s)
@@ -124,10 +124,10 @@ abbrev pub in_state : State → Event Regs End → Event State End
 in_state s (Goes regs text left) = Goes (record s { regs = regs }) text left
 in_state s (Ends end regs) = Ends end (record s { regs = regs })
 
--- in the state before its instruction, with the registers behind it
+-- in the state before its instruction, with the registers after it
 abbrev pub gated : Program → ℕ → State → Regs → List ℕ → Event State End
 gated p number s regs input =
-    if nat_lt INPUT_GATE number then event_of (gate_of (guide p) number regs.pc s) input
+    if nat_lt INPUT_GATE number then event_of (gate_of (program_tables p) number regs.pc s) input
     else in_state s (gate_event number s.regs regs input)
 
 -- ---- one event

@@ -3,10 +3,10 @@
 use Rattle.std.specs.Prelude.{ℕ, Bool, List}
 use Rattle.elf_image.specs.Image.{Image}
 use Rattle.eh_types.specs.Graph.{Row}
-use Rattle.eh_gates.specs.State.{Guide, guide_of}
+use Rattle.eh_gates.specs.State.{Tables, tables_of}
 
 -- at an address: an instruction that the checker reached, the start of a function, and which words of the push there are saves, as bits
-pub record Spot : Type 0 where
+pub record Role : Type 0 where
   pub is_instr : Bool
   pub is_function : Bool
   pub saves : ℕ
@@ -14,7 +14,7 @@ pub record Spot : Type 0 where
 pub record Program : Type 0 where
   pub image : Image
   pub types : List Row
-  pub look : ℕ → Spot
+  pub look : ℕ → Role
 
-abbrev pub guide : Program → Guide
-guide p = guide_of p.image p.types
+abbrev pub program_tables : Program → Tables
+program_tables p = tables_of p.image p.types

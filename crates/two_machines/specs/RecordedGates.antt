@@ -22,7 +22,7 @@ use Rattle.thumb_core.specs.declared.ends.End.{End}
 use Rattle.thumb_core.specs.declared.ends.End.TheVariants as the_end
 use Rattle.eh_gates.specs.declared.gates.TheConstants.{THROW_GATE, RETHROW_GATE, END_CLEANUP_GATE}
 use Rattle.eh_gates.specs.declared.state.Turned.TheVariants.{Went, Ended}
-use Rattle.eh_gates.specs.State.{Guide}
+use Rattle.eh_gates.specs.State.{Tables}
 use Rattle.eh_gates.specs.Landing.{landed}
 use Rattle.eh_gates.specs.Throwing.{barrier_in}
 use Rattle.eh_gates.specs.Resuming.{goal_in}
@@ -40,7 +40,7 @@ pub record EndsAlone (what : EventKind) (end : End) (s : Recorded) (o : Outcome)
   pub only : o.1 ≡ record s { events = pushed s.events added }
 
 -- a throw of an object that may be thrown, and a rethrow of what is caught, of a type that the graph holds
-pub record SearchesFail (g : Guide) (next : ℕ) (s : Recorded) (why : End) : Type 0 where
+pub record SearchesFail (g : Tables) (next : ℕ) (s : Recorded) (why : End) : Type 0 where
   pub throw :
       (block : ℕ) → (first_flight s).answer ≡ Ok block → is_some (row_of g.types (reg_in s 1)) ≡ true
       → barrier_in s.regs.pc (searched g s (thrown_first s)) ≡ Err why → EndsAlone event.Throw why s (gate_of g THROW_GATE next s)
@@ -50,12 +50,12 @@ pub record SearchesFail (g : Guide) (next : ℕ) (s : Recorded) (why : End) : Ty
 
 -- where phase 1 finds no barrier nothing is entered, no exception flies, and the registers, the exceptions, the memory and the activations stay
 abbrev pub FailedSearchesAddTheirEvent : Type 0
-FailedSearchesAddTheirEvent = (g : Guide) (next : ℕ) (s : Recorded) (why : End) → SearchesFail g next s why
+FailedSearchesAddTheirEvent = (g : Tables) (next : ℕ) (s : Recorded) (why : End) → SearchesFail g next s why
 
 -- ---- the end of a cleanup
 
 -- the activation that runs the gate can be unwound, and was called with the landing sp of a cleanup, by the one at the cleanup's place
-pub record IsCalledBy (g : Guide) (s : Recorded) (p : InProgress) : Type 0 where
+pub record IsCalledBy (g : Tables) (s : Recorded) (p : InProgress) : Type 0 where
   pub unwinds : can_unwind (covered_at g.image s.regs.pc) ≡ true
   pub sp : s.first.caller.sp ≡ p.cleanup.sp
   pub place : length s.outer ≡ p.place + 1
@@ -89,7 +89,7 @@ IsResumed s c more (enters.Terminate why) o = IsOver s (the_end.Terminate why) m
 
 -- a cleanup ends only in the activation that recorded its landing sp, called by its own activation. Then phase 2 goes on there, from its site
 -- and next descriptor, to the barrier of its exception
-pub record CleanupsEndSo (g : Guide) (next : ℕ) (s : Recorded) (o : Outcome) : Type 0 where
+pub record CleanupsEndSo (g : Tables) (next : ℕ) (s : Recorded) (o : Outcome) : Type 0 where
   pub none : s.cleanups ≡ [] → o ≡ (Ended (the_end.Trap kind.NoCleanup 0 s.regs.pc), s)
   pub stuck :
       (p : InProgress) (more : List InProgress) → s.cleanups ≡ p ∷ more → can_unwind (covered_at g.image s.regs.pc) ≡ false
@@ -105,4 +105,4 @@ pub record CleanupsEndSo (g : Guide) (next : ℕ) (s : Recorded) (o : Outcome) :
       (frames_at g.image None p.cleanup.site (registers_of s.first.caller) a outer)) o
 
 abbrev pub CleanupsEndInTheirOwn : Type 0
-CleanupsEndInTheirOwn = (g : Guide) (next : ℕ) (s : Recorded) → CleanupsEndSo g next s (gate_of g END_CLEANUP_GATE next s)
+CleanupsEndInTheirOwn = (g : Tables) (next : ℕ) (s : Recorded) → CleanupsEndSo g next s (gate_of g END_CLEANUP_GATE next s)

@@ -33,7 +33,7 @@ pub record AreGuarded (s : Recorded) : Type 0 where
 abbrev pub SlotsAreGuarded : Type 0
 SlotsAreGuarded = (s : Recorded) → AreGuarded s
 
--- the words of the instruction at pc that are saves: of those that it pushes, from the sp behind it on
+-- the words of the instruction at pc that are saves: of those that it pushes, from the sp after it on
 abbrev pub saves_of : Program → Recorded → ℕ → List ℕ
 saves_of p s new = saved_words (p.look s.regs.pc).saves (pushes_some (instr_at (memory_of s) s.regs.pc)) new
 
@@ -67,7 +67,7 @@ SavesBecomeSlots =
 abbrev pub AreOutside : ℕ × ℕ → List ℕ → Type 0
 AreOutside home gs = (g : ℕ) → Has gs g → (g < home.0) ⊎ (home.1 ≤ g)
 
--- behind an event that leaves sp in the running stack they are the same, and so they are where the run ends
+-- after an event that leaves sp in the running stack they are the same, and so they are where the run ends
 abbrev pub LeavesBeyond : Recorded → Event Recorded End → Type 0
 LeavesBeyond s (Goes t text left) = (t.home ≡ s.home) × (reg_in t SP ≤ s.home.1 → t.beyond ≡ s.beyond)
 LeavesBeyond s (Ends end t) = (t.home ≡ s.home) × (t.beyond ≡ s.beyond)
@@ -78,7 +78,7 @@ WordsBeyondStay = (p : Program) (s : Recorded) (input : List ℕ) → AreOutside
 -- ---- a return
 
 -- What a return finds is what was recorded: the registers that it leaves are those with the caller's put in, it goes to nobody exactly in
--- the last activation, and the slots of the activation that it leaves lie between sp before it and sp behind it
+-- the last activation, and the slots of the activation that it leaves lie between sp before it and sp after it
 pub record FindsCaller (s : Recorded) (to : ℕ) (regs : Regs) : Type 0 where
   pub same : returned s.first.caller regs ≡ regs
   pub last : s.outer ≡ [] → to ≡ NO_CALLER

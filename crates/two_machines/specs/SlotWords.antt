@@ -15,7 +15,7 @@ use Rattle.thumb_core.specs.Words.{Load, listed, loads_from}
 use Rattle.thumb_core.specs.declared.ends.End.{End}
 use Rattle.thumb_core.specs.declared.regs.TheConstants.{SP, LR, PC}
 use Rattle.eh_gates.specs.declared.gates.TheConstants.{THROW_GATE, RETHROW_GATE}
-use Rattle.eh_gates.specs.State.{Guide}
+use Rattle.eh_gates.specs.State.{Tables}
 use Rattle.eh_gates.specs.Throwing.{bytes_of}
 use Rattle.two_machines.specs.Program.{Program}
 use Rattle.two_machines.specs.Activations.{Recorded, slots_of, reg_in, memory_of, lists_of}
@@ -65,17 +65,17 @@ abbrev pub SameBut : Outcome → Outcome → Type 0
 SameBut o q = (o.0 ≡ q.0) × (over [] o.1 ≡ over [] q.1)
 
 -- what a throw reads of the memory is the same: the first bytes of what it throws, and what its matches read
-pub record ReadsAlike (g : Guide) (s : Recorded) (segments : List Segment) (thrown : Thrown) : Type 0 where
+pub record ReadsAlike (g : Tables) (s : Recorded) (segments : List Segment) (thrown : Thrown) : Type 0 where
   pub bytes : (n : ℕ) → bytes_of (memory_of (over segments s)) thrown.object n ≡ bytes_of (memory_of s) thrown.object n
   pub matches : searched g (over segments s) thrown ≡ searched g s thrown
 
 -- A throw and a rethrow do the same then, whatever else the segments hold, the slots too: where they land and with which registers comes from
 -- what was recorded.
-pub record ThrowsReadNoSlot (g : Guide) (next : ℕ) (s : Recorded) (segments : List Segment) : Type 0 where
+pub record ThrowsReadNoSlot (g : Tables) (next : ℕ) (s : Recorded) (segments : List Segment) : Type 0 where
   pub throw : ReadsAlike g s segments (thrown_first s) → SameBut (gate_of g THROW_GATE next (over segments s)) (gate_of g THROW_GATE next s)
   pub rethrow :
       ((block : ℕ) → (rethrow_list (lists_of s)).answer ≡ Ok block → ReadsAlike g s segments (thrown_of_slot (lists_of s) (block_slot block)))
       → SameBut (gate_of g RETHROW_GATE next (over segments s)) (gate_of g RETHROW_GATE next s)
 
 abbrev pub ThrowsReadNoSlots : Type 0
-ThrowsReadNoSlots = (g : Guide) (next : ℕ) (s : Recorded) (segments : List Segment) → ThrowsReadNoSlot g next s segments
+ThrowsReadNoSlots = (g : Tables) (next : ℕ) (s : Recorded) (segments : List Segment) → ThrowsReadNoSlot g next s segments

@@ -10,7 +10,7 @@ use Rattle.eh_phase.specs.declared.phase1.Barrier.{Barrier}
 use Rattle.eh_phase.specs.declared.phase1.Found.TheVariants as found
 use Rattle.thumb_core.specs.Registers.{all_of}
 use Rattle.eh_gates.specs.declared.gates.TheConstants.{THROW_GATE, RETHROW_GATE}
-use Rattle.eh_gates.specs.State.{Guide}
+use Rattle.eh_gates.specs.State.{Tables}
 use Rattle.eh_gates.specs.Gates.{gate_of}
 use Rattle.eh_gates.specs.Throwing.{frames_seen, barrier_words, throw_to}
 use Rattle.two_machines.specs.Activations.{Activation, Recorded, reg_in, memory_of, heads, bytes_of, first_place, lists_of}
@@ -25,17 +25,17 @@ AreInPool [] = Unit {0}
 AreInPool (w ∷ more) = (w.slot < SLOTS) × (w.place < SLOT_WORDS) × AreInPool more
 
 -- the frames that phase 2 goes over from a site agree in both machines, whatever words the runtime has written into the pool before it
-abbrev pub AdvancesAlike : Guide → Recorded → ℕ → Type 0
+abbrev pub AdvancesAlike : Tables → Recorded → ℕ → Type 0
 AdvancesAlike g s site =
     (ws : List Write) → AreInPool ws → Agree (frames_of g.image (stack_of (put_all ws (memory_of s))) None site (all_of s.regs)) (machine.frames_from g s None site)
 
 -- the frames of a state agree at a gate: those that phase 1 sees, and those that phase 2 goes over
-pub record SeesAlike (g : Guide) (s : Recorded) : Type 0 where
+pub record SeesAlike (g : Tables) (s : Recorded) : Type 0 where
   pub search : Agree (frames_seen g (bytes_of s)) (machine.frames_from g s (first_place s.cleanups) s.regs.pc)
   pub advance : AdvancesAlike g s s.regs.pc
 
 -- what phase 2 enters from a site, for a barrier that was found, stands in an activation, and leaves no slot of those that it cuts
-pub record CanLand (g : Guide) (s : Recorded) (site slot : ℕ) (b : Barrier) : Type 0 where
+pub record CanLand (g : Tables) (s : Recorded) (site slot : ℕ) (b : Barrier) : Type 0 where
   pub sp : (barrier_words (block slot) b).sp < 2 ^ 32
   pub object : (barrier_words (block slot) b).object < 2 ^ 32
   pub desc : (barrier_words (block slot) b).desc < 2 ^ 32
@@ -50,14 +50,14 @@ pub record CanLand (g : Guide) (s : Recorded) (site slot : ℕ) (b : Barrier) : 
 -- a throw does the same in both machines then, and what it leaves stands for each other
 abbrev pub ThrowsMatch : Type 0
 ThrowsMatch =
-    (g : Guide) (next : ℕ) (s : Recorded) → Corresponds s → reg_in s 1 < 2 ^ 32 → reg_in s 2 < 2 ^ 32 → SeesAlike g s
+    (g : Tables) (next : ℕ) (s : Recorded) → Corresponds s → reg_in s 1 < 2 ^ 32 → reg_in s 2 < 2 ^ 32 → SeesAlike g s
     → ((slot : ℕ) (b : Barrier) → object_slot (reg_in s 0) ≡ Some slot → machine.searched g s (machine.thrown_first s) ≡ found.Barrier b → CanLand g s s.regs.pc slot b)
     → GateMatches (gate_of g THROW_GATE next (bytes_of s)) (machine.gate_of g THROW_GATE next s)
 
 -- so does a rethrow of the top of the caught stack
 abbrev pub RethrowsMatch : Type 0
 RethrowsMatch =
-    (g : Guide) (next : ℕ) (s : Recorded) → Corresponds s → SeesAlike g s
+    (g : Tables) (next : ℕ) (s : Recorded) → Corresponds s → SeesAlike g s
     → ((slot : ℕ) (b : Barrier) → block_slot (heads (lists_of s)).caught ≡ Some slot → machine.searched g s (machine.thrown_of_slot (lists_of s) (Some slot)) ≡ found.Barrier b
     → CanLand g s s.regs.pc slot b)
     → GateMatches (gate_of g RETHROW_GATE next (bytes_of s)) (machine.gate_of g RETHROW_GATE next s)
@@ -65,5 +65,5 @@ RethrowsMatch =
 -- .. and phase 2 from any site to a barrier, of an exception that flies
 abbrev pub ThrowsToMatch : Type 0
 ThrowsToMatch =
-    (g : Guide) (s : Recorded) (site slot : ℕ) (b : Barrier) → Corresponds s → IsInFlight s slot → AdvancesAlike g s site → CanLand g s site slot b
+    (g : Tables) (s : Recorded) (site slot : ℕ) (b : Barrier) → Corresponds s → IsInFlight s slot → AdvancesAlike g s site → CanLand g s site slot b
     → GateMatches (throw_to g (bytes_of s) site (block slot) b) (machine.throw_to g site (block slot) b s)

@@ -29,7 +29,7 @@ pub fn frames_are_activations()
     ensures { FramesAreActivations }
 {}
 
-/// The frame behind those that are passed is the one that phase 2 enters, with its registers and its site.
+/// The frame after those that are passed is the one that phase 2 enters, with its registers and its site.
 pub fn landings_stand_in_their_frames()
     ensures { LandingsStandInTheirFrames }
 {}
@@ -39,7 +39,7 @@ pub fn calls_record()
     ensures { CallsRecord }
 {}
 
-/// The frames of a throw end behind the activation of the innermost cleanup in progress, or behind the outermost where none is, or at the first
+/// The frames of a throw end after the activation of the innermost cleanup in progress, or after the outermost where none is, or at the first
 /// that can't be unwound.
 pub fn frames_end_as_told()
     ensures { FramesEndAsTold }
@@ -121,7 +121,7 @@ pub fn returns_read_no_slot()
     ensures { ReturnsReadNoSlot }
 {}
 
-/// Guarded words outside the running stack stay behind every event that leaves sp in it.
+/// Guarded words outside the running stack stay after every event that leaves sp in it.
 pub fn words_beyond_stay()
     ensures { WordsBeyondStay }
 {}

@@ -7,10 +7,10 @@ use Rattle.std.specs.List.{prefix_len}
 use Rattle.std.proofs.lemmas.Bool.Decides.{nat_tests}
 use Rattle.eh_word.specs.declared.fault.WordFault.{WordFault}
 use Rattle.eh_word.specs.declared.fault.WordFault.TheVariants.{Ends, TooWide}
-use Rattle.eh_word.specs.Words.{uleb128_front, goes_on, base_128}
+use Rattle.eh_word.specs.Words.{uleb128_front, has_more, base_128}
 use Rattle.unwind_codes.specs.declared.code.Code.{Code}
-use Rattle.unwind_codes.specs.Table.{Row, Behind, Nothing, Byte, Number, rows, behind_front, read_by, first_fit, code_front}
-use Rattle.unwind_codes.specs.Cut.{Is, Bad, cut_behind, cut_from}
+use Rattle.unwind_codes.specs.Table.{Row, Operand, Nothing, Byte, Number, rows, operand_front, read_by, first_fit, code_front}
+use Rattle.unwind_codes.specs.Cut.{Is, Bad, cut_after, cut_from}
 
 -- what is found at the front has no more bytes than there are
 abbrev Within : {X : Type 0} → ℕ → Option (X × ℕ) → Type 0
@@ -25,18 +25,18 @@ number_cases size last n false false s = grind (arith, nat_tests)
 
 number_within : (more : List ℕ) → Within (length more) (result_ok (uleb128_front more))
 number_within more =
-    let last : ℕ = prefix_len goes_on (take 4 more) in
+    let last : ℕ = prefix_len has_more (take 4 more) in
     number_cases (length more) last (base_128 (take (last + 1) more)) (nat_le (length more) last) (last == 4 && nat_lt 15 (slice_index more 4)) refl
 
-behind_within : (behind : Behind) (more : List ℕ) → Within (length more) (behind_front behind more)
-behind_within Nothing more = omega arith
-behind_within (Byte mask value) [] = tt
-behind_within (Byte mask value) (next ∷ more) = one (bit_and next mask == value)
+operand_within : (operand : Operand) (more : List ℕ) → Within (length more) (operand_front operand more)
+operand_within Nothing more = omega arith
+operand_within (Byte mask value) [] = tt
+operand_within (Byte mask value) (next ∷ more) = one (bit_and next mask == value)
   where
     one : (fits : Bool) → Within {X = ℕ} (suc (length more)) (cond fits (Some (next, 1)) None)
     one true = omega arith
     one false = tt
-behind_within Number more = number_within more
+operand_within Number more = number_within more
 
 abbrev pub CodeWithin : ℕ → Option (Code × ℕ) → Type 0
 CodeWithin most None = Unit {0}
@@ -57,8 +57,8 @@ tested false most o h = tt
 fit_within : (rs : List Row) (first : ℕ) (more : List ℕ) → CodeWithin (length more) (first_fit rs first more)
 fit_within [] first more = tt
 fit_within (row ∷ rest) first more =
-    read_within row first (length more) (cond (bit_and first row.mask == row.value) (behind_front row.behind more) None) (first_fit rest first more)
-    (tested (bit_and first row.mask == row.value) (length more) (behind_front row.behind more) (behind_within row.behind more)) (fit_within rest first more)
+    read_within row first (length more) (cond (bit_and first row.mask == row.value) (operand_front row.operand more) None) (first_fit rest first more)
+    (tested (bit_and first row.mask == row.value) (length more) (operand_front row.operand more) (operand_within row.operand more)) (fit_within rest first more)
 
 -- a code has a byte, and no more than there are
 pub front_within : (first : ℕ) (more : List ℕ) (code : Code) (size : ℕ) → code_front first more ≡ Some (code, size) → (1 ≤ size) × (size ≤ suc (length more))
@@ -69,32 +69,32 @@ front_within first more code size is =
     some
 
 -- the bytes of a code are passed over
-pub cut_past : (within place : ℕ) (more : List ℕ) → within ≤ length more → cut_behind within place more ≡ cut_from (place + within) (drop within more)
+pub cut_past : (within place : ℕ) (more : List ℕ) → within ≤ length more → cut_after within place more ≡ cut_from (place + within) (drop within more)
 unfolding cut_from
-cut_past zero place more h = ap (λ p. cut_behind 0 p more) (let e : place ≡ place + 0 = omega arith in e)
+cut_past zero place more h = ap (λ p. cut_after 0 p more) (let e : place ≡ place + 0 = omega arith in e)
 cut_past (suc within) place [] h = refl
 cut_past (suc within) place (byte ∷ more) h =
-    cut_past within (place + 1) more (omega arith) ∙ ap (λ p. cut_behind 0 p (drop within more)) (let e : place + 1 + within ≡ place + suc within = omega arith in e)
+    cut_past within (place + 1) more (omega arith) ∙ ap (λ p. cut_after 0 p (drop within more)) (let e : place + 1 + within ≡ place + suc within = omega arith in e)
 
 dropped : (size : ℕ) (first : ℕ) (more : List ℕ) → 1 ≤ size → drop size (first ∷ more) ≡ drop (size - 1) more
 dropped zero first more h = absurd (omega arith)
 dropped (suc n) first more h = ap (λ k. drop k more) (let e : n ≡ suc n - 1 = omega arith in e)
 
--- a code is the first item, and the bytes behind it give the others
+-- a code is the first item, and the bytes after it give the others
 pub cut_one : (place first : ℕ) (more : List ℕ) (code : Code) (size : ℕ) → code_front first more ≡ Some (code, size) →
     cut_from place (first ∷ more) ≡ Is code ∷ cut_from (place + size) (drop size (first ∷ more))
 unfolding cut_from
 cut_one place first more code size is =
     let bounds = front_within first more code size is in
-    ap (λ found. option_map_or (λ (found : Code × ℕ). Is found.0 ∷ cut_behind (found.1 - 1) (place + 1) more) found (Bad place ∷ [])) is
+    ap (λ found. option_map_or (λ (found : Code × ℕ). Is found.0 ∷ cut_after (found.1 - 1) (place + 1) more) found (Bad place ∷ [])) is
     ∙ ap (λ l. Is code ∷ l) (cut_past (size - 1) (place + 1) more (omega (arith, bounds.0, bounds.1))
-    ∙ ap (λ p. cut_behind 0 p (drop (size - 1) more)) (let e : place + 1 + (size - 1) ≡ place + size = omega (arith, bounds.0) in e)
-    ∙ ap (λ l. cut_behind 0 (place + size) l) (sym (dropped size first more bounds.0)))
+    ∙ ap (λ p. cut_after 0 p (drop (size - 1) more)) (let e : place + 1 + (size - 1) ≡ place + size = omega (arith, bounds.0) in e)
+    ∙ ap (λ l. cut_after 0 (place + size) l) (sym (dropped size first more bounds.0)))
 
 -- bytes that begin no code are the last item
 pub cut_bad : (place first : ℕ) (more : List ℕ) → code_front first more ≡ None → cut_from place (first ∷ more) ≡ Bad place ∷ []
 unfolding cut_from
-cut_bad place first more is = ap (λ found. option_map_or (λ (found : Code × ℕ). Is found.0 ∷ cut_behind (found.1 - 1) (place + 1) more) found (Bad place ∷ [])) is
+cut_bad place first more is = ap (λ found. option_map_or (λ (found : Code × ℕ). Is found.0 ∷ cut_after (found.1 - 1) (place + 1) more) found (Bad place ∷ [])) is
 
 pub cut_nothing : (place : ℕ) → cut_from place [] ≡ []
 unfolding cut_from

@@ -51,10 +51,10 @@ second_there x y rest h =
 same_place : (front at all rest : ℕ) → all ≡ front + rest → nat_le (front + at + 4) all ≡ nat_le (at + 4) rest
 same_place front at all rest e = grind (arith, nat_tests)
 
--- a word behind other bytes
-there_behind : (front rest : List ℕ) (at x : ℕ) → number_at 4 rest at ≡ Some x → number_at 4 (front ++ rest) (length front + at) ≡ Some x
+-- a word after other bytes
+there_after : (front rest : List ℕ) (at x : ℕ) → number_at 4 rest at ≡ Some x → number_at 4 (front ++ rest) (length front + at) ≡ Some x
 unfolding number_at
-there_behind front rest at x e =
+there_after front rest at x e =
     rw (same_place (length front) at (length (front ++ rest)) (length rest) (length-append front rest), ← drop-drop at (length front) (front ++ rest), drop-append_seam front rest) e
 
 -- the number that stands there
@@ -111,33 +111,33 @@ says_row place row rest low fits =
       second = says row.body place (row_bytes place row ++ rest) 4 low.body (omega arith) second;
     }
 
--- ---- and of rows behind each other
+-- ---- and of rows after each other
 
-leads_behind : (address place : ℕ) (front rest : List ℕ) (offset : ℕ) → LeadsTo address (place + length front) rest offset
+leads_after : (address place : ℕ) (front rest : List ℕ) (offset : ℕ) → LeadsTo address (place + length front) rest offset
     → LeadsTo address place (front ++ rest) (length front + offset)
-leads_behind address place front rest offset leads =
+leads_after address place front rest offset leads =
     let same : place + length front + offset ≡ place + (length front + offset) = omega arith in
     record {
       word = leads.word;
-      there = there_behind front rest offset leads.word leads.there;
+      there = there_after front rest offset leads.word leads.there;
       clear = leads.clear;
       leads = ap (λ p. prel31_of p leads.word) (sym same) ∙ leads.leads;
     }
 
-says_behind : (body : EntryBody) (place : ℕ) (front rest : List ℕ) (offset : ℕ) → Says body (place + length front) rest offset
+says_after : (body : EntryBody) (place : ℕ) (front rest : List ℕ) (offset : ℕ) → Says body (place + length front) rest offset
     → Says body place (front ++ rest) (length front + offset)
-says_behind CantUnwind place front rest offset h = there_behind front rest offset CANT_UNWIND h
-says_behind (Inline word) place front rest offset h = there_behind front rest offset word h
-says_behind (Table address) place front rest offset h = leads_behind address place front rest offset h
+says_after CantUnwind place front rest offset h = there_after front rest offset CANT_UNWIND h
+says_after (Inline word) place front rest offset h = there_after front rest offset word h
+says_after (Table address) place front rest offset h = leads_after address place front rest offset h
 
-row_behind : (row : Entry) (place : ℕ) (front rest : List ℕ) (offset : ℕ) → SaysRow row (place + length front) rest offset
+row_after : (row : Entry) (place : ℕ) (front rest : List ℕ) (offset : ℕ) → SaysRow row (place + length front) rest offset
     → SaysRow row place (front ++ rest) (length front + offset)
-row_behind row place front rest offset h =
+row_after row place front rest offset h =
     let same : length front + (offset + 4) ≡ length front + offset + 4 = omega arith in
     let S : ℕ → Type 0 = λ n. Says row.body place (front ++ rest) n in
     record {
-      start = leads_behind row.start place front rest offset h.start;
-      second = subst S same (says_behind row.body place front rest (offset + 4) h.second);
+      start = leads_after row.start place front rest offset h.start;
+      second = subst S same (says_after row.body place front rest (offset + 4) h.second);
     }
 
 each_row : (place : ℕ) (rows : List Entry) (k : ℕ) (row : Entry) → All IsLow rows → place + ROW_SIZE * length rows ≤ 2 ^ 30
@@ -155,7 +155,7 @@ each_row place (x ∷ rows) (suc k) row all fits e =
     let offset : length (row_bytes place x) + ROW_SIZE * k ≡ ROW_SIZE * suc k = omega (arith, size) in
     let P : ℕ → Type 0 = λ n. SaysRow row (place + n) (rows_bytes (place + ROW_SIZE) rows) (ROW_SIZE * k) in
     let S : ℕ → Type 0 = λ n. SaysRow row place (row_bytes place x ++ rows_bytes (place + ROW_SIZE) rows) n in
-    rw next (subst S offset (row_behind row place (row_bytes place x) (rows_bytes (place + ROW_SIZE) rows) (ROW_SIZE * k) (subst P (sym size) further)))
+    rw next (subst S offset (row_after row place (row_bytes place x) (rows_bytes (place + ROW_SIZE) rows) (ROW_SIZE * k) (subst P (sym size) further)))
 
 pub length-rows : (place : ℕ) (rows : List Entry) → length (rows_bytes place rows) ≡ ROW_SIZE * length rows
 length-rows place [] = refl
@@ -168,7 +168,7 @@ law_of_saying place rows all fits = record { size = length-rows place rows; each
 
 -- ---- bytes that say a row
 
--- the word that says that nothing unwinds leads to the place behind its own
+-- the word that says that nothing unwinds leads to the place after its own
 one_leads : (place : ℕ) → place < 2 ^ 30 → prel31_of place CANT_UNWIND ≡ place + 1
 unfolding prel31_of
 one_leads place h = grind (arith, ints, nat_tests)

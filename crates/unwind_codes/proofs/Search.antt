@@ -1,7 +1,7 @@
 -- The search of the table, by a test of every first byte of a range.
 use Rattle.std.proofs.Common.{◌≡◌, ℕ, zero, suc, ◌+◌, ◌<◌, ◌≤◌, Bool, true, false, not, ◌&&◌, ◌||◌, ◌==◌, bit_and, cond, List, [], ◌∷◌, Option, None, refl, arith, ap}
 use Rattle.unwind_codes.specs.declared.code.Code.{Code}
-use Rattle.unwind_codes.specs.Table.{Row, rows, behind_front, read_by, first_fit, code_front}
+use Rattle.unwind_codes.specs.Table.{Row, rows, operand_front, read_by, first_fit, code_front}
 
 -- each of the n numbers from k up passes
 abbrev pub all_from : (ℕ → Bool) → ℕ → ℕ → Bool
@@ -40,12 +40,12 @@ are_marks (m ∷ ms) (row ∷ rest) first = same (bit_and first row.mask == row.
 abbrev pub by_marked : List Bool → List Row → ℕ → List ℕ → Option (Code × ℕ)
 by_marked [] rs first more = None
 by_marked (m ∷ ms) [] first more = None
-by_marked (true ∷ ms) (row ∷ rest) first more = let later = by_marked ms rest first more in read_by row first (behind_front row.behind more) later
+by_marked (true ∷ ms) (row ∷ rest) first more = let later = by_marked ms rest first more in read_by row first (operand_front row.operand more) later
 by_marked (false ∷ ms) (row ∷ rest) first more = by_marked ms rest first more
 
 is_marked : (row : Row) (rest : List Row) (first : ℕ) (more : List ℕ) (ms : List Bool) (fits m : Bool) → same fits m ≡ true → first_fit rest first more ≡ by_marked ms rest first more →
-    read_by row first (cond fits (behind_front row.behind more) None) (first_fit rest first more) ≡ by_marked (m ∷ ms) (row ∷ rest) first more
-is_marked row rest first more ms true true s e = ap (read_by row first (behind_front row.behind more)) e
+    read_by row first (cond fits (operand_front row.operand more) None) (first_fit rest first more) ≡ by_marked (m ∷ ms) (row ∷ rest) first more
+is_marked row rest first more ms true true s e = ap (read_by row first (operand_front row.operand more)) e
 is_marked row rest first more ms true false s e = cc
 is_marked row rest first more ms false true s e = cc
 is_marked row rest first more ms false false s e = e

@@ -101,7 +101,7 @@ pub low_high : (first next : ℕ) (more : List ℕ) → first ≡ 0xB1 → 2 ^ 4
 low_high first next more e high small =
     front_like 0xB1 1 refl first (omega arith) (omega arith) (next ∷ more) ∙ rw (some_set next small (omega arith), high_set next high small) refl
 
--- a long raise, by what is read behind its first byte
+-- a long raise, by what is read after its first byte
 abbrev pub long_by : Option (ℕ × ℕ) → Option (Code × ℕ)
 long_by None = None
 long_by (Some number) = Some (RaiseLong number.0, 1 + number.1)

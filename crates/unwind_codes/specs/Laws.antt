@@ -15,10 +15,10 @@ use Rattle.unwind_codes.specs.Rows.{body_of, as_read, entry_of, second_word, row
 -- the bytes of codes in front of others are cut into these codes, and the others as if they stood alone at their place
 abbrev pub CodesAreCut : Type 0
 CodesAreCut =
-    (codes : List Code) (place : ℕ) (behind : List ℕ) → All IsCode codes → All HasBytes codes
-    → cut_from place (flat_map code_bytes codes ++ behind) ≡ map Is codes ++ cut_from (place + length (flat_map code_bytes codes)) behind
+    (codes : List Code) (place : ℕ) (after : List ℕ) → All IsCode codes → All HasBytes codes
+    → cut_from place (flat_map code_bytes codes ++ after) ≡ map Is codes ++ cut_from (place + length (flat_map code_bytes codes)) after
 
--- the shortest ULEB128 of a number of at most 14 bits is read as that number, whatever stands behind it
+-- the shortest ULEB128 of a number of at most 14 bits is read as that number, whatever stands after it
 abbrev pub NumbersRead : Type 0
 NumbersRead =
     (n : ℕ) (more : List ℕ) → n < 2 ^ 14

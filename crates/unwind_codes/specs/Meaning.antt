@@ -7,7 +7,7 @@ use Rattle.unwind_codes.specs.declared.code.Code.TheVariants.{Raise, Lower, Refu
 use Rattle.unwind_codes.specs.declared.code.TheConstants.{LONG_LEAST}
 
 -- what a code does: the virtual stack pointer rises or falls by so many bytes; these registers are popped, from it up in this
--- order, and it stands behind them; it is taken from a register; the function isn't unwound; or the codes end
+-- order, and it stands after them; it is taken from a register; the function isn't unwound; or the codes end
 pub data Effect : Type 0 where
   Rises : (by : ℕ) → Effect
   Falls : (by : ℕ) → Effect

@@ -42,7 +42,7 @@ second_word place (Table address) = prel31_to place address
 unfoldable pub row_bytes : ℕ → Entry → List ℕ
 row_bytes place row = little_bytes 4 (prel31_to place row.start) ++ little_bytes 4 (second_word ((place + 4) % 2 ^ 32) row.body)
 
--- the bytes of rows, one behind the other, the first of which stands at a place
+-- the bytes of rows, one after the other, the first of which stands at a place
 abbrev pub rows_bytes : ℕ → List Entry → List ℕ
 rows_bytes place [] = []
 rows_bytes place (row ∷ more) = row_bytes place row ++ rows_bytes ((place + ROW_SIZE) % 2 ^ 32) more

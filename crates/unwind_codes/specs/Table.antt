@@ -6,25 +6,25 @@ use Rattle.unwind_codes.specs.declared.code.Code.{Code}
 use Rattle.unwind_codes.specs.declared.code.Code.TheVariants.{Raise, Lower, Refuse, PopMask, Restore, PopRange, PopRangeAndLr, Finish, PopLow, RaiseLong}
 use Rattle.unwind_codes.specs.declared.code.TheConstants.{RAISE, LOWER, POP_MASK, RESTORE, POP_RANGE, POP_RANGE_AND_LR, FINISH, POP_LOW, RAISE_LONG}
 
--- what has to stand behind the first byte: nothing; a byte that is `value` under `mask`; or a ULEB128 number
-pub data Behind : Type 0 where
-  Nothing : Behind
-  Byte : (mask value : ℕ) → Behind
-  Number : Behind
+-- what has to stand after the first byte: nothing; a byte that is `value` under `mask`; or a ULEB128 number
+pub data Operand : Type 0 where
+  Nothing : Operand
+  Byte : (mask value : ℕ) → Operand
+  Number : Operand
 
--- A first byte that is `value` under `mask`, and what has to stand behind it. `means` gives the code by the first byte and the
--- byte or number behind it, or None where the standard keeps the pattern for something else.
+-- A first byte that is `value` under `mask`, and what has to stand after it. `means` gives the code by the first byte and the
+-- byte or number after it, or None where the standard keeps the pattern for something else.
 pub record Row : Type 0 where
   pub mask : ℕ
   pub value : ℕ
-  pub behind : Behind
+  pub operand : Operand
   pub means : ℕ → ℕ → Option Code
 
-abbrev pub row : ℕ → ℕ → Behind → (ℕ → ℕ → Code) → Row
-row mask value behind code = record { mask = mask; value = value; behind = behind; means = λ first next. Some (code first next) }
+abbrev pub row : ℕ → ℕ → Operand → (ℕ → ℕ → Code) → Row
+row mask value operand code = record { mask = mask; value = value; operand = operand; means = λ first next. Some (code first next) }
 
-abbrev pub reserved : ℕ → ℕ → Behind → Row
-reserved mask value behind = record { mask = mask; value = value; behind = behind; means = λ first next. None }
+abbrev pub reserved : ℕ → ℕ → Operand → Row
+reserved mask value operand = record { mask = mask; value = value; operand = operand; means = λ first next. None }
 
 -- The rows. Where two fit, the first counts. Bytes that none fits begin no code.
 abbrev pub rows : List Row
@@ -53,12 +53,12 @@ rows =
     ∷ row 0xFF RAISE_LONG Number (λ first next. RaiseLong next)
     ∷ []
 
--- what stands behind a first byte, and in how many bytes; None where it isn't what has to stand there
-abbrev pub behind_front : Behind → List ℕ → Option (ℕ × ℕ)
-behind_front Nothing more = Some (0, 0)
-behind_front (Byte mask value) [] = None
-behind_front (Byte mask value) (next ∷ _) = if bit_and next mask == value then Some (next, 1) else None
-behind_front Number more = result_ok (uleb128_front more)
+-- what stands after a first byte, and in how many bytes; None where it isn't what has to stand there
+abbrev pub operand_front : Operand → List ℕ → Option (ℕ × ℕ)
+operand_front Nothing more = Some (0, 0)
+operand_front (Byte mask value) [] = None
+operand_front (Byte mask value) (next ∷ _) = if bit_and next mask == value then Some (next, 1) else None
+operand_front Number more = result_ok (uleb128_front more)
 
 -- the code of a row that fits, and its bytes; or what later rows say
 abbrev pub read_by : Row → ℕ → Option (ℕ × ℕ) → Option (Code × ℕ) → Option (Code × ℕ)
@@ -69,7 +69,7 @@ abbrev pub first_fit : List Row → ℕ → List ℕ → Option (Code × ℕ)
 first_fit [] first more = None
 first_fit (row ∷ rest) first more =
     let later = first_fit rest first more in
-    read_by row first (if bit_and first row.mask == row.value then behind_front row.behind more else None) later
+    read_by row first (if bit_and first row.mask == row.value then operand_front row.operand more else None) later
 
 -- the code that begins with a byte in front of others, and how many bytes it has; None where these bytes begin no code
 unfoldable pub code_front : ℕ → List ℕ → Option (Code × ℕ)

@@ -9,9 +9,9 @@ bytes_of_word w = (w / 2 ^ 24) ∷ (w / 2 ^ 16 % 2 ^ 8) ∷ (w / 2 ^ 8 % 2 ^ 8) 
 abbrev pub personality_of_word : ℕ → ℕ
 personality_of_word first = first / 2 ^ 24 % 16
 
--- how many words behind the first one hold code: none with personality 0; with 1 and 2 the second byte counts them
-abbrev pub code_words_behind : ℕ → ℕ
-code_words_behind first = if personality_of_word first == 0 then 0 else first / 2 ^ 16 % 2 ^ 8
+-- how many words after the first one hold code: none with personality 0; with 1 and 2 the second byte counts them
+abbrev pub code_words_after : ℕ → ℕ
+code_words_after first = if personality_of_word first == 0 then 0 else first / 2 ^ 16 % 2 ^ 8
 
 -- the code bytes in the first word: three with personality 0, two with 1 and 2
 abbrev pub code_in_first : ℕ → List ℕ
@@ -20,9 +20,9 @@ code_in_first first = drop (if personality_of_word first == 0 then 1 else 2) (by
 -- the code bytes of an entry's words
 abbrev pub code_of_words : List ℕ → List ℕ
 code_of_words [] = []
-code_of_words (first ∷ more) = code_in_first first ++ flat_map bytes_of_word (take (code_words_behind first) more)
+code_of_words (first ∷ more) = code_in_first first ++ flat_map bytes_of_word (take (code_words_after first) more)
 
--- the words behind those that hold code
-abbrev pub words_behind_code : List ℕ → List ℕ
-words_behind_code [] = []
-words_behind_code (first ∷ more) = drop (code_words_behind first) more
+-- the words after those that hold code
+abbrev pub words_after_code : List ℕ → List ℕ
+words_after_code [] = []
+words_after_code (first ∷ more) = drop (code_words_after first) more

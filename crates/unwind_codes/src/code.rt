@@ -17,7 +17,7 @@ pub const RESTORE: u8 = 0x90;
 pub const POP_RANGE: u8 = 0xA0;
 /// The first byte of `10101nnn`.
 pub const POP_RANGE_AND_LR: u8 = 0xA8;
-/// "Finish", which also fills up an entry behind its codes.
+/// "Finish", which also fills up an entry after its codes.
 pub const FINISH: u8 = 0xB0;
 /// The first byte of `10110001 0000iiii`.
 pub const POP_LOW: u8 = 0xB1;

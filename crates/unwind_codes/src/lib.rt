@@ -10,10 +10,10 @@ pub mod words;
 
 pub use code::{Code, push_code};
 pub use row::{Entry, EntryBody, body_of, entry_of, prel31_to, push_row, push_rows, second_word};
-pub use words::{code_words_behind, personality_of_word};
+pub use words::{code_words_after, personality_of_word};
 
 /// Bytes are cut into the codes that they were written for: in front of any bytes, the bytes of codes that the standard has are
-/// cut into just these codes, and what stands behind them is cut as if it stood alone. The number in a long raise is read as it was
+/// cut into just these codes, and what stands after them is cut as if it stood alone. The number in a long raise is read as it was
 /// written.
 pub fn codes_are_cut_as_written()
     ensures codes { CodesAreCut }

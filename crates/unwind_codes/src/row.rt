@@ -95,7 +95,7 @@ pub fn push_row(bytes: &mut Vec<u8>, place: u32, row: Entry) -> Result<(), Alloc
     push_word(bytes, second_word(place.wrapping_add(4), row.body))
 }
 
-/// Adds rows at the end, one behind the other, the first of which stands at `place`.
+/// Adds rows at the end, one after the other, the first of which stands at `place`.
 #[tactic(auto, using(crate::proofs::RowBytes::steps))]
 pub fn push_rows(bytes: &mut Vec<u8>, place: u32, rows: &[Entry]) -> Result<(), AllocError>
     ensures { OnOk result (bytes.new.items ≡ bytes.old.items ++ rows_bytes place rows.now) }

@@ -1,7 +1,7 @@
-//! The words of an entry and of what stands behind its codes (IHI 0038, "The compact model"): their marks, the number of the
+//! The words of an entry and of what stands after its codes (IHI 0038, "The compact model"): their marks, the number of the
 //! personality routine, and how many words hold code. docs/unwind-bytecode.md states the rule.
 ghost use Rattle.std.specs.Prelude.{◌≡◌, ◌<◌, ◌/◌, ◌%◌, ◌^◌};
-ghost use Rattle.unwind_codes.specs.Words.{personality_of_word, code_words_behind};
+ghost use Rattle.unwind_codes.specs.Words.{personality_of_word, code_words_after};
 
 /// Bit 31 of an entry's first word: set in the compact model, and clear in the generic one. A second word of a row that has it set
 /// is the entry itself.
@@ -14,7 +14,7 @@ pub const MOST_PERSONALITY: u8 = 2;
 pub const WIDE_PERSONALITY: u8 = 2;
 /// Bit 31 of a catch's landing pad word: the catch takes a reference.
 pub const REFERENCE_MARK: u32 = 0x8000_0000;
-/// Bit 31 of a specification's count: a landing pad stands behind its types.
+/// Bit 31 of a specification's count: a landing pad stands after its types.
 pub const LANDING_PAD_MARK: u32 = 0x8000_0000;
 
 /// The number of the personality routine, by an entry's first word.
@@ -24,9 +24,9 @@ pub fn personality_of_word(first: u32) -> u8
     (first / 0x100_0000 % 16) as u8
 }
 
-/// How many words behind an entry's first one hold code.
-pub fn code_words_behind(first: u32) -> u8
-    ensures { result ≡ code_words_behind first }
+/// How many words after an entry's first one hold code.
+pub fn code_words_after(first: u32) -> u8
+    ensures { result ≡ code_words_after first }
 {
     if personality_of_word(first) == 0 {
         0

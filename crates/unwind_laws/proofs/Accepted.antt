@@ -13,7 +13,7 @@ use Rattle.asm_unwind.proofs.FunctionLaw.{not_false}
 use Rattle.asm_unwind.proofs.KeptLemmas.{or_no, clear, seen_more, kept_none, kept_more}
 use Rattle.unwind_laws.specs.PrologueLaw.{IsOfItsType, NoneRefused}
 
--- each directive is taken behind those before it
+-- each directive is taken after those before it
 abbrev pub Accepted : Seen → List UnwindDirective → Type 0
 Accepted seen [] = Unit {0}
 Accepted seen (d ∷ more) = (refusal_of seen d ≡ None) × Accepted (with_next seen d) more

@@ -19,7 +19,7 @@ use Rattle.asm_unwind.specs.EntryLaw.{ReadsAs}
 use Rattle.asm_unwind.proofs.ReadLaws.{law_of_function_codes}
 use Rattle.eh_bytecode.specs.declared.frame.Unwinding.{Unwinding}
 use Rattle.eh_bytecode.specs.Meaning.{runs, finished, begins, unwound}
-use Rattle.unwind_laws.specs.PrologueLaw.{bytes_taken, words_from, stores, saves, ProloguesAreTakenBack}
+use Rattle.unwind_laws.specs.PrologueLaw.{bytes_taken, words_from, stores, saves, ProloguesAreUndone}
 use Rattle.unwind_laws.proofs.Accepted.{accepted, kept_all}
 use Rattle.unwind_laws.proofs.Steps.{at}
 use Rattle.unwind_laws.proofs.Loading.{taken}
@@ -34,8 +34,8 @@ length-taken : (old : List ℕ) (list : List (ℕ × ℕ)) (r : List ℕ) → le
 length-taken old [] r = refl
 length-taken old (s ∷ more) r = length-taken old more (slice_set r s.0 (slice_index old s.0)) ∙ length-set r s.0 (slice_index old s.0)
 
-set_cases : (old r : List ℕ) (j k : ℕ) (same behind : Bool) → (j == k) ≡ same → k < length r →
-    cond behind (slice_index old k) (slice_index (slice_set r j (slice_index old j)) k) ≡ cond (same || behind) (slice_index old k) (slice_index r k)
+set_cases : (old r : List ℕ) (j k : ℕ) (same after : Bool) → (j == k) ≡ same → k < length r →
+    cond after (slice_index old k) (slice_index (slice_set r j (slice_index old j)) k) ≡ cond (same || after) (slice_index old k) (slice_index r k)
 set_cases old r j k same true s room = at_true same
   where
     at_true : (b : Bool) → slice_index old k ≡ cond (b || true) (slice_index old k) (slice_index r k)
@@ -129,9 +129,9 @@ ended_other : (t : List ℕ) (sp k : ℕ) → k < 15 → k ≢ 13 → slice_inde
 ended_other t sp k low other =
     get_or-set_other (slice_set t 15 (slice_index t 14)) 13 k sp 0 other ∙ get_or-set_other t 15 k (slice_index t 14) 0 (λ e. absurd (omega arith))
 
-pub law_of_prologues : ProloguesAreTakenBack
+pub law_of_prologues : ProloguesAreUndone
 unfolding unwound
-law_of_prologues directives entry segments old r fine narrow unwinds is wide_old small_old wide small behind =
+law_of_prologues directives entry segments old r fine narrow unwinds is wide_old small_old wide small after =
     let sp : ℕ = slice_index old 13 in
     let list : List (ℕ × ℕ) = stores sp directives in
     let t : List ℕ = taken old list r in
@@ -141,7 +141,7 @@ law_of_prologues directives entry segments old r fine narrow unwinds is wide_old
     record {
       caller = ended t sp;
       ends = ap (runs segments (begins r)) read.items
-          ∙ undone segments old r sp (slice_index r 13) (seen_in []) directives small_old small (accepted directives fine) (small_old 13) behind.room behind.frame_pointer behind.pushed behind.stack_pointer (replicate read.fill (Is Finish))
+          ∙ undone segments old r sp (slice_index r 13) (seen_in []) directives small_old small (accepted directives fine) (small_old 13) after.room after.frame_pointer after.pushed after.stack_pointer (replicate read.fill (Is Finish))
           ∙ finishing segments (at sp t) read.fill;
       wide = length-set (slice_set t 15 (slice_index t 14)) 13 sp ∙ length-set t 15 (slice_index t 14) ∙ own;
       sp = ended_sp t sp own;

@@ -4,7 +4,7 @@ use Rattle.std.specs.Prelude.{◌==◌, ◌&&◌, not, nat_lt, nat_le, MatchOpti
 use Rattle.std.proofs.lemmas.Bool.Decides.{nat_tests}
 use Rattle.std.proofs.lemmas.Bool.{eqb-true}
 use Rattle.unwind_codes.specs.declared.words.TheConstants.{COMPACT_MARK, COMPACT_TOP, MOST_PERSONALITY}
-use Rattle.unwind_codes.specs.Words.{personality_of_word, code_words_behind, code_of_words}
+use Rattle.unwind_codes.specs.Words.{personality_of_word, code_words_after, code_of_words}
 use Rattle.asm_unwind.specs.declared.entry.EntryWords.{EntryWords}
 use Rattle.asm_unwind.specs.declared.entry.EntryWords.TheVariants.{CantUnwind, Inline, Table}
 use Rattle.asm_unwind.specs.Refusals.{seen_in}
@@ -40,9 +40,9 @@ inline_reads word top =
     let index : personality_of_word word ≡ 0 = has_index word 0 top (omega arith) in
     rw (compact, plain, index) refl
 
-table_reads : (first index : ℕ) (more : List ℕ) → first / 2 ^ 24 ≡ COMPACT_TOP + index → index ≤ MOST_PERSONALITY → code_words_behind first ≤ length more → codes_of_words (first ∷ more) ≡ Ok (code_of_words (first ∷ more))
+table_reads : (first index : ℕ) (more : List ℕ) → first / 2 ^ 24 ≡ COMPACT_TOP + index → index ≤ MOST_PERSONALITY → code_words_after first ≤ length more → codes_of_words (first ∷ more) ≡ Ok (code_of_words (first ∷ more))
 table_reads first index more top low whole =
-    let enough : nat_lt (length more) (code_words_behind first) ≡ false = grind (arith, nat_tests) in
+    let enough : nat_lt (length more) (code_words_after first) ≡ false = grind (arith, nat_tests) in
     rw (is_compact first index top low, not_reserved first index top low, enough) refl
 
 -- an inline entry has personality 0

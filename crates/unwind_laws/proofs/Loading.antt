@@ -71,7 +71,7 @@ word_cases true x e small = cc
 put_plain : (old r : List ℕ) (k : ℕ) → Small old → (k == 13) ≡ false → put r k (slice_index old k) ≡ slice_set r k (slice_index old k)
 put_plain old r k small plain = ap (slice_set r k) (word_cases (k == 13) (slice_index old k) plain (small k))
 
--- words that stand one behind the other are loaded
+-- words that stand one after the other are loaded
 loaded : (segments : List Segment) (old : List ℕ) (base at : ℕ) (registers r : List ℕ) → Small old → Plain registers → base + at + 4 * length registers ≤ 2 ^ 32 →
     All (Holds segments old) (words_from (base + at) registers) →
     load_words segments base (loads_from at registers) r ≡ Ok (taken old (words_from (base + at) registers) r)
@@ -80,11 +80,11 @@ loaded segments old base at (k ∷ more) r small plain room holds =
     let here : loads 4 segments (base + at) ≡ Ok (slice_index old k) = All-head (Holds segments old) (k, base + at) (words_from (base + at + 4) more) holds in
     let place : (base + at) % 2 ^ 32 ≡ base + at = omega arith in
     let next : base + at + 4 ≡ base + (at + 4) = omega arith in
-    let behind : All (Holds segments old) (words_from (base + (at + 4)) more) = rw (← next) (All-tail (Holds segments old) (k, base + at) (words_from (base + at + 4) more) holds) in
+    let following : All (Holds segments old) (words_from (base + (at + 4)) more) = rw (← next) (All-tail (Holds segments old) (k, base + at) (words_from (base + at + 4) more) holds) in
     ap (λ a. loads 4 segments a >>= (λ x. load_words segments base (loads_from (at + 4) more) (put r k x))) place
     ∙ ap (λ (o : Result ℕ _). o >>= (λ x. load_words segments base (loads_from (at + 4) more) (put r k x))) here
     ∙ ap (load_words segments base (loads_from (at + 4) more)) (put_plain old r k small plain.0)
-    ∙ loaded segments old base (at + 4) more (slice_set r k (slice_index old k)) small plain.2 (omega arith) behind
+    ∙ loaded segments old base (at + 4) more (slice_set r k (slice_index old k)) small plain.2 (omega arith) following
     ∙ ap (λ a. Ok (taken old (words_from a more) (slice_set r k (slice_index old k)))) (sym next)
 
 -- an effect that only pops
@@ -120,7 +120,7 @@ in_front P (x ∷ xs) ys h =
 popping : (segments : List Segment) (old : List ℕ) (v : ℕ) (r : List ℕ) (codes : List Code) → Small old → sum_by raised codes ≡ 0 → sum_by lowered codes ≡ 0 → list_any does_other codes ≡ false →
     Plain (flat_map popped codes) → v + 4 * length (flat_map popped codes) < 2 ^ 32 → All (Holds segments old) (words_from v (flat_map popped codes)) →
     Reaches segments (at v r) codes (at (v + 4 * length (flat_map popped codes)) (taken old (words_from v (flat_map popped codes)) r))
-popping segments old v r [] small up down keep plain room holds = λ behind. ap (λ v. runs segments (at v r) behind) (let e : v ≡ v + 4 * 0 = omega arith in e)
+popping segments old v r [] small up down keep plain room holds = λ following. ap (λ v. runs segments (at v r) following) (let e : v ≡ v + 4 * 0 = omega arith in e)
 popping segments old v r (code ∷ codes) small up down keep plain room holds =
     let first : List ℕ = popped code in
     let rest : List ℕ = flat_map popped codes in

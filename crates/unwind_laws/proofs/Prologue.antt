@@ -1,4 +1,4 @@
--- The codes of a function lead from behind its prologue to the stack pointer in front of it, with what it stored.
+-- The codes of a function lead from after its prologue to the stack pointer in front of it, with what it stored.
 use Rattle.std.proofs.Common.{◌≡◌, ℕ, ◌+◌, ◌-◌, ◌^◌, ◌<◌, ◌≤◌, true, false, List, [], ◌∷◌, ◌++◌, None, length, drop, ap, sym, ◌∙◌, refl, arith, append-nil, All}
 use Rattle.std.specs.Prelude.{◌||◌, sum_by, slice_index}
 use Rattle.std.specs.List.{list_any}
@@ -25,7 +25,7 @@ use Rattle.unwind_laws.proofs.Loading.{taken, taken-append, Holds, plain_list, i
 
 -- the codes of one directive, which is no frame pointer
 nothing_done : (segments : List Segment) (old : List ℕ) (v : ℕ) (r : List ℕ) → Reaches segments (at v r) [] (at (v + 0) r)
-nothing_done segments old v r behind = ap (λ v. runs segments (at v r) behind) (let e : v ≡ v + 0 = omega arith in e)
+nothing_done segments old v r after = ap (λ v. runs segments (at v r) after) (let e : v ≡ v + 0 = omega arith in e)
 
 directive_after : (segments : List Segment) (old : List ℕ) (v : ℕ) (r : List ℕ) (seen : Seen) (d : UnwindDirective) → Small old → is_frame_pointer d ≡ false → refusal_of seen d ≡ None →
     v + bytes_taken d < 2 ^ 32 → All (Holds segments old) (words_from v (saved_registers d)) →
@@ -43,26 +43,26 @@ directive_after segments old v r seen CantUnwind small other fine room holds = n
 directive_after segments old v r seen (PersonalityIndex index) small other fine room holds = nothing_done segments old v r
 directive_after segments old v r seen HandlerData small other fine room holds = nothing_done segments old v r
 
--- the codes of a list are those of the ones behind its first directive and then that one's
+-- the codes of a list are those of the ones after its first directive and then that one's
 before_more : (d : UnwindDirective) (xs : List UnwindDirective) → is_frame_pointer d ≡ false → before_frame_pointer (d ∷ xs) ≡ d ∷ before_frame_pointer xs
 before_more d xs other = rw (take_while-cons, other) refl
 
 codes_of-cons : (d : UnwindDirective) (xs : List UnwindDirective) → is_frame_pointer d ≡ false → codes_of (d ∷ xs) ≡ codes_of xs ++ directive_codes d
 unfolding codes_of
 codes_of-cons d xs other =
-    let behind : from_frame_pointer (d ∷ xs) ≡ from_frame_pointer xs = ap (λ (l : List UnwindDirective). drop (length l) (d ∷ xs)) (before_more d xs other) in
+    let after : from_frame_pointer (d ∷ xs) ≡ from_frame_pointer xs = ap (λ (l : List UnwindDirective). drop (length l) (d ∷ xs)) (before_more d xs other) in
     let all : written (d ∷ xs) ≡ d ∷ written xs =
-    ap (λ l. l ++ kept false (from_frame_pointer (d ∷ xs))) (before_more d xs other) ∙ ap (λ (l : List UnwindDirective). d ∷ before_frame_pointer xs ++ kept false l) behind in
+    ap (λ l. l ++ kept false (from_frame_pointer (d ∷ xs))) (before_more d xs other) ∙ ap (λ (l : List UnwindDirective). d ∷ before_frame_pointer xs ++ kept false l) after in
     ap reversed_codes all ∙ reversed_codes-cons d (written xs)
 
--- at a frame pointer they are its own, behind those of the directives behind it without their pads
+-- at a frame pointer they are its own, after those of the directives after it without their pads
 codes_of-frame_pointer : (register offset : ℕ) (xs : List UnwindDirective) →
     codes_of (SetFp register offset ∷ xs) ≡ reversed_codes (kept false xs) ++ (Restore register ∷ lower_codes offset)
 unfolding codes_of
 codes_of-frame_pointer register offset xs = reversed_codes-cons (SetFp register offset) (kept false xs)
 
--- what stands behind a frame pointer leads to some pointer, and stores nothing
-record Behind (segments : List Segment) (v : ℕ) (r : List ℕ) (more : List UnwindDirective) : Type 0 where
+-- what stands after a frame pointer leads to some pointer, and stores nothing
+record After (segments : List Segment) (v : ℕ) (r : List ℕ) (more : List UnwindDirective) : Type 0 where
   codes : Leads segments v r (reversed_codes (kept false more))
   none : (sp : ℕ) → stores sp more ≡ []
 
@@ -73,7 +73,7 @@ no_codes : (d : UnwindDirective) (xs : List UnwindDirective) → directive_codes
 no_codes d xs none = reversed_codes-cons d xs ∙ ap (λ l. reversed_codes xs ++ l) none ∙ append-nil (reversed_codes xs)
 
 nothing_more : (segments : List Segment) (v : ℕ) (r : List ℕ) (d : UnwindDirective) (more : List UnwindDirective) → directive_codes d ≡ [] → saved_registers d ≡ [] → kept false (d ∷ more) ≡ d ∷ kept false more →
-    Behind segments v r more → Behind segments v r (d ∷ more)
+    After segments v r more → After segments v r (d ∷ more)
 nothing_more segments v r d more codes saves keeps before = record {
   codes = leads_by segments v r (reversed_codes (kept false (d ∷ more))) (reversed_codes (kept false more)) (ap reversed_codes keeps ∙ no_codes d (kept false more) codes) before.codes;
   none = λ sp. λ i. before.none (sp - bytes_taken d) i ++ words_from (sp - bytes_taken d) (saves i);
@@ -88,42 +88,42 @@ restore_leads segments v r register codes on = record {
 leads_append : (segments : List Segment) (v : ℕ) (r : List ℕ) (xs ys : List Code) (first : Leads segments v r xs) → Leads segments first.to r ys → Leads segments v r (xs ++ ys)
 leads_append segments v r xs ys first second = record { to = second.to; reaches = reaches_append segments (at v r) (at first.to r) (at second.to r) xs ys first.reaches second.reaches }
 
-nothing_behind : (segments : List Segment) (v : ℕ) (r : List ℕ) (more : List UnwindDirective) (seen : Seen) → seen.frame_pointer ≡ true → Accepted seen more → Behind segments v r more
-nothing_behind segments v r [] seen behind fine = record { codes = record { to = v; reaches = λ behind. refl }; none = λ sp. refl }
-nothing_behind segments v r (Save registers ∷ more) seen behind fine =
+nothing_after : (segments : List Segment) (v : ℕ) (r : List ℕ) (more : List UnwindDirective) (seen : Seen) → seen.frame_pointer ≡ true → Accepted seen more → After segments v r more
+nothing_after segments v r [] seen after fine = record { codes = record { to = v; reaches = λ after. refl }; none = λ sp. refl }
+nothing_after segments v r (Save registers ∷ more) seen after fine =
     let none = (save_plain seen registers (clear seen (Save registers) fine.0).2).2 in
     cc
-nothing_behind segments v r (Pad size ∷ more) seen behind fine =
-    let before = nothing_behind segments v r more seen behind fine.1 in
+nothing_after segments v r (Pad size ∷ more) seen after fine =
+    let before = nothing_after segments v r more seen after fine.1 in
     record { codes = before.codes; none = λ sp. ap (λ l. l ++ []) (before.none (sp - size)) }
-nothing_behind segments v r (SetFp register offset ∷ more) seen behind fine =
+nothing_after segments v r (SetFp register offset ∷ more) seen after fine =
     let law : InAll (lower_codes offset) 0 offset [] = law_of_offsets offset (offset_whole register offset (clear seen (SetFp register offset) fine.0).0) in
-    let before = nothing_behind segments v r more (with_next seen (SetFp register offset)) refl fine.1 in
+    let before = nothing_after segments v r more (with_next seen (SetFp register offset)) refl fine.1 in
     record {
       codes = leads_by segments v r (reversed_codes (SetFp register offset ∷ kept false more)) (reversed_codes (kept false more) ++ (Restore register ∷ lower_codes offset)) (reversed_codes-cons (SetFp register offset) (kept false more))
           (leads_append segments v r (reversed_codes (kept false more)) (Restore register ∷ lower_codes offset) before.codes
           (restore_leads segments before.codes.to r register (lower_codes offset) (moving segments (slice_index r register) r (lower_codes offset) law.pop law.keep)));
       none = λ sp. ap (λ l. l ++ []) (before.none (sp - 0));
     }
-nothing_behind segments v r (FnStart ∷ more) seen behind fine = nothing_more segments v r FnStart more refl refl refl (nothing_behind segments v r more (with_next seen FnStart) behind fine.1)
-nothing_behind segments v r (FnEnd ∷ more) seen behind fine = nothing_more segments v r FnEnd more refl refl refl (nothing_behind segments v r more (with_next seen FnEnd) behind fine.1)
-nothing_behind segments v r (CantUnwind ∷ more) seen behind fine = nothing_more segments v r CantUnwind more refl refl refl (nothing_behind segments v r more (with_next seen CantUnwind) behind fine.1)
-nothing_behind segments v r (PersonalityIndex index ∷ more) seen behind fine =
-    nothing_more segments v r (PersonalityIndex index) more refl refl refl (nothing_behind segments v r more (with_next seen (PersonalityIndex index)) behind fine.1)
-nothing_behind segments v r (HandlerData ∷ more) seen behind fine = nothing_more segments v r HandlerData more refl refl refl (nothing_behind segments v r more (with_next seen HandlerData) behind fine.1)
+nothing_after segments v r (FnStart ∷ more) seen after fine = nothing_more segments v r FnStart more refl refl refl (nothing_after segments v r more (with_next seen FnStart) after fine.1)
+nothing_after segments v r (FnEnd ∷ more) seen after fine = nothing_more segments v r FnEnd more refl refl refl (nothing_after segments v r more (with_next seen FnEnd) after fine.1)
+nothing_after segments v r (CantUnwind ∷ more) seen after fine = nothing_more segments v r CantUnwind more refl refl refl (nothing_after segments v r more (with_next seen CantUnwind) after fine.1)
+nothing_after segments v r (PersonalityIndex index ∷ more) seen after fine =
+    nothing_more segments v r (PersonalityIndex index) more refl refl refl (nothing_after segments v r more (with_next seen (PersonalityIndex index)) after fine.1)
+nothing_after segments v r (HandlerData ∷ more) seen after fine = nothing_more segments v r HandlerData more refl refl refl (nothing_after segments v r more (with_next seen HandlerData) after fine.1)
 
 -- at a frame pointer the pointer is found again, wherever it was
 frame_pointer_after : (segments : List Segment) (old r : List ℕ) (sp start register offset : ℕ) (more : List UnwindDirective) (seen : Seen) → Small r → Accepted seen (SetFp register offset ∷ more) →
     slice_index r register ≡ sp + offset → Reaches segments (at start r) (codes_of (SetFp register offset ∷ more)) (at sp (taken old (stores sp (SetFp register offset ∷ more)) r))
 frame_pointer_after segments old r sp start register offset more seen small fine holds =
-    let behind : List Code = reversed_codes (kept false more) in
-    let nothing = nothing_behind segments start r more (with_next seen (SetFp register offset)) refl fine.1 in
+    let after : List Code = reversed_codes (kept false more) in
+    let nothing = nothing_after segments start r more (with_next seen (SetFp register offset)) refl fine.1 in
     let law : InAll (lower_codes offset) 0 offset [] = law_of_offsets offset (offset_whole register offset (clear seen (SetFp register offset) fine.0).0) in
     let low : sum_by lowered (lower_codes offset) ≡ offset = law.lower in
     let none : stores sp (SetFp register offset ∷ more) ≡ [] = ap (λ l. l ++ []) (nothing.none (sp - 0)) in
-    reaches_by segments (at start r) (at sp (taken old (stores sp (SetFp register offset ∷ more)) r)) (codes_of (SetFp register offset ∷ more)) (behind ++ (Restore register ∷ lower_codes offset)) (codes_of-frame_pointer register offset more)
-    (reaches_to segments (at start r) (at sp r) (at sp (taken old (stores sp (SetFp register offset ∷ more)) r)) (behind ++ (Restore register ∷ lower_codes offset)) (ap (λ l. at sp (taken old l r)) (sym none))
-    (reaches_append segments (at start r) (at nothing.codes.to r) (at sp r) behind (Restore register ∷ lower_codes offset) nothing.codes.reaches
+    reaches_by segments (at start r) (at sp (taken old (stores sp (SetFp register offset ∷ more)) r)) (codes_of (SetFp register offset ∷ more)) (after ++ (Restore register ∷ lower_codes offset)) (codes_of-frame_pointer register offset more)
+    (reaches_to segments (at start r) (at sp r) (at sp (taken old (stores sp (SetFp register offset ∷ more)) r)) (after ++ (Restore register ∷ lower_codes offset)) (ap (λ l. at sp (taken old l r)) (sym none))
+    (reaches_append segments (at start r) (at nothing.codes.to r) (at sp r) after (Restore register ∷ lower_codes offset) nothing.codes.reaches
     (reaches_more segments (at nothing.codes.to r) (at (slice_index r register) r) (at sp r) (Restore register) (lower_codes offset) refl
     (falling segments (slice_index r register) sp r (lower_codes offset) law.raise law.pop law.keep (omega (arith, low, holds)) (small register)))))
 
@@ -153,8 +153,8 @@ pub undone : (segments : List Segment) (old r : List ℕ) (sp start : ℕ) (seen
     FramePointerHolds r sp xs → All (Holds segments old) (stores sp xs) → (list_any is_frame_pointer xs ≡ false → start ≡ sp - sum_by bytes_taken xs) →
     Reaches segments (at start r) (codes_of xs) (at sp (taken old (stores sp xs) r))
 unfolding codes_of
-undone segments old r sp start seen [] small own fine below room holds stand begins = λ behind.
-    ap (λ v. runs segments (at v r) behind) (let from : start ≡ sp - 0 = begins refl in let e : start ≡ sp = omega arith in e)
+undone segments old r sp start seen [] small own fine below room holds stand begins = λ after.
+    ap (λ v. runs segments (at v r) after) (let from : start ≡ sp - 0 = begins refl in let e : start ≡ sp = omega arith in e)
 undone segments old r sp start seen (SetFp register offset ∷ more) small own fine below room holds stand begins = frame_pointer_after segments old r sp start register offset more seen own fine holds
 undone segments old r sp start seen (d ∷ more) small own fine below room holds stand begins =
     directive_more segments old r sp start seen d more small refl fine.0 below room stand begins

@@ -11,7 +11,7 @@ use Rattle.unwind_codes.specs.Meaning.{Effect, Rises, Falls, Pops, Takes, Refuse
 use Rattle.asm_unwind.specs.Meaning.{risen, fallen, pops, is_other, raised, lowered, popped, does_other}
 use Rattle.asm_unwind.proofs.KeptLemmas.{or_no}
 use Rattle.eh_bytecode.specs.declared.frame.Unwinding.{Unwinding}
-use Rattle.eh_bytecode.specs.Meaning.{Goes, after, goes_on, runs}
+use Rattle.eh_bytecode.specs.Meaning.{Goes, after, continued, runs}
 
 -- an unwinding that has popped no pc
 abbrev pub at : ℕ → List ℕ → Unwinding
@@ -20,23 +20,23 @@ at vsp r = record { vsp = vsp; r = r; popped_pc = false }
 pub same_at : (v w : ℕ) (r : List ℕ) → v ≡ w → at v r ≡ at w r
 same_at v w r e = ap (λ v. at v r) e
 
--- codes lead from one state to another, whatever stands behind them
+-- codes lead from one state to another, whatever stands after them
 abbrev pub Reaches : List Segment → Unwinding → List Code → Unwinding → Type 0
-Reaches segments s codes t = (behind : List Item) → runs segments s (map Is codes ++ behind) ≡ runs segments t behind
+Reaches segments s codes t = (following : List Item) → runs segments s (map Is codes ++ following) ≡ runs segments t following
 
 pub reaches_append : (segments : List Segment) (s t u : Unwinding) (xs ys : List Code) → Reaches segments s xs t → Reaches segments t ys u → Reaches segments s (xs ++ ys) u
-reaches_append segments s t u xs ys first second behind =
-    ap (λ l. runs segments s (l ++ behind)) (map-append Is xs ys) ∙ ap (runs segments s) (append_assoc (map Is xs) (map Is ys) behind)
-    ∙ first (map Is ys ++ behind) ∙ second behind
+reaches_append segments s t u xs ys first second following =
+    ap (λ l. runs segments s (l ++ following)) (map-append Is xs ys) ∙ ap (runs segments s) (append_assoc (map Is xs) (map Is ys) following)
+    ∙ first (map Is ys ++ following) ∙ second following
 
 pub reaches_to : (segments : List Segment) (s t u : Unwinding) (codes : List Code) → t ≡ u → Reaches segments s codes t → Reaches segments s codes u
-reaches_to segments s t u codes e h behind = h behind ∙ ap (λ t. runs segments t behind) e
+reaches_to segments s t u codes e h following = h following ∙ ap (λ t. runs segments t following) e
 
 pub reaches_by : (segments : List Segment) (s t : Unwinding) (xs ys : List Code) → xs ≡ ys → Reaches segments s ys t → Reaches segments s xs t
-reaches_by segments s t xs ys e h behind = ap (λ (l : List Code). runs segments s (map Is l ++ behind)) e ∙ h behind
+reaches_by segments s t xs ys e h following = ap (λ (l : List Code). runs segments s (map Is l ++ following)) e ∙ h following
 
 pub reaches_more : (segments : List Segment) (s t u : Unwinding) (code : Code) (codes : List Code) → after segments s (effect code) ≡ Goes t → Reaches segments t codes u → Reaches segments s (code ∷ codes) u
-reaches_more segments s t u code codes e h behind = ap (goes_on (λ next. runs segments next (map Is codes ++ behind))) e ∙ h behind
+reaches_more segments s t u code codes e h following = ap (continued (λ next. runs segments next (map Is codes ++ following))) e ∙ h following
 
 pub no_elements : {X : Type 0} (xs ys : List X) → xs ++ ys ≡ [] → (xs ≡ []) × (ys ≡ [])
 no_elements [] ys h = (refl, h)
@@ -63,7 +63,7 @@ one_moves segments v r Finishes other none = cc
 pub rising : (segments : List Segment) (v w : ℕ) (r : List ℕ) (codes : List Code) → sum_by lowered codes ≡ 0 → flat_map popped codes ≡ [] → list_any does_other codes ≡ false →
     v + sum_by raised codes ≡ w → w < 2 ^ 32 → Reaches segments (at v r) codes (at w r)
 unfolding moved
-rising segments v w r [] low none keep is small = λ behind. ap (λ v. runs segments (at v r) behind) (let e : v ≡ w = omega arith in e)
+rising segments v w r [] low none keep is small = λ following. ap (λ v. runs segments (at v r) following) (let e : v ≡ w = omega arith in e)
 rising segments v w r (code ∷ codes) low none keep is small =
     let other = or_no (does_other code) (list_any does_other codes) keep in
     let nothing = no_elements (popped code) (flat_map popped codes) none in
@@ -75,7 +75,7 @@ rising segments v w r (code ∷ codes) low none keep is small =
 pub falling : (segments : List Segment) (v w : ℕ) (r : List ℕ) (codes : List Code) → sum_by raised codes ≡ 0 → flat_map popped codes ≡ [] → list_any does_other codes ≡ false →
     v ≡ w + sum_by lowered codes → v < 2 ^ 32 → Reaches segments (at v r) codes (at w r)
 unfolding moved
-falling segments v w r [] up none keep is small = λ behind. ap (λ v. runs segments (at v r) behind) (let e : v ≡ w = omega arith in e)
+falling segments v w r [] up none keep is small = λ following. ap (λ v. runs segments (at v r) following) (let e : v ≡ w = omega arith in e)
 falling segments v w r (code ∷ codes) up none keep is small =
     let other = or_no (does_other code) (list_any does_other codes) keep in
     let nothing = no_elements (popped code) (flat_map popped codes) none in
@@ -91,7 +91,7 @@ pub record Leads (segments : List Segment) (v : ℕ) (r : List ℕ) (codes : Lis
 
 -- codes that pop nothing and don't end do
 pub moving : (segments : List Segment) (v : ℕ) (r : List ℕ) (codes : List Code) → flat_map popped codes ≡ [] → list_any does_other codes ≡ false → Leads segments v r codes
-moving segments v r [] none keep = record { to = v; reaches = λ behind. refl }
+moving segments v r [] none keep = record { to = v; reaches = λ following. refl }
 moving segments v r (code ∷ codes) none keep =
     let other = or_no (does_other code) (list_any does_other codes) keep in
     let nothing = no_elements (popped code) (flat_map popped codes) none in

@@ -23,7 +23,7 @@ bytes_taken (Save registers) = 4 * length (registers_in registers)
 bytes_taken (Pad size) = size
 bytes_taken _ = 0
 
--- registers with the addresses of their words, which stand one behind the other from an address on
+-- registers with the addresses of their words, which stand one after the other from an address on
 abbrev pub words_from : ℕ → List ℕ → List (ℕ × ℕ)
 words_from address [] = []
 words_from address (register ∷ more) = (register, address) ∷ words_from (address + 4) more
@@ -50,18 +50,18 @@ abbrev pub IsOfItsType : UnwindDirective → Type 0
 IsOfItsType (Save registers) = registers < 2 ^ 16
 IsOfItsType _ = ⊤
 
--- no directive is refused behind those before it
+-- no directive is refused after those before it
 abbrev pub NoneRefused : List UnwindDirective → Type 0
 NoneRefused directives =
     (before : List UnwindDirective) (next : UnwindDirective) (more : List UnwindDirective)
     → directives ≡ before ++ next ∷ more → refusal_of (seen_in before) next ≡ None
 
--- ---- registers and a memory behind a prologue
+-- ---- registers and a memory after a prologue
 
--- Registers `r` and the segments of a memory behind a prologue that began with the registers `old`: what it took fits below the
+-- Registers `r` and the segments of a memory after a prologue that began with the registers `old`: what it took fits below the
 -- stack pointer; each word that it pushed can be read, and is still what its register held; and the frame pointer holds what its
 -- directive says, or without one the stack pointer is where the prologue left it.
-pub record BehindPrologue (directives : List UnwindDirective) (segments : List Segment) (old r : List ℕ) : Type 0 where
+pub record AfterPrologue (directives : List UnwindDirective) (segments : List Segment) (old r : List ℕ) : Type 0 where
   pub room : sum_by bytes_taken directives ≤ slice_index old 13
   pub pushed : All (λ store. loads 4 segments store.1 ≡ Ok (slice_index old store.0)) (stores (slice_index old 13) directives)
   pub frame_pointer : FramePointerHolds r (slice_index old 13) directives
@@ -69,7 +69,7 @@ pub record BehindPrologue (directives : List UnwindDirective) (segments : List S
 
 -- Unwinding from registers `r` by items comes to an end, and gives the caller the stack pointer of the function's entry, each saved
 -- register as it was there, the others as they are, and the link register as pc.
-pub record TakesBack (directives : List UnwindDirective) (segments : List Segment) (old r : List ℕ) (items : List Item) : Type 0 where
+pub record UndoesPrologue (directives : List UnwindDirective) (segments : List Segment) (old r : List ℕ) (items : List Item) : Type 0 where
   pub caller : List ℕ
   pub ends : unwound segments r items ≡ Ok caller
   pub wide : length caller ≡ 16
@@ -78,9 +78,9 @@ pub record TakesBack (directives : List UnwindDirective) (segments : List Segmen
   pub others : (k : ℕ) → k < 15 → k ≢ 13 → slice_index caller k ≡ (if list_any (saves k) directives then slice_index old k else slice_index r k)
 
 -- the codes in the entry of a function, unless nothing unwinds through it, take its prologue back
-abbrev pub ProloguesAreTakenBack : Type 0
-ProloguesAreTakenBack =
+abbrev pub ProloguesAreUndone : Type 0
+ProloguesAreUndone =
     (directives : List UnwindDirective) (entry : EntryWords) (segments : List Segment) (old r : List ℕ)
     → NoneRefused directives → All IsOfItsType directives → (seen_in directives).cant_unwind ≡ false → entry_words_of directives ≡ Ok entry
-    → length old ≡ 16 → Small old → length r ≡ 16 → Small r → BehindPrologue directives segments old r
-    → TakesBack directives segments old r (cut (code_of entry))
+    → length old ≡ 16 → Small old → length r ≡ 16 → Small r → AfterPrologue directives segments old r
+    → UndoesPrologue directives segments old r (cut (code_of entry))

@@ -1,9 +1,10 @@
-//! A machine whose registers are changed, and walks from where it stands. Numbers are hexadecimal.
+//! A machine whose registers are changed, and walks and forced unwinding from where it stands. Numbers are hexadecimal.
 use bus_memories::paged::PagedBus;
 use case_rows::{Unanswered, number_at};
 use eh_machine::Machine;
 use eh_port::{Bytes, CallNumbers, MemSink, SureSource};
-use eh_walk::{Backtrace, WalkFrame, backtrace};
+use eh_trace::EventKind;
+use eh_walk::{Backtrace, ForceFault, WalkFrame, backtrace, force};
 use frame_check::Accepted;
 use std::alloc::{AllocError, Global};
 
@@ -61,6 +62,42 @@ impl<'c> Desk<'c> {
             Err(_fault) => Err(Unanswered::from(AllocError)),
         }
     }
+
+    /// The address of the type of int; 0 where the image has none.
+    fn int(&self) -> u32 {
+        self.machine.accepted.image().symbol(b"_ZTIi").unwrap_or(0)
+    }
+
+    /// Unwinds to the frame of a number.
+    fn force(&mut self, number: u32, ty: u32) -> Result<(), ForceFault> {
+        let machine = &mut self.machine;
+        force(
+            machine.accepted,
+            &mut machine.core,
+            &mut machine.shared,
+            &mut machine.events,
+            number as usize,
+            ty,
+        )
+    }
+
+    /// Where it stands: pc, sp, r0, and how many throws there were.
+    fn stands(&self, alloc: Global) -> Result<String, AllocError> {
+        let regs = &self.machine.core.regs;
+        let pc = regs.pc;
+        let sp = regs.r[13];
+        let r0 = regs.r[0];
+        let throws = self.machine.events.total(EventKind::Throw);
+        format!(in alloc; "{pc:X} sp {sp:X} r0 {r0:X}, {throws}")
+    }
+}
+
+/// Where a machine stands after a forced unwinding, or why there was none.
+fn forced(alloc: Global, desk: &mut Desk, number: u32, ty: u32) -> Result<String, AllocError> {
+    match desk.force(number, ty) {
+        Ok(()) => desk.stands(alloc),
+        Err(fault) => format!(in alloc; "{fault:?}"),
+    }
 }
 
 fn frame_text(alloc: Global, frame: &WalkFrame) -> Result<String, AllocError> {
@@ -95,7 +132,7 @@ fn count_text(alloc: Global, walk: &Backtrace) -> Result<String, AllocError> {
     }
 }
 
-/// `run N`, `reg NUMBER VALUE`, `walk MOST` or `count MOST`. The first two answer nothing.
+/// `run N`, `reg NUMBER VALUE`, `walk MOST`, `count MOST`, `force NUMBER`, `force-type NUMBER TYPE` or `stands`. The first two answer nothing.
 pub fn answer(
     alloc: Global,
     desk: &mut Desk,
@@ -113,6 +150,15 @@ pub fn answer(
             let walk = desk.walk(alloc, number_at(given, 0)?)?;
             return Ok(count_text(alloc, &walk)?);
         }
+        "force" => {
+            let int = desk.int();
+            return Ok(forced(alloc, desk, number_at(given, 0)?, int)?);
+        }
+        "force-type" => {
+            let ty = number_at(given, 1)?;
+            return Ok(forced(alloc, desk, number_at(given, 0)?, ty)?);
+        }
+        "stands" => return Ok(desk.stands(alloc)?),
         _ => return Err(Unanswered::NotKnown),
     }
     Ok(String::new(alloc))

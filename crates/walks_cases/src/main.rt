@@ -1,5 +1,5 @@
-//! Asks walks of states that no run comes to: a machine stands behind so many events of a program, its registers are changed, and its frames
-//! are told from there (docs/walks.md). A row is a source of data/, commands, and the answer to the last of them, by hand from that page.
+//! Asks walks and forced unwinding of states that no run comes to: a machine stands after so many events of a program, its registers are
+//! changed, and its frames are told from there, or it is unwound to one of them (docs/walks.md). A row is a source of data/, commands, and the answer to the last of them, by hand from that page.
 #![tactic(auto)]
 
 mod desk;
@@ -59,7 +59,7 @@ fn over(alloc: Global, file: &[u8], commands: &str) -> Result<String, Unanswered
 }
 
 impl<'h> Asked for InSources<'h> {
-    /// A source, and commands behind it.
+    /// A source, and commands after it.
     fn answer(&self, alloc: Global, question: &str) -> Result<String, Unanswered> {
         let (name, commands) = question.split_once("; ").unwrap_or((question, ""));
         let file = built(self.host, name)?;
@@ -68,5 +68,6 @@ impl<'h> Asked for InSources<'h> {
 }
 
 fn main(host: HostRuntime) -> Result<(), Error> {
-    run_file(&host, "states.txt", &InSources { host: &host })
+    run_file(&host, "states.txt", &InSources { host: &host })?;
+    run_file(&host, "forcings.txt", &InSources { host: &host })
 }

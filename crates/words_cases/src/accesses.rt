@@ -57,7 +57,7 @@ fn store<B: Bus>(bus: &mut B, what: &str, a: u32, value: u32) -> Option<Result<(
     }
 }
 
-/// A store of words one behind the other.
+/// A store of words one after the other.
 fn store_run<B: Bus>(
     alloc: Global,
     bus: &mut B,

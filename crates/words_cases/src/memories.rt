@@ -13,7 +13,7 @@ use std::alloc::Global;
 /// A memory, of which the accesses of a row are made one after the other. Of one in pages `pages` asks how many pages have bytes,
 /// and `byte PAGE PLACE` what stands in a page.
 pub enum Memory {
-    /// 16 bytes of code at 8000, of which 8 are given, and 16 bytes of data behind them, of which 4 are given.
+    /// 16 bytes of code at 8000, of which 8 are given, and 16 bytes of data after them, of which 4 are given.
     SampleFlat,
     /// The same, in pages.
     SamplePaged,
@@ -26,7 +26,7 @@ pub enum Memory {
     LastBytes,
 }
 
-/// 16 bytes of code at 0x8000, which may not be written, and 16 bytes of data behind them, of which 4 are given.
+/// 16 bytes of code at 0x8000, which may not be written, and 16 bytes of data after them, of which 4 are given.
 fn sample<'a>() -> [SegmentSpec<'a>; 2]
     ensures { CanBuild result }
 {

@@ -4,7 +4,7 @@ use eh_word::{get_half, get_word, prel31, uleb128};
 use std::alloc::{AllocError, Global};
 
 /// `prel31 PLACE WORD`: an address. `uleb128 PLACE BYTES`, `word PLACE BYTES`, `half PLACE BYTES`: the number that stands at a
-/// place of bytes, and of the first the place behind it.
+/// place of bytes, and of the first the place after it.
 pub struct Numbers;
 
 /// The number that a word writes by hexadecimal digits.
@@ -33,7 +33,7 @@ fn push_uleb128(answer: &mut String, bytes: &[u8], place: usize) -> Result<(), A
         return answer.push_str("behind the bytes");
     }
     match uleb128(bytes, place) {
-        Ok((number, behind)) => write!(answer, "{number:X} up to {behind}"),
+        Ok((number, after)) => write!(answer, "{number:X} up to {after}"),
         Err(fault) => write!(answer, "{fault:?}"),
     }
 }

@@ -1,5 +1,5 @@
 //! Files of the system as the program reads them (docs/outside.md).
-use eh_port::{FileAnswer, FileFault, Files, HostFiles};
+use eh_files::{FileAnswer, FileFault, Files, HostFiles};
 use std::alloc::{AllocError, Global};
 use std::fs;
 use std::test::Fail;
@@ -36,6 +36,7 @@ fn a_file_is_its_bytes_up_to_the_limit(rt: HostRuntime) -> Result<(), Fail> {
     let mut files = HostFiles {
         host: &rt,
         faults: 0,
+        asked: 0,
     };
     for count in [
         1usize,
@@ -74,6 +75,7 @@ fn a_file_without_bytes_is_found(rt: HostRuntime) -> Result<(), Fail> {
     let mut files = HostFiles {
         host: &rt,
         faults: 0,
+        asked: 0,
     };
     fs::write(&rt, name, b"")?;
     let answer = files.read(rt.alloc(), name, 0);
@@ -87,6 +89,7 @@ fn a_missing_file_is_no_fault(rt: HostRuntime) {
     let mut files = HostFiles {
         host: &rt,
         faults: 0,
+        asked: 0,
     };
     let missing = files.read(rt.alloc(), "no_file_of_words_test", BLOCK);
     assert!(rt; matches!(&missing, Ok(FileAnswer::Missing)));
@@ -100,6 +103,7 @@ fn what_no_file_can_be_is_missing(rt: HostRuntime) -> Result<(), Fail> {
     let mut files = HostFiles {
         host: &rt,
         faults: 0,
+        asked: 0,
     };
     let mut long = String::new(alloc);
     for _ in 0..300 {
@@ -120,6 +124,7 @@ fn a_folder_is_a_fault(rt: HostRuntime) {
     let mut files = HostFiles {
         host: &rt,
         faults: 0,
+        asked: 0,
     };
     let folder = files.read(rt.alloc(), ".", BLOCK);
     assert!(rt; matches!(&folder, Err(FileFault::Failed)));

@@ -16,7 +16,7 @@ fn byte_of_page(bus: &PagedBus, number: u32, k: usize) -> Option<u8> {
     bytes.get(k).copied()
 }
 
-/// A segment of one byte for each of these values, each behind the one before. Those of even numbers may be written, and those of
+/// A segment of one byte for each of these values, each after the one before. Those of even numbers may be written, and those of
 /// odd numbers executed.
 fn one_byte_each<'a>(alloc: Global, values: &'a [u8]) -> Result<Vec<SegmentSpec<'a>>, AllocError>
     requires { length values.now ≤ 1024 }
@@ -75,7 +75,7 @@ fn first_joined<B: Bus>(bus: &mut B) -> Option<u32> {
     if is_alone { None } else { Some(1024) }
 }
 
-/// Bytes of the page of the segments: the last two of the segments, and one behind them.
+/// Bytes of the page of the segments: the last two of the segments, and one after them.
 fn last_three(bus: &PagedBus) -> [Option<u8>; 3] {
     [
         byte_of_page(bus, 8, 1022),

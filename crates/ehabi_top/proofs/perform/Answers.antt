@@ -1,7 +1,7 @@
 use Rattle.ehabi_top.proofs.Asking.{asked_of}
 use Rattle.ehabi_top.proofs.Doing.{usage_does}
 use Rattle.ehabi_top.specs.Words.{texts}
-use Rattle.ehabi_top.specs.Yields.{shelf}
+use Rattle.ehabi_top.specs.Yields.{file_state}
 use Rattle.ehabi_top.proofs.perform.Goals as goal
 
 pub returns-in-None : goal.returns-in-None
@@ -31,4 +31,4 @@ count_program-requires g c =
 pub returns-in-Some-Generate : goal.returns-in-Some-Generate
 returns-in-Some-Generate g c =
     let command = rw c.in-Some-Generate.field-0-is at c.in-Some-Generate.ensures in
-    rw (← command) (c.count_program.ensures (shelf (g.F.Files.held c.args.files.now) (g.F.Files.faults c.args.files.now)) (g.I.Source.left c.args.input.now) (g.I.Source.faults c.args.input.now))
+    rw (← command) (c.count_program.ensures (file_state (g.F.Files.held c.args.files.now) (g.F.Files.faults c.args.files.now) (g.F.Files.asked c.args.files.now) g.F.Files.with_name) (g.I.Source.left c.args.input.now) (g.I.Source.faults c.args.input.now))

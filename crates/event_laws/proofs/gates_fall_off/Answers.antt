@@ -1,4 +1,4 @@
-use Rattle.event_laws.proofs.Ways.{fall_off}
+use Rattle.event_laws.proofs.GoingOn.{fall_off}
 use Rattle.event_laws.proofs.gates_fall_off.Goals as goal
 
 pub returns : goal.returns

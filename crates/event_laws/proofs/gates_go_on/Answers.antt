@@ -1,4 +1,4 @@
-use Rattle.event_laws.proofs.Ways.{go_on}
+use Rattle.event_laws.proofs.GoingOn.{go_on}
 use Rattle.event_laws.proofs.gates_go_on.Goals as goal
 
 pub returns : goal.returns

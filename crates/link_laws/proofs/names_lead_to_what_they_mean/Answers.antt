@@ -1,4 +1,4 @@
-use Rattle.link_laws.proofs.Ways.{law_of_calls, law_of_jumps, law_of_cond_jumps, law_of_addresses, law_of_loads}
+use Rattle.link_laws.proofs.Targets.{law_of_calls, law_of_jumps, law_of_cond_jumps, law_of_addresses, law_of_loads}
 use Rattle.link_laws.proofs.names_lead_to_what_they_mean.Goals as goal
 
 pub returns : goal.returns

@@ -1,7 +1,7 @@
 use Rattle.std.proofs.Common.{sym, append_assoc, append-nil, arith}
 use Rattle.std.proofs.lemmas.List.{drop_all}
 use Rattle.asm_layout.specs.Functions.{entries_from, unwind_faults_from}
-use Rattle.asm_layout.proofs.FaultLaws.{first_behind}
+use Rattle.asm_layout.proofs.FaultLaws.{first_after}
 use Rattle.asm_layout.proofs.LayoutLaws.{drop-next}
 use Rattle.asm_layout.proofs.frames.functions_of.Goals as goal
 
@@ -12,7 +12,7 @@ loop-stmt-preserved c =
     let whole = sym (drop-next c.args.stmts.now c.loop-stmt.stmt-index c.stmt-item.result (omega arith) c.stmt-item.is) in
     record {
       entries = rw (c.in_ok-take.ensures.entries, opened, append_assoc) (rw whole at c.loop-stmt.invariant.entries);
-      first = rw (c.in_ok-take.ensures.first, opened, ← first_behind) (rw whole at c.loop-stmt.invariant.first);
+      first = rw (c.in_ok-take.ensures.first, opened, ← first_after) (rw whole at c.loop-stmt.invariant.first);
     }
 
 pub returns-clause-entries : goal.returns-clause-entries

@@ -4,7 +4,7 @@ use Rattle.asm_layout.specs.declared.fault.AsmWhat.TheVariants.{DuplicateLabel}
 use Rattle.asm_layout.specs.Faults.{fault_if, first_of_all}
 use Rattle.asm_layout.specs.PlacedStmt.{PlacedStmt}
 use Rattle.asm_layout.specs.Labels.{named_in, duplicates_from, stmt_of}
-use Rattle.asm_layout.specs.LabelSteps.{labels_behind, defines_again}
+use Rattle.asm_layout.specs.LabelSteps.{labels_after, defines_again}
 use Rattle.asm_layout.proofs.LayoutLaws.{drop-next, first_duplicate-more, labels_run, labels_run-is}
 use Rattle.asm_layout.proofs.labels.defined_in.Goals as goal
 
@@ -16,13 +16,13 @@ loop-one-preserved c =
     let one = c.one-item.result in
     let whole = sym (drop-next c.args.placed.now i one (omega arith) c.one-item.is) in
     let opened = c.one.view_is in
-    let behind = c.in_ok-again.ensures.labels ∙ ap (λ (p : PlacedStmt). labels_behind labels p.stmt.kind p.at) opened in
+    let after = c.in_ok-again.ensures.labels ∙ ap (λ (p : PlacedStmt). labels_after labels p.stmt.kind p.at) opened in
     let twice = c.first_if-duplicate.ensures
     ∙ ap (λ b. first_of_all c.loop-one.duplicate (fault_if b c.one.inside.stmt.now.line DuplicateLabel)) c.in_ok-again.ensures.again
     ∙ ap (λ (p : PlacedStmt). first_of_all c.loop-one.duplicate (fault_if (defines_again (named_in labels) p.stmt.kind) p.stmt.line DuplicateLabel)) opened in
     record {
-      labels = rw behind (rw whole at c.loop-one.invariant.labels);
-      duplicate = rw (twice, behind) (first_duplicate-more c.loop-one.duplicate labels one.stmt one.at (map stmt_of (drop (i + 1) c.args.placed.now)) ∙ rw whole at c.loop-one.invariant.duplicate);
+      labels = rw after (rw whole at c.loop-one.invariant.labels);
+      duplicate = rw (twice, after) (first_duplicate-more c.loop-one.duplicate labels one.stmt one.at (map stmt_of (drop (i + 1) c.args.placed.now)) ∙ rw whole at c.loop-one.invariant.duplicate);
     }
 
 pub returns-clause-labels : goal.returns-clause-labels

@@ -3,7 +3,7 @@ use Rattle.asm_layout.specs.Faults.{first_of, first_of_all}
 use Rattle.asm_layout.specs.Functions.{entries_of}
 use Rattle.asm_layout.specs.Labels.{named_in, labels_of, labelled, duplicates_from, too_large_from}
 use Rattle.asm_layout.specs.Placing.{placed_of, last_pool}
-use Rattle.asm_layout.specs.Walks.{start, walk_behind}
+use Rattle.asm_layout.specs.Walks.{start, walk_after}
 use Rattle.asm_object.specs.Objects.{faults_of, refusals_of}
 use Rattle.asm_object.specs.Pieces.{pieces_of, rows_of}
 use Rattle.asm_object.specs.Built.{with_pieces, no_sections, object_built}
@@ -53,7 +53,7 @@ returns c =
     let none_there : gathered.field-0.first ≡ None = cc (none, gathered.first-is) in
     let is : first_of_all None (faults_of stmts) ≡ None = cc (first, none) in
     let last : layout.last ≡ last_pool entries start stmts = cc (layout.last-is, layout.ensures.last) in
-    let bss : layout.bss ≡ (walk_behind entries start stmts).at.sizes.bss = cc (layout.bss-is, layout.ensures.bss) in
+    let bss : layout.bss ≡ (walk_after entries start stmts).at.sizes.bss = cc (layout.bss-is, layout.ensures.bss) in
     let sections : gathered.sections ≡ with_pieces no_sections (pieces_of entries (named_in layout.labels) layout.placed.items layout.last) =
     cc (gathered.ensures.sections none_there, gathered.sections-is, c.labels.view_is, layout.labels-is, layout.placed-is, layout.last-is) in
     let rows : gathered.rows ≡ rows_of entries layout.placed.items = cc (gathered.ensures.rows none_there, gathered.rows-is, layout.placed-is) in

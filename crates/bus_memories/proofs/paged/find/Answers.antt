@@ -1,6 +1,6 @@
 use Rattle.std.proofs.Common.{sym, ◌∙◌}
 use Rattle.bus_memories.specs.Pages.{byte_of, owner_of}
-use Rattle.bus_memories.proofs.PageLaws.{span_covers, span_spot, span_place}
+use Rattle.bus_memories.proofs.PageLaws.{span_covers, span_cell, span_place}
 use Rattle.bus_memories.proofs.paged.find.Goals as goal
 
 pub returns-then-covers-clause-place : goal.returns-then-covers-clause-place
@@ -13,5 +13,5 @@ returns-then-covers-clause-covers c = λ d. span_covers _ _ _ d c.args.a c.args.
 pub returns-then-covers-clause-inside : goal.returns-then-covers-clause-inside
 returns-then-covers-clause-inside c = c.requires.near.inside
 
-pub returns-then-covers-clause-spot : goal.returns-then-covers-clause-spot
-returns-then-covers-clause-spot c = rw c.spot.ensures (span_spot c.args.pages.now.places c.args.parts.now c.args.near.now c.args.a c.args.n c.requires.near c.requires.some (sym c.covers.ensures ∙ c.if-covers.true))
+pub returns-then-covers-clause-cell : goal.returns-then-covers-clause-cell
+returns-then-covers-clause-cell c = rw c.cell.ensures (span_cell c.args.pages.now.places c.args.parts.now c.args.near.now c.args.a c.args.n c.requires.near c.requires.some (sym c.covers.ensures ∙ c.if-covers.true))

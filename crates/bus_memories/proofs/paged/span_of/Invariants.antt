@@ -1,11 +1,11 @@
 use Rattle.std.proofs.Common.{◌≡◌, ℕ, ◌+◌, ◌-◌, ◌<◌, ◌≤◌, Some}
-use Rattle.bus_memories.specs.Pages.{spot_of}
+use Rattle.bus_memories.specs.Pages.{cell_of}
 use Rattle.bus_memories.proofs.paged.span_of.Given as goal
 
 abbrev pub invariant-pages : goal.invariant-pages
 invariant-pages l = record {
   within : l.size ≤ l.part.size;
-  spot : (k : ℕ) → k < l.size → spot_of l.pages (l.part.start + k) ≡ Some (l.at + k);
+  cell : (k : ℕ) → k < l.size → cell_of l.pages (l.part.start + k) ≡ Some (l.at + k);
 }
 
 abbrev pub decreases-pages : goal.decreases-pages

@@ -22,8 +22,8 @@ loop-k-preserved c = elim c.if-list-k-eq1.branch [
   }
 ]
 
-pub returns-clause-behind : goal.returns-clause-behind
-returns-clause-behind c =
+pub returns-clause-after : goal.returns-clause-after
+returns-clause-after c =
     let last : c.loop-k.k ≡ 16 = omega arith in
     let none : listed_from c.loop-k.k c.args.list ≡ [] = rw last (listed_none c.args.list) in
     let size : length (listed_from c.loop-k.k c.args.list) ≡ 0 = ap length none in

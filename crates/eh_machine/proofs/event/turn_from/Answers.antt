@@ -1,11 +1,9 @@
-use Rattle.std.proofs.Common.{Some, None, refl}
-use Rattle.std.proofs.lemmas.Bool.{lt-ltb, le-ltb}
-use Rattle.guest_gates.specs.declared.gates.TheConstants.{INPUT_GATE}
+use Rattle.std.proofs.Common.{refl, sym, ◌∙◌}
 use Rattle.thumb_core.specs.declared.regs.Stepped.TheVariants.{Done}
 use Rattle.eh_gates.specs.State.{State, state_of}
 use Rattle.two_machines.specs.Checked.{program_of}
-use Rattle.eh_machine.proofs.Events.{end_turned, plain_turned, gate_told, plain_gate_told, given_end, given_plain, given_gate_told, given_gate, as_gate, ok_gate, calm, calm_went, calm_end}
-use Rattle.eh_machine.proofs.Passing.{as_before}
+use Rattle.eh_machine.proofs.Events.{end_turned, plain_turned, given_end, given_plain, fault_free_end, turned_as_before, given_as_before}
+use Rattle.eh_machine.proofs.Passing.{same_reached, same_found, same_state}
 use Rattle.eh_machine.proofs.event.turn_from.Goals as goal
 
 pub returns-in-Err-clause-told : goal.returns-in-Err-clause-told
@@ -16,61 +14,30 @@ returns-in-Err-clause-told g c =
     end_turned _ _ p s c.in-Err.end s (passes.does c.args.events.now) passes.inside
 
 pub returns-in-Err-clause-faults : goal.returns-in-Err-clause-faults
-returns-in-Err-clause-faults g c = calm_end c.in-Err.end _ _ (c.in-Err.ensures.ends (program_of c.args.a.now) c.requires.known).inside
+returns-in-Err-clause-faults g c = fault_free_end c.in-Err.end _ _ (c.in-Err.ensures.ends (program_of c.args.a.now) c.requires.known).inside
 
 pub returns-then-goes_on-clause-told : goal.returns-then-goes_on-clause-told
 returns-then-goes_on-clause-told g c =
     plain_turned _ _ (program_of c.args.a.now) (state_of c.args.core.now (g.B.Bus.memory c.args.shared.now.bus) c.args.events.now) Done _
     ((c.if-goes_on.ensures.tried.done refl).does c.args.events.now) (λ number e. absurd (cc))
 
-pub returns-in-Err-pass-clause-told : goal.returns-in-Err-pass-clause-told
-returns-in-Err-pass-clause-told g c =
-    let p = program_of c.args.a.now in
-    let s : State = state_of c.args.core.now (g.B.Bus.memory c.args.shared.now.bus) c.args.events.now in
-    let passes = as_before p _ _ _ _ _ _ _ (c.if-goes_on.ensures.tried.left refl) c.in-Err-pass.ensures.passes in
-    end_turned _ _ p s c.in-Err-pass.end _ (passes.does c.args.events.now) passes.inside
+-- ---- the others, from where nothing was changed
 
-pub returns-in_default-clause-told : goal.returns-in_default-clause-told
-returns-in_default-clause-told g c =
-    let p = program_of c.args.a.now in
-    let s : State = state_of c.args.core.now (g.B.Bus.memory c.args.shared.now.bus) c.args.events.now in
-    let passes = as_before p _ _ _ _ _ _ _ (c.if-goes_on.ensures.tried.left refl) c.in-Ok-pass.ensures.passes in
-    plain_turned _ _ p s c.in-Ok-pass.what _ (passes.does c.args.events.now) c.in_default.not-Gate
+pub rest-turned-requires : goal.rest-turned-requires
+rest-turned-requires g c =
+    let same = c.if-goes_on.ensures.tried.left refl in
+    record {
+      reached = same_reached (program_of c.args.a.now) _ _ same.0 (sym c.requires.known ∙ c.in-Ok.ensures.reached);
+      found = same_found _ _ _ _ c.in-Ok.at same c.in-Ok.ensures.found;
+    }
 
-pub returns-in_default-clause-faults : goal.returns-in_default-clause-faults
-returns-in_default-clause-faults g c = calm_went _ _
+pub returns-clause-told : goal.returns-clause-told
+returns-clause-told g c =
+    turned_as_before _ _ _ _ (program_of c.args.a.now) _ _ _ _ (same_state _ _ _ _ c.args.events.now (c.if-goes_on.ensures.tried.left refl)) c.rest-turned.ensures.told
 
-pub returns-then-number-gt-INPUT_GATE-clause-told : goal.returns-then-number-gt-INPUT_GATE-clause-told
-returns-then-number-gt-INPUT_GATE-clause-told g c =
-    let p = program_of c.args.a.now in
-    let s : State = state_of c.args.core.now (g.B.Bus.memory c.args.shared.now.bus) c.args.events.now in
-    let passes = as_before p _ _ _ _ _ _ _ (c.if-goes_on.ensures.tried.left refl) c.in-Ok-pass.ensures.passes in
-    gate_told _ _ p s _ _ _ c.in-Gate.number c.gate-turned.result _ _ (as_gate p s _ c.in-Ok-pass.what c.in-Gate.number c.in-Gate.is (passes.does c.args.events.now))
-    (lt-ltb INPUT_GATE c.in-Gate.number c.if-number-gt-INPUT_GATE.true) c.gate-turned.ensures.does c.tables.ensures.index c.tables.ensures.types
-    (passes.gate c.in-Gate.number c.args.events.now (ok_gate c.in-Ok-pass.what c.in-Gate.number c.in-Gate.is)) c.gate-turned.ensures.inside
-
-pub returns-then-number-gt-INPUT_GATE-clause-faults : goal.returns-then-number-gt-INPUT_GATE-clause-faults
-returns-then-number-gt-INPUT_GATE-clause-faults g c = calm _ _ _ c.gate-turned.ensures.inside
-
-pub returns-in-None-clause-told : goal.returns-in-None-clause-told
-returns-in-None-clause-told g c =
-    let p = program_of c.args.a.now in
-    let s : State = state_of c.args.core.now (g.B.Bus.memory c.args.shared.now.bus) c.args.events.now in
-    let passes = as_before p _ _ _ _ _ _ _ (c.if-goes_on.ensures.tried.left refl) c.in-Ok-pass.ensures.passes in
-    plain_gate_told _ _ _ _ p s _ c.in-Gate.number c.args.core.now.regs.pc c.gate.new.regs None
-    (as_gate p s _ c.in-Ok-pass.what c.in-Gate.number c.in-Gate.is (passes.does c.args.events.now))
-    (le-ltb INPUT_GATE c.in-Gate.number c.if-number-gt-INPUT_GATE.false)
-    (passes.gate c.in-Gate.number c.args.events.now (ok_gate c.in-Ok-pass.what c.in-Gate.number c.in-Gate.is)) c.in-None.ensures.told
-
-pub returns-in-Some-clause-told : goal.returns-in-Some-clause-told
-returns-in-Some-clause-told g c =
-    let p = program_of c.args.a.now in
-    let s : State = state_of c.args.core.now (g.B.Bus.memory c.args.shared.now.bus) c.args.events.now in
-    let passes = as_before p _ _ _ _ _ _ _ (c.if-goes_on.ensures.tried.left refl) c.in-Ok-pass.ensures.passes in
-    plain_gate_told _ _ _ _ p s _ c.in-Gate.number c.args.core.now.regs.pc c.gate.new.regs (Some c.in-Some.end)
-    (as_gate p s _ c.in-Ok-pass.what c.in-Gate.number c.in-Gate.is (passes.does c.args.events.now))
-    (le-ltb INPUT_GATE c.in-Gate.number c.if-number-gt-INPUT_GATE.false)
-    (passes.gate c.in-Gate.number c.args.events.now (ok_gate c.in-Ok-pass.what c.in-Gate.number c.in-Gate.is)) c.in-Some.ensures.told
+pub returns-clause-given : goal.returns-clause-given
+returns-clause-given g c =
+    given_as_before _ _ (program_of c.args.a.now) _ _ _ _ (same_state _ _ _ _ c.args.events.now (c.if-goes_on.ensures.tried.left refl)) c.rest-turned.ensures.given
 
 -- ---- on bytes that were given
 
@@ -86,46 +53,3 @@ returns-then-goes_on-clause-given g c =
     let p = program_of c.args.a.now in
     let s : State = state_of c.args.core.now (g.B.Bus.memory c.args.shared.now.bus) c.args.events.now in
     given_plain (g.O.Sink.written c.args.out.now) p s Done _ ((c.if-goes_on.ensures.tried.done refl).does c.args.events.now) (λ number e. absurd (cc))
-
-pub returns-in-Err-pass-clause-given : goal.returns-in-Err-pass-clause-given
-returns-in-Err-pass-clause-given g c =
-    let p = program_of c.args.a.now in
-    let s : State = state_of c.args.core.now (g.B.Bus.memory c.args.shared.now.bus) c.args.events.now in
-    let passes = as_before p _ _ _ _ _ _ _ (c.if-goes_on.ensures.tried.left refl) c.in-Err-pass.ensures.passes in
-    given_end (g.O.Sink.written c.args.out.now) p s c.in-Err-pass.end _ (passes.does c.args.events.now) passes.inside
-
-pub returns-in_default-clause-given : goal.returns-in_default-clause-given
-returns-in_default-clause-given g c =
-    let p = program_of c.args.a.now in
-    let s : State = state_of c.args.core.now (g.B.Bus.memory c.args.shared.now.bus) c.args.events.now in
-    let passes = as_before p _ _ _ _ _ _ _ (c.if-goes_on.ensures.tried.left refl) c.in-Ok-pass.ensures.passes in
-    given_plain (g.O.Sink.written c.args.out.now) p s c.in-Ok-pass.what _ (passes.does c.args.events.now) c.in_default.not-Gate
-
-pub returns-then-number-gt-INPUT_GATE-clause-given : goal.returns-then-number-gt-INPUT_GATE-clause-given
-returns-then-number-gt-INPUT_GATE-clause-given g c =
-    let p = program_of c.args.a.now in
-    let s : State = state_of c.args.core.now (g.B.Bus.memory c.args.shared.now.bus) c.args.events.now in
-    let passes = as_before p _ _ _ _ _ _ _ (c.if-goes_on.ensures.tried.left refl) c.in-Ok-pass.ensures.passes in
-    given_gate_told (g.O.Sink.written c.args.out.now) p s _ _ _ c.in-Gate.number c.gate-turned.result _ _ (as_gate p s _ c.in-Ok-pass.what c.in-Gate.number c.in-Gate.is (passes.does c.args.events.now))
-    (lt-ltb INPUT_GATE c.in-Gate.number c.if-number-gt-INPUT_GATE.true) c.gate-turned.ensures.does c.tables.ensures.index c.tables.ensures.types
-    (passes.gate c.in-Gate.number c.args.events.now (ok_gate c.in-Ok-pass.what c.in-Gate.number c.in-Gate.is)) c.gate-turned.ensures.inside
-
-pub returns-in-None-clause-given : goal.returns-in-None-clause-given
-returns-in-None-clause-given g c =
-    let p = program_of c.args.a.now in
-    let s : State = state_of c.args.core.now (g.B.Bus.memory c.args.shared.now.bus) c.args.events.now in
-    let passes = as_before p _ _ _ _ _ _ _ (c.if-goes_on.ensures.tried.left refl) c.in-Ok-pass.ensures.passes in
-    given_gate _ _ p s _ c.in-Gate.number c.args.core.now.regs.pc c.gate.new.regs None
-    (as_gate p s _ c.in-Ok-pass.what c.in-Gate.number c.in-Gate.is (passes.does c.args.events.now))
-    (le-ltb INPUT_GATE c.in-Gate.number c.if-number-gt-INPUT_GATE.false)
-    (passes.gate c.in-Gate.number c.args.events.now (ok_gate c.in-Ok-pass.what c.in-Gate.number c.in-Gate.is)) c.in-None.ensures.given
-
-pub returns-in-Some-clause-given : goal.returns-in-Some-clause-given
-returns-in-Some-clause-given g c =
-    let p = program_of c.args.a.now in
-    let s : State = state_of c.args.core.now (g.B.Bus.memory c.args.shared.now.bus) c.args.events.now in
-    let passes = as_before p _ _ _ _ _ _ _ (c.if-goes_on.ensures.tried.left refl) c.in-Ok-pass.ensures.passes in
-    given_gate _ _ p s _ c.in-Gate.number c.args.core.now.regs.pc c.gate.new.regs (Some c.in-Some.end)
-    (as_gate p s _ c.in-Ok-pass.what c.in-Gate.number c.in-Gate.is (passes.does c.args.events.now))
-    (le-ltb INPUT_GATE c.in-Gate.number c.if-number-gt-INPUT_GATE.false)
-    (passes.gate c.in-Gate.number c.args.events.now (ok_gate c.in-Ok-pass.what c.in-Gate.number c.in-Gate.is)) c.in-Some.ensures.given

@@ -8,4 +8,4 @@ pub returns-then-count-eq0 : goal.returns-then-count-eq0
 returns-then-count-eq0 g c = guard_none _ c.args.count c.args.sp (g.B.Bus.memory c.args.bus.now) c.if-count-eq0.true
 
 pub returns : goal.returns
-returns g c = c.guard_saves.ensures ∙ ap (λ (n : ℕ). guard_all (saved_words n c.args.count c.args.sp) (g.B.Bus.memory c.args.bus.now)) c.saves_at.ensures.spot
+returns g c = c.guard_saves.ensures ∙ ap (λ (n : ℕ). guard_all (saved_words n c.args.count c.args.sp) (g.B.Bus.memory c.args.bus.now)) c.saves_at.ensures.role

@@ -15,3 +15,6 @@ returns-in-Err-clause-ends g c = λ p known.
     (λ events. trap_passes p (state_of c.args.core.now m events) c.in-Err.trap c.args.core.now.regs m c.trap_end.result
     (sym known ∙ c.if-not-known.false) (sym c.in-Err.ensures.does) refl refl c.trap_end.ensures)
     (by_trap c.in-Err.trap _ c.trap_end.result c.trap_end.ensures)
+
+pub returns-in-Ok-clause-found : goal.returns-in-Ok-clause-found
+returns-in-Ok-clause-found g c = record { stands = record { there = c.in-Ok.ensures.there; told = c.look_ahead.ensures }; range = c.in-Ok.ensures.range }

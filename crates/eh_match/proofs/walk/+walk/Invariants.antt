@@ -1,4 +1,4 @@
-use Rattle.std.proofs.Common.{◌≡◌, ◌-◌, take}
+use Rattle.std.proofs.Common.{◌≡◌, ◌-◌}
 use Rattle.std.specs.List.{fold, flat_map}
 use Rattle.eh_match.specs.Walk.{along, noted}
 use Rattle.eh_match.proofs.Walks.{walked}
@@ -7,5 +7,9 @@ use Rattle.eh_match.proofs.walk.+walk.Given as goal
 abbrev pub decreases-walk : goal.decreases-walk
 decreases-walk g l = l.left
 
+-- what is left of the bases is seen after what is seen now as all paths are after what was seen at first
 abbrev pub invariant-loop-base : goal.invariant-loop-base
-invariant-loop-base g l = l.seen ≡ fold (noted l.graph l.wanted) l.initial.seen (flat_map (λ b. walked l.graph (g.B.Bus.memory l.bus).segments (l.left - 1) (along (g.B.Bus.memory l.bus).segments l.path b)) (take l.base-index l.base-items))
+invariant-loop-base g l =
+    let segments = (g.B.Bus.memory l.bus).segments in
+    (goal.iterator-loop-base g).can_next l.base-iterator × (goal.iterator-loop-base g).is_finite l.base-iterator
+    × (fold (noted l.graph l.wanted) l.seen (flat_map (λ b. walked l.graph segments (l.left - 1) (along segments l.path b)) l.base-iterator) ≡ fold (noted l.graph l.wanted) l.fn.seen (walked l.graph segments l.left l.path))

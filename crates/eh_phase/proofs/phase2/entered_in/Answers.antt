@@ -3,7 +3,7 @@ use Rattle.std.specs.Prelude.{◌&&◌, not}
 use Rattle.eh_phase.specs.Firsts.{first_some}
 use Rattle.eh_phase.specs.Phases.{entered_item, stands_at}
 use Rattle.eh_phase.specs.Calls.{frame_at}
-use Rattle.eh_phase.proofs.Behind.{left, left_on}
+use Rattle.eh_phase.proofs.After.{left, left_on}
 use Rattle.eh_phase.proofs.phase2.entered_in.Goals as goal
 
 pub loop-item-preserved : goal.loop-item-preserved

@@ -1,8 +1,18 @@
-use Rattle.std.proofs.Common.{sym, ◌∙◌}
-use Rattle.eh_types.specs.Reading.{done_at, open_at, tops}
-use Rattle.eh_types.proofs.Steps.{mapped_some, waiting_done, waiting_reached}
+use Rattle.std.proofs.Common.{sym, ◌∙◌, subst}
+use Rattle.eh_types.specs.Reading.{Reading, done_at, open_at, tops}
+use Rattle.eh_types.proofs.Steps.{mapped_some, none_popped, waiting_done, waiting_reached}
 use Rattle.eh_types.proofs.Work.{work_waited}
 use Rattle.eh_types.proofs.reader.take_waiting.Goals as goal
+
+pub returns-in_default-clause-reading : goal.returns-in_default-clause-reading
+returns-in_default-clause-reading c =
+    let s = c.args.state.now in
+    subst (Reading c.args.source.now.image.now c.args.source.now.roots.now (done_at s) (open_at s) (tops s)) (none_popped s.pending.items c.pop.new.self.items c.pop.result c.pop.ensures.items c.in_default.is) c.requires.reading
+
+pub visit-requires-clause-reading : goal.visit-requires-clause-reading
+visit-requires-clause-reading c =
+    let s = c.args.state.now in
+    subst (Reading c.args.source.now.image.now c.args.source.now.roots.now (done_at s) (open_at s) (tops s)) (c.in-Some.ensures.items ∙ sym c.in_ok-push_waiting.ensures) c.requires.reading
 
 pub returns-then-is_some-clause-reading : goal.returns-then-is_some-clause-reading
 returns-then-is_some-clause-reading c =

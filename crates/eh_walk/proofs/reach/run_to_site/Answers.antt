@@ -21,7 +21,7 @@ loop-events-preserved g c = record {
       c.loop-events.events c.loop-events.machine.left
       (state_of c.loop-events.machine.core (g.B.Bus.memory c.loop-events.machine.shared.bus) c.loop-events.machine.events) (g.I.Source.left c.loop-events.input) (g.O.Sink.written c.args.out.now)
       (g.O.Sink.written c.loop-events.out) c.loop-events.invariant.progress
-      _ _ _ _ c.left_behind-machine.ensures (omega arith) (sym c.stands_there.ensures ∙ c.if-stands_there.false) c.in-Went.ensures.told;
+      _ _ _ _ c.left_after-machine.ensures (omega arith) (sym c.stands_there.ensures ∙ c.if-stands_there.false) c.in-Went.ensures.told;
   input_kept = c.in-Went.ensures.faults.input.kept (λ e. cc) ∙ c.loop-events.invariant.input_kept;
   out_kept = c.in-Went.ensures.faults.out.kept (λ e. cc) ∙ c.loop-events.invariant.out_kept;
   same = c.loop-events.invariant.same;

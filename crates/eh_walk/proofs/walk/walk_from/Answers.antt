@@ -1,4 +1,4 @@
-use Rattle.std.proofs.Common.{◌≡◌, ◌++◌, ◌∷◌, [], true, None, refl, sym, ap, subst, ◌∙◌, arith}
+use Rattle.std.proofs.Common.{◌++◌, ◌∷◌, [], true, None, refl, sym, ap, subst, ◌∙◌, arith}
 use Rattle.eh_phase.specs.Calls.{stack_of}
 use Rattle.eh_phase.specs.Frames.{frames_of}
 use Rattle.eh_phase.specs.declared.walk.Cursor.{Cursor}

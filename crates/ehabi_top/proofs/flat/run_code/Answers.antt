@@ -1,4 +1,3 @@
-use Rattle.std.specs.Prelude.{codes}
 use Rattle.std.proofs.Common.{◌<◌, ◌∙◌, arith, length, refl, sym}
 use Rattle.image_memory.specs.Start.{State, code_start}
 use Rattle.eh_bus.specs.declared.map.TheConstants.{MAX_IMAGE_SIZE}
@@ -11,7 +10,7 @@ use Rattle.ehabi_top.specs.declared.status.TheConstants.{REFUSED}
 use Rattle.ehabi_top.specs.Yields.{Only}
 use Rattle.ehabi_top.proofs.FlatReports.{code_large, code_small}
 use Rattle.ehabi_top.proofs.Statuses.{end_of_run, says_unfit, refused_reported}
-use Rattle.ehabi_top.proofs.Yielding.{yields_answer, yields_memory, yields_run, flat_some}
+use Rattle.ehabi_top.proofs.Yielding.{yields_answer, yields_memory, yields_run}
 use Rattle.ehabi_top.proofs.flat.run_code.Goals as goal
 
 pub returns-then-code : goal.returns-then-code
@@ -26,10 +25,10 @@ returns g c =
     let code = c.args.code.now in
     let small = c.if-code.false in
     let end = c.flat_run-end.result in
-    yields_run State flat_machine (λ _. refl) (λ s end. closing_of (line_feed s) end) c.args.budget (code_start code) (λ s end fine. end_of_run end fine) (Only (code_report c.args.budget code)) (MAX_IMAGE_SIZE < length code) (codes "\n") end _ _ _ _ _ _ _ _ _ _ _
-    (λ b. sym (code_small c.args.budget code b small)) (λ _ _. refl) (λ large. omega arith)
-    (flat_some c.args.budget (code_start code) end _ _ _ _ _ (rw (c.start_regs-regs.ensures, c.in-Ok.ensures) at c.flat_run-end.ensures.told))
-    c.flat_run-end.ensures.read c.flat_run-end.ensures.write c.flat_run-end.ensures.out_later c.answer_end.ensures
+    yields_run State flat_machine (λ _. refl) (λ s end. closing_of (line_feed s) end) c.args.budget (code_start code) (λ s end fine. end_of_run end fine) (Only (code_report c.args.budget code)) (MAX_IMAGE_SIZE < length code) _ end _ _ _ _ _ _ _ _ _ _ _
+    (λ b. sym (code_small c.args.budget code b small)) (λ large. omega arith)
+    (rw (c.start_regs-regs.ensures, c.in-Ok.ensures) at c.flat_run-end.ensures.told)
+    c.flat_run-end.ensures.read c.flat_run-end.ensures.write c.flat_run-end.ensures.out_later (λ fine e. absurd (c.answer_end.ensures.free e)) c.answer_end.ensures.does
 
 pub returns-in-Err : goal.returns-in-Err
 returns-in-Err g c = yields_memory (Only (code_report c.args.budget c.args.code.now)) (IsTooLarge c.args.code.now) _ _ _ _

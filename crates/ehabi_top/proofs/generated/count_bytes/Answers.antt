@@ -1,12 +1,18 @@
-use Rattle.std.proofs.Common.{◌∙◌, rules}
-use Rattle.ehabi_top.specs.GenerateReport.{CountsImage}
-use Rattle.ehabi_top.proofs.Checking.{bytes_refused, bytes_say}
+use Rattle.ehabi_top.specs.Accepting.{BytesReportsBy, IsUnaccepted}
+use Rattle.ehabi_top.specs.GenerateReport.{CountsAccepted}
+use Rattle.ehabi_top.proofs.Judging.{found_yields, refused_yields}
+use Rattle.ehabi_top.proofs.Yielding.{yields_memory}
 use Rattle.ehabi_top.proofs.generated.count_bytes.Goals as goal
 
-pub returns-in-Ok : goal.returns-in-Ok
-returns-in-Ok g c = bytes_say _ _ _ _ _ CountsImage c.args.bytes.now c.in-Ok.image c.in-Ok.ensures.image c.count_image.ensures
+pub returns-in-Ok-Ok : goal.returns-in-Ok-Ok
+returns-in-Ok-Ok g c = λ input faults.
+    let found = rw c.in-Ok-Ok.field-0-is at c.in-Ok-Ok.ensures in
+    found_yields CountsAccepted c.args.bytes.now c.in-Ok-Ok.accepted _ _ _ found (c.count_accepted.ensures input faults)
 
-pub returns-else-eq : goal.returns-else-eq
-returns-else-eq g c =
-    bytes_refused _ _ _ _ _ CountsImage c.args.bytes.now c.in-Err.fault (c.in-Err.ensures.refused (search rules))
-    (rw (c.as_slice.ensures.value ∙ c.image_fault_line.ensures) at c.answer_text.ensures)
+pub returns-in-Ok-Err : goal.returns-in-Ok-Err
+returns-in-Ok-Err g c = λ input faults.
+    let stands = rw c.in-Ok-Err.field-0-is at c.in-Ok-Err.ensures in
+    refused_yields CountsAccepted c.args.bytes.now c.in-Ok-Err.fault _ input _ _ faults _ _ stands c.answer_refused.ensures
+
+pub returns-in-Err : goal.returns-in-Err
+returns-in-Err g c = λ input faults. rw c.in-Err.ensures (yields_memory (BytesReportsBy CountsAccepted c.args.bytes.now) (IsUnaccepted c.args.bytes.now) input _ faults _)

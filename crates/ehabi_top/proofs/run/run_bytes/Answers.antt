@@ -1,17 +1,18 @@
-use Rattle.std.proofs.Common.{◌∙◌, rules}
-use Rattle.ehabi_top.specs.CheckReport.{IsUnaccepted}
-use Rattle.ehabi_top.specs.TaskReport.{RunBytesReports}
+use Rattle.ehabi_top.specs.Accepting.{IsUnaccepted}
+use Rattle.ehabi_top.specs.TaskReport.{DoesTask, RunBytesReports}
+use Rattle.ehabi_top.proofs.Judging.{found_yields, refused_yields}
 use Rattle.ehabi_top.proofs.Yielding.{yields_memory}
-use Rattle.ehabi_top.proofs.RunReports.{bytes_yield, bytes_refused}
 use Rattle.ehabi_top.proofs.run.run_bytes.Goals as goal
 
-pub returns-in-Ok : goal.returns-in-Ok
-returns-in-Ok g c = bytes_yield c.args.request c.args.bytes.now c.in-Ok.image _ _ _ c.in-Ok.ensures.image c.run_image.ensures
+pub returns-in-Ok-Ok : goal.returns-in-Ok-Ok
+returns-in-Ok-Ok g c =
+    let found = rw c.in-Ok-Ok.field-0-is at c.in-Ok-Ok.ensures in
+    found_yields (DoesTask c.args.request) c.args.bytes.now c.in-Ok-Ok.accepted _ _ _ found c.do_task.ensures
 
-pub returns-else-eq : goal.returns-else-eq
-returns-else-eq g c =
-    bytes_refused c.args.request c.args.bytes.now c.in-Err.fault _ _ _ _ _ _ _ (c.in-Err.ensures.refused (search rules))
-    (rw (c.as_slice.ensures.value ∙ c.image_fault_line.ensures) at c.answer_text.ensures)
+pub returns-in-Ok-Err : goal.returns-in-Ok-Err
+returns-in-Ok-Err g c =
+    let stands = rw c.in-Ok-Err.field-0-is at c.in-Ok-Err.ensures in
+    refused_yields (DoesTask c.args.request) c.args.bytes.now c.in-Ok-Err.fault _ _ _ _ _ _ _ stands c.answer_refused.ensures
 
-pub returns-then-eq : goal.returns-then-eq
-returns-then-eq g c = yields_memory (RunBytesReports c.args.request c.args.bytes.now) (IsUnaccepted c.args.bytes.now) _ _ _ _
+pub returns-in-Err : goal.returns-in-Err
+returns-in-Err g c = rw c.in-Err.ensures (yields_memory (RunBytesReports c.args.request c.args.bytes.now) (IsUnaccepted c.args.bytes.now) _ _ _ _)

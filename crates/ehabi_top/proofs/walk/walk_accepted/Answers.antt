@@ -6,7 +6,7 @@ use Rattle.eh_walk.specs.Reaching.{Onward, at_left, most_events, site_machine}
 use Rattle.ehabi_top.specs.BothRuns.{bytes_events}
 use Rattle.ehabi_top.specs.WalkReport.{WalksAccepted, accepted_walk, bytes_walk, walk_closing}
 use Rattle.ehabi_top.proofs.WalkReports.{status_of_walk, walk_accepted}
-use Rattle.ehabi_top.proofs.Yielding.{site_some, yields_said, yields_memory}
+use Rattle.ehabi_top.proofs.Yielding.{site_some, both_kept, yields_run, yields_memory}
 use Rattle.ehabi_top.proofs.walk.walk_accepted.Goals as goal
 
 pub returns : goal.returns
@@ -14,12 +14,12 @@ unfolding accepted_walk
 returns g c =
     let a = c.args.accepted.now in
     let end = c.run_to_site-end.result in
-    yields_said (Onward State) (site_machine (program_of a)) (λ _. refl) (λ o e. walk_closing a (bytes_events o.state) (bytes_walk a o.state) e) (most_events c.args.budget) (at_left c.args.budget (start_of (program_of a)))
+    yields_run (Onward State) (site_machine (program_of a)) (λ _. refl) (λ o e. walk_closing a (bytes_events o.state) (bytes_walk a o.state) e) (most_events c.args.budget) (at_left c.args.budget (start_of (program_of a)))
     (λ o e fine. status_of_walk a (bytes_events o.state) (bytes_walk a o.state) e fine) (WalksAccepted c.args.budget a) ⊥ _ end _ _ _ _ _ _ _ _ _ _ _
     (λ b. walk_accepted c.args.budget a b c.walks_same.ensures) (λ l. l)
     (site_some (program_of a) c.args.budget (start_of (program_of a)) end _ _ _ _ _ _ (rw (c.in-Ok.ensures.program, c.in-Ok.ensures.budget, c.in-Ok.ensures.state) at c.run_to_site-end.ensures.told))
     c.run_to_site-end.ensures.faults.input.rose c.run_to_site-end.ensures.faults.out.rose
-    c.run_to_site-end.ensures.faults.out.later c.run_to_site-end.ensures.faults.input.kept c.run_to_site-end.ensures.faults.out.kept
+    c.run_to_site-end.ensures.faults.out.later (λ fine e. both_kept end _ _ _ _ c.run_to_site-end.ensures.faults.input.kept c.run_to_site-end.ensures.faults.out.kept fine)
     (rw (c.run_to_site-end.ensures.accepted, c.in-Ok.ensures.program) at c.answer_walk.ensures)
 
 pub returns-in-Err : goal.returns-in-Err

@@ -1,14 +1,14 @@
 use Rattle.std.proofs.Common.{arith, sym, ap, ◌∙◌, subst}
 use Rattle.elf_image.specs.Image.{Image}
 use Rattle.frame_reach.proofs.Existing.{marks_agree}
-use Rattle.frame_check.specs.Accepts.{AreSpots}
+use Rattle.frame_check.specs.Accepts.{AreRoles}
 use Rattle.frame_check.specs.Judged.{RefusesOne, IsTaken}
-use Rattle.frame_check.proofs.Images.{no_spots}
+use Rattle.frame_check.proofs.Images.{no_roles}
 use Rattle.frame_check.proofs.Wells.{placed_item, rejected_item, taken_item}
 use Rattle.frame_check.proofs.checking.check_functions.Goals as goal
 
 pub loop-f-init : goal.loop-f-init
-loop-f-init c = record { well = λ k d l. absurd (omega arith); spots = subst (λ t. AreSpots c.args.index.now _ t) (sym c.new-spots.ensures) (no_spots c.args.index.now); cover = c.new-cover.ensures }
+loop-f-init c = record { well = λ k d l. absurd (omega arith); roles = subst (λ t. AreRoles c.args.index.now _ t) (sym c.new-roles.ensures) (no_roles c.args.index.now); cover = c.new-cover.ensures }
 
 pub check_function-requires : goal.check_function-requires
 check_function-requires c =
@@ -24,7 +24,7 @@ returns-in-Err-clause-refused c =
 pub loop-f-preserved : goal.loop-f-preserved
 loop-f-preserved c =
     let covered = c.in_ok-cover.ensures ∙ (c.in_ok-turned.ensures ∙ c.loop-f.invariant.cover) in
-    let t = taken_item c.args.index.now c.image.result.now c.functions-f-items.result.now c.loop-f.f-index c.f-item.result c.loop-f.spots c.check_function.new.spots marks_agree c.functions-f-items.ensures.sound c.image.ensures
-    (c.functions-f-items.ensures.functions ∙ ap (λ (i : Image). i.functions) c.image.ensures) c.loop-f-test.true c.f-item.is c.loop-f.invariant.well c.loop-f.invariant.spots
-    (subst (λ (i : Image). IsTaken i c.f-item.result c.loop-f.spots c.check_function.new.spots) covered c.in-Ok.ensures.taken) in
-    record { well = t.0; spots = t.1; cover = covered }
+    let t = taken_item c.args.index.now c.image.result.now c.functions-f-items.result.now c.loop-f.f-index c.f-item.result c.loop-f.roles c.check_function.new.roles marks_agree c.functions-f-items.ensures.sound c.image.ensures
+    (c.functions-f-items.ensures.functions ∙ ap (λ (i : Image). i.functions) c.image.ensures) c.loop-f-test.true c.f-item.is c.loop-f.invariant.well c.loop-f.invariant.roles
+    (subst (λ (i : Image). IsTaken i c.f-item.result c.loop-f.roles c.check_function.new.roles) covered c.in-Ok.ensures.taken) in
+    record { well = t.0; roles = t.1; cover = covered }

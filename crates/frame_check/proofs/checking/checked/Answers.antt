@@ -1,5 +1,5 @@
 use Rattle.std.proofs.Common.{rules}
-use Rattle.frame_check.specs.Spots.{look}
+use Rattle.frame_check.specs.Roles.{look}
 use Rattle.frame_check.proofs.checking.checked.Goals as goal
 
 pub returns-in_ok-types-in-Ok-clause-sound : goal.returns-in_ok-types-in-Ok-clause-sound
@@ -9,5 +9,5 @@ returns-in_ok-types-in-Ok-clause-sound c = record {
   index = search rules;
   functions = search rules;
   graph = search rules;
-  spots = search rules;
+  roles = search rules;
 }

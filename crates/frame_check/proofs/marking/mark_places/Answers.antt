@@ -8,5 +8,5 @@ address_of-requires c = c.requires.low (get_or c.args.places.now c.loop-place.pl
 
 pub loop-place-preserved : goal.loop-place-preserved
 loop-place-preserved c =
-    instrs_next c.args.scene.now c.args.places.now c.loop-place.place-index c.address_of.result c.args.spots.now c.loop-place.spots c.mark_instr.new.spots c.loop-place-test.true c.loop-place.invariant
+    instrs_next c.args.flow_graph.now c.args.places.now c.loop-place.place-index c.address_of.result c.args.roles.now c.loop-place.roles c.mark_instr.new.roles c.loop-place-test.true c.loop-place.invariant
     c.address_of.ensures c.in_ok-mark_instr.ensures

@@ -3,4 +3,4 @@ use Rattle.frame_check.specs.Marking.{AreSaved}
 use Rattle.frame_check.proofs.marking.mark_pushes.Given as goal
 
 abbrev pub invariant-loop-push : goal.invariant-loop-push
-invariant-loop-push l = AreSaved (take l.push-index l.pushes) l.initial.spots l.spots
+invariant-loop-push l = AreSaved (take l.push-index l.pushes) l.initial.roles l.roles

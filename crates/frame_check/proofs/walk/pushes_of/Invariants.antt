@@ -6,5 +6,5 @@ use Rattle.frame_check.proofs.walk.pushes_of.Given as goal
 
 abbrev pub invariant-loop-step : goal.invariant-loop-step
 invariant-loop-step l =
-    l.pushes.items ++ map (marked l.p) (pushings l.run (lines l.scene (marks_of l.reached).target (places l.scene - l.step) l.place))
-    ≡ pushes_of l.p l.scene.start (lines l.scene (marks_of l.reached).target (places l.scene) 0)
+    l.pushes.items ++ map (marked l.p) (pushings l.run (lines l.flow_graph (marks_of l.reached).target (places l.flow_graph - l.step) l.place))
+    ≡ pushes_of l.p l.flow_graph.start (lines l.flow_graph (marks_of l.reached).target (places l.flow_graph) 0)

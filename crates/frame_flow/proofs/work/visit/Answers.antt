@@ -1,7 +1,7 @@
 use Rattle.std.proofs.Common.{◌≡◌, Ok, arith, ap, sym, subst, ◌∙◌}
-use Rattle.frame_scene.specs.Stretch.{TellsOn}
+use Rattle.frame_graph.specs.Stretch.{TellsOn}
 use Rattle.frame_flow.specs.Framed.{Parts, framed_of}
-use Rattle.frame_flow.proofs.Edges.{same_ways}
+use Rattle.frame_flow.proofs.Transfers.{same_edges}
 use Rattle.frame_flow.proofs.Visiting.{visit_none, visit_cause, visit_ends, visit_leads, place_within}
 use Rattle.frame_flow.proofs.work.visit.Goals as goal
 
@@ -11,20 +11,20 @@ get-requires c = (place_within (framed_of c.args.x.now) c.args.facts.now c.args.
 pub passed-requires-clause-low : goal.passed-requires-clause-low
 passed-requires-clause-low c = omega (arith, c.requires.short, (place_within (framed_of c.args.x.now) c.args.facts.now c.args.work.now.items c.args.place c.requires.sound).0)
 
-pub ways_on-requires-clause-place : goal.ways_on-requires-clause-place
-ways_on-requires-clause-place c =
-    let start : c.x.inside.scene.now.start ≡ c.args.x.now.scene.start = ap (λ (a : Parts). a.scene.start) c.x.view_is in
+pub edges_on-requires-clause-place : goal.edges_on-requires-clause-place
+edges_on-requires-clause-place c =
+    let start : c.x.inside.flow_graph.now.start ≡ c.args.x.now.flow_graph.start = ap (λ (a : Parts). a.flow_graph.start) c.x.view_is in
     omega (arith, start, c.requires.short, (place_within (framed_of c.args.x.now) c.args.facts.now c.args.work.now.items c.args.place c.requires.sound).0)
 
-pub ways_on-requires-clause-tells : goal.ways_on-requires-clause-tells
-ways_on-requires-clause-tells c = subst (λ (a : Parts). TellsOn a.scene c.args.stretch.now c.args.place) (sym c.x.view_is) c.requires.tells
+pub edges_on-requires-clause-tells : goal.edges_on-requires-clause-tells
+edges_on-requires-clause-tells c = subst (λ (a : Parts). TellsOn a.flow_graph c.args.stretch.now c.args.place) (sym c.x.view_is) c.requires.tells
 
 pub spread-requires : goal.spread-requires
 spread-requires c =
     let passed = sym c.in-Ok-Some.ensures ∙ ap Ok c.in-Ok-Some.field-0-is in
-    let ways = same_ways c.deref.result.now c.in-Ok.ways.items c.x.inside.scene.now c.args.x.now.scene c.args.place c.deref.ensures.value (ap (λ (a : Parts). a.scene) c.x.view_is) c.in-Ok.ensures in
+    let edges = same_edges c.deref.result.now c.in-Ok.edges.items c.x.inside.flow_graph.now c.args.x.now.flow_graph c.args.place c.deref.ensures.value (ap (λ (a : Parts). a.flow_graph) c.x.view_is) c.in-Ok.ensures in
     visit_leads (framed_of c.args.x.now) c.args.facts.now c.args.work.now.items c.args.place c.in-Some.fact c.in-Ok-Some.next c.deref.result.now c.requires.sound
-    (sym c.get.ensures ∙ c.in-Some.is) passed ways
+    (sym c.get.ensures ∙ c.in-Some.is) passed edges
 
 pub returns-in-None : goal.returns-in-None
 returns-in-None c =

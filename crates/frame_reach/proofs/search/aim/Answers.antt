@@ -8,11 +8,11 @@ use Rattle.frame_reach.proofs.Found.{target_below}
 use Rattle.frame_reach.proofs.search.aim.Goals as goal
 
 pub index_mut-requires : goal.index_mut-requires
-index_mut-requires c = omega (arith, c.requires.sound.target_long, target_below c.args.scene.now c.in-Some.place (c.requires.target c.in-Some.place c.in-Some.is))
+index_mut-requires c = omega (arith, c.requires.sound.target_long, target_below c.args.flow_graph.now c.in-Some.place (c.requires.target c.in-Some.place c.in-Some.is))
 
 pub returns : goal.returns
 returns c =
-    let s = c.args.scene.now in
+    let s = c.args.flow_graph.now in
     let h = held c.args.found.now in
     let p = c.in-Some.place in
     let t = c.requires.target p c.in-Some.is in

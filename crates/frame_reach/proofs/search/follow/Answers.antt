@@ -1,12 +1,12 @@
 use Rattle.std.proofs.Common.{◌<◌, ◌^◌, ℕ, length, subst, sym, arith}
-use Rattle.frame_scene.specs.Reach.{IsReached}
+use Rattle.frame_graph.specs.Reach.{IsReached}
 use Rattle.frame_reach.specs.Search.{held}
 use Rattle.frame_reach.proofs.Found.{low, at_index, listed_reached, followed_more, all_marked, not_too_long}
 use Rattle.frame_reach.proofs.search.follow.Goals as goal
 
 pub stretch_on-requires-clause-place : goal.stretch_on-requires-clause-place
 stretch_on-requires-clause-place c =
-    let s = c.args.scene.now in
+    let s = c.args.flow_graph.now in
     let h = held c.loop-next.found in
     let l : c.loop-next.next < length h.places = omega (arith, c.len.ensures, c.loop-next-test.true) in
     let is = at_index s h.places c.loop-next.next c.index-place.result.now l c.index-place.ensures in
@@ -17,7 +17,7 @@ stretch_on-requires-clause-place c =
 
 pub visit-requires-clause-low : goal.visit-requires-clause-low
 visit-requires-clause-low c =
-    let s = c.args.scene.now in
+    let s = c.args.flow_graph.now in
     let h = held c.loop-next.found in
     let l : c.loop-next.next < length h.places = omega (arith, c.len.ensures, c.loop-next-test.true) in
     let is = at_index s h.places c.loop-next.next c.index-place.result.now l c.index-place.ensures in
@@ -28,7 +28,7 @@ visit-requires-clause-low c =
 
 pub loop-next-preserved : goal.loop-next-preserved
 loop-next-preserved c =
-    let s = c.args.scene.now in
+    let s = c.args.flow_graph.now in
     let h = held c.loop-next.found in
     let i = c.loop-next.invariant in
     let now = c.in_ok-visit.ensures in
@@ -44,7 +44,7 @@ loop-next-preserved c =
 
 pub returns : goal.returns
 returns c =
-    let s = c.args.scene.now in
+    let s = c.args.flow_graph.now in
     let h = held c.loop-next.found in
     let i = c.loop-next.invariant in
     let all = λ (k : ℕ) (m : k < length h.places). i.visited k (omega (arith, m, c.len.ensures, c.loop-next-test.false)) in

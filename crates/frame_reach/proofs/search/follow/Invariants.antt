@@ -1,17 +1,17 @@
 use Rattle.std.proofs.Common.{ℕ, ◌<◌, ◌≤◌, ◌-◌, length}
 use Rattle.std.specs.Prelude.{slice_index}
-use Rattle.frame_scene.specs.Stretch.{IsStretch}
+use Rattle.frame_graph.specs.Stretch.{IsStretch}
 use Rattle.frame_reach.specs.declared.marks.TheConstants.{MOST_REACHED}
 use Rattle.frame_reach.specs.Search.{IsSound, IsPut, IsVisited}
 use Rattle.frame_reach.proofs.search.follow.Given as goal
 
 abbrev pub invariant-loop-next : goal.invariant-loop-next
 invariant-loop-next l = record {
-  sound : IsSound l.scene l.found;
+  sound : IsSound l.flow_graph l.found;
   entry : IsPut l.found 0;
-  stretch : IsStretch l.scene l.stretch;
+  stretch : IsStretch l.flow_graph l.stretch;
   within : l.next ≤ length l.found.places.items;
-  visited : (k : ℕ) → k < l.next → IsVisited l.scene l.found (slice_index l.found.places.items k);
+  visited : (k : ℕ) → k < l.next → IsVisited l.flow_graph l.found (slice_index l.found.places.items k);
 }
 
 abbrev pub decreases-loop-next : goal.decreases-loop-next

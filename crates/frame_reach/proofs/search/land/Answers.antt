@@ -6,11 +6,11 @@ use Rattle.frame_reach.proofs.Found.{below, pad_reached}
 use Rattle.frame_reach.proofs.search.land.Goals as goal
 
 pub put-requires-clause-reached : goal.put-requires-clause-reached
-put-requires-clause-reached c = pad_reached c.args.scene.now c.args.place c.requires.pad
+put-requires-clause-reached c = pad_reached c.args.flow_graph.now c.args.place c.requires.pad
 
 pub returns : goal.returns
 returns c =
-    let s = c.args.scene.now in
+    let s = c.args.flow_graph.now in
     let p = c.args.place in
     let now = c.in_ok-put.ensures in
     let l : p < places s = below s p (pad_reached s p c.requires.pad) in

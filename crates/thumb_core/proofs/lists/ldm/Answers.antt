@@ -1,7 +1,7 @@
 use Rattle.std.proofs.Common.{◌≡◌, ◌%◌, ◌^◌, arith, sym}
 use Rattle.std.specs.Int.{bit_at}
 use Rattle.std.proofs.lemmas.Grind.{common_steps}
-use Rattle.thumb_core.proofs.Popped.{Low, ldm_fault, ldm_kept, ldm_behind}
+use Rattle.thumb_core.proofs.Popped.{Low, ldm_fault, ldm_kept, ldm_after}
 use Rattle.thumb_core.proofs.lists.ldm.Goals as goal
 use Rattle.thumb_core.proofs.lists.ldm.Goals.{then-list-n-eq0, else-list-n-eq0}
 
@@ -13,7 +13,7 @@ returns-after-list-n-eq0 g c =
     elim c.if-list-n-eq0.branch [
       | then-list-n-eq0 w ↦
           let clear : bit_at c.args.list c.args.n ≡ 0 = grind (arith, common_steps) in
-          let answer = ldm_behind c.args.n c.args.list c.args.size c.args.regs.now (g.B.Bus.memory c.args.bus.now) c.load_low.new.r (rw c.reg-a.ensures at low) c.requires.list_in (omega arith) clear in
+          let answer = ldm_after c.args.n c.args.list c.args.size c.args.regs.now (g.B.Bus.memory c.args.bus.now) c.load_low.new.r (rw c.reg-a.ensures at low) c.requires.list_in (omega arith) clear in
           rw (c.advance.ensures, w.regs-is, w.put.ensures, c.in-Ok.ensures.bytes, c.reg-a.ensures) (sym (rw whole at answer))
       | else-list-n-eq0 w ↦
           let set : bit_at c.args.list c.args.n ≡ 1 = grind (arith, common_steps) in

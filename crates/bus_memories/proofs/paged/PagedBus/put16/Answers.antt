@@ -5,7 +5,7 @@ pub invariant_of-self-2 : goal.invariant_of-self-2
 invariant_of-self-2 c =
     let k =
     pages_stored 2 c.args.self.now.pages c.store16.new.self c.args.self.now.parts.items c.args.a _ _ c.args.v c.args.self.now.sound c.args.self.now.used c.args.self.now.owned
-    c.args.self.now.mapped (rw c.deref.ensures.value at c.in_ok-found.ensures.spot) c.store16.ensures in
+    c.args.self.now.mapped (rw c.deref.ensures.value at c.in_ok-found.ensures.cell) c.store16.ensures in
     record {
       sound = k.sound;
       used = k.used;
@@ -23,5 +23,5 @@ pub returns : goal.returns
 returns c =
     let k =
     pages_stored 2 c.args.self.now.pages c.store16.new.self c.args.self.now.parts.items c.args.a _ _ c.args.v c.args.self.now.sound c.args.self.now.used c.args.self.now.owned
-    c.args.self.now.mapped (rw c.deref.ensures.value at c.in_ok-found.ensures.spot) c.store16.ensures in
+    c.args.self.now.mapped (rw c.deref.ensures.value at c.in_ok-found.ensures.cell) c.store16.ensures in
     is_store 2 _ _ _ _ c.args.a c.args.v (rw c.deref.ensures.value at c.in_ok-found.ensures.ok) k.made

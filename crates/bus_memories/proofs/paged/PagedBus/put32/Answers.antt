@@ -5,7 +5,7 @@ pub invariant_of-self-2 : goal.invariant_of-self-2
 invariant_of-self-2 c =
     let k =
     pages_stored 4 c.args.self.now.pages c.store32.new.self c.args.self.now.parts.items c.args.a _ _ c.args.v c.args.self.now.sound c.args.self.now.used c.args.self.now.owned
-    c.args.self.now.mapped (rw c.deref.ensures.value at c.in_ok-found.ensures.spot) c.store32.ensures in
+    c.args.self.now.mapped (rw c.deref.ensures.value at c.in_ok-found.ensures.cell) c.store32.ensures in
     record {
       sound = k.sound;
       used = k.used;
@@ -23,5 +23,5 @@ pub returns : goal.returns
 returns c =
     let k =
     pages_stored 4 c.args.self.now.pages c.store32.new.self c.args.self.now.parts.items c.args.a _ _ c.args.v c.args.self.now.sound c.args.self.now.used c.args.self.now.owned
-    c.args.self.now.mapped (rw c.deref.ensures.value at c.in_ok-found.ensures.spot) c.store32.ensures in
+    c.args.self.now.mapped (rw c.deref.ensures.value at c.in_ok-found.ensures.cell) c.store32.ensures in
     is_store 4 _ _ _ _ c.args.a c.args.v (rw c.deref.ensures.value at c.in_ok-found.ensures.ok) k.made

@@ -18,7 +18,7 @@ loop-self-init g c = record {
   input_kept = refl;
   out_kept = refl;
   same = refl;
-  known = c.is_instr-known.ensures.spot;
+  known = c.is_instr-known.ensures.role;
 }
 
 pub loop-self-preserved : goal.loop-self-preserved

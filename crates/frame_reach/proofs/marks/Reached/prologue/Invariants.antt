@@ -5,4 +5,4 @@ use Rattle.frame_reach.specs.Prologue.{places, lines, prologue}
 use Rattle.frame_reach.proofs.marks.Reached.prologue.Given as goal
 
 abbrev pub invariant-loop-step : goal.invariant-loop-step
-invariant-loop-step l = (run_on l.run (lines l.scene (marks_of l.self).target (places l.scene - l.step) l.place)).prologue ≡ prologue l.scene (marks_of l.self)
+invariant-loop-step l = (run_on l.run (lines l.flow_graph (marks_of l.self).target (places l.flow_graph - l.step) l.place)).prologue ≡ prologue l.flow_graph (marks_of l.self)

@@ -5,7 +5,7 @@ use Rattle.frame_reach.proofs.marks.Reached.splits.Goals as goal
 
 pub splits_at-requires : goal.splits_at-requires
 splits_at-requires c =
-    let s = c.args.scene.now in
+    let s = c.args.flow_graph.now in
     let places = c.places-place-items.result.now in
     let start : s.start < 2 ^ 32 = omega (arith, c.start-start.type_inv, c.start-start.ensures) in
     let end : s.end < 2 ^ 32 = omega (arith, c.end-end.type_inv, c.end-end.ensures) in
@@ -13,14 +13,14 @@ splits_at-requires c =
 
 pub returns-then-splits_at : goal.returns-then-splits_at
 returns-then-splits_at c = (
-  λ t. splits_here c.args.scene.now (marks_of c.args.self.now) c.places-place-items.result.now c.requires c.places-place-items.ensures.all c.loop-place.place-index c.loop-place-test.true
+  λ t. splits_here c.args.flow_graph.now (marks_of c.args.self.now) c.places-place-items.result.now c.requires c.places-place-items.ensures.all c.loop-place.place-index c.loop-place-test.true
       (sym c.splits_at.ensures ∙ c.if-splits_at.true),
   λ split. refl,
 )
 
 pub returns : goal.returns
 returns c =
-    let s = c.args.scene.now in
+    let s = c.args.flow_graph.now in
     let places = c.places-place-items.result.now in (
       λ t. absurd (true≢false (sym t)),
       λ split. absurd (splits_nowhere s (marks_of c.args.self.now) places c.requires c.places-place-items.ensures.all c.loop-place.place-index c.loop-place-test.false

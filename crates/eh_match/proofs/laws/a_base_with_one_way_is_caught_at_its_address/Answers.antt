@@ -1,8 +1,0 @@
-use Rattle.eh_match.proofs.Classes.{one_way_is_caught, one_plain_way_is_caught}
-use Rattle.eh_match.proofs.laws.a_base_with_one_way_is_caught_at_its_address.Goals as goal
-
-pub returns-clause-way : goal.returns-clause-way
-returns-clause-way c = one_way_is_caught
-
-pub returns-clause-plain : goal.returns-clause-plain
-returns-clause-plain c = one_plain_way_is_caught

@@ -1,9 +1,0 @@
-use Rattle.frame_reach.specs.Held.{marks_of}
-use Rattle.frame_flow.specs.Framed.{framed_of}
-use Rattle.frame_check.proofs.Judging.{all_judged, framed_by}
-use Rattle.frame_check.proofs.judge.settled.Goals as goal
-
-pub returns-clause-refused : goal.returns-clause-refused
-returns-clause-refused c =
-    all_judged c.args.scene.now (marks_of c.args.reached.now) (framed_of c.new-framed.result) c.settle.result c.requires.some c.requires.marks
-    (framed_by c.args.scene.now c.args.reached.now c.new-framed.result c.prologue.result c.pads.result.now c.new-framed.ensures c.prologue.ensures c.pads.ensures) c.settle.ensures.refused

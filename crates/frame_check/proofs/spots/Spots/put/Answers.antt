@@ -1,9 +1,0 @@
-use Rattle.std.proofs.Common.{subst, ◌/◌}
-use Rattle.frame_check.specs.Spots.{Table, table, Ready}
-use Rattle.frame_check.proofs.Tables.{put_here}
-use Rattle.frame_check.proofs.spots.Spots.put.Goals as goal
-
-pub returns : goal.returns
-returns c =
-    put_here c.args.self.now (table c.ready.new.places.items c.ready.new.spots.items) c.args.a c.in_ok-at.at c.args.spot c.ready.ensures.sound c.requires
-    (subst (λ (t : Table). Ready t (table c.ready.new.places.items c.ready.new.spots.items) (c.args.a / 2) c.in_ok-at.at) c.self.view_is c.in_ok-at.ensures.ready)

@@ -1,0 +1,146 @@
+//! What a run asks of an address, found in constant time. docs/checking.md, "Look-ups".
+ghost use Rattle.std.specs.Prelude.{◌≡◌, ℕ, ◌+◌, ◌*◌, ◌/◌, ◌%◌, ◌^◌, ◌<◌, length, Some, None, IfOk, OnOk, slice_index_or, vec_len};
+ghost use Rattle.frame_check.specs.Roles.{Table, IsTable, Grown, Ready, Put, table, place_of, look, no_table};
+
+use std::alloc::{AllocError, Global};
+use std::marker::Model;
+
+/// How many roles a page has, one for each halfword of its 4,096 bytes.
+pub const PAGE_ROLES: usize = 2048;
+
+/// What a run asks of an address.
+#[derive(Clone, Copy, PartialEq, Eq, Debug)]
+pub struct Role {
+    /// Whether an instruction stands there that some path from its function's entry reaches.
+    pub is_instr: bool,
+    /// Whether a function begins there.
+    pub is_function: bool,
+    /// Of a PUSH of a prologue, which of the words that it stores are saves: bit k stands for word k, counted from the lowest address.
+    pub saves: u16,
+}
+
+/// Nothing is known of the address.
+pub const NO_ROLE: Role = Role {
+    is_instr: false,
+    is_function: false,
+    saves: 0,
+};
+
+/// Roles by their addresses. Only the pages that have one are kept, with a directory by page number up to the highest.
+#[derive(Drop)]
+pub struct Roles {
+    places: Vec<Option<u32>>,
+    roles: Vec<Role>,
+}
+
+impl Model for Roles {
+    ghost use Rattle.frame_check.specs.Roles.{Table, IsTable, table};
+
+    ghost Value = { Table };
+
+    ghost view = { λ s. table s.places.items s.roles.items };
+
+    ghost invariant = { λ s. IsTable (table s.places.items s.roles.items) };
+}
+
+/// The place of a page, by its number.
+fn place(places: &[Option<u32>], n: usize) -> Option<u32>
+    ensures { result ≡ slice_index_or places.now n None }
+{
+    if n < places.len() { places[n] } else { None }
+}
+
+/// Where the role of a halfword stands, by its number.
+fn place_of(places: &[Option<u32>], h: u32) -> Option<usize>
+    ensures { result ≡ place_of places.now h }
+{
+    let at = place(places, h as usize / PAGE_ROLES)?;
+    Some(at as usize * PAGE_ROLES + h as usize % PAGE_ROLES)
+}
+
+/// Makes the directory reach to a page.
+fn widen(places: &mut Vec<Option<u32>>, n: usize) -> Result<(), AllocError>
+    requires { n < 2 ^ 32 }
+    ensures same { (k : ℕ) → slice_index_or places.new.items k None ≡ slice_index_or places.old.items k None }
+    ensures room { OnOk result (n < vec_len places.new) }
+{
+    if n < places.len() {
+        return Ok(());
+    }
+    places.resize(n + 1, None)
+}
+
+/// Adds a page that isn't there, all blank, and answers where its roles begin. Without memory nothing is added.
+fn add_page(
+    places: &mut Vec<Option<u32>>,
+    roles: &mut Vec<Role>,
+    n: usize,
+) -> Result<usize, AllocError>
+    requires number { n < 2 ^ 32 }
+    requires sound { IsTable (table places.old.items roles.old.items) }
+    requires absent { slice_index_or places.old.items n None ≡ None }
+    ensures sound { IsTable (table places.new.items roles.new.items) }
+    ensures grown { IfOk result (λ at. Grown (table places.old.items roles.old.items) (table places.new.items roles.new.items) n at) }
+{
+    let Ok(page) = u32::try_from(roles.len() / PAGE_ROLES) else {
+        return Err(AllocError);
+    };
+    widen(places, n)?;
+    let Some(len) = roles.len().checked_add(PAGE_ROLES) else {
+        return Err(AllocError);
+    };
+    roles.resize(len, NO_ROLE)?;
+    places[n] = Some(page);
+    Ok(page as usize * PAGE_ROLES)
+}
+
+/// Where the role of a halfword stands, whose page is added where it is not there.
+fn ready(places: &mut Vec<Option<u32>>, roles: &mut Vec<Role>, h: u32) -> Result<usize, AllocError>
+    requires { IsTable (table places.old.items roles.old.items) }
+    ensures sound { IsTable (table places.new.items roles.new.items) }
+    ensures ready { IfOk result (λ at. Ready (table places.old.items roles.old.items) (table places.new.items roles.new.items) h at) }
+{
+    match place_of(places, h) {
+        Some(at) => Ok(at),
+        None => {
+            let first = add_page(places, roles, h as usize / PAGE_ROLES)?;
+            Ok(first + h as usize % PAGE_ROLES)
+        }
+    }
+}
+
+impl Roles {
+    /// No roles.
+    pub fn new(alloc: Global) -> Roles
+        ensures { result ≡ no_table }
+    {
+        Roles {
+            places: Vec::new(alloc),
+            roles: Vec::new(alloc),
+        }
+    }
+
+    /// The role of an address; of an odd one, and where none was put, the blank one. One look-up.
+    #[tactic(auto, unfolding(crate::specs::Roles::look))]
+    pub fn look(&self, a: u32) -> Role
+        ensures { result ≡ look self.now a }
+    {
+        if a % 2 == 1 {
+            return NO_ROLE;
+        }
+        match place_of(&self.places, a / 2) {
+            None => NO_ROLE,
+            Some(at) => self.roles[at],
+        }
+    }
+
+    /// Puts the role of an even address, and no other.
+    pub fn put(&mut self, a: u32, role: Role) -> Result<(), AllocError>
+        requires { a % 2 ≡ 0 }
+        ensures { OnOk result (Put self.old self.new a role) }
+    {
+        let at = ready(&mut self.places, &mut self.roles, a / 2)?;
+        self.roles[at] = role;
+        Ok(())
+    }
+}

@@ -1,0 +1,16 @@
+-- What is kept of an entry that was read.
+use Rattle.std.specs.Prelude.{◌≡◌, Bool, List, Option, Some, None}
+use Rattle.std.specs.List.{list_any}
+use Rattle.elf_image.specs.Image.{Image}
+use Rattle.unwind_codes.specs.declared.row.Entry.{Entry}
+use Rattle.eh_index.specs.Places.{table_of}
+use Rattle.eh_desc.specs.Grammar.{items_of}
+use Rattle.frame_graph.specs.declared.unwinding.Unwinding.{Unwinding}
+use Rattle.frame_graph.specs.Unwinding.{of_body}
+use Rattle.frame_graph.specs.Sites.{Item, is_fault}
+
+-- of an entry its unwinding, its descriptors, and whether one of them can't be read; without an entry nothing is kept
+abbrev pub IsKept : Image → Option Entry → Unwinding → List Item → Bool → Type 0
+IsKept image None unwinding items faulty = Unit {0}
+IsKept image (Some e) unwinding items faulty =
+    (unwinding ≡ of_body e.body (table_of image e)) × (items ≡ items_of e (table_of image e)) × (faulty ≡ list_any is_fault (items_of e (table_of image e)))

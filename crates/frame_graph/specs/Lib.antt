@@ -1,0 +1,9 @@
+pub mod FlowGraph
+pub mod Places
+pub mod Edges
+pub mod Unwinding
+pub mod Sites
+pub mod Cover
+pub mod Stretch
+pub mod Laws
+pub mod Reach

@@ -1,0 +1,76 @@
+-- Addresses of one entry at which the same descriptors are in scope, and what is told there.
+use Rattle.std.specs.Prelude.{ℕ, ◌≡◌, ◌≤◌, ◌↔◌, ◌+◌, ◌%◌, ◌^◌, ◌&&◌, nat_le, nat_lt, Bool, false, List, Option, Some, None, Ok, Err}
+use Rattle.std.specs.List.{Contains, AllByRecursion, filter, list_any}
+use Rattle.elf_image.specs.Image.{Image}
+use Rattle.unwind_codes.specs.declared.row.Entry.{Entry}
+use Rattle.eh_index.specs.Places.{table_of}
+use Rattle.eh_desc.specs.Grammar.{items_of}
+use Rattle.frame_graph.specs.declared.unwinding.Unwinding.{Unwinding}
+use Rattle.frame_graph.specs.declared.edges.Edge.{Edge}
+use Rattle.frame_graph.specs.declared.stretch.Span.{Span}
+use Rattle.frame_graph.specs.declared.stretch.Stretch.{Stretch}
+use Rattle.frame_graph.specs.FlowGraph.{FlowGraph}
+use Rattle.frame_graph.specs.Sites.{Item, is_one, covers, entry_at, is_scoped, lands_out, pads_out, pad_edges, edges_from, site_at}
+
+-- ---- spans
+
+-- an address of a span: both ends are
+pub record IsIn (span : Span) (a : ℕ) : Type 0 where
+  pub low : span.low ≤ a
+  pub last : a ≤ span.last
+
+-- the span that is chosen holds another
+abbrev pub IsWithin : Option Span → Span → Type 0
+IsWithin None inner = ⊥
+IsWithin (Some outer) inner = (outer.low ≤ inner.low) × (inner.last ≤ outer.last)
+
+-- the addresses that are left are among those before, the site is, and at each of them the item covers as it does at the site
+pub record IsCut (before : Span) (site : ℕ) (item : Item) (after : Span) : Type 0 where
+  pub holds : IsIn after site
+  pub within : (a : ℕ) → IsIn after a → IsIn before a
+  pub same : (a : ℕ) → IsIn after a → is_one (covers a) item ≡ is_one (covers site) item
+
+-- the same of each of these items
+pub record AreCut (before : Span) (site : ℕ) (items : List Item) (after : Span) : Type 0 where
+  pub holds : IsIn after site
+  pub within : (a : ℕ) → IsIn after a → IsIn before a
+  pub same : (a : ℕ) → IsIn after a → AllByRecursion (λ item. is_one (covers a) item ≡ is_one (covers site) item) items
+
+-- ---- descriptors at hand
+
+-- an item that is a descriptor whose scope meets a span
+abbrev pub is_met : Span → Item → Bool
+is_met span (Ok d) = nat_le d.start span.last && nat_lt span.low ((d.start + d.size) % 2 ^ 32)
+is_met span (Err fault) = false
+
+-- where an entry and a span are chosen, those of its descriptors are at hand whose scope meets the span
+abbrev pub AreAtHand : Image → Option Entry → Option Span → List Item → Type 0
+AreAtHand image None span near = Unit {0}
+AreAtHand image (Some e) None near = Unit {0}
+AreAtHand image (Some e) (Some span) near = near ≡ filter (is_met span) (items_of e (table_of image e))
+
+-- two lists of items act the same at a site
+pub record ActSame (s : FlowGraph) (xs ys : List Item) (site : ℕ) : Type 0 where
+  pub scoped : list_any (is_one (covers site)) xs ≡ list_any (is_one (covers site)) ys
+  pub out : list_any (is_one (lands_out s site)) xs ≡ list_any (is_one (lands_out s site)) ys
+  pub edges : (u : Unwinding) → pad_edges s site u false xs ≡ pad_edges s site u false ys
+
+-- ---- what is told of a site
+
+-- the same edges, in any order and any number of times
+abbrev pub HaveSame : List Edge → List Edge → Type 0
+HaveSame xs ys = (w : Edge) → Contains xs w ↔ Contains ys w
+
+-- whether a descriptor has it in its scope, whether a landing pad isn't code of the function, and the edges to its landing pads
+pub record Tells (s : FlowGraph) (t : Stretch) (site : ℕ) : Type 0 where
+  pub scoped : t.scoped ≡ is_scoped s site
+  pub out : t.out ≡ pads_out s site
+  pub edges : HaveSame t.edges.items (edges_from s (Some site))
+
+-- it tells of each site of its span that its entry covers
+abbrev pub IsStretch : FlowGraph → Stretch → Type 0
+IsStretch s t = (site : ℕ) → IsIn t.span site → entry_at s site ≡ t.entry → Tells s t site
+
+-- it tells of the site of a place, where there is one
+abbrev pub TellsOn : FlowGraph → Stretch → ℕ → Type 0
+TellsOn s t place = (site : ℕ) → site_at s place ≡ Some site → Tells s t site

@@ -1,0 +1,197 @@
+//! What the exception index says of an entry, read once for all sites of a function and for the next function that it covers.
+//! docs/flow-graphs.md, "Sites".
+ghost use Rattle.std.specs.Prelude.{◌≡◌, ◌++◌, Some, true, IfOk};
+ghost use Rattle.std.specs.List.{list_any, filter};
+ghost use Rattle.eh_index.specs.Places.{table_of};
+ghost use Rattle.eh_desc.specs.Grammar.{items_of};
+ghost use Rattle.frame_graph.specs.Sites.{is_fault};
+ghost use Rattle.frame_graph.specs.Stretch.{is_met, IsWithin};
+
+use crate::stretch::Span;
+use crate::unwinding::{Unwinding, of_entry};
+use eh_desc::{Desc, DescFault, Descs};
+use eh_index::{Entry, Index};
+use std::alloc::{AllocError, Global};
+use std::marker::Model;
+
+/// An entry of an exception index with what it says, or no entry yet; and of its descriptors those that are at hand, since their scope
+/// meets a span of addresses. Contracts see the image alone: what is kept is what its bytes say.
+#[derive(Drop)]
+pub struct Cover<'s, 'i, 'a> {
+    pub(crate) index: &'s Index<'i, 'a>,
+    pub(crate) entry: Option<Entry>,
+    pub(crate) unwinding: Unwinding,
+    pub(crate) items: Vec<Result<Desc, DescFault>>,
+    pub(crate) faulty: bool,
+    pub(crate) span: Option<Span>,
+    pub(crate) near: Vec<Result<Desc, DescFault>>,
+}
+
+impl<'s, 'i, 'a> Model for Cover<'s, 'i, 'a> {
+    ghost use Rattle.elf_image.specs.Image.{Image as Parts};
+    ghost use Rattle.frame_graph.specs.Cover.{IsKept};
+    ghost use Rattle.frame_graph.specs.Stretch.{AreAtHand};
+
+    ghost Value = { Parts };
+
+    ghost view = { λ c. c.index.now };
+
+    ghost invariant = { λ c. IsKept c.index.now c.entry c.unwinding c.items.items c.faulty × AreAtHand c.index.now c.entry c.span c.near.items };
+}
+
+/// Whether the entry that is kept is this one.
+pub(crate) fn is_entry(kept: Option<Entry>, e: &Entry) -> bool
+    ensures { result ≡ true → kept ≡ Some e.now }
+{
+    match kept {
+        None => false,
+        Some(k) => k == *e,
+    }
+}
+
+/// Whether an item can't be read.
+pub(crate) fn is_fault(item: Result<Desc, DescFault>) -> bool
+    ensures { result ≡ is_fault item }
+{
+    match item {
+        Ok(_) => false,
+        Err(_) => true,
+    }
+}
+
+/// The descriptors of an entry as a list.
+pub(crate) fn read_items(
+    alloc: Global,
+    index: &Index,
+    e: &Entry,
+) -> Result<Vec<Result<Desc, DescFault>>, AllocError>
+    ensures { IfOk result (λ items. items.items ≡ items_of e.now (table_of index.now e.now)) }
+{
+    let mut items = Vec::new(alloc);
+    for item in Descs::of(index, e) {
+        items.push(item)?;
+    }
+    Ok(items)
+}
+
+/// The items of a list whose scope meets a span.
+fn near_items(
+    alloc: Global,
+    span: &Span,
+    items: &[Result<Desc, DescFault>],
+) -> Result<Vec<Result<Desc, DescFault>>, AllocError>
+    ensures { IfOk result (λ near. near.items ≡ filter (is_met span.now) items.now) }
+{
+    let mut near = Vec::new(alloc);
+    for item in items {
+        if span.is_met(*item) {
+            near.push(*item)?;
+        }
+    }
+    Ok(near)
+}
+
+fn any_fault(items: &[Result<Desc, DescFault>]) -> bool
+    ensures { result ≡ list_any is_fault items.now }
+{
+    items.iter().any(|item| is_fault(*item))
+}
+
+/// Whether a span is chosen that a function lies in.
+fn lies_within(span: Option<Span>, function: &Span) -> bool
+    ensures { result ≡ true → IsWithin span function.now }
+{
+    match span {
+        None => false,
+        Some(span) => span.low <= function.low && function.last <= span.last,
+    }
+}
+
+/// How many descriptors an entry has at most where all of them are looked at for each stretch, and none are chosen.
+const FEW: usize = 8;
+
+impl<'s, 'i, 'a> Cover<'s, 'i, 'a> {
+    /// No entry yet.
+    pub fn new(alloc: Global, index: &'s Index<'i, 'a>) -> Cover<'s, 'i, 'a>
+        ensures { result ≡ index.entry.now }
+    {
+        Cover {
+            index,
+            entry: None,
+            unwinding: Unwinding::Refused,
+            items: Vec::new(alloc),
+            faulty: false,
+            span: None,
+            near: Vec::new(alloc),
+        }
+    }
+
+    /// This entry.
+    fn read(
+        alloc: Global,
+        index: &'s Index<'i, 'a>,
+        e: Entry,
+    ) -> Result<Cover<'s, 'i, 'a>, AllocError>
+        ensures { IfOk result (λ c. c ≡ index.entry.now) }
+    {
+        let items = read_items(alloc, index, &e)?;
+        let faulty = any_fault(&items);
+        Ok(Cover {
+            index,
+            entry: Some(e),
+            unwinding: of_entry(index, &e),
+            items,
+            faulty,
+            span: None,
+            near: Vec::new(alloc),
+        })
+    }
+
+    /// The entry that covers an address. It is read only where another one is kept.
+    pub fn turned(self, alloc: Global, a: u32) -> Result<Cover<'s, 'i, 'a>, AllocError>
+        ensures { IfOk result (λ c. c ≡ self.entry) }
+    {
+        let index = self.index;
+        match index.find(a) {
+            None => Ok(self),
+            Some(e) => {
+                if is_entry(self.entry, &e) {
+                    Ok(self)
+                } else {
+                    Cover::read(alloc, index, e)
+                }
+            }
+        }
+    }
+
+    /// The same, with the descriptors at hand whose scope meets a function, by its first address and the first one above it. They are
+    /// chosen for all addresses around it that no other scope meets, and only where the function reaches beyond those of the last
+    /// choice. Of few descriptors none are chosen.
+    pub fn around(
+        self,
+        alloc: Global,
+        start: u32,
+        end: u32,
+    ) -> Result<Cover<'s, 'i, 'a>, AllocError>
+        ensures { IfOk result (λ c. c ≡ self.entry) }
+    {
+        let function = Span {
+            low: start,
+            last: end.saturating_sub(1).max(start),
+        };
+        if self.items.len() <= FEW || lies_within(self.span, &function) {
+            return Ok(self);
+        }
+        let span = function.widened(&self.items);
+        let near = near_items(alloc, &span, &self.items)?;
+        Ok(Cover {
+            index: self.index,
+            entry: self.entry,
+            unwinding: self.unwinding,
+            items: self.items,
+            faulty: self.faulty,
+            span: Some(span),
+            near,
+        })
+    }
+}

@@ -1,0 +1,87 @@
+//! A function of an image, as a value. docs/flow-graphs.md, "Functions and places".
+ghost use Rattle.std.specs.Prelude.{◌≡◌};
+ghost use Rattle.frame_graph.specs.FlowGraph.{FlowGraph as Parts};
+
+use crate::cover::Cover;
+use crate::stretch::Span;
+use crate::unwinding::Unwinding;
+use eh_desc::{Desc, DescFault};
+use eh_index::{Entry, Index};
+use std::marker::Model;
+
+/// A function of an image whose exception index is read, by its first address and the first one above it, in bytes. Contracts see the
+/// image and these two. It takes no memory: what is kept of an entry is lent by a `Cover`.
+#[derive(Drop)]
+pub struct FlowGraph<'s, 'i, 'a> {
+    pub(crate) index: &'s Index<'i, 'a>,
+    pub(crate) start: u32,
+    pub(crate) end: u32,
+    pub(crate) entry: Option<Entry>,
+    pub(crate) unwinding: Unwinding,
+    pub(crate) items: &'s [Result<Desc, DescFault>],
+    pub(crate) faulty: bool,
+    pub(crate) span: Option<Span>,
+    pub(crate) near: &'s [Result<Desc, DescFault>],
+}
+
+impl<'s, 'i, 'a> Model for FlowGraph<'s, 'i, 'a> {
+    ghost use Rattle.frame_graph.specs.FlowGraph.{FlowGraph as Parts};
+    ghost use Rattle.frame_graph.specs.Cover.{IsKept};
+    ghost use Rattle.frame_graph.specs.Stretch.{AreAtHand};
+
+    ghost Value = { Parts };
+
+    ghost view = { λ s. record { image = s.index.now; start = s.start; end = s.end } };
+
+    ghost invariant = { λ s. IsKept s.index.now s.entry s.unwinding s.items.now s.faulty × AreAtHand s.index.now s.entry s.span s.near.now };
+}
+
+impl<'s, 'i, 'a> FlowGraph<'s, 'i, 'a> {
+    /// The function from `start` to below `end`. Each question of an entry reads it anew.
+    pub fn new(index: &'s Index<'i, 'a>, start: u32, end: u32) -> FlowGraph<'s, 'i, 'a>
+        ensures { result ≡ record { image = index.entry.now; start = start; end = end } }
+    {
+        FlowGraph {
+            index,
+            start,
+            end,
+            entry: None,
+            unwinding: Unwinding::Refused,
+            items: &[],
+            faulty: false,
+            span: None,
+            near: &[],
+        }
+    }
+
+    /// The same. What is asked of the entry of the cover is answered by what that keeps.
+    pub fn under(cover: &'s Cover<'s, 'i, 'a>, start: u32, end: u32) -> FlowGraph<'s, 'i, 'a>
+        ensures { result ≡ record { image = cover.entry.now; start = start; end = end } }
+    {
+        FlowGraph {
+            index: cover.index,
+            start,
+            end,
+            entry: cover.entry,
+            unwinding: cover.unwinding,
+            items: &cover.items,
+            faulty: cover.faulty,
+            span: cover.span,
+            near: &cover.near,
+        }
+    }
+
+    /// The first address.
+    pub fn start(&self) -> u32
+        ensures { result ≡ self.now.start }
+    {
+        self.start
+    }
+
+    /// The first address above it.
+    pub fn end(&self) -> u32
+        ensures { result ≡ self.now.end }
+    {
+        self.end
+    }
+}

@@ -1,0 +1,131 @@
+//! The places of a function and what stands at each. docs/flow-graphs.md, "Functions and places".
+ghost use Rattle.std.specs.Prelude.{◌≡◌, ◌+◌, ◌*◌, ◌-◌, ◌<◌, ◌^◌, slice_index};
+ghost use Rattle.thumb_isa.specs.declared.instr.Decoded.{Decoded as Row};
+ghost use Rattle.frame_graph.specs.Places.{is_code_of, place_of, is_place, halfword_in, halfword_at, halfword_of, of_decoded, wide_of, standing_at};
+
+use crate::flow_graph::FlowGraph;
+use elf_image::image::Image;
+use elf_image::segment::Segment;
+use thumb_isa::decode::{decode, is_wide};
+use thumb_isa::instr::{Decoded, Instr};
+
+/// The top byte of UDF, which the manual leaves undefined for good.
+pub const UDF: u16 = 0b1101_1110;
+
+/// What stands at a place of a function.
+#[derive(Clone, Copy, PartialEq, Eq, Debug)]
+pub enum Standing {
+    /// An instruction, and its size in bytes, 2 or 4.
+    Instruction(Instr, u32),
+    /// UDF: running it is a trap.
+    Udf,
+    /// No instruction, one whose second halfword isn't the function's, or no code of the function.
+    Nothing,
+}
+
+/// A byte of a segment, at an offset from its start; after the bytes of the file stand zeros.
+fn byte_at(segment: &Segment, at: usize) -> u8
+    ensures { result ≡ slice_index segment.now.bytes at }
+{
+    let bytes = segment.bytes();
+    if at < bytes.len() { bytes[at] } else { 0 }
+}
+
+/// The halfword at an address that a segment holds.
+fn halfword_in(segment: &Segment, a: u32) -> Option<u16>
+    ensures { result ≡ halfword_in a segment.now }
+{
+    let end = u64::from(segment.start()) + u64::from(segment.size());
+    if end < u64::from(a) + 2 {
+        return None;
+    }
+    let at = a.saturating_sub(segment.start()) as usize;
+    Some(u16::from(byte_at(segment, at)) + 256 * u16::from(byte_at(segment, at + 1)))
+}
+
+/// The halfword at an address of an image.
+fn halfword_at(image: &Image, a: u32) -> Option<u16>
+    ensures { result ≡ halfword_at image.now a }
+{
+    let segment = image.segment_at(a)?;
+    halfword_in(segment, a)
+}
+
+fn of_decoded(decoded: Decoded) -> Standing
+    ensures { result ≡ of_decoded decoded }
+{
+    match decoded {
+        Decoded::Is(i, size) => Standing::Instruction(i, size),
+        Decoded::Undefined | Decoded::Unpredictable | Decoded::NotInProfile => Standing::Nothing,
+    }
+}
+
+impl<'s, 'i, 'a> FlowGraph<'s, 'i, 'a> {
+    /// Whether an address is code of the function: its entry, or an even one above it and below its end that is code by the mapping
+    /// symbols.
+    pub fn is_code(&self, a: u32) -> bool
+        ensures { result ≡ is_code_of self.now a }
+    {
+        self.start <= a && a < self.end && (a == self.start || self.index.image().is_code(a))
+    }
+
+    /// The place of an address: how many halfwords it lies after the entry. None exactly where the address isn't code of the function.
+    pub fn place_of(&self, a: u32) -> Option<u32>
+        ensures { result ≡ place_of self.now a }
+    {
+        if self.is_code(a) {
+            Some((a - self.start) / 2)
+        } else {
+            None
+        }
+    }
+
+    /// Whether a place is code of the function.
+    pub fn is_place(&self, place: u32) -> bool
+        ensures { result ≡ is_place self.now place }
+    {
+        let a = u64::from(self.start) + 2 * u64::from(place);
+        a < u64::from(self.end) && self.is_code(a as u32)
+    }
+
+    /// The address of a place.
+    pub fn address_of(&self, place: u32) -> u32
+        requires { self.now.start + 2 * place < 2 ^ 32 }
+        ensures { result ≡ self.now.start + 2 * place }
+    {
+        self.start + 2 * place
+    }
+
+    /// The halfword at a place.
+    fn halfword_of(&self, place: u64) -> Option<u16>
+        requires { place < 2 ^ 33 }
+        ensures { result ≡ halfword_of self.now place }
+    {
+        let a = u64::from(self.start) + 2 * place;
+        if a < u64::from(self.end) && self.is_code(a as u32) {
+            halfword_at(self.index.image(), a as u32)
+        } else {
+            None
+        }
+    }
+
+    /// What stands at a place.
+    #[tactic(auto, unfolding(crate::specs::Places::standing_at))]
+    pub fn standing_at(&self, place: u32) -> Standing
+        ensures { result ≡ standing_at self.now place }
+    {
+        let Some(first) = self.halfword_of(u64::from(place)) else {
+            return Standing::Nothing;
+        };
+        if first >> 8 == UDF {
+            return Standing::Udf;
+        }
+        if !is_wide(first) {
+            return of_decoded(decode(first, 0));
+        }
+        match self.halfword_of(u64::from(place) + 1) {
+            None => Standing::Nothing,
+            Some(second) => of_decoded(decode(first, second)),
+        }
+    }
+}

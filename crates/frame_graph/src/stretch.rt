@@ -1,0 +1,336 @@
+//! Stretches of addresses at which an entry has the same descriptors in scope. docs/flow-graphs.md, "Sites".
+ghost use Rattle.std.specs.Prelude.{◌≡◌, ◌↔◌, ◌⊎◌, ◌≤◌, ◌+◌, ◌*◌, ◌<◌, ◌^◌, ℕ, nat_le, true, Some, None, IfOk, OnOk};
+ghost use Rattle.std.specs.List.{Contains, filter};
+ghost use Rattle.eh_index.specs.Places.{table_of};
+ghost use Rattle.eh_desc.specs.Grammar.{items_of};
+ghost use Rattle.frame_graph.specs.declared.edges.Edge.{Edge as AnEdge};
+ghost use Rattle.frame_graph.specs.FlowGraph.{FlowGraph as Function};
+ghost use Rattle.frame_graph.specs.Sites.{entry_at, edges_of};
+ghost use Rattle.frame_graph.specs.Stretch.{HaveSame, IsIn, IsWithin, is_met, IsCut, AreCut, ActSame, IsStretch, Tells, TellsOn};
+
+use crate::cover::{is_entry, read_items};
+use crate::edges::Edge;
+use crate::flow_graph::FlowGraph;
+use crate::sites::any_covered;
+use eh_desc::{Desc, DescFault};
+use eh_index::Entry;
+use std::alloc::{AllocError, Global};
+
+/// Addresses from one to another, both of them counted.
+#[derive(Clone, Copy, PartialEq, Eq, Debug)]
+pub struct Span {
+    pub low: u32,
+    pub last: u32,
+}
+
+/// Addresses, and what is told of each site among them that one entry covers.
+#[derive(Drop)]
+pub struct Stretch {
+    span: Span,
+    /// The entry; None where no entry covers the site.
+    entry: Option<Entry>,
+    scoped: bool,
+    out: bool,
+    edges: Vec<Edge>,
+}
+
+/// All addresses.
+pub(crate) const EVERYWHERE: Span = Span {
+    low: 0,
+    last: u32::MAX,
+};
+
+impl Span {
+    fn holds(&self, a: u32) -> bool
+        ensures { result ≡ true → IsIn self.now a }
+    {
+        self.low <= a && a <= self.last
+    }
+
+    /// Those of its addresses that lie on the same side of a border as a site.
+    fn beside(self, site: u32, border: u32) -> Span
+        requires { IsIn self site }
+        ensures holds { IsIn result site }
+        ensures within { (a : ℕ) → IsIn result a → IsIn self a }
+        ensures side { (a : ℕ) → IsIn result a → nat_le border a ≡ nat_le border site }
+    {
+        if border <= site {
+            Span {
+                low: self.low.max(border),
+                last: self.last,
+            }
+        } else {
+            Span {
+                low: self.low,
+                last: self.last.min(border - 1),
+            }
+        }
+    }
+
+    /// Those that an item covers exactly where it covers the site.
+    fn cut(self, site: u32, item: Result<Desc, DescFault>) -> Span
+        requires { IsIn self site }
+        ensures { IsCut self site item result }
+    {
+        match item {
+            Ok(d) => self
+                .beside(site, d.start)
+                .beside(site, d.start.wrapping_add(d.size)),
+            Err(_) => self,
+        }
+    }
+
+    /// The same of all items.
+    fn cut_all(self, site: u32, items: &[Result<Desc, DescFault>]) -> Span
+        requires { IsIn self site }
+        ensures { AreCut self site items.now result }
+    {
+        let mut span = self;
+        for item in items {
+            span = span.cut(site, *item);
+        }
+        span
+    }
+
+    /// It with the addresses on both sides of it up to the next that the scope of an item covers which it doesn't meet.
+    fn past(self, function: &Span, item: Result<Desc, DescFault>) -> Span
+        requires { IsWithin (Some self) function.now }
+        ensures { IsWithin (Some result) function.now }
+    {
+        let Ok(d) = item else {
+            return self;
+        };
+        let end = d.start.wrapping_add(d.size);
+        if end <= function.low {
+            Span {
+                low: self.low.max(end),
+                last: self.last,
+            }
+        } else if d.start > function.last {
+            Span {
+                low: self.low,
+                last: self.last.min(d.start - 1),
+            }
+        } else {
+            self
+        }
+    }
+
+    /// All addresses around it that no scope covers which it doesn't meet.
+    pub(crate) fn widened(&self, items: &[Result<Desc, DescFault>]) -> Span
+        ensures { IsWithin (Some result) self.now }
+    {
+        let mut span = EVERYWHERE;
+        for item in items {
+            span = span.past(self, *item);
+        }
+        span
+    }
+
+    /// Whether an item is a descriptor whose scope meets it.
+    pub(crate) fn is_met(&self, item: Result<Desc, DescFault>) -> bool
+        ensures { result ≡ is_met self.now item }
+    {
+        match item {
+            Ok(d) => d.start <= self.last && self.low < d.start.wrapping_add(d.size),
+            Err(_) => false,
+        }
+    }
+}
+
+/// Adds an edge that isn't the last one.
+fn add_other(edges: &mut Vec<Edge>, edge: Edge) -> Result<(), AllocError>
+    ensures { OnOk result ((w : AnEdge) → Contains edges.new.items w ↔ (Contains edges.old.items w ⊎ (w ≡ edge))) }
+{
+    if let Some(last) = edges.last()
+        && *last == edge
+    {
+        return Ok(());
+    }
+    edges.push(edge)?;
+    Ok(())
+}
+
+/// The same edges. Of those that stand one after the other and are the same there is one.
+fn thinned(alloc: Global, edges: &[Edge]) -> Result<Vec<Edge>, AllocError>
+    ensures { IfOk result (λ thin. HaveSame thin.items edges.now) }
+{
+    let mut thin = Vec::new(alloc);
+    for edge in edges {
+        add_other(&mut thin, *edge)?;
+    }
+    Ok(thin)
+}
+
+/// The same edges, each once.
+fn distinct(alloc: Global, edges: &[Edge]) -> Result<Vec<Edge>, AllocError>
+    ensures { IfOk result (λ distinct. HaveSame distinct.items edges.now) }
+{
+    let mut sorted = thinned(alloc, edges)?;
+    sorted.sort_unstable();
+    Ok(thinned(alloc, &sorted)?)
+}
+
+/// The same; of one edge at most it is that edge.
+fn each_once(alloc: Global, edges: Vec<Edge>) -> Result<Vec<Edge>, AllocError>
+    ensures { IfOk result (λ once. HaveSame once.items edges.items) }
+{
+    if edges.len() < 2 {
+        return Ok(edges);
+    }
+    distinct(alloc, &edges)
+}
+
+impl Stretch {
+    /// No entry covers the site.
+    pub fn new(alloc: Global) -> Stretch
+        ensures stretch { (s : Function) → IsStretch s result }
+        ensures tells { (s : Function) (site : ℕ) → entry_at s site ≡ None → Tells s result site }
+    {
+        Stretch {
+            span: EVERYWHERE,
+            entry: None,
+            scoped: false,
+            out: false,
+            edges: Vec::new(alloc),
+        }
+    }
+
+    /// Whether it tells of a site that an entry covers.
+    fn holds(&self, site: u32, e: &Entry) -> bool
+        ensures span { result ≡ true → IsIn self.now.span site }
+        ensures entry { result ≡ true → self.now.entry ≡ Some e.now }
+    {
+        self.span.holds(site) && is_entry(self.entry, e)
+    }
+
+    /// Whether a descriptor has the site in its scope.
+    pub fn is_scoped(&self) -> bool
+        ensures { result ≡ self.now.scoped }
+    {
+        self.scoped
+    }
+
+    /// Whether a landing pad of the site isn't code of the function.
+    pub fn pads_out(&self) -> bool
+        ensures { result ≡ self.now.out }
+    {
+        self.out
+    }
+
+    /// The edges from the site to its landing pads.
+    pub fn edges(&self) -> &[Edge]
+        ensures { result.now ≡ self.now.edges.items }
+    {
+        &self.edges
+    }
+}
+
+impl<'s, 'i, 'a> FlowGraph<'s, 'i, 'a> {
+    /// The stretch of a site by items that act there, and in a span of addresses, as those of its entry do.
+    fn stretch_by(
+        &self,
+        alloc: Global,
+        site: u32,
+        e: &Entry,
+        span: Span,
+        items: &[Result<Desc, DescFault>],
+    ) -> Result<Stretch, AllocError>
+        requires span { IsIn span site }
+        requires same { (a : ℕ) → IsIn span a → ActSame self.now items.now (items_of e.now (table_of self.now.image e.now)) a }
+        ensures stretch { IfOk result (IsStretch self.now) }
+        ensures span { IfOk result (λ t. IsIn t.span site) }
+        ensures entry { IfOk result (λ t. t.entry ≡ Some e.now) }
+    {
+        let unwinding = self.unwinding_by(e);
+        let mut edges = Vec::new(alloc);
+        self.add_listed_pads(&mut edges, site, &unwinding, items)?;
+        Ok(Stretch {
+            span: span.cut_all(site, items),
+            entry: Some(*e),
+            scoped: any_covered(site, items),
+            out: self.any_out(site, items),
+            edges: each_once(alloc, edges)?,
+        })
+    }
+
+    /// The stretch of a site that an entry covers.
+    fn stretch_under(&self, alloc: Global, site: u32, e: &Entry) -> Result<Stretch, AllocError>
+        ensures stretch { IfOk result (IsStretch self.now) }
+        ensures span { IfOk result (λ t. IsIn t.span site) }
+        ensures entry { IfOk result (λ t. t.entry ≡ Some e.now) }
+    {
+        if !is_entry(self.entry, e) {
+            let items = read_items(alloc, self.index, e)?;
+            return self.stretch_by(alloc, site, e, EVERYWHERE, &items);
+        }
+        match self.span {
+            None => self.stretch_by(alloc, site, e, EVERYWHERE, self.items),
+            Some(span) => {
+                if span.holds(site) {
+                    self.stretch_by(alloc, site, e, span, self.near)
+                } else {
+                    self.stretch_by(alloc, site, e, EVERYWHERE, self.items)
+                }
+            }
+        }
+    }
+
+    /// The stretch of a site: the one that is held, where that tells of it.
+    fn stretch_of(&self, alloc: Global, held: Stretch, site: u32) -> Result<Stretch, AllocError>
+        requires { IsStretch self.now held }
+        ensures stretch { IfOk result (IsStretch self.now) }
+        ensures tells { IfOk result (λ t. Tells self.now t site) }
+    {
+        match self.index.find(site) {
+            None => Ok(Stretch::new(alloc)),
+            Some(e) => {
+                if held.holds(site, &e) {
+                    Ok(held)
+                } else {
+                    self.stretch_under(alloc, site, &e)
+                }
+            }
+        }
+    }
+
+    /// The stretch of the site of a place: the one that is held, where that tells of it, or where no site stands there. So the
+    /// descriptors are looked at once for all sites of a stretch that are asked one after the other.
+    pub fn stretch_on(
+        &self,
+        alloc: Global,
+        held: Stretch,
+        place: u32,
+    ) -> Result<Stretch, AllocError>
+        requires place { self.now.start + 2 * place < 2 ^ 32 }
+        requires held { IsStretch self.now held }
+        ensures stretch { IfOk result (IsStretch self.now) }
+        ensures tells { IfOk result (λ t. TellsOn self.now t place) }
+    {
+        match self.site_at(place) {
+            None => Ok(held),
+            Some(site) => self.stretch_of(alloc, held, site),
+        }
+    }
+
+    /// Where a place leads, by the stretch of its site: the edges of `edges_of`, but each to a landing pad once.
+    pub fn edges_on(
+        &self,
+        alloc: Global,
+        stretch: &Stretch,
+        place: u32,
+    ) -> Result<Vec<Edge>, AllocError>
+        requires place { self.now.start + 2 * place < 2 ^ 32 }
+        requires tells { TellsOn self.now stretch.now place }
+        ensures { IfOk result (λ edges. HaveSame edges.items (edges_of self.now place)) }
+    {
+        let mut edges = self.straight_edges(alloc, place)?;
+        match self.site_at(place) {
+            None => Ok(edges),
+            Some(_) => {
+                edges.extend_from_slice(stretch.edges())?;
+                Ok(edges)
+            }
+        }
+    }
+}

@@ -1,5 +1,0 @@
-use Rattle.frame_reach.proofs.Others.{others_are_behind}
-use Rattle.frame_reach.proofs.laws.others_are_behind.Goals as goal
-
-pub returns : goal.returns
-returns c = others_are_behind

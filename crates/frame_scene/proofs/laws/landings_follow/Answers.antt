@@ -1,5 +1,0 @@
-use Rattle.frame_scene.proofs.Landings.{landings_follow}
-use Rattle.frame_scene.proofs.laws.landings_follow.Goals as goal
-
-pub returns : goal.returns
-returns c = landings_follow

@@ -1,0 +1,20 @@
+//! Runs the cases of data/ on the reader of generic entries and their language-specific data areas. Answers are by hand from
+//! docs/gnu-tables.md.
+#![tactic(auto)]
+
+mod changes;
+mod entries;
+mod image;
+mod signed;
+
+use case_rows::run_file;
+use changes::Changes;
+use entries::Entries;
+use signed::SignedNumbers;
+use std::io::Error;
+
+fn main(host: HostRuntime) -> Result<(), Error> {
+    run_file(&host, "signed.txt", &SignedNumbers)?;
+    run_file(&host, "entries.txt", &Entries)?;
+    run_file(&host, "changes.txt", &Changes)
+}

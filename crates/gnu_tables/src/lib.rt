@@ -1,0 +1,18 @@
+//! The entries of the generic model and the language-specific data areas of the GNU C++ personality routine (IHI 0038; Linux Standard
+//! Base, "Exception Frames"), read where they stand. docs/gnu-tables.md states the rules.
+#![tactic(auto)]
+
+pub mod actions;
+pub mod fault;
+pub mod generic;
+pub mod laws;
+pub mod leb128;
+pub mod lsda;
+pub mod records;
+
+pub use actions::{Action, ActionFault, Actions, Caught};
+pub use fault::EntryFault;
+pub use generic::{Generic, personality_symbol};
+pub use leb128::{Signed, sleb128};
+pub use lsda::{HeadFault, Lsda};
+pub use records::{Record, RecordFault, Records};

@@ -1,0 +1,15 @@
+-- Instructions that leave memory and sp, by the instruction.
+use Rattle.stands_for.specs.thumb_isa.declared.instr.Instr.TheVariants.{AddHigh, CmpHigh, MovHigh, Hint, Barrier, B, BCond}
+use Rattle.steps_keep.specs.StepLaws.{SimpleTurns}
+use Rattle.steps_keep.proofs.Jumps.{b_turns, bcond_turns, cmp_high_turns, hint_turns, barrier_turns}
+use Rattle.steps_keep.proofs.High.{add_high_turns, mov_high_turns}
+
+pub simple_turns_law : SimpleTurns
+simple_turns_law x s (AddHigh d m) input is k does same_sp = add_high_turns x s d m input is k does
+simple_turns_law x s (MovHigh d m) input is k does same_sp = mov_high_turns x s d m input is k does same_sp
+simple_turns_law x s (CmpHigh n m) input is k does same_sp = cmp_high_turns x s n m input is k does
+simple_turns_law x s (B off) input is k does same_sp = b_turns x s off input is k does
+simple_turns_law x s (BCond cc off) input is k does same_sp = bcond_turns x s cc off input is k does
+simple_turns_law x s (Hint n) input is k does same_sp = hint_turns x s n input is k does
+simple_turns_law x s (Barrier op option) input is k does same_sp = barrier_turns x s op option input is k does
+simple_turns_law x s i input is k does same_sp = absurd same_sp
