@@ -1,6 +1,6 @@
 -- Guarded words as flags, and the flags as bits of numbers.
-use Rattle.std.proofs.Common.{◌≡◌, ℕ, zero, suc, ◌+◌, ◌-◌, ◌*◌, ◌/◌, ◌%◌, ◌^◌, ◌<◌, ◌≤◌, ◌⊎◌, inl, inr, Bool, true, false, ◌==◌, ◌&&◌, nat_lt, min, max, cond, List, [], ◌∷◌, length, get_or, set, filter, Some, None, refl, sym, ◌∙◌, arith, ap, w64}
-use Rattle.std.proofs.lemmas.List.{length-set, get_or-set_same, get_or-set_other, get_or_past, ext_get_or}
+use Rattle.std.proofs.Common.{◌≡◌, ℕ, zero, suc, ◌+◌, ◌-◌, ◌*◌, ◌/◌, ◌%◌, ◌^◌, ◌<◌, ◌≤◌, ◌⊎◌, inl, inr, Bool, true, false, ◌==◌, ◌&&◌, ◌||◌, nat_le, nat_lt, min, cond, replicate, List, [], ◌∷◌, length, get_or, set, filter, Some, None, refl, sym, ◌∙◌, arith, ap, w64}
+use Rattle.std.proofs.lemmas.List.{length-replicate, get_or-replicate, length-set, get_or-set_same, get_or-set_other, get_or_past, ext_get_or}
 use Rattle.std.proofs.lemmas.List.FromFn.{length-map-range_with_len, get_or-map-range_with_len}
 use Rattle.std.proofs.lemmas.Nat.Bits.{bit_at-zero, bit_at-lt, bit_at_set_same, bit_at_set_other, bit_at_and, bit_at_mask_inside, bit_at_mask_below, ones_shl}
 use Rattle.std.proofs.lemmas.Bool.{cases_lt, cases_eq, ltb-true, ltb-false, eqb-true, eqb-false, lt-ltb, le-ltb, le-leb, lt-leb}
@@ -9,8 +9,8 @@ use Rattle.std.specs.Int.{bit_at}
 use Rattle.eh_list.specs.Bytes.{zeros, length-zeros}
 use Rattle.eh_bus.specs.Guards.{inserted, RiseFrom}
 use Rattle.eh_bus.specs.Memory.{guard_hit, stays_guarded}
-use Rattle.bus_memories.specs.Flags.{flagged, flag_in, flags_of, AreFlags, Cleared}
-use Rattle.bus_memories.specs.declared.guards.TheConstants.{NUMBERS, NUMBER_BITS}
+use Rattle.bus_memories.specs.Flags.{flagged, flag_in, flags_of, AreFlags, IsClear, Cleared, Released}
+use Rattle.bus_memories.specs.declared.guards.TheConstants.{HOMES, HOME_NUMBERS, HOME_SIZE, HOME_WORDS, NUMBERS, NUMBER_BITS}
 use Rattle.eh_bus.specs.declared.map.TheConstants.{STACK_END, STACK_START, STACK_WORDS}
 
 lower : (low high : ℕ) (guards : List ℕ) → low ≤ high → RiseFrom high guards → RiseFrom low guards
@@ -55,8 +55,12 @@ none_flagged low n = none_set low (flags_of (zeros n)) clear
     clear : (i : ℕ) → get_or (flags_of (zeros n)) i false ≡ false
     clear i = flag_at (zeros n) i ∙ rw (get_or-zeros n (i / NUMBER_BITS), bit_at-zero (i % NUMBER_BITS)) refl
 
-pub clear_are : AreFlags (zeros NUMBERS) NUMBERS
-clear_are = record { whole = length-zeros NUMBERS; within = omega arith; clear = λ k h. get_or-zeros NUMBERS k }
+pub clear_are : AreFlags (zeros NUMBERS) (replicate HOMES HOME_NUMBERS)
+clear_are = record {
+  whole = length-zeros NUMBERS;
+  homes = length-replicate HOMES HOME_NUMBERS;
+  each = λ home h. record { within = omega (arith, get_or-replicate HOMES home HOME_NUMBERS 0 h); none = λ k l. get_or-zeros NUMBERS (HOME_NUMBERS * home + k) };
+}
 
 -- the number that `n | 1 << k` is
 abbrev with_bit : ℕ → ℕ → ℕ
@@ -225,19 +229,16 @@ stack_set a old new h e t w f =
     let s = flagged_set STACK_START ((a - STACK_START) / 4) (flags_of old) (omega (arith, flags_length old)) in
     rw f (rw same at s)
 
-pub set_are : (i lowest : ℕ) (old new : List ℕ) → AreFlags old lowest → length new ≡ length old
-    → ((k : ℕ) → k < i → get_or new k 0 ≡ get_or old k 0) → AreFlags new (min lowest i)
-set_are i lowest old new f l t = record {
-  whole = l ∙ f.whole;
-  within = omega (arith, f.within);
-  clear = λ k h. t k (omega arith) ∙ f.clear k (omega arith);
-}
+stays : (home : ℕ × ℕ) (a g : ℕ) → ((a ≤ g) ⊎ (g < home.0)) → stays_guarded home a g ≡ true
+stays home a g (inl h) = rw (le-leb a g h)
+stays home a g (inr h) = rw (lt-ltb g home.0 h) (or_true (nat_le a g))
+  where
+    or_true : (b : Bool) → (b || true) ≡ true
+    or_true true = refl
+    or_true false = refl
 
-stays : (a g : ℕ) → a ≤ g → stays_guarded (STACK_START, STACK_END) a g ≡ true
-stays a g h = rw (le-leb a g h)
-
-stays_not : (a g : ℕ) → g < a → STACK_START ≤ g → stays_guarded (STACK_START, STACK_END) a g ≡ false
-stays_not a g h l = rw (lt-leb a g h, le-ltb g STACK_START l)
+stays_not : (home : ℕ × ℕ) (a g : ℕ) → g < a → home.0 ≤ g → stays_guarded home a g ≡ false
+stays_not home a g h l = rw (lt-leb a g h, le-ltb g home.0 l)
 
 and_false : (b : Bool) → (b && false) ≡ false
 and_false true = refl
@@ -248,53 +249,83 @@ and_true true = refl
 and_true false = refl
 
 -- the flags of cleared numbers
-module _ (old new : List ℕ) (end : ℕ) (d : Cleared old new end) where
+module _ (old new : List ℕ) (from end : ℕ) (d : Cleared old new from end) where
   part_clear : (i : ℕ) → i / NUMBER_BITS ≡ end / NUMBER_BITS → i < end → bit_at (get_or new (i / NUMBER_BITS) 0) (i % NUMBER_BITS) ≡ 0
   part_clear i e h = rw e (d.part (i % NUMBER_BITS) (omega arith) ∙ rw (lt-ltb (i % NUMBER_BITS) (end % NUMBER_BITS) (omega (arith, e))) refl)
 
   part_kept : (i : ℕ) → i / NUMBER_BITS ≡ end / NUMBER_BITS → end ≤ i → bit_at (get_or new (i / NUMBER_BITS) 0) (i % NUMBER_BITS) ≡ bit_at (get_or old (i / NUMBER_BITS) 0) (i % NUMBER_BITS)
   part_kept i e h = rw e (d.part (i % NUMBER_BITS) (omega arith) ∙ rw (le-ltb (i % NUMBER_BITS) (end % NUMBER_BITS) (omega (arith, e))) refl)
 
-  pub cleared_flag : (i : ℕ) → i < end → get_or (flags_of new) i false ≡ false
-  cleared_flag i h = flag_at new i ∙ go (cases_eq (i / NUMBER_BITS) (end / NUMBER_BITS))
+  cleared_flag : (i : ℕ) → from * NUMBER_BITS ≤ i → i < end → get_or (flags_of new) i false ≡ false
+  cleared_flag i l h = flag_at new i ∙ go (cases_eq (i / NUMBER_BITS) (end / NUMBER_BITS))
     where
       go : ((i / NUMBER_BITS ≡ end / NUMBER_BITS) ⊎ (i / NUMBER_BITS ≡ end / NUMBER_BITS → ⊥)) → flag_in new i ≡ false
       go (inl e) = rw (part_clear i e h) refl
-      go (inr n) = rw (d.clear (i / NUMBER_BITS) (omega (arith, n)), bit_at-zero (i % NUMBER_BITS)) refl
+      go (inr n) = rw (d.clear (i / NUMBER_BITS) (omega arith) (omega (arith, n)), bit_at-zero (i % NUMBER_BITS)) refl
 
-  pub kept_flag : (i : ℕ) → end ≤ i → get_or (flags_of new) i false ≡ get_or (flags_of old) i false
-  kept_flag i h = flag_at new i ∙ go (cases_eq (i / NUMBER_BITS) (end / NUMBER_BITS)) ∙ sym (flag_at old i)
+  same_flag : (i : ℕ) → get_or new (i / NUMBER_BITS) 0 ≡ get_or old (i / NUMBER_BITS) 0 → get_or (flags_of new) i false ≡ get_or (flags_of old) i false
+  same_flag i e = flag_at new i ∙ rw e refl ∙ sym (flag_at old i)
+
+  kept_flag : (i : ℕ) → end ≤ i → get_or (flags_of new) i false ≡ get_or (flags_of old) i false
+  kept_flag i h = go (cases_eq (i / NUMBER_BITS) (end / NUMBER_BITS))
     where
-      go : ((i / NUMBER_BITS ≡ end / NUMBER_BITS) ⊎ (i / NUMBER_BITS ≡ end / NUMBER_BITS → ⊥)) → flag_in new i ≡ flag_in old i
-      go (inl e) = rw (part_kept i e h) refl
-      go (inr n) = rw (d.rest (i / NUMBER_BITS) (omega (arith, n))) refl
+      go : ((i / NUMBER_BITS ≡ end / NUMBER_BITS) ⊎ (i / NUMBER_BITS ≡ end / NUMBER_BITS → ⊥)) → get_or (flags_of new) i false ≡ get_or (flags_of old) i false
+      go (inl e) = flag_at new i ∙ rw (part_kept i e h) refl ∙ sym (flag_at old i)
+      go (inr n) = same_flag i (d.above (i / NUMBER_BITS) (omega (arith, n)))
 
-pub release_are : (lowest end : ℕ) (old new : List ℕ) → AreFlags old lowest → length new ≡ length old → end ≤ STACK_WORDS
-    → Cleared old new end → AreFlags new (max lowest (end / NUMBER_BITS))
-release_are lowest end old new f l w d = record {
-  whole = l ∙ f.whole;
-  within = omega (arith, f.within);
-  clear = λ k h. go k h (cases_lt k (end / NUMBER_BITS)) (cases_eq k (end / NUMBER_BITS));
-}
+  below_flag : (i : ℕ) → i < from * NUMBER_BITS → get_or (flags_of new) i false ≡ get_or (flags_of old) i false
+  below_flag i h = same_flag i (d.below (i / NUMBER_BITS) (omega arith))
+
+-- a flag of a home before those that may be set is off
+clear_flag : (numbers : List ℕ) (home clear i : ℕ) → IsClear numbers home clear → HOME_WORDS * home ≤ i → i < (HOME_NUMBERS * home + clear) * NUMBER_BITS
+    → get_or (flags_of numbers) i false ≡ false
+clear_flag numbers home clear i c l h =
+    let k = i / NUMBER_BITS - HOME_NUMBERS * home in
+    let e : HOME_NUMBERS * home + k ≡ i / NUMBER_BITS = omega arith in
+    let z : get_or numbers (i / NUMBER_BITS) 0 ≡ 0 = rw e at (c.none k (omega arith)) in
+    flag_at numbers i ∙ rw (z, bit_at-zero (i % NUMBER_BITS)) refl
+
+-- nothing has to be done where all that would be cleared is clear
+pub none_released : (numbers : List ℕ) (home clear end : ℕ) → IsClear numbers home clear → end ≤ (HOME_NUMBERS * home + clear) * NUMBER_BITS
+    → Released numbers numbers (HOME_WORDS * home) end
+none_released numbers home clear end c h = record { off = λ i l b. clear_flag numbers home clear i c l (omega arith); rest = λ i o. refl }
+
+-- numbers that are cleared from the first that may have a bit on release the words of a home
+pub home_released : (old new : List ℕ) (home clear end : ℕ) → IsClear old home clear → (HOME_NUMBERS * home + clear) * NUMBER_BITS ≤ end
+    → Cleared old new (HOME_NUMBERS * home + clear) end → Released old new (HOME_WORDS * home) end
+home_released old new home clear end c h d = record { off = λ i l b. off i l b (cases_lt i (from * NUMBER_BITS)); rest = λ i o. rest i o }
   where
-    go : (k : ℕ) → k < max lowest (end / NUMBER_BITS) → ((k < end / NUMBER_BITS) ⊎ (end / NUMBER_BITS ≤ k)) → ((k ≡ end / NUMBER_BITS) ⊎ (k ≡ end / NUMBER_BITS → ⊥)) → get_or new k 0 ≡ 0
-    go k h (inl b) c = d.clear k b
-    go k h (inr b) (inl e) = let z : get_or old (end / NUMBER_BITS) 0 ≡ 0 = f.clear (end / NUMBER_BITS) (omega (arith, e)) in rw e (omega (arith, z, d.less))
-    go k h (inr b) (inr n) = d.rest k (omega (arith, n)) ∙ f.clear k (omega arith)
+    from : ℕ
+    from = HOME_NUMBERS * home + clear
 
-pub stack_release : (a lowest end : ℕ) (old new : List ℕ) → AreFlags old lowest → length new ≡ length old
+    off : (i : ℕ) → HOME_WORDS * home ≤ i → i < end → ((i < from * NUMBER_BITS) ⊎ (from * NUMBER_BITS ≤ i)) → get_or (flags_of new) i false ≡ false
+    off i l b (inl o) = below_flag old new from end d i o ∙ clear_flag old home clear i c l o
+    off i l b (inr o) = cleared_flag old new from end d i o b
+
+    rest : (i : ℕ) → ((i < HOME_WORDS * home) ⊎ (end ≤ i)) → get_or (flags_of new) i false ≡ get_or (flags_of old) i false
+    rest i (inl o) = below_flag old new from end d i (omega arith)
+    rest i (inr o) = kept_flag old new from end d i o
+
+pub stack_release : (a low first end high : ℕ) (old new : List ℕ) → low ≡ STACK_START + HOME_SIZE * first → length old ≡ NUMBERS → length new ≡ length old
     → ((i : ℕ) → i < end → STACK_START + 4 * i < a)
     → ((i : ℕ) → end ≤ i → i < STACK_WORDS → a ≤ STACK_START + 4 * i)
-    → Cleared old new end
-    → flagged STACK_START (flags_of new) ≡ filter (stays_guarded (STACK_START, STACK_END) a) (flagged STACK_START (flags_of old))
-stack_release a lowest end old new f l below rest d =
-    flagged_filter (stays_guarded (STACK_START, STACK_END) a) STACK_START (flags_of old) (flags_of new) (omega (arith, flags_length old, flags_length new, l)) (λ i h. go i h (cases_lt i end))
+    → Released old new (HOME_WORDS * first) end
+    → flagged STACK_START (flags_of new) ≡ filter (stays_guarded (low, high) a) (flagged STACK_START (flags_of old))
+stack_release a low first end high old new e f l below rest d =
+    flagged_filter (stays_guarded home a) STACK_START (flags_of old) (flags_of new) (omega (arith, flags_length old, flags_length new, l))
+    (λ i h. go i h (cases_lt i end) (cases_lt i (HOME_WORDS * first)))
   where
-    go : (i : ℕ) → i < length (flags_of old) → ((i < end) ⊎ (end ≤ i))
-        → get_or (flags_of new) i false ≡ (get_or (flags_of old) i false && stays_guarded (STACK_START, STACK_END) a (STACK_START + 4 * i))
-    go i h (inl b) =
-        let o = below i b in
-        rw (cleared_flag old new end d i b, stays_not a (STACK_START + 4 * i) o (omega arith)) (sym (and_false (get_or (flags_of old) i false)))
-    go i h (inr b) =
-        let o = rest i b (omega (arith, flags_length old, f.whole)) in
-        rw (kept_flag old new end d i b, stays a (STACK_START + 4 * i) o) (sym (and_true (get_or (flags_of old) i false)))
+    home : ℕ × ℕ
+    home = (low, high)
+
+    kept : (i : ℕ) → ((i < HOME_WORDS * first) ⊎ (end ≤ i)) → ((a ≤ STACK_START + 4 * i) ⊎ (STACK_START + 4 * i < low))
+        → get_or (flags_of new) i false ≡ (get_or (flags_of old) i false && stays_guarded home a (STACK_START + 4 * i))
+    kept i o p = rw (d.rest i o, stays home a (STACK_START + 4 * i) p) (sym (and_true (get_or (flags_of old) i false)))
+
+    go : (i : ℕ) → i < length (flags_of old) → ((i < end) ⊎ (end ≤ i)) → ((i < HOME_WORDS * first) ⊎ (HOME_WORDS * first ≤ i))
+        → get_or (flags_of new) i false ≡ (get_or (flags_of old) i false && stays_guarded home a (STACK_START + 4 * i))
+    go i h b (inl o) = kept i (inl o) (inr (omega (arith, e)))
+    go i h (inl b) (inr o) =
+        let p = below i b in
+        rw (d.off i o b, stays_not home a (STACK_START + 4 * i) p (omega (arith, e))) (sym (and_false (get_or (flags_of old) i false)))
+    go i h (inr b) (inr o) = kept i (inr b) (inl (rest i b (omega (arith, flags_length old, f))))

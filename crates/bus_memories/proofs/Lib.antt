@@ -1,5 +1,5 @@
 mod Places
 mod FlagLemmas
-mod CallLaws
+pub mod CallLaws
 mod PageLaws
 mod PageBuild

@@ -128,7 +128,7 @@ impl Bus for FlatBus {
     }
 
     fn release_below(&mut self, a: u32) {
-        self.guards.release_below(a);
+        self.guards.release_from(STACK_START, a);
     }
 
     fn host_load32(&self, a: u32) -> u32 {

@@ -4,7 +4,7 @@
 
 mod access;
 pub mod flat;
-mod guards;
+pub mod guards;
 pub mod paged;
 mod pages;
 mod part;

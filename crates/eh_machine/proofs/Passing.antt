@@ -28,7 +28,8 @@ use Rattle.thumb_core.specs.declared.ends.End.{End}
 use Rattle.thumb_core.specs.declared.ends.End.TheVariants as the_end
 use Rattle.step_ahead.specs.declared.undo_record.UndoRecord.{UndoRecord}
 use Rattle.step_ahead.specs.declared.undo_record.UndoRecord.TheVariants.{Nothing}
-use Rattle.step_ahead.specs.Ahead.{branches, branches_some, pushed, pushes_some, IsFallThrough, IsJump}
+use Rattle.step_ahead.specs.Ahead.{branches, branches_some, pushed, pushes_some, IsAhead, IsFallThrough, IsJump}
+use Rattle.step_ahead.specs.declared.instruction.Ahead.{Ahead as Told}
 use Rattle.step_ahead.specs.UndoRecord.{restore, Restores, InStack, PushesInStack, lowest}
 use Rattle.step_ahead.proofs.Stored.{AreWords, OnGo, on_go, step_is, step_pushed, nothing_back}
 use Rattle.step_ahead.proofs.Straight.{GoesOn, effect_goes}
@@ -36,7 +37,7 @@ use Rattle.eh_trace.specs.Trace.{Trace}
 use Rattle.eh_gates.specs.declared.state.Core.{Core}
 use Rattle.eh_gates.specs.State.{State, state_of, reg}
 use Rattle.two_machines.specs.Program.{Program}
-use Rattle.eh_machine.specs.Passes.{Passes, Tried, IsFound}
+use Rattle.eh_machine.specs.Passes.{Passes, Tried, IsFetched}
 use Rattle.eh_machine.specs.declared.pass.Fetched.{Fetched}
 use Rattle.two_machines.specs.Machine.{Passed, leaves_cleanup, control_flow_trap, refusal, tests, reguarded, reguarded_at, saved_words, tested, stepped, passed, with_pc_of}
 
@@ -80,11 +81,11 @@ module _ (p : Program) (before : Core) (m : Memory) (after : Core) (new : Memory
 pub same_state : (core before : Core) (m n : Memory) (events : Trace) → (before ≡ core) × (n ≡ m) → state_of before n events ≡ state_of core m events
 same_state core before m n events same = ap (λ (c : Core). state_of c n events) same.0 ∙ ap (λ (k : Memory). state_of core k events) same.1
 
-pub same_reached : (p : Program) (core before : Core) → before ≡ core → (p.look core.regs.pc).is_instr ≡ true → (p.look before.regs.pc).is_instr ≡ true
-same_reached p core before same reached = subst (λ (c : Core). (p.look c.regs.pc).is_instr ≡ true) (sym same) reached
+pub same_fetched : (p : Program) (core before : Core) (m n : Memory) (at : Fetched) → (before ≡ core) × (n ≡ m) → IsFetched p core.regs.pc m at → IsFetched p before.regs.pc n at
+same_fetched p core before m n at same is = subst (λ (c : Core). IsFetched p c.regs.pc n at) (sym same.0) (subst (λ (k : Memory). IsFetched p core.regs.pc k at) (sym same.1) is)
 
-pub same_found : (core before : Core) (m n : Memory) (at : Fetched) → (before ≡ core) × (n ≡ m) → IsFound core m at → IsFound before n at
-same_found core before m n at same found = subst (λ (c : Core). IsFound c n at) (sym same.0) (subst (λ (k : Memory). IsFound core k at) (sym same.1) found)
+pub same_told : (i : Instr) (ahead : Told) (core before : Core) → before ≡ core → IsAhead i core.regs ahead → IsAhead i before.regs ahead
+same_told i ahead core before same told = subst (λ (c : Core). IsAhead i c.regs ahead) (sym same) told
 
 -- not a trap
 abbrev pub Goes : Stepped → Type 0

@@ -1,15 +1,16 @@
 -- What a call that does one instruction up to its gate has done.
-use Rattle.std.specs.Prelude.{◌≡◌, ◌≤◌, ℕ, Bool, true, false, length, Some, Result, Ok, IfErr}
+use Rattle.std.specs.Prelude.{◌≡◌, ◌+◌, ◌%◌, ◌^◌, ◌≤◌, ℕ, Bool, true, false, length, Some, Result, Ok, IfErr}
 use Rattle.eh_bus.specs.Memory.{Memory}
 use Rattle.guest_gates.specs.Ends.{is_fault}
 use Rattle.thumb_isa.specs.Range.{InRange}
 use Rattle.thumb_isa.specs.declared.instr.Instr.{Instr}
+use Rattle.thumb_core.specs.Registers.{even}
 use Rattle.thumb_core.specs.Step.{instr_at}
 use Rattle.thumb_core.specs.declared.regs.Regs.{Regs}
 use Rattle.thumb_core.specs.declared.regs.Stepped.{Stepped}
 use Rattle.thumb_core.specs.declared.regs.Stepped.TheVariants.{Done, Gate}
 use Rattle.thumb_core.specs.declared.ends.End.{End}
-use Rattle.step_ahead.specs.Ahead.{IsAhead, branches, pushed}
+use Rattle.step_ahead.specs.Ahead.{branches, pushed}
 use Rattle.eh_trace.specs.Trace.{Trace}
 use Rattle.eh_gates.specs.declared.state.Core.{Core}
 use Rattle.eh_gates.specs.State.{state_of}
@@ -17,20 +18,22 @@ use Rattle.two_machines.specs.Program.{Program}
 use Rattle.eh_machine.specs.declared.pass.Fetched.{Fetched}
 use Rattle.two_machines.specs.Machine.{Passed, passed, with_pc_of}
 
--- ---- what is told of the instruction at pc before it is done
+-- ---- what is told of the instruction at an address before it is done
 
 abbrev pub at_of : Fetched → Instr × ℕ
 at_of at = (at.instr, at.size)
 
--- it stands there, and what is told of it is so
-pub record StandsAt (regs : Regs) (m : Memory) (at : Fetched) : Type 0 where
-  pub there : instr_at m regs.pc ≡ Some (at_of at)
-  pub told : IsAhead at.instr regs at.ahead
+-- by the checker: it was reached, whether a function begins after it, and which words that it pushes are saves
+pub record HasRoles (p : Program) (a : ℕ) (at : Fetched) : Type 0 where
+  pub reached : (p.look a).is_instr ≡ true
+  pub last : at.is_last ≡ (p.look (even ((a + at.size) % 2 ^ 32))).is_function
+  pub saves : at.saves ≡ (p.look a).saves
 
--- .. with fields that an instruction has
-pub record IsFound (core : Core) (m : Memory) (at : Fetched) : Type 0 where
-  pub stands : StandsAt core.regs m at
+-- it stands there, with fields that an instruction has
+pub record IsFetched (p : Program) (a : ℕ) (m : Memory) (at : Fetched) : Type 0 where
+  pub there : instr_at m a ≡ Some (at_of at)
   pub range : InRange at.instr
+  pub roles : HasRoles p a at
 
 -- whether it branches, and how many words it pushes
 pub record Tells (i : Instr) (regs : Regs) (is_taken : Bool) (pushes : ℕ) : Type 0 where

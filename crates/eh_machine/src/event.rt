@@ -1,20 +1,24 @@
 //! One event of the machine (docs/machine.md, "An event").
-ghost use Rattle.std.specs.Prelude.{◌≡◌, true, IfSome};
+ghost use Rattle.std.specs.Prelude.{◌≡◌, IfSome};
 ghost use Rattle.eh_gates.specs.State.{State, state_of};
 ghost use Rattle.given_input.specs.Given.{OnGiven};
 ghost use Rattle.two_machines.specs.Checked.{program_of};
-ghost use Rattle.eh_machine.specs.Passes.{IsFound};
+ghost use Rattle.step_ahead.specs.Ahead.{IsAhead};
+ghost use Rattle.eh_machine.specs.Cached.{IsCache};
+ghost use Rattle.eh_machine.specs.Passes.{IsFetched};
 ghost use Rattle.eh_machine.specs.Turns.{TurnedOnce, CountsFaults};
 ghost use Rattle.eh_machine.specs.Follows.{FollowsOnce};
 
 use crate::accepted::{holds, tables};
-use crate::pass::{Fetched, found, goes_on, pass};
+use crate::decode_cache::DecodeCache;
+use crate::pass::{Fetched, fast_path, fetch_checked, pass};
 use eh_bus::bus::Bus;
 use eh_gates::{Core, Turned, gate};
 use eh_port::{Sink, Source};
 use eh_trace::Events;
 use frame_check::Accepted;
 use guest_gates::INPUT_GATE;
+use step_ahead::{Ahead, look_ahead};
 use thumb_core::ends::End;
 use thumb_core::regs::Stepped;
 
@@ -51,24 +55,25 @@ pub fn turn<B: Bus, I: Source, O: Sink>(
     ensures faults { CountsFaults (λ end. result ≡ Turned.Ended end) (I.faults input.old) (I.faults input.new) (O.faults out.old) (O.faults out.new) }
 {
     holds(a);
-    let mut known = a.is_instr(core.regs.pc);
-    turn_from(a, &mut known, core, shared, events, input, out)
+    match fetch_checked(a, core, &shared.bus) {
+        Ok(at) => turn_at(a, &at, core, shared, events, input, out),
+        Err(end) => Turned::Ended(end),
+    }
 }
 
-/// The same where it is known whether the checker reached an instruction at pc, and is told of the pc that the event leads to. In this order: the
-/// instruction is found; most go on at once, by tests that are told before they are done; the others are done first.
+/// The same by a decode cache, which is kept up.
 #[inline(always)]
-pub(crate) fn turn_from<B: Bus, I: Source, O: Sink>(
+pub(crate) fn turn_cached<B: Bus, I: Source, O: Sink>(
     a: &Accepted,
-    known: &mut bool,
+    cache: &mut DecodeCache,
     core: &mut Core,
     shared: &mut Shared<B>,
     events: &mut Events,
     input: &mut I,
     out: &mut O,
 ) -> Turned
-    requires known { known.old ≡ ((program_of a.now).look core.old.regs.pc).is_instr }
-    ensures known { known.new ≡ ((program_of a.now).look core.new.regs.pc).is_instr }
+    requires { IsCache (program_of a.now) cache.old }
+    ensures cache { IsCache (program_of a.now) cache.new }
     ensures told { IfSome (I.left input.old) (λ bytes.
         let old : State = state_of core.old (B.memory shared.old.bus) events.old in
         let new : State = state_of core.new (B.memory shared.new.bus) events.new in
@@ -79,32 +84,88 @@ pub(crate) fn turn_from<B: Bus, I: Source, O: Sink>(
         TurnedOnce (program_of a.now) old bytes result new left (O.written out.old) (O.written out.new)) }
     ensures faults { CountsFaults (λ end. result ≡ Turned.Ended end) (I.faults input.old) (I.faults input.new) (O.faults out.old) (O.faults out.new) }
 {
-    let at = match found(*known, core, &shared.bus) {
-        Ok(at) => at,
-        Err(end) => return Turned::Ended(end),
-    };
-    // most instructions, and they are not to pay for what the others go on to
-    if goes_on(a, at, known, core, &mut shared.bus) {
-        return Turned::Went;
+    if let Some(at) = cache.find(core.regs.pc, &shared.bus) {
+        return turn_at(a, at, core, shared, events, input, out);
     }
-    let turned = rest(a, at, core, shared, events, input, out);
-    *known = a.is_instr(core.regs.pc);
-    turned
+    turn_anew(a, cache, core, shared, events, input, out)
 }
 
-/// Any other instruction `at` pc, in the order of the definition: it is done and tested, and its guards are set; then its gate.
-#[inline(always)]
-fn rest<B: Bus, I: Source, O: Sink>(
+/// The same, where the cache has not what stands at pc: it keeps what is fetched. A call of its own, so that no other event pays for it.
+#[inline(never)]
+fn turn_anew<B: Bus, I: Source, O: Sink>(
     a: &Accepted,
-    at: Fetched,
+    cache: &mut DecodeCache,
     core: &mut Core,
     shared: &mut Shared<B>,
     events: &mut Events,
     input: &mut I,
     out: &mut O,
 ) -> Turned
-    requires reached { ((program_of a.now).look core.old.regs.pc).is_instr ≡ true }
-    requires found { IsFound core.old (B.memory shared.old.bus) at }
+    requires { IsCache (program_of a.now) cache.old }
+    ensures cache { IsCache (program_of a.now) cache.new }
+    ensures told { IfSome (I.left input.old) (λ bytes.
+        let old : State = state_of core.old (B.memory shared.old.bus) events.old in
+        let new : State = state_of core.new (B.memory shared.new.bus) events.new in
+        TurnedOnce (program_of a.now) old bytes result new (I.left input.new) (O.written out.old) (O.written out.new)) }
+    ensures given { OnGiven (λ bytes left.
+        let old : State = state_of core.old (B.memory shared.old.bus) events.old in
+        let new : State = state_of core.new (B.memory shared.new.bus) events.new in
+        TurnedOnce (program_of a.now) old bytes result new left (O.written out.old) (O.written out.new)) }
+    ensures faults { CountsFaults (λ end. result ≡ Turned.Ended end) (I.faults input.old) (I.faults input.new) (O.faults out.old) (O.faults out.new) }
+{
+    match fetch_checked(a, core, &shared.bus) {
+        Ok(at) => {
+            cache.keep(core.regs.pc, at, &shared.bus);
+            turn_at(a, &at, core, shared, events, input, out)
+        }
+        Err(end) => Turned::Ended(end),
+    }
+}
+
+/// The event of the instruction `at` pc. Most take the fast path, by tests that are told before they are done; the others are done first.
+#[inline(always)]
+fn turn_at<B: Bus, I: Source, O: Sink>(
+    a: &Accepted,
+    at: &Fetched,
+    core: &mut Core,
+    shared: &mut Shared<B>,
+    events: &mut Events,
+    input: &mut I,
+    out: &mut O,
+) -> Turned
+    requires { IsFetched (program_of a.now) core.old.regs.pc (B.memory shared.old.bus) at.now }
+    ensures told { IfSome (I.left input.old) (λ bytes.
+        let old : State = state_of core.old (B.memory shared.old.bus) events.old in
+        let new : State = state_of core.new (B.memory shared.new.bus) events.new in
+        TurnedOnce (program_of a.now) old bytes result new (I.left input.new) (O.written out.old) (O.written out.new)) }
+    ensures given { OnGiven (λ bytes left.
+        let old : State = state_of core.old (B.memory shared.old.bus) events.old in
+        let new : State = state_of core.new (B.memory shared.new.bus) events.new in
+        TurnedOnce (program_of a.now) old bytes result new left (O.written out.old) (O.written out.new)) }
+    ensures faults { CountsFaults (λ end. result ≡ Turned.Ended end) (I.faults input.old) (I.faults input.new) (O.faults out.old) (O.faults out.new) }
+{
+    let ahead = look_ahead(at.instr, &core.regs);
+    // most instructions, and they are not to pay for what the others go on to
+    if fast_path(at, ahead, core, &mut shared.bus) {
+        return Turned::Went;
+    }
+    slow_path(a, at, ahead, core, shared, events, input, out)
+}
+
+/// Any other instruction `at` pc, in the order of the definition: it is done and tested, and its guards are set; then its gate.
+#[inline(always)]
+fn slow_path<B: Bus, I: Source, O: Sink>(
+    a: &Accepted,
+    at: &Fetched,
+    ahead: Ahead,
+    core: &mut Core,
+    shared: &mut Shared<B>,
+    events: &mut Events,
+    input: &mut I,
+    out: &mut O,
+) -> Turned
+    requires fetched { IsFetched (program_of a.now) core.old.regs.pc (B.memory shared.old.bus) at.now }
+    requires told { IsAhead at.now.instr core.old.regs ahead }
     ensures told { IfSome (I.left input.old) (λ bytes.
         let old : State = state_of core.old (B.memory shared.old.bus) events.old in
         let new : State = state_of core.new (B.memory shared.new.bus) events.new in
@@ -116,7 +177,7 @@ fn rest<B: Bus, I: Source, O: Sink>(
     ensures faults { CountsFaults (λ end. result ≡ Turned.Ended end) (I.faults input.old) (I.faults input.new) (O.faults out.old) (O.faults out.new) }
 {
     let pc = core.regs.pc;
-    let what = match pass(a, at, core, &mut shared.bus) {
+    let what = match pass(a, at, ahead, core, &mut shared.bus) {
         Ok(what) => what,
         Err(end) => return Turned::Ended(end),
     };

@@ -2,11 +2,9 @@
 ghost use Rattle.std.specs.Prelude.{◌≡◌, ◌+◌, ◌*◌, ◌%◌, ◌<◌, ◌≤◌};
 ghost use Rattle.eh_bus.specs.Memory.{guard_all};
 ghost use Rattle.eh_bus.specs.declared.map.TheConstants.{STACK_START, STACK_END};
-ghost use Rattle.two_machines.specs.Checked.{program_of};
 ghost use Rattle.two_machines.specs.Machine.{saved_words, reguarded};
 
 use eh_bus::bus::Bus;
-use frame_check::Accepted;
 
 /// Guards, of `count` words of the stack from `sp` on, those that the bits of `saves` name: the last first.
 fn guard_saves<B: Bus>(saves: u16, count: u32, sp: u32, bus: &mut B)
@@ -25,19 +23,19 @@ fn guard_saves<B: Bus>(saves: u16, count: u32, sp: u32, bus: &mut B)
     }
 }
 
-/// Guards the saves among the words that the push at `pc` left from `sp` on. Where none was pushed nothing is looked up.
+/// The same, and no call is made where no word was pushed.
 #[inline(always)]
-pub(crate) fn guard_pushed<B: Bus>(a: &Accepted, pc: u32, count: u32, sp: u32, bus: &mut B)
+pub(crate) fn guard_pushed<B: Bus>(saves: u16, count: u32, sp: u32, bus: &mut B)
     requires few { count ≤ 16 }
     requires aligned { 0 < count → sp % 4 ≡ 0 }
     requires low { 0 < count → STACK_START ≤ sp }
     requires high { 0 < count → sp + 4 * count ≤ STACK_END }
-    ensures { B.memory bus.new ≡ guard_all (saved_words ((program_of a.now).look pc).saves count sp) (B.memory bus.old) }
+    ensures { B.memory bus.new ≡ guard_all (saved_words saves count sp) (B.memory bus.old) }
 {
     if count == 0 {
         return;
     }
-    guard_saves(a.saves_at(pc), count, sp, bus);
+    guard_saves(saves, count, sp, bus);
 }
 
 /// Guards the saves among the words that were pushed, and where sp rose releases what is guarded below it.
@@ -49,7 +47,7 @@ pub(crate) fn reguard<B: Bus>(saves: u16, count: u32, old: u32, sp: u32, bus: &m
     requires high { 0 < count → sp + 4 * count ≤ STACK_END }
     ensures { B.memory bus.new ≡ reguarded saves count old sp (B.memory bus.old) }
 {
-    guard_saves(saves, count, sp, bus);
+    guard_pushed(saves, count, sp, bus);
     if old < sp {
         bus.release_below(sp);
     }

@@ -3,6 +3,7 @@
 #![tactic(auto)]
 
 mod accepted;
+mod decode_cache;
 mod event;
 mod guards;
 pub mod memory;

@@ -1,16 +1,19 @@
 //! One instruction up to its gate: it is checked, fetched once, done and tested, and its guards are set (docs/machine.md, "An event"). Most are
-//! tested before they are done (`goes_on`), the others after (`pass`).
-ghost use Rattle.std.specs.Prelude.{◌≡◌, true, IfOk, IfErr, IfSome};
+//! tested before they are done (`fast_path`), the others after (`pass`).
+ghost use Rattle.std.specs.Prelude.{◌≡◌, ◌+◌, ◌%◌, ◌^◌, Some, IfOk, IfErr};
+ghost use Rattle.thumb_isa.specs.Range.{InRange};
 ghost use Rattle.thumb_isa.specs.declared.instr.Instr.{Instr};
+ghost use Rattle.thumb_core.specs.Registers.{even};
+ghost use Rattle.thumb_core.specs.Step.{instr_at};
 ghost use Rattle.thumb_core.specs.declared.regs.Regs.{Regs};
-ghost use Rattle.step_ahead.specs.Ahead.{IsAhead, IsFallThrough};
+ghost use Rattle.step_ahead.specs.Ahead.{IsAhead, IsFallThrough, IsJump};
 ghost use Rattle.step_ahead.specs.UndoRecord.{Restores};
 ghost use Rattle.two_machines.specs.Checked.{program_of};
 ghost use Rattle.two_machines.specs.Program.{Program};
-ghost use Rattle.eh_machine.specs.Passes.{IsFound, Passes, StandsAt, Tells, Tried};
+ghost use Rattle.eh_machine.specs.Passes.{at_of, HasRoles, IsFetched, Passes, Tells, Tried};
 
 use crate::guards::{guard_pushed, reguard};
-use crate::tests_of::{look_past, passes_tests, refusal};
+use crate::tests_of::{has_room, refusal};
 use eh_bus::bus::Bus;
 use eh_cxa::innermost_sp;
 use eh_gates::Core;
@@ -18,27 +21,37 @@ use frame_check::Accepted;
 use guest_gates::trap_end;
 use step_ahead::{Ahead, UndoRecord, look_ahead, undo_record_of};
 use thumb_core::ends::{End, TrapKind};
-use thumb_core::regs::{Regs, SP, Stepped, are_words};
+use thumb_core::regs::{SP, Stepped, are_words};
 use thumb_core::step::{execute, fetch};
 use thumb_isa::instr::Instr;
 
-/// The instruction at pc, its size in bytes, and what is told of it before it is done.
+/// The instruction at an address, its size in bytes, and what the checker says there.
 #[derive(Clone, Copy)]
 pub(crate) struct Fetched {
     pub(crate) instr: Instr,
     pub(crate) size: u32,
-    pub(crate) ahead: Ahead,
+    /// Whether a function begins after it.
+    pub(crate) is_last: bool,
+    /// Which of the words that it pushes are saves: bit k stands for word k.
+    pub(crate) saves: u16,
 }
 
-/// The instruction at pc, where the checker reached it, as `known` says; or the end by what stands there, which is no fault of the outside.
+/// Whether a function begins after an instruction of `size` bytes.
+fn begins_after(a: &Accepted, address: u32, size: u32) -> bool
+    ensures { result ≡ ((program_of a.now).look (even ((address + size) % 2 ^ 32))).is_function }
+{
+    let next = address.wrapping_add(size);
+    a.is_function(next - next % 2)
+}
+
+/// The instruction at pc, where the checker reached it; or the end by what stands there, which is no fault of the outside.
 #[inline(always)]
-pub(crate) fn found<B: Bus>(known: bool, core: &Core, bus: &B) -> Result<Fetched, End>
-    ensures reached { IfOk result (λ _. known ≡ true) }
-    ensures found { IfOk result (λ at. IsFound core.now (B.memory bus.now) at) }
-    ensures ends { IfErr result (λ end. (p : Program) → known ≡ (p.look core.now.regs.pc).is_instr
-        → Passes p core.now (B.memory bus.now) (Err end) core.now (B.memory bus.now)) }
+pub(crate) fn fetch_checked<B: Bus>(a: &Accepted, core: &Core, bus: &B) -> Result<Fetched, End>
+    ensures fetched { IfOk result (λ at. IsFetched (program_of a.now) core.now.regs.pc (B.memory bus.now) at) }
+    ensures ends { IfErr result (λ end. Passes (program_of a.now) core.now (B.memory bus.now) (Err end) core.now (B.memory bus.now)) }
 {
     let pc = core.regs.pc;
+    let known = a.is_instr(pc);
     if !known {
         return Err(End::Trap(TrapKind::FellOff, pc, pc));
     }
@@ -46,7 +59,8 @@ pub(crate) fn found<B: Bus>(known: bool, core: &Core, bus: &B) -> Result<Fetched
         Ok(at) => Ok(Fetched {
             instr: at.0,
             size: at.1,
-            ahead: look_ahead(at.0, &core.regs),
+            is_last: begins_after(a, pc, at.1),
+            saves: a.saves_at(pc),
         }),
         Err(trap) => Err(trap_end(trap, pc)),
     }
@@ -54,66 +68,103 @@ pub(crate) fn found<B: Bus>(known: bool, core: &Core, bus: &B) -> Result<Fetched
 
 // ---- most instructions
 
-/// How many words an instruction pushes that goes straight on.
+/// Does the instruction `at` pc where it is told to fall through or to take a branch, where its tests, told beforehand too, let it pass, and
+/// where it doesn't trap. So there is nothing to keep. Else nothing is changed.
 #[inline(always)]
-fn straight(ahead: Ahead) -> Option<u32>
-    ensures { (i : Instr) (regs : Regs) → IsAhead i regs ahead → IfSome result (λ pushes. IsFallThrough i regs pushes) }
+pub(crate) fn fast_path<B: Bus>(at: &Fetched, ahead: Ahead, core: &mut Core, bus: &mut B) -> bool
+    requires there { instr_at (B.memory bus.old) core.old.regs.pc ≡ Some (at_of at.now) }
+    requires range { InRange at.now.instr }
+    requires told { IsAhead at.now.instr core.old.regs ahead }
+    ensures { (p : Program) → HasRoles p core.old.regs.pc at.now → Tried p core.old (B.memory bus.old) result core.new (B.memory bus.new) }
 {
     match ahead {
-        Ahead::FallThrough => Some(0),
-        Ahead::Pushes { count } => Some(count),
-        Ahead::Jumps { .. } => None,
-        Ahead::Other { .. } => None,
+        Ahead::FallThrough => fall_through(at, 0, core, bus),
+        Ahead::Pushes { count } => fall_through(at, count, core, bus),
+        Ahead::Jumps { to } => jump(at, to, core, bus),
+        Ahead::Other { .. } => false,
     }
 }
 
-/// Does the instruction `at` pc where it is told to go straight on or to take a branch, where its tests, told beforehand too, let it pass, and
-/// where it doesn't trap. So there is nothing to keep. Else nothing is changed. `known` says whether the checker reached an instruction at pc,
-/// before it and after it, so that each address is looked up once.
+/// An instruction `at` pc that falls through and pushes so many words.
 #[inline(always)]
-pub(crate) fn goes_on<B: Bus>(
-    a: &Accepted,
-    at: Fetched,
-    known: &mut bool,
-    core: &mut Core,
-    bus: &mut B,
-) -> bool
-    requires reached { ((program_of a.now).look core.old.regs.pc).is_instr ≡ true }
-    requires known { known.old ≡ true }
-    requires found { IsFound core.old (B.memory bus.old) at }
-    ensures tried { Tried (program_of a.now) core.old (B.memory bus.old) result core.new (B.memory bus.new) }
-    ensures known { known.new ≡ ((program_of a.now).look core.new.regs.pc).is_instr }
+fn fall_through<B: Bus>(at: &Fetched, pushes: u32, core: &mut Core, bus: &mut B) -> bool
+    requires there { instr_at (B.memory bus.old) core.old.regs.pc ≡ Some (at_of at.now) }
+    requires range { InRange at.now.instr }
+    requires told { IsFallThrough at.now.instr core.old.regs pushes }
+    ensures { (p : Program) → HasRoles p core.old.regs.pc at.now → Tried p core.old (B.memory bus.old) result core.new (B.memory bus.new) }
 {
     let (low, _) = bus.home();
-    if let Ahead::Jumps { to } = at.ahead {
-        // pc alone changes, and where sp stands in the running stack no test forbids it
-        if core.regs.r[SP as usize] < low {
-            return false;
-        }
-        core.regs.pc = to;
-        *known = a.is_instr(to);
-        return true;
-    }
-    let Some(pushes) = straight(at.ahead) else {
-        return false;
-    };
-    let pc = core.regs.pc;
     are_words(&core.regs.r);
-    let after = look_past(a, at.size, &core.regs);
-    if !passes_tests(low, pushes, after, &core.regs) {
+    if at.is_last {
+        return false;
+    }
+    if !has_room(core.regs.r[SP as usize], pushes, low) {
         return false;
     }
     let what = execute(at.instr, at.size, &mut core.regs, bus);
     if let Stepped::Trap(_) = what {
         return false;
     }
-    let sp = core.regs.r[SP as usize];
-    guard_pushed(a, pc, pushes, sp, bus);
-    *known = after.is_instr;
+    guard_pushed(at.saves, pushes, core.regs.r[SP as usize], bus);
+    true
+}
+
+/// A branch `at` pc that is taken, to an address: pc alone changes. Where sp stands in the running stack no test forbids it.
+#[inline(always)]
+fn jump<B: Bus>(at: &Fetched, to: u32, core: &mut Core, bus: &mut B) -> bool
+    requires there { instr_at (B.memory bus.old) core.old.regs.pc ≡ Some (at_of at.now) }
+    requires told { IsJump at.now.instr core.old.regs to }
+    ensures { (p : Program) → HasRoles p core.old.regs.pc at.now → Tried p core.old (B.memory bus.old) result core.new (B.memory bus.new) }
+{
+    let (low, _) = bus.home();
+    if core.regs.r[SP as usize] < low {
+        return false;
+    }
+    core.regs.pc = to;
     true
 }
 
 // ---- the others
+
+/// The instruction `at` pc, done and then tested: what was done, or the end by what forbids it, which leaves everything as before the instruction
+/// and is no fault of the outside. A gate's instruction changes pc alone. Where one is told to go on, what it may store over is kept; any other
+/// stores nothing.
+#[inline(always)]
+pub(crate) fn pass<B: Bus>(
+    a: &Accepted,
+    at: &Fetched,
+    ahead: Ahead,
+    core: &mut Core,
+    bus: &mut B,
+) -> Result<Stepped, End>
+    requires fetched { IsFetched (program_of a.now) core.old.regs.pc (B.memory bus.old) at.now }
+    requires told { IsAhead at.now.instr core.old.regs ahead }
+    ensures passes { Passes (program_of a.now) core.old (B.memory bus.old) result core.new (B.memory bus.new) }
+{
+    are_words(&core.regs.r);
+    match ahead {
+        Ahead::FallThrough | Ahead::Pushes { .. } | Ahead::Jumps { .. } => {
+            pass_recorded(a, core, bus)
+        }
+        Ahead::Other { .. } => pass_with(a, at, ahead, &UndoRecord::Nothing, core, bus),
+    }
+}
+
+/// The same with what stands where the instruction may store. It is seldom, since an event that comes here ends the run. So it fetches again, and
+/// is lent nothing that the others would have to keep in memory for it.
+#[cold]
+#[inline(never)]
+fn pass_recorded<B: Bus>(a: &Accepted, core: &mut Core, bus: &mut B) -> Result<Stepped, End>
+    ensures passes { Passes (program_of a.now) core.old (B.memory bus.old) result core.new (B.memory bus.new) }
+{
+    let at = match fetch_checked(a, core, bus) {
+        Ok(at) => at,
+        Err(end) => return Err(end),
+    };
+    let ahead = look_ahead(at.instr, &core.regs);
+    let undo_record = undo_record_of(at.instr, at.size, &core.regs, bus);
+    pass_with(a, &at, ahead, &undo_record, core, bus)
+}
 
 /// Whether an instruction branches, and how many words it pushes.
 #[inline(always)]
@@ -128,36 +179,23 @@ fn told_of(ahead: Ahead) -> (bool, u32)
     }
 }
 
-/// What stands where an instruction may store that is told to go on. Any other stores nothing.
+/// The instruction `at` pc, in the order of the definition: it is done and tested, and its guards are set. Where a test ends the run the registers
+/// are put back, and what was kept of the memory.
 #[inline(always)]
-fn kept_of<B: Bus>(at: Fetched, regs: &Regs, bus: &B) -> UndoRecord
-    requires { StandsAt regs.now (B.memory bus.now) at }
-    ensures { Restores result regs.now (B.memory bus.now) }
-{
-    are_words(&regs.r);
-    match at.ahead {
-        Ahead::FallThrough | Ahead::Pushes { .. } | Ahead::Jumps { .. } => {
-            undo_record_of(at.instr, at.size, regs, bus)
-        }
-        Ahead::Other { .. } => UndoRecord::Nothing,
-    }
-}
-
-/// The instruction `at` pc, done and then tested: what was done, or the end by what forbids it, which leaves everything as before the instruction
-/// and is no fault of the outside: the registers are put back, and what was kept of the memory. A gate's instruction changes pc alone.
-#[inline(always)]
-pub(crate) fn pass<B: Bus>(
+fn pass_with<B: Bus>(
     a: &Accepted,
-    at: Fetched,
+    at: &Fetched,
+    ahead: Ahead,
+    undo_record: &UndoRecord,
     core: &mut Core,
     bus: &mut B,
 ) -> Result<Stepped, End>
-    requires reached { ((program_of a.now).look core.old.regs.pc).is_instr ≡ true }
-    requires found { IsFound core.old (B.memory bus.old) at }
+    requires fetched { IsFetched (program_of a.now) core.old.regs.pc (B.memory bus.old) at.now }
+    requires told { IsAhead at.now.instr core.old.regs ahead }
+    requires restores { Restores undo_record.now core.old.regs (B.memory bus.old) }
     ensures passes { Passes (program_of a.now) core.old (B.memory bus.old) result core.new (B.memory bus.new) }
 {
-    let (branches, pushes) = told_of(at.ahead);
-    let kept = kept_of(at, &core.regs, bus);
+    let (branches, pushes) = told_of(ahead);
     let before = core.regs;
     let pc = before.pc;
     are_words(&core.regs.r);
@@ -174,11 +212,11 @@ pub(crate) fn pass<B: Bus>(
     if let Some(end) = refusal(a, (landing, low), (pc, old), branches, what, &core.regs) {
         core.regs = before;
         if let Stepped::Done = what {
-            kept.restore(bus);
+            undo_record.restore(bus);
         }
         return Err(end);
     }
     // its guards
-    reguard(a.saves_at(pc), pushes, old, sp, bus);
+    reguard(at.saves, pushes, old, sp, bus);
     Ok(what)
 }

@@ -9,7 +9,8 @@ ghost use Rattle.eh_machine.specs.Turns.{CountsFaults};
 ghost use Rattle.eh_machine.specs.Follows.{FollowsRun};
 
 use crate::accepted::holds;
-use crate::event::{Shared, turn_from};
+use crate::decode_cache::DecodeCache;
+use crate::event::{Shared, turn_cached};
 use eh_bus::bus::Bus;
 use eh_gates::{Core, Turned};
 use eh_port::{Sink, Source};
@@ -49,11 +50,11 @@ impl<'a, B: Bus> Machine<'a, B> {
     {
         let accepted = self.accepted;
         holds(accepted);
-        let mut known = accepted.is_instr(self.core.regs.pc);
+        let mut cache = DecodeCache::new();
         while self.left > 0 {
-            match turn_from(
+            match turn_cached(
                 accepted,
-                &mut known,
+                &mut cache,
                 &mut self.core,
                 &mut self.shared,
                 &mut self.events,

@@ -1,8 +1,7 @@
 //! The tests between an instruction and what it goes on to (docs/machine.md, "An event").
-ghost use Rattle.std.specs.Prelude.{◌≡◌, ◌≤◌, ◌+◌, ◌*◌, ◌%◌, ◌^◌, true, false, IfSome};
+ghost use Rattle.std.specs.Prelude.{◌≡◌, ◌≤◌, ◌*◌, true, false, IfSome};
 ghost use Rattle.guest_gates.specs.Ends.{is_fault};
 ghost use Rattle.step_ahead.specs.UndoRecord.{lowest};
-ghost use Rattle.thumb_core.specs.Registers.{even, reg};
 ghost use Rattle.two_machines.specs.Checked.{program_of};
 ghost use Rattle.two_machines.specs.Machine.{leaves_cleanup, sp_end, fell_off, goes_after, control_flow_trap, refusal};
 
@@ -131,7 +130,7 @@ pub(crate) fn refusal(
 
 /// Whether sp stays at or above the start of the running stack where so many words are pushed.
 #[inline(always)]
-fn has_room(sp: u32, pushes: u32, low: u32) -> bool
+pub(crate) fn has_room(sp: u32, pushes: u32, low: u32) -> bool
     requires { pushes ≤ 16 }
     ensures room { result ≡ true → 4 * pushes ≤ sp }
     ensures low { result ≡ true → low ≤ lowest sp pushes }
@@ -140,38 +139,4 @@ fn has_room(sp: u32, pushes: u32, low: u32) -> bool
         Some(after) => low <= after - after % 4,
         None => false,
     }
-}
-
-/// What stands after an instruction.
-#[derive(Clone, Copy)]
-pub(crate) struct NextPlace {
-    /// Whether a function begins there.
-    pub(crate) is_function: bool,
-    /// Whether the checker reached an instruction there.
-    pub(crate) is_instr: bool,
-}
-
-/// Looks after an instruction of `size` bytes.
-#[inline(always)]
-pub(crate) fn look_past(a: &Accepted, size: u32, regs: &Regs) -> NextPlace
-    ensures function { result.is_function ≡ ((program_of a.now).look (even ((regs.now.pc + size) % 2 ^ 32))).is_function }
-    ensures instr { result.is_instr ≡ ((program_of a.now).look (even ((regs.now.pc + size) % 2 ^ 32))).is_instr }
-{
-    let next = regs.pc.wrapping_add(size);
-    let next = next - next % 2;
-    NextPlace {
-        is_function: a.is_function(next),
-        is_instr: a.is_instr(next),
-    }
-}
-
-/// Whether the tests let an instruction pass that pushes so many words and goes on to the next one, told before it is done.
-#[inline(always)]
-pub(crate) fn passes_tests(low: u32, pushes: u32, after: NextPlace, regs: &Regs) -> bool
-    requires { pushes ≤ 16 }
-    ensures room { result ≡ true → 4 * pushes ≤ reg regs.now SP }
-    ensures low { result ≡ true → low ≤ lowest (reg regs.now SP) pushes }
-    ensures next { result ≡ true → after.is_function ≡ false }
-{
-    !after.is_function && has_room(regs.r[SP as usize], pushes, low)
 }

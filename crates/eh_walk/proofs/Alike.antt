@@ -1,6 +1,6 @@
 -- A run to a site is the same over bytes and with recorded activations.
-use Rattle.std.proofs.Common.{◌≡◌, ℕ, ◌-◌, Bool, true, false, cond, List, refl, ap, ◌∙◌}
-use Rattle.event_runs.specs.Runs.{Event, Goes, Ends}
+use Rattle.std.proofs.Common.{◌≡◌, ℕ, ◌+◌, Bool, true, false, cond, List, refl, ap, ◌∙◌}
+use Rattle.event_runs.specs.Runs.{Event, Goes, Ends, run}
 use Rattle.thumb_core.specs.declared.ends.End.{End}
 use Rattle.thumb_core.specs.declared.ends.End.TheVariants.{Budget}
 use Rattle.eh_gates.specs.State.{State}
@@ -13,40 +13,53 @@ use Rattle.two_machines.specs.Start.{start_of}
 use Rattle.stands_for.specs.Stands.{IsProgram, StandsFor}
 use Rattle.stands_for.proofs.First.{starts_stand}
 use Rattle.machines_agree.specs.Turned.{AreBytes}
-use Rattle.machines_agree.proofs.RunsOn.{AlikeOn, same_on}
+use Rattle.machines_agree.proofs.RunsOn.{AlikeOn, SameOn, same_on}
 use Rattle.machines_agree.proofs.WholeRuns.{alike}
-use Rattle.eh_walk.specs.Laws.{OnwardFor, ReachesSame}
-use Rattle.eh_walk.specs.Reaching.{Onward, at_left, counted, stops, is_at_site, is_recorded_at_site, site_machine, recorded_site_machine, most_events}
+use Rattle.eh_walk.specs.Laws.{OnwardFor, ReachesSame, ReachesLeaveBytes, GoingOnSame}
+use Rattle.eh_walk.specs.Reaching.{Onward, after, counted, stops, is_at_site, is_recorded_at_site, site_machine, recorded_site_machine, most_events}
 
-module _ (x : Accepted) (is : IsProgram x) (o : Onward State) (u : Onward Recorded) (r : OnwardFor x o u) where
+module _ (x : Accepted) (is : IsProgram x) (budget : ℕ) (o : Onward State) (u : Onward Recorded) (r : OnwardFor x o u) where
   abbrev Both : Event (Onward State) End → Event (Onward Recorded) End → Type 0
   Both e d = AlikeOn (Onward State) (Onward Recorded) End AreBytes (OnwardFor x) e d
 
-  counts : (e : Event State End) (d : Event Recorded End) → AlikeOn State Recorded End AreBytes (StandsFor x) e d → Both (counted o.left e) (counted u.left d)
-  counts (Goes b text left) (Goes s said rest) a = (record { left = ap (λ n. n - 1) r.left; stands = a.0 }, a.1, a.2, a.3)
-  counts (Ends end b) (Ends why s) a = (a.0, record { left = r.left; stands = a.1 })
+  counts : (e : Event State End) (d : Event Recorded End) → AlikeOn State Recorded End AreBytes (StandsFor x) e d → Both (counted o.done e) (counted u.done d)
+  counts (Goes b text left) (Goes s said rest) a = (record { done = ap (λ n. n + 1) r.done; stands = a.0 }, a.1, a.2, a.3)
+  counts (Ends end b) (Ends why s) a = (a.0, record { done = r.done; stands = a.1 })
   counts (Goes b text left) (Ends why s) a = absurd a
   counts (Ends end b) (Goes s said rest) a = absurd a
 
-  stops_same : stops (is_at_site (program_of x)) o.left o.state ≡ stops (is_recorded_at_site (program_of x)) u.left u.state
+  stops_same : stops (is_at_site (program_of x)) budget o.done o.state ≡ stops (is_recorded_at_site (program_of x)) budget u.done u.state
   stops_same =
-      ap (λ n. stops (is_at_site (program_of x)) n o.state) r.left ∙ ap (stops (is_at_site (program_of x)) u.left) r.stands.same
+      ap (λ n. stops (is_at_site (program_of x)) budget n o.state) r.done ∙ ap (stops (is_at_site (program_of x)) budget u.done) r.stands.same
 
   by_stop : (b c : Bool) → b ≡ c → (e : Event State End) (d : Event Recorded End) → AlikeOn State Recorded End AreBytes (StandsFor x) e d
-      → Both (cond b (Ends Budget o) (counted o.left e)) (cond c (Ends Budget u) (counted u.left d))
+      → Both (cond b (Ends Budget o) (counted o.done e)) (cond c (Ends Budget u) (counted u.done d))
   by_stop true true same e d a = (refl, r)
   by_stop false false same e d a = counts e d a
   by_stop true false same e d a = absurd cc
   by_stop false true same e d a = absurd cc
 
-  event_same : (input : List ℕ) → AreBytes input → Both ((site_machine (program_of x)).event o input) ((recorded_site_machine (program_of x)).event u input)
+  event_same : (input : List ℕ) → AreBytes input → Both ((site_machine (program_of x) budget).event o input) ((recorded_site_machine (program_of x) budget).event u input)
   event_same input fits =
-      by_stop (stops (is_at_site (program_of x)) o.left o.state) (stops (is_recorded_at_site (program_of x)) u.left u.state) stops_same
+      by_stop (stops (is_at_site (program_of x)) budget o.done o.state) (stops (is_recorded_at_site (program_of x)) budget u.done u.state) stops_same
       (machine_event (program_of x) o.state input) (recorded_event (program_of x) u.state input) (alike x is o.state u.state input fits r.stands)
 
+module _ (x : Accepted) (budget : ℕ) (input : List ℕ) (is : IsProgram x) (fits : AreBytes input) where
+  reached : SameOn (Onward State) (Onward Recorded) End AreBytes (OnwardFor x)
+      (run (site_machine (program_of x) budget).event Budget (most_events budget) (after 0 (start_of (program_of x))) input)
+      (run (recorded_site_machine (program_of x) budget).event Budget (most_events budget) (after 0 (recorded_start (program_of x))) input)
+  reached =
+      let first : OnwardFor x (after 0 (start_of (program_of x))) (after 0 (recorded_start (program_of x))) =
+      record { done = refl; stands = record { same = refl; keeps = starts_stand x is } } in
+      same_on (Onward State) (Onward Recorded) End AreBytes (OnwardFor x) (site_machine (program_of x) budget).event (recorded_site_machine (program_of x) budget).event Budget
+      (λ o u left f r. event_same x is budget o u r left f) (most_events budget) (after 0 (start_of (program_of x))) (after 0 (recorded_start (program_of x))) input fits first
+
 pub reaches_same : ReachesSame
-reaches_same x budget input is fits =
-    let first : OnwardFor x (at_left budget (start_of (program_of x))) (at_left budget (recorded_start (program_of x))) =
-    record { left = refl; stands = record { same = refl; keeps = starts_stand x is } } in
-    (same_on (Onward State) (Onward Recorded) End AreBytes (OnwardFor x) (site_machine (program_of x)).event (recorded_site_machine (program_of x)).event Budget
-    (λ o u left f r. event_same x is o u r left f) (most_events budget) (at_left budget (start_of (program_of x))) (at_left budget (recorded_start (program_of x))) input fits first).same
+reaches_same x budget input is fits = (reached x budget input is fits).same
+
+pub reaches_leave_bytes : ReachesLeaveBytes
+reaches_leave_bytes x budget input is fits = (reached x budget input is fits).fits
+
+pub going_on_same : GoingOnSame
+going_on_same x n b s input is stands fits =
+    (same_on State Recorded End AreBytes (StandsFor x) (machine_event (program_of x)) (recorded_event (program_of x)) Budget (alike x is) n b s input fits stands).same

@@ -3,12 +3,15 @@ use Rattle.std.specs.Prelude.{ℕ, ◌≡◌, ◌<◌, ◌^◌, List, Option, Re
 use Rattle.eh_bus.specs.Memory.{Memory}
 use Rattle.eh_trace.specs.Trace.{Trace}
 use Rattle.event_runs.specs.Laws.{SameRan}
+use Rattle.event_runs.specs.Runs.{ran_of}
 use Rattle.eh_phase.specs.Phases.{Frames}
 use Rattle.eh_gates.specs.declared.state.Core.{Core}
 use Rattle.eh_gates.specs.State.{State, state_of}
 use Rattle.frame_check.specs.Accepts.{Accepted}
+use Rattle.two_machines.specs.ActivationMachine.{recorded_machine}
 use Rattle.two_machines.specs.Activations.{Recorded, recorded_start}
 use Rattle.two_machines.specs.Checked.{program_of}
+use Rattle.two_machines.specs.Machine.{machine_of}
 use Rattle.two_machines.specs.Start.{start_of}
 use Rattle.stands_for.specs.Stands.{IsProgram, StandsFor}
 use Rattle.machines_agree.specs.Turned.{AreBytes}
@@ -53,12 +56,23 @@ ForcingsSame = (x : Accepted) (b : State) (s : Recorded) (number type : ℕ) →
 
 -- ---- a run to a site
 
--- states that stand for each other, with as much left of the budget
+-- states that stand for each other, after as many events
 pub record OnwardFor (x : Accepted) (o : Onward State) (u : Onward Recorded) : Type 0 where
-  pub left : o.left ≡ u.left
+  pub done : o.done ≡ u.done
   pub stands : StandsFor x o.state u.state
 
 -- from the start, on an input of bytes: the same text, end and input left, in states that stand for each other
 abbrev pub ReachesSame : Type 0
 ReachesSame = (x : Accepted) (budget : ℕ) (input : List ℕ) → IsProgram x → AreBytes input
     → SameRan (OnwardFor x) (run_to_site (program_of x) budget (start_of (program_of x)) input) (recorded_run_to_site (program_of x) budget (recorded_start (program_of x)) input)
+
+-- what it leaves of an input of bytes are bytes
+abbrev pub ReachesLeaveBytes : Type 0
+ReachesLeaveBytes = (x : Accepted) (budget : ℕ) (input : List ℕ) → IsProgram x → AreBytes input → AreBytes (run_to_site (program_of x) budget (start_of (program_of x)) input).left
+
+-- ---- a run that goes on
+
+-- from states that stand for each other, on an input of bytes: the same text, end and input left, in states that stand for each other
+abbrev pub GoingOnSame : Type 0
+GoingOnSame = (x : Accepted) (n : ℕ) (b : State) (s : Recorded) (input : List ℕ) → IsProgram x → StandsFor x b s → AreBytes input
+    → SameRan (StandsFor x) (ran_of (machine_of (program_of x)) n b input) (ran_of (recorded_machine (program_of x)) n s input)

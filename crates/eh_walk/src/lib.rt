@@ -12,7 +12,7 @@ pub mod walk;
 pub mod walking;
 
 pub use forcing::force;
-pub use reach::{MOST_FURTHER, run_to_site};
+pub use reach::{MOST_FURTHER, SiteRun, run_to_site};
 pub use sites::site;
 pub use stopping::ForceFault;
 pub use text::walk_lines;

@@ -1,5 +1,5 @@
 //! A run that goes on to a site (docs/walks.md, "How far a run goes").
-ghost use Rattle.std.specs.Prelude.{◌≡◌, ◌-◌, ◌==◌, ◌&&◌, is_some, IfSome};
+ghost use Rattle.std.specs.Prelude.{◌≡◌, ◌-◌, ◌&&◌, nat_le, is_some, IfSome};
 ghost use Rattle.eh_gates.specs.State.{State, state_of};
 ghost use Rattle.two_machines.specs.Checked.{program_of};
 ghost use Rattle.eh_machine.specs.Turns.{CountsFaults};
@@ -16,6 +16,14 @@ use thumb_core::ends::End;
 /// How many events a run goes on for at most to come to a site.
 pub const MOST_FURTHER: u64 = 1_000_000;
 
+/// A run to a site that is over.
+#[derive(Clone, Copy)]
+pub struct SiteRun {
+    pub end: End,
+    /// How many events went; one that ended the run did not.
+    pub done: u128,
+}
+
 /// How many events a run of this budget has at most.
 fn most_events(budget: u64) -> u128
     ensures { result ≡ most_events budget }
@@ -30,11 +38,17 @@ fn left_after(left: u64) -> u64
     left.saturating_sub(1)
 }
 
-/// Whether nothing is left of the budget and the state stands at a site.
-fn stands_there<B: Bus>(a: &Accepted, left: u64, core: &Core, shared: &Shared<B>) -> bool
-    ensures { result ≡ (left == 0 && is_some (site_state (program_of a.now) core.now.regs (B.memory shared.now.bus))) }
+/// Whether as many events went as the budget has, and the state stands at a site.
+fn stands_there<B: Bus>(
+    a: &Accepted,
+    budget: u64,
+    done: u128,
+    core: &Core,
+    shared: &Shared<B>,
+) -> bool
+    ensures { result ≡ (nat_le budget done && is_some (site_state (program_of a.now) core.now.regs (B.memory shared.now.bus))) }
 {
-    left == 0 && site(a, core, shared).is_some()
+    u128::from(budget) <= done && site(a, core, shared).is_some()
 }
 
 /// Runs the events that are left of the budget, and then further ones until the state stands at a site, at most so many as it may go on for:
@@ -43,19 +57,25 @@ pub fn run_to_site<B: Bus, I: Source, O: Sink>(
     machine: &mut Machine<B>,
     input: &mut I,
     out: &mut O,
-) -> End
+) -> SiteRun
     ensures told { IfSome (I.left input.old) (λ bytes.
         let old : State = state_of machine.old.core (B.memory machine.old.shared.bus) machine.old.events in
         let new : State = state_of machine.new.core (B.memory machine.new.shared.bus) machine.new.events in
-        RunsToSite (program_of machine.old.accepted.now) machine.old.left old bytes result machine.new.left new (I.left input.new) (O.written out.old) (O.written out.new)) }
-    ensures faults { CountsFaults (λ end. result ≡ end) (I.faults input.old) (I.faults input.new) (O.faults out.old) (O.faults out.new) }
+        RunsToSite (program_of machine.old.accepted.now) machine.old.left old bytes result.end result.done new (I.left input.new) (O.written out.old) (O.written out.new)) }
+    ensures faults { CountsFaults (λ end. result.end ≡ end) (I.faults input.old) (I.faults input.new) (O.faults out.old) (O.faults out.new) }
     ensures accepted { machine.new.accepted ≡ machine.old.accepted }
+    ensures left { machine.new.left ≡ machine.old.left - result.done }
 {
     let accepted = machine.accepted;
-    let mut events = most_events(machine.left);
-    while events > 0 {
-        if stands_there(accepted, machine.left, &machine.core, &machine.shared) {
-            return End::Budget;
+    let budget = machine.left;
+    let most = most_events(budget);
+    let mut done = 0u128;
+    while done < most {
+        if stands_there(accepted, budget, done, &machine.core, &machine.shared) {
+            return SiteRun {
+                end: End::Budget,
+                done,
+            };
         }
         match turn(
             accepted,
@@ -67,10 +87,13 @@ pub fn run_to_site<B: Bus, I: Source, O: Sink>(
         ) {
             Turned::Went => {
                 machine.left = left_after(machine.left);
-                events -= 1;
+                done += 1;
             }
-            Turned::Ended(end) => return end,
+            Turned::Ended(end) => return SiteRun { end, done },
         }
     }
-    End::Budget
+    SiteRun {
+        end: End::Budget,
+        done,
+    }
 }

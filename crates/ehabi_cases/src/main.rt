@@ -14,7 +14,7 @@ use case_file::run_file;
 use std::io::Error;
 
 /// The files of cases.
-const FILES: [&str; 14] = [
+const FILES: [&str; 15] = [
     "commands.txt",
     "sources.txt",
     "bytes.txt",
@@ -27,6 +27,7 @@ const FILES: [&str; 14] = [
     "budgets.txt",
     "traps.txt",
     "walks.txt",
+    "forced.txt",
     "generated.txt",
     "failing.txt",
 ];

@@ -37,8 +37,8 @@ const EXAMPLES: [&str; 20] = [
     "check/split_entry.s",
 ];
 
-/// Those that throw, one that would have spoilt what a throw needs, and one that is walked.
-const THROWS: [&str; 12] = [
+/// Those that throw, one that would have spoilt what a throw needs, one that is walked, and one that is unwound by force.
+const THROWS: [&str; 13] = [
     "throw.s",
     "cleanups.s",
     "rethrow.s",
@@ -51,6 +51,7 @@ const THROWS: [&str; 12] = [
     "throw_in_cleanup.s",
     "saved_slot.s",
     "walk.s",
+    "force.s",
 ];
 
 /// What the head comment of an example says: the words of its command after the program's name, its input, what it

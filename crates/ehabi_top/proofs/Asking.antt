@@ -3,7 +3,7 @@ use Rattle.std.specs.Prelude.{◌<◌, ◌&&◌, nat_le, if◌then◌else◌, op
 use Rattle.std.specs.Str.{bytes_eq}
 use Rattle.std.proofs.Common.{◌≡◌, ◌≤◌, ℕ, List, [], ◌∷◌, Option, Some, None, Bool, true, false, IfSome, refl, sym, subst, leb-true, arith}
 use Rattle.eh_kit.specs.declared.program_text.TheConstants.{MAX_FUNCTIONS}
-use Rattle.ehabi_top.specs.Words.{Command, FlatFile, BuildSources, CheckFile, CheckSources, RunFile, RunSources, GenerateProgram, if_between, number_of, budget_of, program_number, program_functions, program_of, flat_command, are_sources, build_command, image_name, check_command, files_command, with_budget, run_command, gen_command, command_of}
+use Rattle.ehabi_top.specs.Words.{Command, FlatFile, BuildSources, CheckFile, CheckSources, RunFile, RunSources, GenerateProgram, if_between, number_of, budget_of, program_number, program_functions, program_of, flat_command, are_sources, build_command, image_name, check_command, files_command, with_budget, run_command, with_frame, frame_number, force_command, gen_command, command_of}
 use Rattle.ehabi_top.specs.declared.words.Request.{Request}
 use Rattle.ehabi_top.specs.declared.words.Task.{Task}
 use Rattle.ehabi_top.specs.declared.words.Task.TheVariants as task
@@ -64,6 +64,14 @@ run_asked : (t : Task) (words : List (List ℕ)) → IsAsked (run_command t word
 unfolding run_command
 run_asked t words = either _ (with_budget t _ _) None (with_asked t _ _) tt
 
+frame_asked : (words : List (List ℕ)) (number : Option ℕ) → IsAsked (with_frame words number)
+frame_asked words None = tt
+frame_asked words (Some number) = run_asked (task.Force number) words
+
+force_asked : (words : List (List ℕ)) → IsAsked (force_command words)
+unfolding force_command
+force_asked words = either _ (with_frame _ _) None (frame_asked _ _) tt
+
 between : (low high n : ℕ) → IfSome (if_between low high (Some n)) (λ n. (low ≤ n) × (n ≤ high))
 between low high n = go (nat_le low n) (nat_le n high) refl refl
   where
@@ -96,8 +104,11 @@ gen_asked (number ∷ functions ∷ []) = program_asked (program_number number) 
 gen_asked (number ∷ functions ∷ more ∷ rest) = tt
 
 -- the command by the first word, from one of the names on
+abbrev by_force : List ℕ → List (List ℕ) → Option Command
+by_force word rest = if bytes_eq word (codes "force") then force_command rest else None
+
 abbrev by_walk : List ℕ → List (List ℕ) → Option Command
-by_walk word rest = if bytes_eq word (codes "walk") then run_command task.Walk rest else None
+by_walk word rest = if bytes_eq word (codes "walk") then run_command task.Walk rest else by_force word rest
 
 abbrev by_gen : List ℕ → List (List ℕ) → Option Command
 by_gen word rest = if bytes_eq word (codes "gen") then gen_command rest else by_walk word rest
@@ -115,7 +126,8 @@ pub asked : (words : List (List ℕ)) → IsAsked (command_of words)
 unfolding command_of
 asked [] = tt
 asked (word ∷ rest) =
-    let walk = either (bytes_eq word (codes "walk")) (run_command task.Walk rest) None (run_asked task.Walk rest) tt in
+    let force = either (bytes_eq word (codes "force")) (force_command rest) None (force_asked rest) tt in
+    let walk = either (bytes_eq word (codes "walk")) (run_command task.Walk rest) (by_force word rest) (run_asked task.Walk rest) force in
     let gen = either (bytes_eq word (codes "gen")) (gen_command rest) (by_walk word rest) (gen_asked rest) walk in
     let run = either (bytes_eq word (codes "run")) (run_command task.Run rest) (by_gen word rest) (run_asked task.Run rest) gen in
     let check = either (bytes_eq word (codes "check")) (check_command rest) (by_run word rest) (check_asked rest) run in

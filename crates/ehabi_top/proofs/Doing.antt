@@ -10,13 +10,13 @@ use Rattle.ehabi_top.specs.declared.stop.Stop.TheVariants.{Read, Write, Memory}
 use Rattle.ehabi_top.specs.AsksFor.{AsksFor, CallLacks, files_named}
 use Rattle.ehabi_top.specs.Finding.{Finds, FoundReports}
 use Rattle.ehabi_top.specs.GenerateReport.{GenerateReports, IsUnfitProgram}
-use Rattle.ehabi_top.specs.Loading.{Report, SaysWhy, IsReported, IsOfCommand}
+use Rattle.ehabi_top.specs.Loading.{Report, SaysWhy, SaysWhyBy, IsReported, IsOfCommand}
 use Rattle.ehabi_top.specs.Report.{Reports, IfTold, Why, Does}
 use Rattle.ehabi_top.specs.Sources.{Refusal}
 use Rattle.ehabi_top.specs.Text.{usage}
 use Rattle.ehabi_top.specs.Words.{Command, GenerateProgram}
 use Rattle.ehabi_top.specs.Writes.{Answers}
-use Rattle.ehabi_top.specs.Yields.{FileState, Streams, streams, DoesWhole, DoesPart, Yields}
+use Rattle.ehabi_top.specs.Yields.{FileState, Streams, streams, DoesWhole, DoesPart, YieldsBy, Yields}
 use Rattle.ehabi_top.proofs.FilesAsked.{asks_more, asks_none}
 use Rattle.ehabi_top.proofs.Statuses.{usage_reported}
 use Rattle.ehabi_top.proofs.Yielding.{whole_answer, part_answer, whole_as, part_as, of_status, only_write}
@@ -27,10 +27,10 @@ Held = List (List ℕ × List ℕ)
 
 -- ---- the bytes that a command asks the files for
 
--- What it reports of these, and what its status says of them: `unfit` are bytes that it refuses.
-pub record Asks (command : Option Command) (ask : Held → Result (List ℕ) Refusal) (Says : List ℕ → List ℕ → Report → Type 0) (unfit : List ℕ → Type 0) : Type 0 where
+-- What it reports of these, and what its status says of them: `Refuses` pins where it refuses bytes, by what is told of the input.
+pub record Asks (command : Option Command) (ask : Held → Result (List ℕ) Refusal) (Says : List ℕ → List ℕ → Report → Type 0) (Refuses : List ℕ → Option (List ℕ) → ℕ → Type 0) : Type 0 where
   pub reports : (held : Held) (input : List ℕ) (r : Report) → FoundReports Says (ask held) input r → Reports command held input r
-  pub fits : (held : Held) (input : Option (List ℕ)) (bytes : List ℕ) (status : ℕ) → ask held ≡ Ok bytes → SaysWhy status ⊥ (unfit bytes) → Why command held input status
+  pub fits : (held : Held) (input : Option (List ℕ)) (bytes : List ℕ) (status : ℕ) → ask held ≡ Ok bytes → SaysWhyBy status ⊥ (Refuses bytes input status) → Why command held input status
   pub lacks : (held : Held) (input : Option (List ℕ)) (refusal : Refusal) → ask held ≡ Err refusal → Why command held input refusal.status
   pub some : command ≡ None → ⊥
 
@@ -53,11 +53,11 @@ reported : (result : Result ℕ Stop) → IfOk result IsOfCommand → IfOk resul
 reported (Ok s) of = IsOfCommand.reported of
 reported (Err stop) of = tt
 
-why_all : (command : Option Command) (held : Option Held) (input : Option (List ℕ)) (lacks unfit : Type 0) (result : Result ℕ Stop)
-    → ((s : ℕ) → SaysWhy s lacks unfit → IfSome held (λ files. Why command files input s))
-    → IfOk result (λ s. SaysWhy s lacks unfit) → IfOk result (λ s. IfSome held (λ files. Why command files input s))
-why_all command held input lacks unfit (Ok s) f w = f s w
-why_all command held input lacks unfit (Err stop) f w = tt
+why_all : (command : Option Command) (held : Option Held) (input : Option (List ℕ)) (Says : ℕ → Type 0) (result : Result ℕ Stop)
+    → ((s : ℕ) → Says s → IfSome held (λ files. Why command files input s))
+    → IfOk result Says → IfOk result (λ s. IfSome held (λ files. Why command files input s))
+why_all command held input Says (Ok s) f w = f s w
+why_all command held input Says (Err stop) f w = tt
 
 -- what was asked of the files stays so, whatever the call does next
 asked_bytes : (command : Option Command) (ended : Type 0) (files files' : FileState) (result : Result ℕ Stop) → ended
@@ -75,9 +75,9 @@ asked_fault : (command : Option Command) (ended : Type 0) (files files' : FileSt
 asked_fault command ended files files' text status result before now f g did asked a =
     asks_more (files_named command) ended (status ≡ FILE_UNAVAILABLE) (IsOk result) (CallLacks result) files files' (λ _. did) (lacks_call text status result before now f g a) asked
 
-module _ (command : Option Command) (ask : Held → Result (List ℕ) Refusal) (Says : List ℕ → List ℕ → Report → Type 0) (unfit : List ℕ → Type 0)
-    (asks : Asks command ask Says unfit) where
-  why_found : (held : Option Held) (input : Option (List ℕ)) (bytes : List ℕ) → IfSome held (λ h. ask h ≡ Ok bytes) → (s : ℕ) → SaysWhy s ⊥ (unfit bytes)
+module _ (command : Option Command) (ask : Held → Result (List ℕ) Refusal) (Says : List ℕ → List ℕ → Report → Type 0) (Refuses : List ℕ → Option (List ℕ) → ℕ → Type 0)
+    (asks : Asks command ask Says Refuses) where
+  why_found : (held : Option Held) (input : Option (List ℕ)) (bytes : List ℕ) → IfSome held (λ h. ask h ≡ Ok bytes) → (s : ℕ) → SaysWhyBy s ⊥ (Refuses bytes input s)
       → IfSome held (λ h. Why command h input s)
   why_found None input bytes e s w = tt
   why_found (Some h) input bytes e s w = asks.fits h input bytes s e w
@@ -92,11 +92,11 @@ module _ (command : Option Command) (ask : Held → Result (List ℕ) Refusal) (
   -- ---- commands that run bytes: the bytes are there
   pub does_bytes : (reads : Reads command) (files files' : FileState) (old new : Streams) (result : Result ℕ Stop) (bytes : List ℕ)
       → IfSome files.held (λ held. ask held ≡ Ok bytes) → files'.faults ≡ files.faults → (ended : Type 0) → ended → AsksFor (files_named command) ended ⊥ files files'
-      → Yields (Says bytes) (unfit bytes) old new result → Does command files files' old new result
+      → YieldsBy (Says bytes) (Refuses bytes) old new result → Does command files files' old new result
   does_bytes reads files files' old new result bytes found same ended did asked y = record {
     whole = reads (λ held b left. IfOk result (λ s. DoesWhole (Reports command held b) s left old.output new.output)) files.held old.input new.input (whole files.held found);
     part = reads (λ held b left. DoesPart (Reports command held b) old.output new.output) files.held old.input new.input (part files.held found);
-    why = why_all command files.held old.input ⊥ (unfit bytes) result (λ s w. why_found files.held old.input bytes found s w) y.why;
+    why = why_all command files.held old.input (λ s. SaysWhyBy s ⊥ (Refuses bytes old.input s)) result (λ s w. why_found files.held old.input bytes found s w) y.why;
     read = λ e. inr (y.read e);
     write = y.write;
     memory = λ e. (same, y.memory e);
@@ -149,14 +149,14 @@ module _ (command : Option Command) (ask : Held → Result (List ℕ) Refusal) (
   pub keeps_bytes : (leaves : LeavesInput command) (files files' : FileState) (input before now : Option (List ℕ)) (i f g : ℕ) (result : Result ℕ Stop) (bytes : List ℕ)
       → IfSome files.held (λ held. ask held ≡ Ok bytes) → files'.faults ≡ files.faults
       → (ended : Type 0) → ended → AsksFor (files_named command) ended ⊥ files files'
-      → ((input : Option (List ℕ)) (i : ℕ) → Yields (Says bytes) (unfit bytes) (streams input i before f) (streams input i now g) result)
+      → ((input : Option (List ℕ)) (i : ℕ) → YieldsBy (Says bytes) (Refuses bytes) (streams input i before f) (streams input i now g) result)
       → Does command files files' (streams input i before f) (streams input i now g) result
   keeps_bytes leaves files files' input before now i f g result bytes found same ended did asked y =
       let one = y input i in
       record {
         whole = leaves (λ held b left. IfOk result (λ s. DoesWhole (Reports command held b) s left before now)) files.held input (whole files.held found);
         part = leaves (λ held b left. DoesPart (Reports command held b) before now) files.held input (part files.held found);
-        why = why_all command files.held input ⊥ (unfit bytes) result (λ s w. why_found files.held input bytes found s w) one.why;
+        why = why_all command files.held input (λ s. SaysWhyBy s ⊥ (Refuses bytes input s)) result (λ s w. why_found files.held input bytes found s w) one.why;
         read = λ e. inr (one.read e);
         write = one.write;
         memory = λ e. (same, one.memory e);
@@ -213,7 +213,7 @@ program_does number functions files input before now i f g result y =
     record {
       whole = (refl, λ held b. (y (Some b) i).whole);
       part = (refl, λ held b. (y (Some b) i).part);
-      why = why_all (Some (GenerateProgram number functions)) files.held input ⊥ (IsUnfitProgram number functions) result (λ s w. why files.held s w) one.why;
+      why = why_all (Some (GenerateProgram number functions)) files.held input (λ s. SaysWhy s ⊥ (IsUnfitProgram number functions)) result (λ s w. why files.held s w) one.why;
       read = λ e. inr (one.read e);
       write = one.write;
       memory = λ e. (refl, one.memory e);

@@ -11,6 +11,7 @@ mod FlatReports
 mod SameRuns
 mod RunReports
 mod WalkReports
+mod ForceReports
 mod Judging
 mod Doing
 mod Runners

@@ -8,8 +8,8 @@ use Rattle.frame_check.specs.Accepts.{Accepted}
 use Rattle.thumb_core.specs.declared.ends.End.{End}
 use Rattle.ehabi_top.specs.BothRuns.{bytes_run, recorded_run, bytes_events, recorded_events, HaveSameEvents, RunSame, SlotsStay}
 use Rattle.ehabi_top.specs.RunReport.{RunsAccepted, accepted_report, recorded_report, run_report}
-use Rattle.ehabi_top.specs.TaskReport.{DoesTask, TaskReports}
-use Rattle.ehabi_top.specs.Yields.{Streams, Yields}
+use Rattle.ehabi_top.specs.TaskReport.{DoesTask, TaskReports, TaskPins, PinsTask}
+use Rattle.ehabi_top.specs.Yields.{Streams, YieldsBy}
 use Rattle.ehabi_top.specs.declared.words.Request.{Request}
 use Rattle.ehabi_top.specs.declared.words.Task.{Task}
 use Rattle.ehabi_top.specs.declared.stop.Stop.{Stop}
@@ -28,5 +28,5 @@ run_accepted budget a input same guarded = record {
 
 -- what is asked, by its task
 pub does_task : (request : Request) (a : Accepted) (old new : Streams) (result : Result ℕ Stop) (task : Task) → request.task ≡ task
-    → Yields (TaskReports task request.budget a) ⊥ old new result → Yields (DoesTask request a) ⊥ old new result
-does_task request a old new result task e y = subst (λ (t : Task). Yields (TaskReports t request.budget a) ⊥ old new result) (sym e) y
+    → YieldsBy (TaskReports task request.budget a) (TaskPins task request.budget a) old new result → YieldsBy (DoesTask request a) (PinsTask request a) old new result
+does_task request a old new result task e y = subst (λ (t : Task). YieldsBy (TaskReports t request.budget a) (TaskPins t request.budget a) old new result) (sym e) y

@@ -12,11 +12,11 @@ use Rattle.ehabi_top.specs.Building.{built, files_of, image_bytes, bytes_of_buil
 use Rattle.ehabi_top.specs.CheckReport.{ChecksAccepted}
 use Rattle.ehabi_top.specs.Finding.{FoundReports, bytes_of_answer, file_bytes, found_report}
 use Rattle.ehabi_top.specs.FlatReport.{IsTooLarge, code_report, flat_report}
-use Rattle.ehabi_top.specs.Loading.{Report, SaysWhy, IsUnavailable}
-use Rattle.ehabi_top.specs.TaskReport.{RunBytesReports}
-use Rattle.ehabi_top.specs.Yields.{Only}
+use Rattle.ehabi_top.specs.Loading.{Report, SaysWhyBy, IsUnavailable}
+use Rattle.ehabi_top.specs.TaskReport.{RunBytesReports, RunBytesRefuse}
+use Rattle.ehabi_top.specs.Yields.{Only, RefusedOf}
 use Rattle.ehabi_top.specs.Sources.{NamedText, Refusal}
-use Rattle.ehabi_top.specs.Unfit.{HoldsUnfit}
+use Rattle.ehabi_top.specs.Unfit.{RefusedHeld}
 use Rattle.ehabi_top.specs.Words.{FlatFile, BuildSources, CheckFile, CheckSources, RunFile, RunSources}
 use Rattle.ehabi_top.proofs.Doing.{Held, Asks, Reads, LeavesInput}
 use Rattle.ehabi_top.proofs.Statuses.{says_unavailable, built_fits, built_refused}
@@ -36,15 +36,15 @@ pub file_told : (name : List ℕ) (answer : FileAnswer) (held : Option Held) →
 file_told name answer None e = tt
 file_told name answer (Some h) e = file_is name h ∙ ap (bytes_of_answer name) (sym e)
 
-module _ (unfit : List ℕ → Type 0) (name : List ℕ) where
-  answer_fits : (answer : FileAnswer) (bytes : List ℕ) (s : ℕ) → bytes_of_answer name answer ≡ Ok bytes → SaysWhy s ⊥ (unfit bytes) → SaysWhy s (IsUnavailable answer) (HoldsUnfit unfit answer)
+module _ (refuses : List ℕ → Option (List ℕ) → ℕ → Type 0) (name : List ℕ) (input : Option (List ℕ)) where
+  answer_fits : (answer : FileAnswer) (bytes : List ℕ) (s : ℕ) → bytes_of_answer name answer ≡ Ok bytes → SaysWhyBy s ⊥ (refuses bytes input s) → SaysWhyBy s (IsUnavailable answer) (RefusedHeld refuses answer input s)
   answer_fits (Found found) bytes s e w =
       let is : found ≡ bytes = cc in
       rw is (record { missing = w.missing; refused = w.refused })
   answer_fits Missing bytes s e w = absurd (cc)
   answer_fits TooLong bytes s e w = absurd (cc)
 
-  answer_lacks : (answer : FileAnswer) (refusal : Refusal) → bytes_of_answer name answer ≡ Err refusal → SaysWhy refusal.status (IsUnavailable answer) (HoldsUnfit unfit answer)
+  answer_lacks : (answer : FileAnswer) (refusal : Refusal) → bytes_of_answer name answer ≡ Err refusal → SaysWhyBy refusal.status (IsUnavailable answer) (RefusedHeld refuses answer input refusal.status)
   answer_lacks (Found found) refusal e = absurd (cc)
   answer_lacks Missing refusal e =
       let is : FILE_UNAVAILABLE ≡ refusal.status = ap (λ (r : Result (List ℕ) Refusal). status_in r) e in
@@ -53,12 +53,12 @@ module _ (unfit : List ℕ → Type 0) (name : List ℕ) where
       let is : FILE_UNAVAILABLE ≡ refusal.status = ap (λ (r : Result (List ℕ) Refusal). status_in r) e in
       rw (← is) (says_unavailable (Unit {0}) ⊥ tt (λ u. u))
 
-  file_fits : (held : Held) (bytes : List ℕ) (s : ℕ) → file_bytes name held ≡ Ok bytes → SaysWhy s ⊥ (unfit bytes)
-      → SaysWhy s (IsUnavailable (answer_of held name FILE_LIMIT)) (HoldsUnfit unfit (answer_of held name FILE_LIMIT))
+  file_fits : (held : Held) (bytes : List ℕ) (s : ℕ) → file_bytes name held ≡ Ok bytes → SaysWhyBy s ⊥ (refuses bytes input s)
+      → SaysWhyBy s (IsUnavailable (answer_of held name FILE_LIMIT)) (RefusedHeld refuses (answer_of held name FILE_LIMIT) input s)
   file_fits held bytes s e w = answer_fits (answer_of held name FILE_LIMIT) bytes s (sym (file_is name held) ∙ e) w
 
   file_lacks : (held : Held) (refusal : Refusal) → file_bytes name held ≡ Err refusal
-      → SaysWhy refusal.status (IsUnavailable (answer_of held name FILE_LIMIT)) (HoldsUnfit unfit (answer_of held name FILE_LIMIT))
+      → SaysWhyBy refusal.status (IsUnavailable (answer_of held name FILE_LIMIT)) (RefusedHeld refuses (answer_of held name FILE_LIMIT) input refusal.status)
   file_lacks held refusal e = answer_lacks (answer_of held name FILE_LIMIT) refusal (sym (file_is name held) ∙ e)
 
 -- what is made of bytes is a report by itself
@@ -70,33 +70,33 @@ flat_at : (name : List ℕ) (budget : ℕ) (held : Held) (input : List ℕ) → 
 unfolding flat_report
 flat_at name budget held input = refl
 
-pub flat_asks : (name : List ℕ) (budget : ℕ) → Asks (Some (FlatFile name budget)) (file_bytes name) (λ code. Only (code_report budget code)) IsTooLarge
+pub flat_asks : (name : List ℕ) (budget : ℕ) → Asks (Some (FlatFile name budget)) (file_bytes name) (λ code. Only (code_report budget code)) (RefusedOf IsTooLarge)
 flat_asks name budget = record {
   reports = λ held input r h. only_found (code_report budget) (file_bytes name held) input r h ∙ sym (flat_at name budget held input);
-  fits = λ held input bytes s e w. let v = file_fits IsTooLarge name held bytes s e w in record { missing = v.missing; refused = v.refused };
-  lacks = λ held input refusal e. let v = file_lacks IsTooLarge name held refusal e in record { missing = v.missing; refused = v.refused };
+  fits = λ held input bytes s e w. let v = file_fits (RefusedOf IsTooLarge) name input held bytes s e w in record { missing = v.missing; refused = v.refused };
+  lacks = λ held input refusal e. let v = file_lacks (RefusedOf IsTooLarge) name input held refusal e in record { missing = v.missing; refused = v.refused };
   some = λ e. cc;
 }
 
 pub flat_reads : (name : List ℕ) (budget : ℕ) → Reads (Some (FlatFile name budget))
 flat_reads name budget P files input left h = h
 
-pub run_asks : (name : List ℕ) (request : Request) → Asks (Some (RunFile name request)) (file_bytes name) (RunBytesReports request) IsUnaccepted
+pub run_asks : (name : List ℕ) (request : Request) → Asks (Some (RunFile name request)) (file_bytes name) (RunBytesReports request) (RunBytesRefuse request)
 run_asks name request = record {
   reports = λ held input r h. h;
-  fits = λ held input bytes s e w. let v = file_fits IsUnaccepted name held bytes s e w in record { missing = v.missing; refused = v.refused };
-  lacks = λ held input refusal e. let v = file_lacks IsUnaccepted name held refusal e in record { missing = v.missing; refused = v.refused };
+  fits = λ held input bytes s e w. let v = file_fits (RunBytesRefuse request) name input held bytes s e w in record { missing = v.missing; refused = v.refused };
+  lacks = λ held input refusal e. let v = file_lacks (RunBytesRefuse request) name input held refusal e in record { missing = v.missing; refused = v.refused };
   some = λ e. cc;
 }
 
 pub run_reads : (name : List ℕ) (request : Request) → Reads (Some (RunFile name request))
 run_reads name request P files input left h = h
 
-pub check_asks : (name : List ℕ) → Asks (Some (CheckFile name)) (file_bytes name) (BytesReportsBy ChecksAccepted) IsUnaccepted
+pub check_asks : (name : List ℕ) → Asks (Some (CheckFile name)) (file_bytes name) (BytesReportsBy ChecksAccepted) (RefusedOf IsUnaccepted)
 check_asks name = record {
   reports = λ held input r h. h;
-  fits = λ held input bytes s e w. let v = file_fits IsUnaccepted name held bytes s e w in record { missing = v.missing; refused = v.refused };
-  lacks = λ held input refusal e. let v = file_lacks IsUnaccepted name held refusal e in record { missing = v.missing; refused = v.refused };
+  fits = λ held input bytes s e w. let v = file_fits (RefusedOf IsUnaccepted) name input held bytes s e w in record { missing = v.missing; refused = v.refused };
+  lacks = λ held input refusal e. let v = file_lacks (RefusedOf IsUnaccepted) name input held refusal e in record { missing = v.missing; refused = v.refused };
   some = λ e. cc;
 }
 
@@ -124,33 +124,33 @@ build_at : (names : List (List ℕ)) (held : Held) (input : List ℕ) → build_
 unfolding build_report
 build_at names held input = refl
 
-pub build_asks : (names : List (List ℕ)) → Asks (Some (BuildSources names)) (image_bytes names) (λ bytes. Only (plain_report bytes)) IsUnwritten
+pub build_asks : (names : List (List ℕ)) → Asks (Some (BuildSources names)) (image_bytes names) (λ bytes. Only (plain_report bytes)) (RefusedOf IsUnwritten)
 build_asks names = record {
   reports = λ held input r h. only_found plain_report (image_bytes names held) input r h ∙ sym (build_at names held input);
-  fits = λ held input bytes s e w. let v = built_fits IsUnwritten (files_of held names) bytes s (sym (bytes_is names held) ∙ e) w in record { missing = v.missing; refused = v.refused };
-  lacks = λ held input refusal e. let v = built_refused IsUnwritten (files_of held names) refusal (sym (bytes_is names held) ∙ e) in record { missing = v.missing; refused = v.refused };
+  fits = λ held input bytes s e w. let v = built_fits (RefusedOf IsUnwritten) input (files_of held names) bytes s (sym (bytes_is names held) ∙ e) w in record { missing = v.missing; refused = v.refused };
+  lacks = λ held input refusal e. let v = built_refused (RefusedOf IsUnwritten) input (files_of held names) refusal (sym (bytes_is names held) ∙ e) in record { missing = v.missing; refused = v.refused };
   some = λ e. cc;
 }
 
 pub build_leaves : (names : List (List ℕ)) → LeavesInput (Some (BuildSources names))
 build_leaves names P files input h = (refl, h)
 
-pub sources_asks : (names : List (List ℕ)) (request : Request) → Asks (Some (RunSources names request)) (image_bytes names) (RunBytesReports request) IsUnaccepted
+pub sources_asks : (names : List (List ℕ)) (request : Request) → Asks (Some (RunSources names request)) (image_bytes names) (RunBytesReports request) (RunBytesRefuse request)
 sources_asks names request = record {
   reports = λ held input r h. h;
-  fits = λ held input bytes s e w. let v = built_fits IsUnaccepted (files_of held names) bytes s (sym (bytes_is names held) ∙ e) w in record { missing = v.missing; refused = v.refused };
-  lacks = λ held input refusal e. let v = built_refused IsUnaccepted (files_of held names) refusal (sym (bytes_is names held) ∙ e) in record { missing = v.missing; refused = v.refused };
+  fits = λ held input bytes s e w. let v = built_fits (RunBytesRefuse request) input (files_of held names) bytes s (sym (bytes_is names held) ∙ e) w in record { missing = v.missing; refused = v.refused };
+  lacks = λ held input refusal e. let v = built_refused (RunBytesRefuse request) input (files_of held names) refusal (sym (bytes_is names held) ∙ e) in record { missing = v.missing; refused = v.refused };
   some = λ e. cc;
 }
 
 pub sources_reads : (names : List (List ℕ)) (request : Request) → Reads (Some (RunSources names request))
 sources_reads names request P files input left h = h
 
-pub check_sources_asks : (names : List (List ℕ)) → Asks (Some (CheckSources names)) (image_bytes names) (BytesReportsBy ChecksAccepted) IsUnaccepted
+pub check_sources_asks : (names : List (List ℕ)) → Asks (Some (CheckSources names)) (image_bytes names) (BytesReportsBy ChecksAccepted) (RefusedOf IsUnaccepted)
 check_sources_asks names = record {
   reports = λ held input r h. h;
-  fits = λ held input bytes s e w. let v = built_fits IsUnaccepted (files_of held names) bytes s (sym (bytes_is names held) ∙ e) w in record { missing = v.missing; refused = v.refused };
-  lacks = λ held input refusal e. let v = built_refused IsUnaccepted (files_of held names) refusal (sym (bytes_is names held) ∙ e) in record { missing = v.missing; refused = v.refused };
+  fits = λ held input bytes s e w. let v = built_fits (RefusedOf IsUnaccepted) input (files_of held names) bytes s (sym (bytes_is names held) ∙ e) w in record { missing = v.missing; refused = v.refused };
+  lacks = λ held input refusal e. let v = built_refused (RefusedOf IsUnaccepted) input (files_of held names) refusal (sym (bytes_is names held) ∙ e) in record { missing = v.missing; refused = v.refused };
   some = λ e. cc;
 }
 

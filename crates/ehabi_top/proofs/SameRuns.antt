@@ -1,17 +1,22 @@
 -- A run of an accepted image over bytes is its run with recorded activations.
-use Rattle.std.proofs.Common.{◌≡◌, ap, subst}
+use Rattle.std.proofs.Common.{◌≡◌, ◌<◌, ◌^◌, ℕ, List, ap, subst}
 use Rattle.eh_bus.specs.Map.{IsMap}
 use Rattle.eh_bus.specs.Memory.{Memory}
 use Rattle.eh_gates.specs.State.{State}
 use Rattle.two_machines.specs.Checked.{program_of}
 use Rattle.two_machines.specs.Start.{start_of}
+use Rattle.two_machines.specs.Machine.{machine_of}
+use Rattle.two_machines.specs.ActivationMachine.{recorded_machine}
+use Rattle.event_runs.specs.Laws.{SameRan}
+use Rattle.event_runs.specs.Runs.{ran_of}
 use Rattle.elf_image.specs.Image.{IsSound as IsImage}
 use Rattle.frame_check.specs.Accepts.{Accepted, IsSound}
-use Rattle.stands_for.specs.Stands.{IsProgram}
+use Rattle.stands_for.specs.Stands.{IsProgram, StandsFor}
 use Rattle.machines_agree.specs.Turned.{RunsSame, RunsGuard}
-use Rattle.eh_walk.specs.Laws.{ReachesSame, WalksSame}
+use Rattle.eh_walk.specs.Laws.{ReachesSame, ReachesLeaveBytes, WalksSame, ForcingsSame, GoingOnSame}
 use Rattle.ehabi_top.specs.BothRuns.{RunSame, SlotsStay}
-use Rattle.ehabi_top.specs.WalkReport.{WalkSame}
+use Rattle.ehabi_top.specs.ForceReport.{ForcesSame, forced_type, bytes_forced, activations_forced}
+use Rattle.ehabi_top.specs.WalkReport.{WalkSame, bytes_to_site, recorded_to_site}
 
 pub program_here : (a : Accepted) (m : Memory) → IsImage a.image → IsSound a → IsMap m → m ≡ (start_of (program_of a)).memory → IsProgram a
 program_here a m image sound map e = record { image = image; sound = sound; map = subst (λ (n : Memory). IsMap n) e map }
@@ -33,4 +38,21 @@ walk_same a is reaches walks budget input bytes =
       left = w.left;
       spare = w.spare;
       state = record { events = ap (λ (s : State). s.events) w.state.stands.same; walks = walks a _ _ is w.state.stands };
+    }
+
+pub forces_same : (a : Accepted) → IsProgram a → forced_type a.image < 2 ^ 32 → ReachesSame → ReachesLeaveBytes → ForcingsSame → GoingOnSame → ForcesSame a
+forces_same a is fits reaches leaves forces goes number budget input bytes =
+    let w = reaches a budget input is bytes in
+    let f = forces a (bytes_to_site budget a input).state.state (recorded_to_site budget a input).state.state number (forced_type a.image) is w.state.stands fits in
+    record {
+      reaches = w;
+      answer = f.answer;
+      events = ap (λ (s : State). s.events) f.stands.same;
+      goes = λ n.
+          subst
+          (λ (left : List ℕ).
+          SameRan (StandsFor a) (ran_of (machine_of (program_of a)) n (bytes_forced number a (bytes_to_site budget a input).state.state).1 (bytes_to_site budget a input).left)
+          (ran_of (recorded_machine (program_of a)) n (activations_forced number a (recorded_to_site budget a input).state.state).1 left))
+          w.left
+          (goes a n _ _ (bytes_to_site budget a input).left is f.stands (leaves a budget input is bytes));
     }

@@ -1,14 +1,14 @@
 -- What the status of a command says.
 use Rattle.std.specs.Prelude.{◌==◌, if◌then◌else◌, IsErr}
-use Rattle.std.proofs.Common.{◌≡◌, ℕ, ◌<◌, List, Result, Ok, Err, Bool, true, false, refl, arith}
+use Rattle.std.proofs.Common.{◌≡◌, ℕ, ◌<◌, List, Option, Result, Ok, Err, Bool, true, false, refl, arith}
 use Rattle.guest_gates.specs.Ends.{is_fault}
 use Rattle.thumb_core.specs.declared.ends.End.{End}
 use Rattle.thumb_core.specs.declared.ends.End.TheVariants.{Exit, Terminate, Trap, Budget, ReadFault, WriteFault}
 use Rattle.ehabi_top.specs.declared.status.TheConstants.{DONE, EXIT_NONZERO, USAGE, REFUSED, FILE_UNAVAILABLE}
 use Rattle.ehabi_top.specs.Building.{built, bytes_of_built, bytes_of_found}
-use Rattle.ehabi_top.specs.Loading.{SaysWhy, IsReported, IsOfCommand, is_conclusive, status_of}
+use Rattle.ehabi_top.specs.Loading.{SaysWhy, SaysWhyBy, IsReported, IsOfCommand, is_conclusive, status_of}
 use Rattle.ehabi_top.specs.Sources.{NamedText, Refusal}
-use Rattle.ehabi_top.specs.Unfit.{IsUnfitImage, BuildsUnfit}
+use Rattle.ehabi_top.specs.Unfit.{RefusedBuilt, RefusedSources}
 
 pub says_unavailable : (lacks unfit : Type 0) → lacks → (unfit → ⊥) → SaysWhy FILE_UNAVAILABLE lacks unfit
 says_unavailable lacks unfit l n = record { missing = ((λ _. l), (λ _. refl)); refused = ((λ h. absurd (omega arith)), (λ u. absurd (n u))) }
@@ -18,6 +18,10 @@ says_unfit lacks unfit n u = record { missing = ((λ h. absurd (omega arith)), (
 
 pub says_fine : (status : ℕ) (lacks unfit : Type 0) → (status ≡ FILE_UNAVAILABLE → ⊥) → (status ≡ REFUSED → ⊥) → (lacks → ⊥) → (unfit → ⊥) → SaysWhy status lacks unfit
 says_fine status lacks unfit ten three n m = record { missing = ((λ h. absurd (ten h)), (λ l. absurd (n l))); refused = ((λ h. absurd (three h)), (λ u. absurd (m u))) }
+
+-- it is the status of a refusal, and this is told of it
+pub says_refused : (told : Type 0) → told → SaysWhyBy REFUSED ⊥ told
+says_refused told t = record { missing = ((λ h. absurd (omega arith)), (λ l. absurd l)); refused = t }
 
 -- nothing is refused
 pub done_says : (unfit : Type 0) → (unfit → ⊥) → SaysWhy DONE ⊥ unfit
@@ -76,29 +80,29 @@ says_end end unfit fine n = let s = end_of_run end fine in says_fine (status_of 
 
 -- ---- what the bytes of an image say of the files
 
-module _ (unfit : List ℕ → Type 0) where
-  line_refused : (answer : Result (List ℕ) (List ℕ)) (refusal : Refusal) → bytes_of_built answer ≡ Err refusal → SaysWhy refusal.status ⊥ (IsUnfitImage unfit answer)
+module _ (refuses : List ℕ → Option (List ℕ) → ℕ → Type 0) (input : Option (List ℕ)) where
+  line_refused : (answer : Result (List ℕ) (List ℕ)) (refusal : Refusal) → bytes_of_built answer ≡ Err refusal → SaysWhyBy refusal.status ⊥ (RefusedBuilt refuses answer input refusal.status)
   line_refused (Ok bytes) refusal e = absurd (cc)
   line_refused (Err line) refusal e =
       let is : refusal ≡ record { status = REFUSED; line = line } = cc in
       rw is (says_unfit ⊥ (Unit {0}) (λ l. l) tt)
 
-  bytes_fit : (answer : Result (List ℕ) (List ℕ)) (bytes : List ℕ) (s : ℕ) → bytes_of_built answer ≡ Ok bytes → SaysWhy s ⊥ (unfit bytes) → SaysWhy s ⊥ (IsUnfitImage unfit answer)
+  bytes_fit : (answer : Result (List ℕ) (List ℕ)) (bytes : List ℕ) (s : ℕ) → bytes_of_built answer ≡ Ok bytes → SaysWhyBy s ⊥ (refuses bytes input s) → SaysWhyBy s ⊥ (RefusedBuilt refuses answer input s)
   bytes_fit (Ok found) bytes s e w =
       let is : found ≡ bytes = cc in
       rw is w
   bytes_fit (Err line) bytes s e w = absurd (cc)
 
   -- the files are there
-  all_there : (lacks : Type 0) (s : ℕ) (U : Type 0) → (lacks → ⊥) → SaysWhy s ⊥ U → SaysWhy s lacks U
+  all_there : (lacks : Type 0) (s : ℕ) (U : Type 0) → (lacks → ⊥) → SaysWhyBy s ⊥ U → SaysWhyBy s lacks U
   all_there lacks s U n w = record { missing = ((λ h. absurd (w.missing.0 h)), (λ l. absurd (n l))); refused = w.refused }
 
-  pub built_refused : (found : Result (List NamedText) (List ℕ)) (refusal : Refusal) → bytes_of_found found ≡ Err refusal → SaysWhy refusal.status (IsErr found) (BuildsUnfit unfit found)
+  pub built_refused : (found : Result (List NamedText) (List ℕ)) (refusal : Refusal) → bytes_of_found found ≡ Err refusal → SaysWhyBy refusal.status (IsErr found) (RefusedSources refuses found input refusal.status)
   built_refused (Ok sources) refusal e = all_there _ refusal.status _ (λ l. cc) (line_refused (built sources) refusal e)
   built_refused (Err line) refusal e =
       let is : refusal ≡ record { status = FILE_UNAVAILABLE; line = line } = cc in
       rw is (says_unavailable _ ⊥ refl (λ u. u))
 
-  pub built_fits : (found : Result (List NamedText) (List ℕ)) (bytes : List ℕ) (s : ℕ) → bytes_of_found found ≡ Ok bytes → SaysWhy s ⊥ (unfit bytes) → SaysWhy s (IsErr found) (BuildsUnfit unfit found)
+  pub built_fits : (found : Result (List NamedText) (List ℕ)) (bytes : List ℕ) (s : ℕ) → bytes_of_found found ≡ Ok bytes → SaysWhyBy s ⊥ (refuses bytes input s) → SaysWhyBy s (IsErr found) (RefusedSources refuses found input s)
   built_fits (Ok sources) bytes s e w = all_there _ s _ (λ l. cc) (bytes_fit (built sources) bytes s e w)
   built_fits (Err line) bytes s e w = absurd (cc)

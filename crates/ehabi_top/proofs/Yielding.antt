@@ -1,5 +1,5 @@
 -- Reports of an input, from what the parts of a call have done. Nothing here knows a command.
-use Rattle.std.proofs.Common.{◌≡◌, ◌⊎◌, inl, inr, ℕ, ◌≤◌, List, Option, Some, None, IfSome, Result, Ok, Err, Bool, true, false, refl, sym, ◌∙◌, arith}
+use Rattle.std.proofs.Common.{◌≡◌, ◌⊎◌, inl, inr, ℕ, ◌≤◌, List, ◌++◌, Option, Some, None, IfSome, Result, Ok, Err, Bool, true, false, refl, sym, ◌∙◌, arith}
 use Rattle.std.specs.Bool.{OnFalse, OnTrue}
 use Rattle.std.specs.Prelude.{IfOk}
 use Rattle.std.proofs.KnownBytes.{Appends-trans, Keeps-refl}
@@ -11,15 +11,16 @@ use Rattle.guest_gates.specs.Ends.{is_fault}
 use Rattle.thumb_core.specs.declared.ends.End.{End}
 use Rattle.thumb_core.specs.declared.ends.End.TheVariants.{Exit, Terminate, Trap, Budget, ReadFault, WriteFault}
 use Rattle.eh_gates.specs.State.{State}
-use Rattle.eh_walk.specs.Reaching.{RunsToSite, at_left, most_events, site_machine}
+use Rattle.eh_walk.specs.Reaching.{RunsToSite, after, most_events, site_machine}
 use Rattle.two_machines.specs.Machine.{machine_of}
 use Rattle.two_machines.specs.Program.{Program}
 use Rattle.ehabi_top.specs.declared.stop.Stop.{Stop}
 use Rattle.ehabi_top.specs.declared.stop.Stop.TheVariants.{Read, Write, Memory}
-use Rattle.ehabi_top.specs.Loading.{Report, Closing, SaysWhy, IsOfCommand, closed_report, stop_of_fault}
+use Rattle.ehabi_top.specs.Loading.{Report, Closing, SaysWhy, SaysWhyBy, IsOfCommand, closed_report, stop_of_fault}
 use Rattle.ehabi_top.specs.Writes.{Answers, AnswersRun, Stopped}
-use Rattle.ehabi_top.specs.Yields.{Streams, streams, DoesWhole, DoesPart, Yields}
-use Rattle.ehabi_top.proofs.Statuses.{says_fine, IsOfRun}
+use Rattle.ehabi_top.specs.Yields.{Streams, streams, DoesWhole, DoesPart, YieldsBy, Yields, RefusedWhere}
+use Rattle.ehabi_top.specs.declared.status.TheConstants.{REFUSED}
+use Rattle.ehabi_top.proofs.Statuses.{IsOfRun}
 
 -- ---- a call that ended with a text
 
@@ -65,19 +66,26 @@ not_read stop e h = cc
 not_memory : (stop : Stop) → stop ≡ Memory → stop ≡ Write → ⊥
 not_memory stop e h = cc
 
-pub yields_answer : (Says : List ℕ → Report → Type 0) (unfit : Type 0) (text : List ℕ) (status : ℕ) (result : Result ℕ Stop) (input before now : Option (List ℕ)) (i f g : ℕ)
-    → ((b : List ℕ) → Says b (record { text = text; status = status; left = b })) → SaysWhy status ⊥ unfit → IsOfCommand status
+pub yields_answer_by : (Says : List ℕ → Report → Type 0) (Refuses : Option (List ℕ) → ℕ → Type 0) (text : List ℕ) (status : ℕ) (result : Result ℕ Stop) (input before now : Option (List ℕ)) (i f g : ℕ)
+    → ((b : List ℕ) → Says b (record { text = text; status = status; left = b })) → SaysWhyBy status ⊥ (Refuses input status) → IsOfCommand status
     → Answers text status result before now f g
-    → Yields Says unfit (streams input i before f) (streams input i now g) result
-yields_answer Says unfit text status result input before now i f g is why of a = record {
+    → YieldsBy Says Refuses (streams input i before f) (streams input i now g) result
+yields_answer_by Says Refuses text status result input before now i f g is why of a = record {
   whole = told_whole Says text status result input before now f g is a;
   part = told_part Says text status result input before now f g is a;
-  why = of_status (λ s. SaysWhy s ⊥ unfit) text status result before now f g why a;
+  why = of_status (λ s. SaysWhyBy s ⊥ (Refuses input s)) text status result before now f g why a;
   read = λ e. absurd (not_read Read refl (only_write text status result Read before now f g a e).0);
   write = λ e. (only_write text status result Write before now f g a e).1;
   memory = λ e. absurd (not_memory Memory refl (only_write text status result Memory before now f g a e).0);
   status = of_status IsOfCommand text status result before now f g of a;
 }
+
+pub yields_answer : (Says : List ℕ → Report → Type 0) (unfit : Type 0) (text : List ℕ) (status : ℕ) (result : Result ℕ Stop) (input before now : Option (List ℕ)) (i f g : ℕ)
+    → ((b : List ℕ) → Says b (record { text = text; status = status; left = b })) → SaysWhy status ⊥ unfit → IsOfCommand status
+    → Answers text status result before now f g
+    → Yields Says unfit (streams input i before f) (streams input i now g) result
+yields_answer Says unfit text status result input before now i f g is why of a =
+    yields_answer_by Says (RefusedWhere unfit) text status result input before now i f g is why of a
 
 -- ---- a call that found no memory, and did nothing
 
@@ -89,9 +97,9 @@ none_part : (Says : List ℕ → Report → Type 0) (input before : Option (List
 none_part Says None before = tt
 none_part Says (Some b) before = inl (Keeps-refl before)
 
-pub yields_memory : (Says : List ℕ → Report → Type 0) (unfit : Type 0) (input before : Option (List ℕ)) (i f : ℕ)
-    → Yields Says unfit (streams input i before f) (streams input i before f) (Err Memory)
-yields_memory Says unfit input before i f = record {
+pub yields_memory_by : (Says : List ℕ → Report → Type 0) (Refuses : Option (List ℕ) → ℕ → Type 0) (input before : Option (List ℕ)) (i f : ℕ)
+    → YieldsBy Says Refuses (streams input i before f) (streams input i before f) (Err Memory)
+yields_memory_by Says Refuses input before i f = record {
   whole = none_whole Says Memory input input before before;
   part = none_part Says input before;
   why = tt;
@@ -101,9 +109,17 @@ yields_memory Says unfit input before i f = record {
   status = tt;
 }
 
+pub yields_memory : (Says : List ℕ → Report → Type 0) (unfit : Type 0) (input before : Option (List ℕ)) (i f : ℕ)
+    → Yields Says unfit (streams input i before f) (streams input i before f) (Err Memory)
+yields_memory Says unfit input before i f = yields_memory_by Says (RefusedWhere unfit) input before i f
+
+pub yields_stopped_by : (Says : List ℕ → Report → Type 0) (Refuses : Option (List ℕ) → ℕ → Type 0) (result : Result ℕ Stop) (input before now : Option (List ℕ)) (i f g : ℕ) → Stopped Memory result before now f g
+    → YieldsBy Says Refuses (streams input i before f) (streams input i now g) result
+yields_stopped_by Says Refuses result input before now i f g s = rw (s.is, s.same, s.faultless) (yields_memory_by Says Refuses input before i f)
+
 pub yields_stopped : (Says : List ℕ → Report → Type 0) (unfit : Type 0) (result : Result ℕ Stop) (input before now : Option (List ℕ)) (i f g : ℕ) → Stopped Memory result before now f g
     → Yields Says unfit (streams input i before f) (streams input i now g) result
-yields_stopped Says unfit result input before now i f g s = rw (s.is, s.same, s.faultless) (yields_memory Says unfit input before i f)
+yields_stopped Says unfit result input before now i f g s = yields_stopped_by Says (RefusedWhere unfit) result input before now i f g s
 
 -- ---- reports that may be made of one thing may be made of another
 
@@ -127,10 +143,10 @@ part_as Says Other None before now says w = tt
 part_as Says Other (Some b) before now says w = more_part (Says b) (Other b) before now (says b) w
 
 -- and a status says why of the one as of the other
-pub yields_as : (Says Other : List ℕ → Report → Type 0) (unfit other : Type 0) (old new : Streams) (result : Result ℕ Stop) → ((b : List ℕ) (r : Report) → Says b r → Other b r)
-    → (IfOk result (λ s. SaysWhy s ⊥ unfit) → IfOk result (λ s. SaysWhy s ⊥ other))
-    → Yields Says unfit old new result → Yields Other other old new result
-yields_as Says Other unfit other old new result says why y = record {
+pub yields_as_by : (Says Other : List ℕ → Report → Type 0) (Refuses Pins : Option (List ℕ) → ℕ → Type 0) (old new : Streams) (result : Result ℕ Stop) → ((b : List ℕ) (r : Report) → Says b r → Other b r)
+    → (IfOk result (λ s. SaysWhyBy s ⊥ (Refuses old.input s)) → IfOk result (λ s. SaysWhyBy s ⊥ (Pins old.input s)))
+    → YieldsBy Says Refuses old new result → YieldsBy Other Pins old new result
+yields_as_by Says Other Refuses Pins old new result says why y = record {
   whole = whole_as Says Other old.input result new.input old.output new.output says y.whole;
   part = part_as Says Other old.input old.output new.output says y.part;
   why = why y.why;
@@ -140,7 +156,19 @@ yields_as Says Other unfit other old new result says why y = record {
   status = y.status;
 }
 
+pub yields_as : (Says Other : List ℕ → Report → Type 0) (unfit other : Type 0) (old new : Streams) (result : Result ℕ Stop) → ((b : List ℕ) (r : Report) → Says b r → Other b r)
+    → (IfOk result (λ s. SaysWhy s ⊥ unfit) → IfOk result (λ s. SaysWhy s ⊥ other))
+    → Yields Says unfit old new result → Yields Other other old new result
+yields_as Says Other unfit other old new result says why y = yields_as_by Says Other (RefusedWhere unfit) (RefusedWhere other) old new result says why y
+
 -- ---- a run
+
+-- a report that begins with what was written
+pub record Begun (Says : Report → Type 0) (text : List ℕ) : Type 0 where
+  pub report : Report
+  pub is : Says report
+  pub rest : List ℕ
+  pub begins : report.text ≡ text ++ rest
 
 pub at_false : (b : Bool) (P : Type 0) → b ≡ false → OnFalse b P → P
 at_false true P e h = absurd (cc)
@@ -185,8 +213,8 @@ same_stop result a b e f = let g : ◌≡◌ {A = Result ℕ Stop} (Err a) (Err 
 
 module _ (S : Type 0) (machine : Machine S End) (fault : (end : End) → machine.is_fault end ≡ is_fault end) (says : S → End → Closing) (n : ℕ) (state : S)
     (of : (s : S) (end : End) → is_fault end ≡ false → IsOfRun (says s end).status) where
-  says_run : (s : S) (end : End) (unfit : Type 0) → is_fault end ≡ false → (unfit → ⊥) → SaysWhy (says s end).status ⊥ unfit
-  says_run s end unfit fine fit = let w = of s end fine in says_fine (says s end).status ⊥ unfit w.not_unavailable w.not_refused (λ l. l) fit
+  says_run : (s : S) (end : End) (P : Type 0) → is_fault end ≡ false → (((says s end).status ≡ REFUSED → ⊥) → P) → SaysWhyBy (says s end).status ⊥ P
+  says_run s end P fine pins = let w = of s end fine in record { missing = ((λ e. absurd (w.not_unavailable e)), (λ l. absurd l)); refused = pins w.not_refused }
 
   -- a run, and the text of its end
   done_run : (Says : Report → Type 0) (input : List ℕ) (new : S) (unspent : ℕ) (end : End) (result : Result ℕ Stop) (left before mid now : Option (List ℕ)) (f g : ℕ)
@@ -218,30 +246,39 @@ module _ (S : Type 0) (machine : Machine S End) (fault : (end : End) → machine
 
   -- a run that was stopped
   part_run : (Says : Report → Type 0) (input : List ℕ) (new : S) (unspent : ℕ) (end : End) (left before now : Option (List ℕ))
-      → Says (closed_report says (ran_of machine n state input)) → Runs machine n state input end new unspent left before now → DoesPart Says before now
-  part_run Says input new unspent end left before now is r = inr (closed_report says (ran_of machine n state input), is, part_first before now (ran_of machine n state input).text _ r.part)
+      → Begun Says (ran_of machine n state input).text → Runs machine n state input end new unspent left before now → DoesPart Says before now
+  part_run Says input new unspent end left before now begun r = inr (begun.report, begun.is, rw begun.begins (part_first before now (ran_of machine n state input).text begun.rest r.part))
 
   -- the whole call: a run from where nothing was done, and what is said of its last state, for which there may be no memory
-  pub yields_run : (Says : List ℕ → Report → Type 0) (unfit : Type 0) (new : S) (end : End) (result : Result ℕ Stop) (input left before mid now : Option (List ℕ)) (i j f g h : ℕ)
-      → ((b : List ℕ) → Says b (closed_report says (ran_of machine n state b))) → (unfit → ⊥)
+  pub yields_run_by : (Says : List ℕ → Report → Type 0) (Refuses : Option (List ℕ) → ℕ → Type 0) (new : S) (end : End) (result : Result ℕ Stop) (input left before mid now : Option (List ℕ)) (i j f g h : ℕ)
+      → ((b : List ℕ) → Begun (Says b) (ran_of machine n state b).text) → ((b : List ℕ) → end ≡ (ran_of machine n state b).end → Says b (closed_report says (ran_of machine n state b)))
+      → ((s : ℕ) → (s ≡ REFUSED → ⊥) → IfSome input (λ b. end ≡ (ran_of machine n state b).end) → Refuses input s)
       → IfSome input (λ b. (unspent : ℕ) × Runs machine n state b end new unspent left before mid)
       → (end ≡ ReadFault → Rose i j) → (end ≡ WriteFault → Rose f g) → f ≤ g
       → (is_fault end ≡ false → result ≡ Err Memory → (j ≡ i) × (g ≡ f))
       → AnswersRun (says new end) end result mid now g h
-      → Yields Says unfit (streams input i before f) (streams left j now h) result
-  yields_run Says unfit new end result input left before mid now i j f g h is fit runs read write later still answers = go (is_fault end) refl
+      → YieldsBy Says Refuses (streams input i before f) (streams left j now h) result
+  yields_run_by Says Refuses new end result input left before mid now i j f g h begun is pins runs read write later still answers = go (is_fault end) refl
     where
+      ended : (b : List ℕ) → is_fault end ≡ false → (unspent : ℕ) × Runs machine n state b end new unspent left before mid → end ≡ (ran_of machine n state b).end
+      ended b fine r = at_false _ _ (fault end ∙ fine) (Runs.ends r.1)
+
+      all_ended : (input : Option (List ℕ)) → is_fault end ≡ false → IfSome input (λ b. (unspent : ℕ) × Runs machine n state b end new unspent left before mid)
+          → IfSome input (λ b. end ≡ (ran_of machine n state b).end)
+      all_ended None fine r = tt
+      all_ended (Some b) fine r = ended b fine r
+
       fine_whole : (input : Option (List ℕ)) → is_fault end ≡ false → Answers (says new end).text (says new end).status result mid now g h
           → IfSome input (λ b. (unspent : ℕ) × Runs machine n state b end new unspent left before mid)
           → IfSome input (λ b. IfOk result (λ s. DoesWhole (Says b) s left before now))
       fine_whole None fine a r = tt
-      fine_whole (Some b) fine a r = (done_run (Says b) b new r.0 end result left before mid now g h fine (is b) r.1 a).0
+      fine_whole (Some b) fine a r = (done_run (Says b) b new r.0 end result left before mid now g h fine (is b (ended b fine r)) r.1 a).0
 
       fine_part : (input : Option (List ℕ)) → is_fault end ≡ false → Answers (says new end).text (says new end).status result mid now g h
           → IfSome input (λ b. (unspent : ℕ) × Runs machine n state b end new unspent left before mid)
           → IfSome input (λ b. DoesPart (Says b) before now)
       fine_part None fine a r = tt
-      fine_part (Some b) fine a r = (done_run (Says b) b new r.0 end result left before mid now g h fine (is b) r.1 a).1
+      fine_part (Some b) fine a r = (done_run (Says b) b new r.0 end result left before mid now g h fine (is b (ended b fine r)) r.1 a).1
 
       stopped_whole : (input : Option (List ℕ)) (stop : Stop) → result ≡ Err stop → IfSome input (λ b. IfOk result (λ s. DoesWhole (Says b) s left before now))
       stopped_whole input stop e = rw e (none_whole Says stop input left before now)
@@ -250,17 +287,17 @@ module _ (S : Type 0) (machine : Machine S End) (fault : (end : End) → machine
           → IfSome input (λ b. (unspent : ℕ) × Runs machine n state b end new unspent left before mid)
           → IfSome input (λ b. DoesPart (Says b) before now)
       stopped_part None same r = tt
-      stopped_part (Some b) same r = rw same (part_run (Says b) b new r.0 end left before mid (is b) r.1)
+      stopped_part (Some b) same r = rw same (part_run (Says b) b new r.0 end left before mid (begun b) r.1)
 
       fine_of : is_fault end ≡ false → Answers (says new end).text (says new end).status result mid now g h ⊎ Stopped Memory result mid now g h
-          → Yields Says unfit (streams input i before f) (streams left j now h) result
+          → YieldsBy Says Refuses (streams input i before f) (streams left j now h) result
       fine_of fine (inl a) =
           let text = (says new end).text in
           let status = (says new end).status in
           record {
             whole = fine_whole input fine a runs;
             part = fine_part input fine a runs;
-            why = of_status (λ s. SaysWhy s ⊥ unfit) text status result mid now g h (says_run new end unfit fine fit) a;
+            why = of_status (λ s. SaysWhyBy s ⊥ (Refuses input s)) text status result mid now g h (says_run new end (Refuses input status) fine (λ other. pins status other (all_ended input fine runs))) a;
             read = λ e. absurd (not_read Read refl (only_write text status result Read mid now g h a e).0);
             write = λ e. let rose = (only_write text status result Write mid now g h a e).1 in omega arith;
             memory = λ e. absurd (not_memory Memory refl (only_write text status result Memory mid now g h a e).0);
@@ -276,7 +313,7 @@ module _ (S : Type 0) (machine : Machine S End) (fault : (end : End) → machine
         status = rw s.is tt;
       }
 
-      go : (b : Bool) → is_fault end ≡ b → Yields Says unfit (streams input i before f) (streams left j now h) result
+      go : (b : Bool) → is_fault end ≡ b → YieldsBy Says Refuses (streams input i before f) (streams left j now h) result
       go false fine = fine_of fine (at_false (is_fault end) _ fine answers.fine)
       go true fault =
           let s = at_true (is_fault end) _ fault answers.fault in
@@ -290,6 +327,19 @@ module _ (S : Type 0) (machine : Machine S End) (fault : (end : End) → machine
             status = rw s.is tt;
           }
 
+  -- .. whose report is that of its end alone
+  pub yields_run : (Says : List ℕ → Report → Type 0) (unfit : Type 0) (new : S) (end : End) (result : Result ℕ Stop) (input left before mid now : Option (List ℕ)) (i j f g h : ℕ)
+      → ((b : List ℕ) → Says b (closed_report says (ran_of machine n state b))) → (unfit → ⊥)
+      → IfSome input (λ b. (unspent : ℕ) × Runs machine n state b end new unspent left before mid)
+      → (end ≡ ReadFault → Rose i j) → (end ≡ WriteFault → Rose f g) → f ≤ g
+      → (is_fault end ≡ false → result ≡ Err Memory → (j ≡ i) × (g ≡ f))
+      → AnswersRun (says new end) end result mid now g h
+      → Yields Says unfit (streams input i before f) (streams left j now h) result
+  yields_run Says unfit new end result input left before mid now i j f g h is fit runs read write later still answers =
+      yields_run_by Says (RefusedWhere unfit) new end result input left before mid now i j f g h
+      (λ b. record { report = closed_report says (ran_of machine n state b); is = is b; rest = (says (ran_of machine n state b).state (ran_of machine n state b).end).text; begins = refl })
+      (λ b e. is b) (λ s other e. ((λ r. absurd (other r)), (λ u. absurd (fit u)))) runs read write later still answers
+
 -- where no fault ended a run, no count has changed
 pub both_kept : (end : End) (i j f g : ℕ) → ((end ≡ ReadFault → ⊥) → j ≡ i) → ((end ≡ WriteFault → ⊥) → g ≡ f) → is_fault end ≡ false → (j ≡ i) × (g ≡ f)
 both_kept end i j f g read write fine = (read (not_fault_read end fine), write (not_fault_write end fine))
@@ -302,8 +352,8 @@ pub run_some : (p : Program) (budget : ℕ) (old : State) (end : End) (new : Sta
 run_some p budget old end new unspent None left before now r = tt
 run_some p budget old end new unspent (Some b) left before now r = (unspent, r)
 
-pub site_some : (p : Program) (budget : ℕ) (old : State) (end : End) (unspent : ℕ) (new : State) (told left before now : Option (List ℕ))
-    → IfSome told (λ b. RunsToSite p budget old b end unspent new left before now)
-    → IfSome told (λ b. (spare : ℕ) × Runs (site_machine p) (most_events budget) (at_left budget old) b end (at_left unspent new) spare left before now)
-site_some p budget old end unspent new None left before now r = tt
-site_some p budget old end unspent new (Some b) left before now r = (r.spare, r.runs)
+pub site_some : (p : Program) (budget : ℕ) (old : State) (end : End) (done : ℕ) (new : State) (told left before now : Option (List ℕ))
+    → IfSome told (λ b. RunsToSite p budget old b end done new left before now)
+    → IfSome told (λ b. (spare : ℕ) × Runs (site_machine p budget) (most_events budget) (after 0 old) b end (after done new) spare left before now)
+site_some p budget old end done new None left before now r = tt
+site_some p budget old end done new (Some b) left before now r = (r.spare, r.runs)

@@ -1,6 +1,6 @@
 -- What the bytes of a file are judged to be: an image that is accepted, with what the checker found of it, or refused (docs/checking.md). `run`, `walk`, `check` and `gen`
 -- begin with that step, and each says by itself only what it makes of an accepted image.
-use Rattle.std.specs.Prelude.{ℕ, ◌≡◌, ◌-◌, List, [], Result, Ok, Err, MatchResult}
+use Rattle.std.specs.Prelude.{ℕ, ◌≡◌, ◌-◌, List, [], Option, Result, Ok, Err, MatchResult}
 use Rattle.elf_image.specs.Image.{Image, image_of}
 use Rattle.elf_image.specs.declared.fault.ImageFault.{ImageFault}
 use Rattle.frame_check.specs.Accepts.{Accepted, IsAccepted, IsSound, Refuses}
@@ -69,3 +69,9 @@ IsRefusedBy (Err fault) = Unit {0}
 -- the bytes stand for no image, or for one that isn't accepted
 abbrev pub IsUnaccepted : List ℕ → Type 0
 IsUnaccepted bytes = IsRefusedBy (image_of bytes)
+
+-- `Pins` of what was found of an accepted image pins the status of a refusal; refused bytes are refused, whatever the input is
+pub record RefusedBy (Pins : Accepted → Option (List ℕ) → ℕ → Type 0) (bytes : List ℕ) (input : Option (List ℕ)) (status : ℕ) : Type 0 where
+  pub judged : Result Accepted BytesFault
+  pub stands : Judges bytes judged
+  pub is : MatchResult judged (λ a. Pins a input status) (λ fault. status ≡ REFUSED)

@@ -1,4 +1,5 @@
 pub mod WalkReport
+pub mod ForceReport
 pub mod Words
 pub mod Text
 pub mod Loading

@@ -32,10 +32,14 @@ pub record IsOfCommand (status : ℕ) : Type 0 where
   pub reported : IsReported status
   pub other : status ≢ USAGE
 
--- a status is FILE_UNAVAILABLE exactly where a file is missing or too long, and REFUSED exactly where what is there is refused
-pub record SaysWhy (status : ℕ) (lacks unfit : Type 0) : Type 0 where
+-- a status is FILE_UNAVAILABLE exactly where a file is missing or too long, and this is told of it besides
+pub record SaysWhyBy (status : ℕ) (lacks told : Type 0) : Type 0 where
   pub missing : (status ≡ FILE_UNAVAILABLE) ↔ lacks
-  pub refused : (status ≡ REFUSED) ↔ unfit
+  pub refused : told
+
+-- .. that it is REFUSED exactly where what is there is refused
+abbrev pub SaysWhy : ℕ → Type 0 → Type 0 → Type 0
+SaysWhy status lacks unfit = SaysWhyBy status lacks ((status ≡ REFUSED) ↔ unfit)
 
 -- ---- files
 

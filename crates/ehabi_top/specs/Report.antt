@@ -5,7 +5,7 @@ use Rattle.std.specs.Prelude.{ℕ, ◌≡◌, ◌⊎◌, ◌↔◌, List, Option
 use Rattle.eh_port.specs.Causes.{Rose}
 use Rattle.eh_files.specs.FileList.{answer_of}
 use Rattle.ehabi_top.specs.declared.sources.TheConstants.{FILE_LIMIT}
-use Rattle.ehabi_top.specs.declared.status.TheConstants.{USAGE, REFUSED, FILE_UNAVAILABLE}
+use Rattle.ehabi_top.specs.declared.status.TheConstants.{USAGE, FILE_UNAVAILABLE}
 use Rattle.ehabi_top.specs.declared.stop.Stop.{Stop}
 use Rattle.ehabi_top.specs.declared.stop.Stop.TheVariants.{Read, Write, Memory}
 use Rattle.ehabi_top.specs.AsksFor.{AsksFor, CallLacks, files_named}
@@ -16,11 +16,11 @@ use Rattle.ehabi_top.specs.Building.{files_of}
 use Rattle.ehabi_top.specs.CheckReport.{CheckReports, CheckSourcesReports}
 use Rattle.ehabi_top.specs.FlatReport.{flat_report, IsTooLarge}
 use Rattle.ehabi_top.specs.GenerateReport.{GenerateReports, IsUnfitProgram}
-use Rattle.ehabi_top.specs.TaskReport.{RunReports, RunSourcesReports}
+use Rattle.ehabi_top.specs.TaskReport.{RunReports, RunSourcesReports, RunBytesRefuse}
 use Rattle.ehabi_top.specs.Text.{usage}
-use Rattle.ehabi_top.specs.Unfit.{HoldsUnfit, BuildsUnfit}
+use Rattle.ehabi_top.specs.Unfit.{RefusedHeld, RefusedSources}
 use Rattle.ehabi_top.specs.Words.{Command, FlatFile, BuildSources, CheckFile, CheckSources, RunFile, RunSources, GenerateProgram}
-use Rattle.ehabi_top.specs.Yields.{FileState, Streams, NoFault, DoesWhole, DoesPart}
+use Rattle.ehabi_top.specs.Yields.{FileState, Streams, NoFault, DoesWhole, DoesPart, RefusedWhere, RefusedOf}
 
 -- ---- by command
 
@@ -46,17 +46,17 @@ LacksFile (Some (RunFile name request)) files = IsUnavailable (answer_of files n
 LacksFile (Some (RunSources names request)) files = IsErr (files_of files names)
 LacksFile (Some (GenerateProgram number functions)) files = ⊥
 
--- What pins the status of a refusal. Of commands with files it is the files alone: they are there, and what they hold is
--- refused; of a generated program it is the program. A command whose run can be refused asks in its case that the input is told.
+-- What pins the status of a refusal. Of commands with files it is the files: they are there, and what they hold is refused; of a generated program
+-- it is the program. A command whose run can be refused asks in its case that the input is told.
 abbrev pub Refuses : Option Command → List (List ℕ × List ℕ) → (input : Option (List ℕ)) → (status : ℕ) → Type 0
-Refuses None files input status = (status ≡ REFUSED) ↔ ⊥
-Refuses (Some (FlatFile name budget)) files input status = (status ≡ REFUSED) ↔ HoldsUnfit IsTooLarge (answer_of files name FILE_LIMIT)
-Refuses (Some (BuildSources names)) files input status = (status ≡ REFUSED) ↔ BuildsUnfit IsUnwritten (files_of files names)
-Refuses (Some (CheckFile name)) files input status = (status ≡ REFUSED) ↔ HoldsUnfit IsUnaccepted (answer_of files name FILE_LIMIT)
-Refuses (Some (CheckSources names)) files input status = (status ≡ REFUSED) ↔ BuildsUnfit IsUnaccepted (files_of files names)
-Refuses (Some (RunFile name request)) files input status = (status ≡ REFUSED) ↔ HoldsUnfit IsUnaccepted (answer_of files name FILE_LIMIT)
-Refuses (Some (RunSources names request)) files input status = (status ≡ REFUSED) ↔ BuildsUnfit IsUnaccepted (files_of files names)
-Refuses (Some (GenerateProgram number functions)) files input status = (status ≡ REFUSED) ↔ IsUnfitProgram number functions
+Refuses None files = RefusedWhere ⊥
+Refuses (Some (FlatFile name budget)) files = RefusedHeld (RefusedOf IsTooLarge) (answer_of files name FILE_LIMIT)
+Refuses (Some (BuildSources names)) files = RefusedSources (RefusedOf IsUnwritten) (files_of files names)
+Refuses (Some (CheckFile name)) files = RefusedHeld (RefusedOf IsUnaccepted) (answer_of files name FILE_LIMIT)
+Refuses (Some (CheckSources names)) files = RefusedSources (RefusedOf IsUnaccepted) (files_of files names)
+Refuses (Some (RunFile name request)) files = RefusedHeld (RunBytesRefuse request) (answer_of files name FILE_LIMIT)
+Refuses (Some (RunSources names request)) files = RefusedSources (RunBytesRefuse request) (files_of files names)
+Refuses (Some (GenerateProgram number functions)) files = RefusedWhere (IsUnfitProgram number functions)
 
 -- Where what the command reads is told, with the files, the input, and what is left of the input. Words that are no command
 -- and a generated program read nothing, and a command that runs nothing leaves the input as it was, whatever it is.

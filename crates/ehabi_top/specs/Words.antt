@@ -5,7 +5,7 @@ use Rattle.std.specs.List.{ends_with, list_all}
 use Rattle.std.specs.Str.{bytes_eq}
 use Rattle.std.specs.Char.{is_ascii_digit}
 use Rattle.eh_kit.specs.declared.program_text.TheConstants.{MAX_FUNCTIONS}
-use Rattle.ehabi_top.specs.declared.words.TheConstants.{MOST_INSTRUCTIONS, MOST_SOURCES, MOST_DIGITS, MOST_NUMBER, MOST_FUNCTION_DIGITS}
+use Rattle.ehabi_top.specs.declared.words.TheConstants.{MOST_INSTRUCTIONS, MOST_SOURCES, MOST_DIGITS, MOST_NUMBER, MOST_FUNCTION_DIGITS, MOST_FRAME_DIGITS}
 use Rattle.ehabi_top.specs.declared.words.Form.{Form}
 use Rattle.ehabi_top.specs.declared.words.Task.{Task}
 use Rattle.ehabi_top.specs.declared.words.Task.TheVariants as task
@@ -22,9 +22,9 @@ pub data Command : Type 0 where
   CheckFile : (name : List ℕ) → Command
   -- `check FILE..` of sources
   CheckSources : (names : List (List ℕ)) → Command
-  -- `run FILE N` and `walk FILE N` of one image
+  -- `run FILE N`, `walk FILE N` and `force FILE N K` of one image
   RunFile : (name : List ℕ) (request : Request) → Command
-  -- `run FILE.. N` and `walk FILE.. N` of sources
+  -- `run FILE.. N`, `walk FILE.. N` and `force FILE.. N K` of sources
   RunSources : (names : List (List ℕ)) (request : Request) → Command
   -- `gen K M`: the program of a number, and how many functions it is asked for
   GenerateProgram : (number functions : ℕ) → Command
@@ -97,10 +97,22 @@ abbrev pub with_budget : Task → List (List ℕ) → Option ℕ → Option Comm
 with_budget t names None = None
 with_budget t names (Some budget) = files_command names (record { task = t; budget = budget })
 
--- the words after `run` and `walk`: names, and a budget as the last word
+-- the words after `run`, and after `walk`: names, and a budget as the last word
 unfoldable pub run_command : Task → List (List ℕ) → Option Command
 run_command t words =
     if nat_le 1 (length words) then with_budget t (take (length words - 1) words) (budget_of (slice_index_or words (length words - 1) [])) else None
+
+-- the number of a frame: one to four digits
+unfoldable pub frame_number : List ℕ → Option ℕ
+frame_number bs = number_of MOST_FRAME_DIGITS bs
+
+abbrev pub with_frame : List (List ℕ) → Option ℕ → Option Command
+with_frame words None = None
+with_frame words (Some number) = run_command (task.Force number) words
+
+-- the words after `force`: those after `run`, and the number of a frame as the last word
+unfoldable pub force_command : List (List ℕ) → Option Command
+force_command words = if nat_le 1 (length words) then with_frame (take (length words - 1) words) (frame_number (slice_index_or words (length words - 1) [])) else None
 
 -- the number of a program: at most 4,294,967,295
 unfoldable pub program_number : List ℕ → Option ℕ
@@ -129,4 +141,5 @@ command_of (word ∷ rest) =
     else (if bytes_eq word (codes "check") then check_command rest
     else (if bytes_eq word (codes "run") then run_command task.Run rest
     else (if bytes_eq word (codes "gen") then gen_command rest
-    else (if bytes_eq word (codes "walk") then run_command task.Walk rest else None)))))
+    else (if bytes_eq word (codes "walk") then run_command task.Walk rest
+    else (if bytes_eq word (codes "force") then force_command rest else None))))))

@@ -12,6 +12,7 @@ mod build;
 mod check;
 mod check_line;
 mod flat;
+mod force;
 mod generated;
 pub mod laws;
 mod line;
@@ -42,8 +43,8 @@ use std::alloc::Global;
 pub use stop::Stop;
 pub use walk::MOST_FRAMES;
 pub use words::{
-    Form, MOST_DIGITS, MOST_FUNCTION_DIGITS, MOST_INSTRUCTIONS, MOST_NUMBER, MOST_SOURCES, Request,
-    Task, form_of,
+    Form, MOST_DIGITS, MOST_FRAME_DIGITS, MOST_FUNCTION_DIGITS, MOST_INSTRUCTIONS, MOST_NUMBER,
+    MOST_SOURCES, Request, Task, form_of,
 };
 
 // Does what the words ask for.
@@ -61,7 +62,7 @@ fn perform<F: Files, I: Source, O: Sink>(
     match form_of(words) {
         None => answer_text(
             out,
-            b"usage: ehabi_run flat FILE N | build FILE.. | check FILE.. | run FILE.. N | gen K M | walk FILE.. N\n",
+            b"usage: ehabi_run flat FILE N | build FILE.. | check FILE.. | run FILE.. N | gen K M | walk FILE.. N | force FILE.. N K\n",
             USAGE,
         ),
         Some(Form::Flat(name, budget)) => flat(alloc, name, budget, files, input, out),
@@ -81,7 +82,7 @@ fn perform<F: Files, I: Source, O: Sink>(
 /// - 0: the guest exits with 0, `build` wrote the image, `check` accepts it, or `walk` wrote the frames;
 /// - 1: the guest exits with another number;
 /// - 2: the words are no command;
-/// - 3: what the files hold, or a generated program, is refused, and the line says why;
+/// - 3: what the files hold, a generated program, or a forced unwinding is refused, and the line says why;
 /// - 4, 5, 6: the run ends by terminate, by a trap, by the budget;
 /// - 7: a read of a file or of the input failed;
 /// - 8: a write of the output failed;

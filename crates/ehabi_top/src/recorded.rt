@@ -3,10 +3,14 @@ ghost use Rattle.std.specs.Prelude.{◌≡◌};
 ghost use Rattle.two_machines.specs.Checked.{program_of};
 ghost use Rattle.two_machines.specs.Start.{start_of};
 ghost use Rattle.ehabi_top.specs.BothRuns.{RunSame, SlotsStay};
+ghost use Rattle.ehabi_top.specs.ForceReport.{ForcesSame};
 ghost use Rattle.ehabi_top.specs.WalkReport.{WalkSame};
 
+use crate::force::forced_type;
 use eh_bus::bus::Bus;
-use eh_walk::laws::{reaches_same, walks_same as all_walks_same};
+use eh_walk::laws::{
+    forcings_same, going_on_same, reaches_leave_bytes, reaches_same, walks_same as all_walks_same,
+};
 use frame_check::Accepted;
 use machines_agree::{runs_guard, runs_same as all_runs_same};
 
@@ -35,4 +39,20 @@ pub(crate) fn walks_same<B: Bus>(accepted: &Accepted, bus: &B)
     let _ = bus;
     reaches_same();
     all_walks_same();
+}
+
+/// From the start of an accepted image, over any bus that has its memory, the run to a site does the same in both machines, what they leave is
+/// unwound alike by force there, and both go on alike from what that leaves.
+pub(crate) fn forces_same<B: Bus>(accepted: &Accepted, bus: &B)
+    requires start { B.memory bus.now ≡ (start_of (program_of accepted.now)).memory }
+    ensures { ForcesSame accepted.now }
+{
+    accepted.holds();
+    let _ = accepted.image().functions();
+    let _ty = forced_type(accepted.image());
+    let _ = bus;
+    reaches_same();
+    reaches_leave_bytes();
+    forcings_same();
+    going_on_same();
 }

@@ -1,16 +1,16 @@
-//! `run FILE N`, `run FILE.. N`, and `walk` with these words: checks an image, or the one that sources are built to, and runs it where it is
-//! accepted (docs/command-line.md).
+//! `run FILE N`, `run FILE.. N`, and `walk` and `force` with these words: checks an image, or the one that sources are built to, and runs it
+//! where it is accepted (docs/command-line.md).
 ghost use Rattle.std.specs.Prelude.{Some};
-ghost use Rattle.ehabi_top.specs.Accepting.{IsUnaccepted};
 ghost use Rattle.ehabi_top.specs.Report.{Does};
 ghost use Rattle.ehabi_top.specs.RunReport.{RunsAccepted};
-ghost use Rattle.ehabi_top.specs.TaskReport.{RunBytesReports, DoesTask};
+ghost use Rattle.ehabi_top.specs.TaskReport.{RunBytesReports, RunBytesRefuse, DoesTask, PinsTask};
 ghost use Rattle.ehabi_top.specs.Words.{RunFile, RunSources, texts};
-ghost use Rattle.ehabi_top.specs.Yields.{Yields, file_state, streams};
+ghost use Rattle.ehabi_top.specs.Yields.{Yields, YieldsBy, file_state, streams};
 
 use crate::accept::{accepted_of, answer_refused};
 use crate::answer::answer_run;
 use crate::build::built_files;
+use crate::force::force_accepted;
 use crate::recorded::runs_same;
 use crate::refusal::answer_files_fault;
 use crate::sources::read_file;
@@ -52,13 +52,14 @@ fn do_task<I: Source, O: Sink>(
     input: &mut I,
     out: &mut O,
 ) -> Result<u8, Stop>
-    ensures { Yields (DoesTask request accepted.now) ⊥
+    ensures { YieldsBy (DoesTask request accepted.now) (PinsTask request accepted.now)
         (streams (I.left input.old) (I.faults input.old) (O.written out.old) (O.faults out.old))
         (streams (I.left input.new) (I.faults input.new) (O.written out.new) (O.faults out.new)) result }
 {
     match request.task {
         Task::Run => run_accepted(alloc, accepted, request.budget, input, out),
         Task::Walk => walk_accepted(alloc, accepted, request.budget, input, out),
+        Task::Force(number) => force_accepted(alloc, accepted, number, request.budget, input, out),
     }
 }
 
@@ -70,7 +71,7 @@ fn run_bytes<I: Source, O: Sink>(
     input: &mut I,
     out: &mut O,
 ) -> Result<u8, Stop>
-    ensures { Yields (RunBytesReports request bytes.now) (IsUnaccepted bytes.now)
+    ensures { YieldsBy (RunBytesReports request bytes.now) (RunBytesRefuse request bytes.now)
         (streams (I.left input.old) (I.faults input.old) (O.written out.old) (O.faults out.old))
         (streams (I.left input.new) (I.faults input.new) (O.written out.new) (O.faults out.new)) result }
 {

@@ -6,7 +6,7 @@ pub const DONE: u8 = 0;
 pub const EXIT_NONZERO: u8 = 1;
 /// The words are no command.
 pub const USAGE: u8 = 2;
-/// What the files hold is refused, and the line says why.
+/// What the files hold, or a forced unwinding, is refused, and the line says why.
 pub const REFUSED: u8 = 3;
 /// The run ends by terminate.
 pub const TERMINATED: u8 = 4;

@@ -89,6 +89,6 @@ pub(crate) fn walk_accepted<I: Source, O: Sink>(
         Err(_) => return Err(Stop::Memory),
     };
     walks_same(accepted, &machine.shared.bus);
-    let end = run_to_site(&mut machine, input, out);
-    answer_walk(alloc, out, &machine, end)
+    let run = run_to_site(&mut machine, input, out);
+    answer_walk(alloc, out, &machine, run.end)
 }

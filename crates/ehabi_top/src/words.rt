@@ -1,7 +1,7 @@
 //! The forms of the words that the program is given.
 ghost use Rattle.std.specs.Borrow.{Bor};
 ghost use Rattle.std.specs.Prelude.{◌≡◌, ◌≤◌, ℕ, List, option_map};
-ghost use Rattle.ehabi_top.specs.Words.{command, texts, number_of, budget_of, program_number, program_functions, is_source, are_sources, flat_command, build_command, image_name, check_command, files_command, run_command, gen_command, command_of};
+ghost use Rattle.ehabi_top.specs.Words.{command, texts, number_of, budget_of, program_number, program_functions, is_source, are_sources, flat_command, build_command, image_name, check_command, files_command, run_command, frame_number, force_command, gen_command, command_of};
 
 use eh_kit::MAX_FUNCTIONS;
 
@@ -20,6 +20,9 @@ pub const MOST_NUMBER: u64 = 4_294_967_295;
 /// The most digits of how many functions a program is asked for.
 pub const MOST_FUNCTION_DIGITS: usize = 4;
 
+/// The most digits of the number of a frame.
+pub const MOST_FRAME_DIGITS: usize = 4;
+
 /// What the run of an accepted image is for.
 #[derive(Clone, Copy)]
 pub enum Task {
@@ -27,13 +30,15 @@ pub enum Task {
     Run,
     /// `walk`: it goes on to a site, and a walk from there is written.
     Walk,
+    /// `force`: it goes on to a site, and from there after a forced unwinding to the frame of this number, the innermost being 0.
+    Force(usize),
 }
 
 /// What is asked of an accepted image.
 #[derive(Clone, Copy)]
 pub struct Request {
     pub task: Task,
-    /// How many instructions may run, or before a walk at least do.
+    /// How many instructions may run, or before a walk or a forced unwinding at least do.
     pub budget: u64,
 }
 
@@ -48,9 +53,9 @@ pub enum Form<'a> {
     Check(&'a str),
     /// `check FILE..`: the names of sources.
     CheckSources(&'a [&'a str]),
-    /// `run FILE N` and `walk FILE N`: the name of an image, and what is asked of it.
+    /// `run FILE N`, `walk FILE N` and `force FILE N K`: the name of an image, and what is asked of it.
     Run(&'a str, Request),
-    /// `run FILE.. N` and `walk FILE.. N`: the names of sources, and what is asked of the image that they are built to.
+    /// `run FILE.. N`, `walk FILE.. N` and `force FILE.. N K`: the names of sources, and what is asked of the image that they are built to.
     RunSources(&'a [&'a str], Request),
     /// `gen K M`: the number of a program, and how many functions it is asked for.
     Generate(u32, u32),
@@ -169,7 +174,7 @@ fn files_form<'a>(names: &'a [&'a str], request: Request) -> Option<Form<'a>>
     Some(Form::Run(image_name(names)?, request))
 }
 
-// `run FILE.. N` and `walk FILE.. N`, without the first word, which says the task.
+// `run FILE.. N` and `walk FILE.. N`, without the first word, and `force FILE.. N` without its last one; these say the task.
 #[tactic(auto, unfolding(crate::specs::Words::run_command))]
 fn run_form<'a>(task: Task, words: &'a [&'a str]) -> Option<Form<'a>>
     ensures { option_map command result ≡ run_command task (texts words.now) }
@@ -177,6 +182,25 @@ fn run_form<'a>(task: Task, words: &'a [&'a str]) -> Option<Form<'a>>
     let (number, names) = words.split_last()?;
     let budget = budget_of(number)?;
     files_form(names, Request { task, budget })
+}
+
+// The number of a frame.
+#[tactic(auto, unfolding(crate::specs::Words::frame_number))]
+fn frame_number(word: &str) -> Option<usize>
+    ensures { result ≡ frame_number word.now }
+{
+    let number = number_of(MOST_FRAME_DIGITS, word)?;
+    Some(number as usize)
+}
+
+// `force FILE.. N K`, without the first word.
+#[tactic(auto, unfolding(crate::specs::Words::force_command))]
+fn force_form<'a>(words: &'a [&'a str]) -> Option<Form<'a>>
+    ensures { option_map command result ≡ force_command (texts words.now) }
+{
+    let (word, rest) = words.split_last()?;
+    let number = frame_number(word)?;
+    run_form(Task::Force(number), rest)
 }
 
 // The number of a program.
@@ -230,6 +254,7 @@ pub fn form_of<'a>(words: &'a [&'a str]) -> Option<Form<'a>>
         "run" => run_form(Task::Run, rest),
         "gen" => gen_form(rest),
         "walk" => run_form(Task::Walk, rest),
+        "force" => force_form(rest),
         _ => None,
     }
 }

@@ -1,9 +1,11 @@
 //! Checking an image. docs/checking.md.
 ghost use Rattle.std.specs.Prelude.{◌≡◌, ◌≢◌, ◌<◌, All, IfOk, IfErr, OnOk};
 ghost use Rattle.eh_types.specs.Meant.{IsGraph};
+ghost use Rattle.frame_reach.specs.Held.{marks_of};
+ghost use Rattle.frame_reach.specs.Marks.{AreMarks};
 ghost use Rattle.frame_check.specs.declared.fault.CheckFault.TheVariants.{OutOfMemory as NoMemory};
 ghost use Rattle.frame_check.specs.Roots.{flow_graph_of, roots_of};
-ghost use Rattle.frame_check.specs.Accepts.{AreBytes, AreWell, AreRoles, IsSound, IsAccepted, Refuses};
+ghost use Rattle.frame_check.specs.Accepts.{AreBytes, IsWell, AreWell, AreRoles, IsSound, IsAccepted, Refuses};
 ghost use Rattle.frame_check.specs.Judged.{IsJudged, RefusesOne, RefusesFunctions, RefusesTypes, IsTaken, IsPlaced};
 
 use crate::accepted::Accepted;
@@ -20,6 +22,7 @@ use elf_image::image::Image;
 use elf_image::segment::Segment;
 use frame_flow::FrameFault;
 use frame_graph::{Cover, FlowGraph};
+use frame_reach::Reached;
 use std::alloc::Global;
 
 /// What a run asks of an image that is accepted.
@@ -50,6 +53,21 @@ fn rejected(alloc: Global, flow_graph: &FlowGraph, f: &Function, fault: FrameFau
     }
 }
 
+/// Judges one function, and marks nothing: its reached places where it is well, else its name, an address and a cause that stands there.
+/// The cover keeps the entry of its start.
+pub fn judge_function(alloc: Global, cover: &Cover, f: &Function) -> Result<Reached, CheckFault>
+    requires { IsPlaced f.now }
+    ensures marks { IfOk result (λ reached. AreMarks (flow_graph_of cover.now f.now) (marks_of reached)) }
+    ensures well { IfOk result (λ _. IsWell (flow_graph_of cover.now f.now)) }
+    ensures refused { IfErr result (RefusesOne cover.now f.now) }
+{
+    let flow_graph = FlowGraph::under(cover, f.start, f.end);
+    match judge(alloc, &flow_graph) {
+        Err(fault) => Err(rejected(alloc, &flow_graph, f, fault)),
+        Ok(reached) => Ok(reached),
+    }
+}
+
 /// Checks a function, and marks its addresses where it is well. The cover keeps the entry of its start.
 fn check_function(
     alloc: Global,
@@ -61,10 +79,12 @@ fn check_function(
     ensures taken { OnOk result (IsTaken cover.now f.now roles.old roles.new) }
     ensures refused { IfErr result (RefusesOne cover.now f.now) }
 {
-    let flow_graph = FlowGraph::under(cover, f.start, f.end);
-    match judge(alloc, &flow_graph) {
-        Err(fault) => Err(rejected(alloc, &flow_graph, f, fault)),
-        Ok(reached) => Ok(mark(alloc, roles, &flow_graph, &reached)?),
+    match judge_function(alloc, cover, f) {
+        Err(fault) => Err(fault),
+        Ok(reached) => {
+            let flow_graph = FlowGraph::under(cover, f.start, f.end);
+            Ok(mark(alloc, roles, &flow_graph, &reached)?)
+        }
     }
 }
 
@@ -87,8 +107,8 @@ fn check_functions(alloc: Global, index: &Index) -> Result<Roles, CheckFault>
     Ok(roles)
 }
 
-/// The graph of the types.
-fn check_types<'a>(alloc: Global, index: &Index<'_, 'a>) -> Result<TypeGraph<'a>, CheckFault>
+/// The graph of the types that an image's exceptions may have, or the first type that shows that there is none.
+pub fn types_of<'a>(alloc: Global, index: &Index<'_, 'a>) -> Result<TypeGraph<'a>, CheckFault>
     ensures graph { IfOk result (IsGraph index.now (roots_of index.now)) }
     ensures refused { IfErr result (RefusesTypes index.now) }
 {
@@ -132,7 +152,7 @@ fn checked<'a>(alloc: Global, image: &Image<'a>) -> Result<Parts<'a>, CheckFault
         Err(fault) => Err(CheckFault::Index(fault)),
         Ok(index) => {
             let roles = check_functions(alloc, &index)?;
-            let types = check_types(alloc, &index)?;
+            let types = types_of(alloc, &index)?;
             hold_bytes(image.segments());
             Ok(Parts { types, roles })
         }

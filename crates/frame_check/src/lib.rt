@@ -14,6 +14,6 @@ pub mod roots;
 mod walk;
 
 pub use accepted::Accepted;
-pub use checking::check;
+pub use checking::{check, judge_function, types_of};
 pub use fault::{CheckFault, Rejected};
 pub use roles::Role;

@@ -1,5 +1,6 @@
 pub mod FlowGraph
 pub mod Places
+pub mod KeptPlaces
 pub mod Edges
 pub mod Unwinding
 pub mod Sites

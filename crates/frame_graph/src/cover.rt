@@ -1,12 +1,14 @@
 //! What the exception index says of an entry, read once for all sites of a function and for the next function that it covers.
 //! docs/flow-graphs.md, "Sites".
-ghost use Rattle.std.specs.Prelude.{◌≡◌, ◌++◌, Some, true, IfOk};
+ghost use Rattle.std.specs.Prelude.{◌≡◌, ◌++◌, Some, true, IfOk, IfSome};
 ghost use Rattle.std.specs.List.{list_any, filter};
 ghost use Rattle.eh_index.specs.Places.{table_of};
 ghost use Rattle.eh_desc.specs.Grammar.{items_of};
 ghost use Rattle.frame_graph.specs.Sites.{is_fault};
+ghost use Rattle.frame_graph.specs.Cover.{CoversTo, IsBetween};
 ghost use Rattle.frame_graph.specs.Stretch.{is_met, IsWithin};
 
+use crate::kept_places::KeptPlaces;
 use crate::stretch::Span;
 use crate::unwinding::{Unwinding, of_entry};
 use eh_desc::{Desc, DescFault, Descs};
@@ -14,8 +16,8 @@ use eh_index::{Entry, Index};
 use std::alloc::{AllocError, Global};
 use std::marker::Model;
 
-/// An entry of an exception index with what it says, or no entry yet; and of its descriptors those that are at hand, since their scope
-/// meets a span of addresses. Contracts see the image alone: what is kept is what its bytes say.
+/// An entry of an exception index with what it says, or no entry yet; of its descriptors those that are at hand, since their scope meets a
+/// span of addresses; and what stands at the places of one function. Contracts see the image alone: what is kept is what its bytes say.
 #[derive(Drop)]
 pub struct Cover<'s, 'i, 'a> {
     pub(crate) index: &'s Index<'i, 'a>,
@@ -25,18 +27,22 @@ pub struct Cover<'s, 'i, 'a> {
     pub(crate) faulty: bool,
     pub(crate) span: Option<Span>,
     pub(crate) near: Vec<Result<Desc, DescFault>>,
+    pub(crate) kept: KeptPlaces,
+    /// An address that the entry covers.
+    pub(crate) last: Option<u32>,
 }
 
 impl<'s, 'i, 'a> Model for Cover<'s, 'i, 'a> {
     ghost use Rattle.elf_image.specs.Image.{Image as Parts};
-    ghost use Rattle.frame_graph.specs.Cover.{IsKept};
+    ghost use Rattle.frame_graph.specs.Cover.{IsKept, CoversTo};
     ghost use Rattle.frame_graph.specs.Stretch.{AreAtHand};
+    ghost use Rattle.frame_graph.specs.KeptPlaces.{ArePlaces};
 
     ghost Value = { Parts };
 
     ghost view = { λ c. c.index.now };
 
-    ghost invariant = { λ c. IsKept c.index.now c.entry c.unwinding c.items.items c.faulty × AreAtHand c.index.now c.entry c.span c.near.items };
+    ghost invariant = { λ c. IsKept c.index.now c.entry c.unwinding c.items.items c.faulty × AreAtHand c.index.now c.entry c.span c.near.items × ArePlaces (record { image = c.index.now; start = c.kept.start; end = c.kept.end }) c.kept.places.items × CoversTo c.index.now c.entry c.last };
 }
 
 /// Whether the entry that is kept is this one.
@@ -46,6 +52,30 @@ pub(crate) fn is_entry(kept: Option<Entry>, e: &Entry) -> bool
     match kept {
         None => false,
         Some(k) => k == *e,
+    }
+}
+
+/// The address, where the entry that is kept covers it.
+fn covered(index: &Index, kept: Option<Entry>, a: u32) -> Option<u32>
+    ensures covers { CoversTo index.now kept result }
+    ensures same { IfSome result (λ last. last ≡ a) }
+{
+    match index.find(a) {
+        None => None,
+        Some(e) => { if is_entry(kept, &e) { Some(a) } else { None } }
+    }
+}
+
+/// Whether an address lies between the start of the entry that is kept and an address that it covers.
+pub(crate) fn is_between(kept: Option<Entry>, last: Option<u32>, a: u32) -> bool
+    ensures { result ≡ true → IsBetween kept last a }
+{
+    let Some(e) = kept else {
+        return false;
+    };
+    match last {
+        None => false,
+        Some(last) => e.start <= a && a <= last,
     }
 }
 
@@ -123,6 +153,8 @@ impl<'s, 'i, 'a> Cover<'s, 'i, 'a> {
             faulty: false,
             span: None,
             near: Vec::new(alloc),
+            kept: KeptPlaces::none(alloc, index),
+            last: None,
         }
     }
 
@@ -144,6 +176,8 @@ impl<'s, 'i, 'a> Cover<'s, 'i, 'a> {
             faulty,
             span: None,
             near: Vec::new(alloc),
+            kept: KeptPlaces::none(alloc, index),
+            last: None,
         })
     }
 
@@ -164,22 +198,12 @@ impl<'s, 'i, 'a> Cover<'s, 'i, 'a> {
         }
     }
 
-    /// The same, with the descriptors at hand whose scope meets a function, by its first address and the first one above it. They are
-    /// chosen for all addresses around it that no other scope meets, and only where the function reaches beyond those of the last
-    /// choice. Of few descriptors none are chosen.
-    pub fn around(
-        self,
-        alloc: Global,
-        start: u32,
-        end: u32,
-    ) -> Result<Cover<'s, 'i, 'a>, AllocError>
+    /// The same, with the descriptors at hand whose scope meets a function. They are chosen for all addresses around it that no other
+    /// scope meets, and only where the function reaches beyond those of the last choice. Of few descriptors none are chosen.
+    fn chosen(self, alloc: Global, function: &Span) -> Result<Cover<'s, 'i, 'a>, AllocError>
         ensures { IfOk result (λ c. c ≡ self.entry) }
     {
-        let function = Span {
-            low: start,
-            last: end.saturating_sub(1).max(start),
-        };
-        if self.items.len() <= FEW || lies_within(self.span, &function) {
+        if self.items.len() <= FEW || lies_within(self.span, function) {
             return Ok(self);
         }
         let span = function.widened(&self.items);
@@ -192,6 +216,37 @@ impl<'s, 'i, 'a> Cover<'s, 'i, 'a> {
             faulty: self.faulty,
             span: Some(span),
             near,
+            kept: self.kept,
+            last: self.last,
+        })
+    }
+
+    /// The same, with what stands at the places of a function, by its first address and the first one above it, with the descriptors at
+    /// hand whose scope meets it, and with its last address where the entry covers that.
+    pub fn around(
+        self,
+        alloc: Global,
+        start: u32,
+        end: u32,
+    ) -> Result<Cover<'s, 'i, 'a>, AllocError>
+        ensures { IfOk result (λ c. c ≡ self.entry) }
+    {
+        let function = Span {
+            low: start,
+            last: end.saturating_sub(1).max(start),
+        };
+        let kept = KeptPlaces::read(alloc, self.index, start, end)?;
+        let around = self.chosen(alloc, &function)?;
+        Ok(Cover {
+            index: around.index,
+            entry: around.entry,
+            unwinding: around.unwinding,
+            items: around.items,
+            faulty: around.faulty,
+            span: around.span,
+            near: around.near,
+            kept,
+            last: covered(around.index, around.entry, function.last),
         })
     }
 }

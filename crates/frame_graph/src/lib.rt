@@ -5,6 +5,7 @@
 pub mod cover;
 pub mod edges;
 pub mod flow_graph;
+pub mod kept_places;
 pub mod laws;
 pub mod places;
 pub mod sites;

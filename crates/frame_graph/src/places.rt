@@ -1,7 +1,7 @@
 //! The places of a function and what stands at each. docs/flow-graphs.md, "Functions and places".
 ghost use Rattle.std.specs.Prelude.{◌≡◌, ◌+◌, ◌*◌, ◌-◌, ◌<◌, ◌^◌, slice_index};
 ghost use Rattle.thumb_isa.specs.declared.instr.Decoded.{Decoded as Row};
-ghost use Rattle.frame_graph.specs.Places.{is_code_of, place_of, is_place, halfword_in, halfword_at, halfword_of, of_decoded, wide_of, standing_at};
+ghost use Rattle.frame_graph.specs.Places.{is_code_of, place_of, is_place, halfword_in, halfword_at, halfword_of, of_decoded, standing_by, standing_at};
 
 use crate::flow_graph::FlowGraph;
 use elf_image::image::Image;
@@ -21,6 +21,13 @@ pub enum Standing {
     Udf,
     /// No instruction, one whose second halfword isn't the function's, or no code of the function.
     Nothing,
+}
+
+/// What is read of a place: whether it is code of the function, and the halfword there, which only code has.
+#[derive(Clone, Copy)]
+pub(crate) struct Fetched {
+    pub(crate) code: bool,
+    pub(crate) halfword: Option<u16>,
 }
 
 /// A byte of a segment, at an offset from its start; after the bytes of the file stand zeros.
@@ -60,13 +67,47 @@ fn of_decoded(decoded: Decoded) -> Standing
     }
 }
 
+/// What stands at a place, by its halfword and that of the next place.
+pub(crate) fn standing_by(first: Option<u16>, second: Option<u16>) -> Standing
+    ensures { result ≡ standing_by first second }
+{
+    let Some(first) = first else {
+        return Standing::Nothing;
+    };
+    if first >> 8 == UDF {
+        return Standing::Udf;
+    }
+    if !is_wide(first) {
+        return of_decoded(decode(first, 0));
+    }
+    match second {
+        None => Standing::Nothing,
+        Some(second) => of_decoded(decode(first, second)),
+    }
+}
+
 impl<'s, 'i, 'a> FlowGraph<'s, 'i, 'a> {
+    /// Whether an address is code of the function, asked of the image.
+    fn is_code_in_image(&self, a: u32) -> bool
+        ensures { result ≡ is_code_of self.now a }
+    {
+        self.start <= a && a < self.end && (a == self.start || self.index.image().is_code(a))
+    }
+
     /// Whether an address is code of the function: its entry, or an even one above it and below its end that is code by the mapping
     /// symbols.
     pub fn is_code(&self, a: u32) -> bool
         ensures { result ≡ is_code_of self.now a }
     {
-        self.start <= a && a < self.end && (a == self.start || self.index.image().is_code(a))
+        if a < self.start {
+            return false;
+        }
+        let after = (a - self.start) as usize;
+        if after % 2 == 0 && after / 2 < self.places.len() {
+            self.places[after / 2].code
+        } else {
+            self.is_code_in_image(a)
+        }
     }
 
     /// The place of an address: how many halfwords it lies after the entry. None exactly where the address isn't code of the function.
@@ -96,16 +137,23 @@ impl<'s, 'i, 'a> FlowGraph<'s, 'i, 'a> {
         self.start + 2 * place
     }
 
-    /// The halfword at a place.
-    fn halfword_of(&self, place: u64) -> Option<u16>
+    /// What is read of a place.
+    pub(crate) fn fetch(&self, place: u64) -> Fetched
         requires { place < 2 ^ 33 }
-        ensures { result ≡ halfword_of self.now place }
+        ensures code { result.code ≡ is_place self.now place }
+        ensures halfword { result.halfword ≡ halfword_of self.now place }
     {
         let a = u64::from(self.start) + 2 * place;
-        if a < u64::from(self.end) && self.is_code(a as u32) {
-            halfword_at(self.index.image(), a as u32)
+        if a < u64::from(self.end) && self.is_code_in_image(a as u32) {
+            Fetched {
+                code: true,
+                halfword: halfword_at(self.index.image(), a as u32),
+            }
         } else {
-            None
+            Fetched {
+                code: false,
+                halfword: None,
+            }
         }
     }
 
@@ -114,18 +162,10 @@ impl<'s, 'i, 'a> FlowGraph<'s, 'i, 'a> {
     pub fn standing_at(&self, place: u32) -> Standing
         ensures { result ≡ standing_at self.now place }
     {
-        let Some(first) = self.halfword_of(u64::from(place)) else {
-            return Standing::Nothing;
-        };
-        if first >> 8 == UDF {
-            return Standing::Udf;
+        if (place as usize) < self.places.len() {
+            return self.places[place as usize].standing;
         }
-        if !is_wide(first) {
-            return of_decoded(decode(first, 0));
-        }
-        match self.halfword_of(u64::from(place) + 1) {
-            None => Standing::Nothing,
-            Some(second) => of_decoded(decode(first, second)),
-        }
+        let place = u64::from(place);
+        standing_by(self.fetch(place).halfword, self.fetch(place + 1).halfword)
     }
 }

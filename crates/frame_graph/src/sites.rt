@@ -8,7 +8,7 @@ ghost use Rattle.frame_graph.specs.Edges.{edges_to};
 ghost use Rattle.frame_graph.specs.Unwinding.{landing_changes, of_body};
 ghost use Rattle.frame_graph.specs.Sites.{Item, is_one, is_fault, site_of, site_at, entry_at, unwinding_at, items_at, covers, is_scoped, has_fault, pad_of, is_cleanup, cleans, pad_for, pad_edges, edges_from, edges_of, lands_out, pads_out, is_split};
 
-use crate::cover::{is_entry, is_fault};
+use crate::cover::{is_between, is_entry, is_fault};
 use crate::edges::{Edge, add_edge};
 use crate::flow_graph::FlowGraph;
 use crate::places::Standing;
@@ -139,6 +139,17 @@ impl<'s, 'i, 'a> FlowGraph<'s, 'i, 'a> {
         self.site_by(place, self.standing_at(place))
     }
 
+    /// The entry that covers an address. Where the one that is kept does, the index isn't searched.
+    pub(crate) fn entry_at(&self, a: u32) -> Option<Entry>
+        ensures { result ≡ entry_at self.now a }
+    {
+        if is_between(self.entry, self.last, a) {
+            self.entry
+        } else {
+            self.index.find(a)
+        }
+    }
+
     /// What the codes of an entry say.
     #[tactic(auto, using(crate::proofs::Kept::kept_unwinding))]
     pub(crate) fn unwinding_by(&self, e: &Entry) -> Unwinding
@@ -156,7 +167,7 @@ impl<'s, 'i, 'a> FlowGraph<'s, 'i, 'a> {
     pub fn unwinding_at(&self, a: u32) -> Unwinding
         ensures { result ≡ unwinding_at self.now a }
     {
-        match self.index.find(a) {
+        match self.entry_at(a) {
             None => Unwinding::Refused,
             Some(e) => self.unwinding_by(&e),
         }
@@ -179,7 +190,7 @@ impl<'s, 'i, 'a> FlowGraph<'s, 'i, 'a> {
     pub fn is_scoped(&self, site: u32) -> bool
         ensures { result ≡ is_scoped self.now site }
     {
-        match self.index.find(site) {
+        match self.entry_at(site) {
             None => false,
             Some(e) => self.is_scoped_by(site, &e),
         }
@@ -202,7 +213,7 @@ impl<'s, 'i, 'a> FlowGraph<'s, 'i, 'a> {
     pub fn has_fault(&self, a: u32) -> bool
         ensures { result ≡ has_fault self.now a }
     {
-        match self.index.find(a) {
+        match self.entry_at(a) {
             None => false,
             Some(e) => self.has_fault_by(&e),
         }
@@ -263,7 +274,7 @@ impl<'s, 'i, 'a> FlowGraph<'s, 'i, 'a> {
     pub fn pads_out(&self, site: u32) -> bool
         ensures { result ≡ pads_out self.now site }
     {
-        match self.index.find(site) {
+        match self.entry_at(site) {
             None => false,
             Some(e) => self.pads_out_by(site, &e),
         }
@@ -273,7 +284,7 @@ impl<'s, 'i, 'a> FlowGraph<'s, 'i, 'a> {
     pub fn is_split(&self, site: u32) -> bool
         ensures { result ≡ is_split self.now site }
     {
-        match self.index.find(site) {
+        match self.entry_at(site) {
             None => false,
             Some(e) => self.start < e.start,
         }
@@ -381,7 +392,7 @@ impl<'s, 'i, 'a> FlowGraph<'s, 'i, 'a> {
         ensures { OnOk result (edges.new.items ≡ edges.old.items ++ edges_from self.now (Some site)) }
     {
         let unwinding = self.unwinding_at(site);
-        match self.index.find(site) {
+        match self.entry_at(site) {
             None => Ok(()),
             Some(e) => self.add_pads_by(edges, site, &unwinding, &e),
         }

@@ -282,7 +282,7 @@ impl<'s, 'i, 'a> FlowGraph<'s, 'i, 'a> {
         ensures stretch { IfOk result (IsStretch self.now) }
         ensures tells { IfOk result (λ t. Tells self.now t site) }
     {
-        match self.index.find(site) {
+        match self.entry_at(site) {
             None => Ok(Stretch::new(alloc)),
             Some(e) => {
                 if held.holds(site, &e) {

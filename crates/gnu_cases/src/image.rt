@@ -46,7 +46,7 @@ pub fn file_of(alloc: Global, table: &[u8]) -> Result<Vec<u8>, Unanswered> {
 }
 
 /// The name of what is refused.
-fn name_of(fault: Option<EntryFault>) -> &'static str {
+pub fn name_of(fault: Option<EntryFault>) -> &'static str {
     match fault {
         None => "none",
         Some(EntryFault::Personality) => "Personality",

@@ -1,5 +1,5 @@
 -- The entries of the generic model in an image's exception table (IHI 0038, "The generic model"; docs/gnu-tables.md).
-use Rattle.std.specs.Prelude.{ℕ, ◌+◌, ◌-◌, ◌/◌, ◌%◌, ◌^◌, ◌&&◌, not, nat_le, nat_lt, if◌then◌else◌, List, codes, Option, Some, None, option_map}
+use Rattle.std.specs.Prelude.{ℕ, ◌+◌, ◌-◌, ◌/◌, ◌%◌, ◌^◌, ◌&&◌, ◌*◌, not, nat_le, nat_lt, if◌then◌else◌, List, length, take, drop, codes, Option, Some, None, option_map, option_and_then}
 use Rattle.eh_word.specs.Words.{number_at, prel31_of}
 use Rattle.elf_image.specs.Segments.{Segment, segment_end}
 use Rattle.elf_image.specs.Functions.{segment_at}
@@ -74,3 +74,10 @@ personality_in image = symbol_in image personality_name
 -- how many words hold code after the second one, by the top byte of that one
 abbrev pub words_after : Form → Option ℕ
 words_after f = option_map (λ word. word / 2 ^ 24) (number_at 4 f.bytes (f.place + 4))
+
+-- the bytes of the words with codes, where all of them are there: the second word, and those that it counts
+abbrev pub held_words : Form → ℕ → Option (List ℕ)
+held_words f words = if nat_le (f.place + 8 + 4 * words) (length f.bytes) then Some (take (4 + 4 * words) (drop (f.place + 4) f.bytes)) else None
+
+abbrev pub words_of : Form → Option (List ℕ)
+words_of f = option_and_then (held_words f) (words_after f)

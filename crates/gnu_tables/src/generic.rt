@@ -1,9 +1,9 @@
 //! The entries of the generic model (IHI 0038), read where they stand. docs/gnu-tables.md states the rules.
-ghost use Rattle.std.specs.Prelude.{◌≡◌, ◌+◌, ◌-◌, ◌*◌, ◌/◌, ◌%◌, ◌^◌, ◌<◌, ◌≤◌, length, Option, None, option_map, slice_index};
+ghost use Rattle.std.specs.Prelude.{◌≡◌, ◌+◌, ◌-◌, ◌*◌, ◌/◌, ◌%◌, ◌^◌, ◌<◌, ◌≤◌, length, Option, None, option_map, option_copied, slice_index};
 ghost use Rattle.elf_image.specs.Functions.{segment_at};
 ghost use Rattle.eh_index.specs.Rows.{entry_at, entry_count, entries_of};
 ghost use Rattle.unwind_codes.specs.declared.row.TheConstants.{ROW_SIZE};
-ghost use Rattle.gnu_tables.specs.Entries.{size_in, range_size, held, generic_in, generic_of, address_in, personality_of, personality_in, words_after};
+ghost use Rattle.gnu_tables.specs.Entries.{size_in, range_size, held, generic_in, generic_of, address_in, personality_of, personality_in, words_after, words_of};
 ghost use Rattle.gnu_tables.specs.Heads.{area_of};
 
 use crate::lsda::{HeadFault, Lsda};
@@ -39,9 +39,9 @@ impl<'a> Model for Generic<'a> {
     ghost invariant = { λ g. g.place + 4 ≤ length g.bytes.now };
 }
 
-/// A row of the index, by its number.
+/// A row of an image's index, by its number.
 #[tactic(auto, using(eh_index::proofs::Places::places))]
-fn row_at(image: &Image, k: u32) -> Entry
+pub fn row_at(image: &Image, k: u32) -> Entry
     requires { k < entry_count image.now }
     ensures { result ≡ entry_at image.now k }
 {
@@ -55,9 +55,9 @@ fn row_at(image: &Image, k: u32) -> Entry
     )
 }
 
-/// How many rows there are.
+/// How many rows an image's index has.
 #[tactic(auto, using(eh_index::proofs::Places::places))]
-fn row_count(image: &Image) -> u32
+pub fn row_count(image: &Image) -> u32
     ensures { result ≡ entry_count image.now }
 {
     let bytes = image.index_bytes();
@@ -166,6 +166,20 @@ impl<'a> Generic<'a> {
     {
         let word = get_word(self.bytes, self.place + 4)?;
         Some((word / 0x100_0000) as u8)
+    }
+
+    /// The bytes of its words with codes, the second word and those that it counts; None where not all of them are there. The top byte of
+    /// the second word is no code.
+    pub fn words(&self) -> Option<&'a [u8]>
+        ensures { option_copied result ≡ words_of self.now }
+    {
+        let words = self.words_after()? as usize;
+        let end = self.place + 8 + 4 * words;
+        if end > self.bytes.len() {
+            return None;
+        }
+        let bytes = self.bytes;
+        Some(&bytes[self.place + 4..end])
     }
 
     /// The language-specific data area after the words of code, or why its head can't be read.

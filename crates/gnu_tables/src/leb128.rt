@@ -19,7 +19,7 @@ pub enum Signed {
 }
 
 /// The ULEB128 number at offset `at`, and the offset after it. None exactly where `at` is past the bytes or the number there is refused.
-pub(crate) fn uleb128_at(bytes: &[u8], at: usize) -> Option<(u32, usize)>
+pub fn uleb128_at(bytes: &[u8], at: usize) -> Option<(u32, usize)>
     ensures number { result ≡ uleb128_at bytes.now at }
 {
     if at > bytes.len() {

@@ -12,7 +12,7 @@ pub mod records;
 
 pub use actions::{Action, ActionFault, Actions, Caught};
 pub use fault::EntryFault;
-pub use generic::{Generic, personality_symbol};
-pub use leb128::{Signed, sleb128};
+pub use generic::{Generic, personality_symbol, row_at, row_count};
+pub use leb128::{Signed, sleb128, uleb128_at};
 pub use lsda::{HeadFault, Lsda};
 pub use records::{Record, RecordFault, Records};

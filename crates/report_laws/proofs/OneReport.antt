@@ -1,17 +1,19 @@
 -- A report of a run speaks of the program alone.
-use Rattle.std.proofs.Common.{◌≡◌, ℕ, List, [], ◌++◌, length, Option, refl, sym, ap, ◌∙◌}
+use Rattle.std.proofs.Common.{◌≡◌, ℕ, ◌-◌, List, [], ◌++◌, length, Option, Result, Ok, Err, refl, sym, ap, subst, ◌∙◌}
 use Rattle.elf_image.specs.Image.{Image}
 use Rattle.eh_phase.specs.Phases.{Frames}
 use Rattle.eh_trace.specs.Text.{trace_text}
 use Rattle.eh_trace.specs.Trace.{Trace}
 use Rattle.eh_types.specs.Graph.{Row, name_of}
+use Rattle.eh_walk.specs.Forced.{Forced, forced}
 use Rattle.eh_walk.specs.Reaching.{Onward, run_to_site}
 use Rattle.eh_walk.specs.Text.{walk_text}
 use Rattle.eh_walk.specs.Walks.{frames_given, end_given, walk_of}
+use Rattle.eh_walk.specs.declared.stopping.ForceFault.{ForceFault}
 use Rattle.eh_walk.specs.declared.walk.WalkEnd.{WalkEnd}
 use Rattle.eh_walk.specs.declared.walk.WalkEnd.TheVariants.{Root, NoUnwind, Most, NotSite}
 use Rattle.eh_walk.specs.declared.walk.WalkFrame.{WalkFrame}
-use Rattle.event_runs.specs.Runs.{Ran, ran_of}
+use Rattle.event_runs.specs.Runs.{Machine, Ran, ran_of}
 use Rattle.frame_check.specs.Accepts.{Accepted}
 use Rattle.eh_gates.specs.State.{State}
 use Rattle.thumb_core.specs.declared.ends.End.{End}
@@ -22,18 +24,19 @@ use Rattle.two_machines.specs.Program.{Program}
 use Rattle.two_machines.specs.Start.{start_of}
 use Rattle.accepted_laws.specs.OneReport.{ProgramsAreOne}
 use Rattle.ehabi_top.specs.BothRuns.{bytes_events}
+use Rattle.ehabi_top.specs.ForceReport.{accepted_force, by_site_end, force_report, forced_type, from_forced, preceded, unforced, IsRefusedForcing, IsUnforced}
 use Rattle.ehabi_top.specs.GenerateReport.{summary_report}
 use Rattle.ehabi_top.specs.Loading.{Report, Closing, closing_of, ran_report, status_of}
-use Rattle.ehabi_top.specs.RunReport.{accepted_report, trace}
+use Rattle.ehabi_top.specs.RunReport.{accepted_report, run_report, trace}
 use Rattle.ehabi_top.specs.TaskReport.{TaskReports}
 use Rattle.ehabi_top.specs.Text.{trace_head, end_line, summary}
 use Rattle.ehabi_top.specs.WalkReport.{accepted_walk, walk_closing, walk_report, walked, walked_by}
 use Rattle.ehabi_top.specs.declared.status.TheConstants.{DONE}
 use Rattle.ehabi_top.specs.declared.walk.TheConstants.{MOST_FRAMES}
 use Rattle.ehabi_top.specs.declared.words.Task.{Task}
-use Rattle.ehabi_top.specs.declared.words.Task.TheVariants.{Run, Walk}
+use Rattle.ehabi_top.specs.declared.words.Task.TheVariants.{Run, Walk, Force}
 use Rattle.ehabi_top.specs.declared.words.TheConstants.{MOST_INSTRUCTIONS}
-use Rattle.report_laws.specs.OneReport.{ReportsAreOne, CountsAreOne}
+use Rattle.report_laws.specs.OneReport.{ReportsAreOne, CountsAreOne, RefusalsAreOne}
 
 -- the report of a program's run
 by_program : ℕ → List ℕ → Program → Report
@@ -92,6 +95,41 @@ told_alike budget input a b p i t =
     let ran : Ran (Onward State) End = run_to_site p budget (start_of p) input in
     ap (ended_by ran.text ran.left) (by_end a b i t (bytes_events ran.state.state) (walk_of p ran.state.state.regs ran.state.state.memory) ran.end)
 
+-- .. and of a forced unwinding
+module _ (a b : Accepted) (image : a.image ≡ b.image) (types : a.types ≡ b.types) where
+  run_alike : {S : Type 0} (events : S → Trace) (ran : Ran S End) → run_report events a ran ≡ run_report events b ran
+  unfolding ended_by
+  run_alike events ran = ap (ended_by ran.text ran.left) (same_closing a b image types (events ran.state) ran.end)
+
+  from_alike : (machine : Machine State End) (done : ℕ) (input : List ℕ) (result : Result (Unit {0}) ForceFault) (s : State)
+      → from_forced bytes_events machine a done input (result, s) ≡ from_forced bytes_events machine b done input (result, s)
+  unfolding ended_by
+  from_alike machine done input (Ok u) s = run_alike bytes_events (ran_of machine (MOST_INSTRUCTIONS - done) s input)
+  from_alike machine done input (Err fault) s = ap (λ (head : List ℕ). ended_by [] input (unforced head fault)) (same_trace a b image types (bytes_events s))
+
+  site_alike : (machine : Machine State End) (force : State → Forced) (ran : Ran (Onward State) End) (end : End)
+      → by_site_end bytes_events machine force a ran end ≡ by_site_end bytes_events machine force b ran end
+  site_alike machine force ran Budget = ap (preceded ran.text) (from_alike machine ran.state.done ran.left (force ran.state.state).0 (force ran.state.state).1)
+  site_alike machine force ran (Exit number) = run_alike (λ (o : Onward State). bytes_events o.state) ran
+  site_alike machine force ran (Terminate cause) = run_alike (λ (o : Onward State). bytes_events o.state) ran
+  site_alike machine force ran (Trap kind value pc) = run_alike (λ (o : Onward State). bytes_events o.state) ran
+  site_alike machine force ran ReadFault = run_alike (λ (o : Onward State). bytes_events o.state) ran
+  site_alike machine force ran WriteFault = run_alike (λ (o : Onward State). bytes_events o.state) ran
+
+force_by_program : ℕ → ℕ → List ℕ → Accepted → Program → Report
+force_by_program number budget input a p =
+    force_report bytes_events (machine_of p) (λ (s : State). forced p number (forced_type p.image) s) a (run_to_site p budget (start_of p) input)
+
+is_force_by_program : (number budget : ℕ) (a : Accepted) (input : List ℕ) → accepted_force number budget a input ≡ force_by_program number budget input a (program_of a)
+unfolding accepted_force force_by_program
+is_force_by_program number budget a input = refl
+
+forced_alike : (number budget : ℕ) (input : List ℕ) (a b : Accepted) (p : Program) → a.image ≡ b.image → a.types ≡ b.types → force_by_program number budget input a p ≡ force_by_program number budget input b p
+unfolding force_by_program
+forced_alike number budget input a b p i t =
+    let ran : Ran (Onward State) End = run_to_site p budget (start_of p) input in
+    site_alike a b i t (machine_of p) (λ (s : State). forced p number (forced_type p.image) s) ran ran.end
+
 by_task : (task : Task) (budget : ℕ) (input : List ℕ) (a b : Accepted) (r q : Report) → program_of a ≡ program_of b → TaskReports task budget a input r → TaskReports task budget b input q → r ≡ q
 by_task Run budget input a b r q e x y =
     x.is ∙ is_by_program budget a input ∙ ap (by_program budget input) e ∙ sym (is_by_program budget b input) ∙ sym y.is
@@ -99,6 +137,18 @@ by_task Walk budget input a b r q e x y =
     x.is ∙ is_walk_by_program budget a input ∙ ap (walk_by_program budget input a) e
     ∙ told_alike budget input a b (program_of b) (ap (λ (p : Program). p.image) e) (ap (λ (p : Program). p.types) e)
     ∙ sym (is_walk_by_program budget b input) ∙ sym y.is
+by_task (Force number) budget input a b r q e x y =
+    x.is ∙ is_force_by_program number budget a input ∙ ap (force_by_program number budget input a) e
+    ∙ forced_alike number budget input a b (program_of b) (ap (λ (p : Program). p.image) e) (ap (λ (p : Program). p.types) e)
+    ∙ sym (is_force_by_program number budget b input) ∙ sym y.is
+
+pub refusals : ProgramsAreOne → RefusalsAreOne
+refusals one number budget x y input are u =
+    let e : program_of x ≡ program_of y = one x y are.one are.other are.same in
+    record {
+      comes = subst (λ (p : Program). (run_to_site p budget (start_of p) input).end ≡ Budget) e (IsUnforced.comes u);
+      refused = subst (λ (p : Program). IsRefusedForcing (forced p number (forced_type p.image) (run_to_site p budget (start_of p) input).state.state).0) e (IsUnforced.refused u);
+    }
 
 pub reports : ProgramsAreOne → ReportsAreOne
 reports one request x y input r q are i j = by_task request.task request.budget input x y r q (one x y are.one are.other are.same) i j

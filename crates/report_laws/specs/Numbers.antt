@@ -14,6 +14,7 @@ pub record CommandNumbers : Type 0 where
   pub most_digits : ehabi_top-words.MOST_DIGITS ≡ 10
   pub most_number : ehabi_top-words.MOST_NUMBER ≡ 4294967295
   pub most_function_digits : ehabi_top-words.MOST_FUNCTION_DIGITS ≡ 4
+  pub most_frame_digits : ehabi_top-words.MOST_FRAME_DIGITS ≡ 4
   pub most_frames : ehabi_top-walk.MOST_FRAMES ≡ 65536
   pub most_further : eh_walk-reach.MOST_FURTHER ≡ 1000000
   pub done : ehabi_top-status.DONE ≡ 0

@@ -1,6 +1,7 @@
--- The report of a run of an accepted image, and of a walk in it, is one (docs/command-line.md): it doesn't rest on how the checker has kept what it found.
+-- The report of a run of an accepted image, of a walk in it, and of a forced unwinding of it, is one (docs/command-line.md): it doesn't rest on how the checker has kept what it found.
 use Rattle.std.specs.Prelude.{◌≡◌, ℕ, List}
 use Rattle.frame_check.specs.Accepts.{Accepted, IsSound}
+use Rattle.ehabi_top.specs.ForceReport.{IsUnforced}
 use Rattle.ehabi_top.specs.GenerateReport.{CountsAccepted}
 use Rattle.ehabi_top.specs.Loading.{Report}
 use Rattle.ehabi_top.specs.TaskReport.{DoesTask}
@@ -12,10 +13,14 @@ pub record AreOfOne (x y : Accepted) : Type 0 where
   pub other : IsSound y
   pub same : x.image ≡ y.image
 
--- of one image, with one budget and one input, `run` has one report, and so has `walk`
+-- of one image, with one budget and one input, `run` has one report, and so have `walk` and `force`
 abbrev pub ReportsAreOne : Type 0
 ReportsAreOne = (request : Request) (x y : Accepted) (input : List ℕ) (r q : Report) → AreOfOne x y → DoesTask request x input r → DoesTask request y input q → r ≡ q
 
 -- and so has `gen`
 abbrev pub CountsAreOne : Type 0
 CountsAreOne = (x y : Accepted) (input : List ℕ) (r q : Report) → AreOfOne x y → CountsAccepted x input r → CountsAccepted y input q → r ≡ q
+
+-- and whether the unwinding of `force` is refused is one
+abbrev pub RefusalsAreOne : Type 0
+RefusalsAreOne = (number budget : ℕ) (x y : Accepted) (input : List ℕ) → AreOfOne x y → IsUnforced number budget x input → IsUnforced number budget y input

@@ -2,12 +2,12 @@
 #![tactic(auto)]
 
 ghost use Rattle.report_laws.specs.Numbers.{CommandNumbers};
-ghost use Rattle.report_laws.specs.OneReport.{ReportsAreOne, CountsAreOne};
+ghost use Rattle.report_laws.specs.OneReport.{ReportsAreOne, CountsAreOne, RefusalsAreOne};
 ghost use Rattle.report_laws.specs.Written.{ReportsAreWritten};
 
 use accepted_laws::programs_are_one;
 
-/// `run` has one report of an accepted image, a budget and an input, and so has `walk`.
+/// `run` has one report of an accepted image, a budget and an input, and so have `walk` and `force`.
 pub fn reports_are_one()
     ensures { ReportsAreOne }
 {
@@ -21,7 +21,14 @@ pub fn counts_are_one()
     programs_are_one();
 }
 
-/// The last line and the status of each report, in letters and digits: of a run, a walk, raw code and a generated program by how it ended; of
+/// Whether the unwinding of `force` is refused is one of an accepted image, a budget and an input.
+pub fn refusals_are_one()
+    ensures { RefusalsAreOne }
+{
+    programs_are_one();
+}
+
+/// The last line and the status of each report, in letters and digits: of a run, a walk, a forced unwinding, raw code and a generated program by how it ended; of
 /// words of no form, of files that are missing or too long, of an image that is built and of one that is accepted.
 pub fn reports_are_written()
     ensures { ReportsAreWritten }

@@ -1,8 +1,10 @@
 //! Descriptors of a table, in an image of one read-only segment that holds its words at 9000.
+use crate::answers::{said, word, yes_or_no};
 use case_images::{image_of, opened};
-use case_rows::{Asked, Unanswered, first_word, number, number_at, numbers};
+use case_rows::{Asked, Unanswered, first_word, number, numbers};
 use eh_desc::{CatchType, Desc, DescFault, DescKind, Descs, spec_type};
 use eh_index::Index;
+use elf_image::image::Image;
 use std::alloc::{AllocError, Global};
 use unwind_codes::{Entry, EntryBody};
 
@@ -33,65 +35,81 @@ fn file_of(alloc: Global, words: &str) -> Result<Vec<u8>, Unanswered> {
     image_of(alloc, text.as_str())
 }
 
-fn type_text(alloc: Global, ty: CatchType) -> Result<String, AllocError> {
-    match ty {
-        CatchType::All => format!(in alloc; "all"),
-        CatchType::AllFails => format!(in alloc; "all fails"),
-        CatchType::One(a) => format!(in alloc; "{a:X}"),
+/// The index of an image.
+pub fn index_of<'i, 'a>(image: &'i Image<'a>) -> Result<Index<'i, 'a>, Unanswered> {
+    match Index::read(image) {
+        Ok(index) => Ok(index),
+        Err(_fault) => Err(Unanswered::Because("no index")),
     }
 }
 
-fn catch_text(
-    alloc: Global,
+fn push_type(text: &mut String, ty: CatchType) -> Result<(), AllocError> {
+    match ty {
+        CatchType::All => text.push_str("all"),
+        CatchType::AllFails => text.push_str("all fails"),
+        CatchType::One(a) => write!(text, "{a:X}"),
+    }
+}
+
+fn push_catch(
+    text: &mut String,
     pad: u32,
     reference: bool,
     ty: CatchType,
-) -> Result<String, AllocError> {
-    let what = type_text(alloc, ty)?;
+) -> Result<(), AllocError> {
+    text.push_str("catch ")?;
+    push_type(text, ty)?;
     let by = if reference { " by reference" } else { "" };
-    format!(in alloc; "catch {what}{by} to {pad:X}")
+    write!(text, "{by} to {pad:X}")
 }
 
-fn spec_text(
-    alloc: Global,
+fn push_spec(
+    text: &mut String,
     types: u32,
     count: u32,
     pad: Option<u32>,
-) -> Result<String, AllocError> {
+) -> Result<(), AllocError> {
+    write!(text, "specification of {count} at {types:X}")?;
     match pad {
-        Some(pad) => format!(in alloc; "specification of {count} at {types:X} to {pad:X}"),
-        None => format!(in alloc; "specification of {count} at {types:X}"),
+        Some(pad) => write!(text, " to {pad:X}"),
+        None => Ok(()),
     }
 }
 
-fn kind_text(alloc: Global, kind: DescKind) -> Result<String, AllocError> {
+fn push_kind(text: &mut String, kind: DescKind) -> Result<(), AllocError> {
     match kind {
-        DescKind::Cleanup { pad } => format!(in alloc; "cleanup to {pad:X}"),
-        DescKind::Catch { pad, reference, ty } => catch_text(alloc, pad, reference, ty),
-        DescKind::Spec { types, count, pad } => spec_text(alloc, types, count, pad),
+        DescKind::Cleanup { pad } => write!(text, "cleanup to {pad:X}"),
+        DescKind::Catch { pad, reference, ty } => push_catch(text, pad, reference, ty),
+        DescKind::Spec { types, count, pad } => push_spec(text, types, count, pad),
     }
 }
 
-/// A descriptor: where it stands, the one after it, its scope, and what it says.
-fn text_of(alloc: Global, desc: &Desc) -> Result<String, AllocError> {
-    let what = kind_text(alloc, desc.kind)?;
+/// Adds where a descriptor stands, the one after it, and its scope.
+fn push_place(text: &mut String, desc: &Desc) -> Result<(), AllocError> {
     let (at, next, start, size) = (desc.at, desc.next, desc.start, desc.size);
-    format!(in alloc; " {at:X}-{next:X} {start:X}+{size:X} {what};")
+    write!(text, " {at:X}-{next:X} {start:X}+{size:X} ")
 }
 
-fn item_text(alloc: Global, item: Result<Desc, DescFault>) -> Result<String, AllocError> {
+/// Adds a descriptor: its place, and what it says.
+fn push_desc(text: &mut String, desc: &Desc) -> Result<(), AllocError> {
+    push_place(text, desc)?;
+    push_kind(text, desc.kind)?;
+    text.push(';')
+}
+
+fn push_item(text: &mut String, item: Result<Desc, DescFault>) -> Result<(), AllocError> {
     match item {
-        Ok(desc) => text_of(alloc, &desc),
-        Err(DescFault::Short) => format!(in alloc; " too short;"),
-        Err(DescFault::Kind) => format!(in alloc; " both marks;"),
-        Err(DescFault::Count) => format!(in alloc; " too many types;"),
+        Ok(desc) => push_desc(text, &desc),
+        Err(DescFault::Short) => text.push_str(" too short;"),
+        Err(DescFault::Kind) => text.push_str(" both marks;"),
+        Err(DescFault::Count) => text.push_str(" too many types;"),
     }
 }
 
 fn descs_text(alloc: Global, index: &Index, entry: &Entry) -> Result<String, AllocError> {
-    let mut text = format!(in alloc; "descriptors")?;
+    let mut text = String::from_str(alloc, "descriptors")?;
     for item in Descs::of(index, entry) {
-        text.push_str(item_text(alloc, item)?.as_str())?;
+        push_item(&mut text, item)?;
     }
     Ok(text)
 }
@@ -105,10 +123,8 @@ fn listed(alloc: Global, body: EntryBody, words: &str) -> Result<String, Unanswe
     };
     let file = file_of(alloc, words)?;
     let image = opened(alloc, &file)?;
-    match Index::read(&image) {
-        Ok(index) => Ok(descs_text(alloc, &index, &entry)?),
-        Err(_fault) => Err(Unanswered::Because("no index")),
-    }
+    let index = index_of(&image)?;
+    Ok(descs_text(alloc, &index, &entry)?)
 }
 
 /// A descriptor at 0 with a scope.
@@ -124,14 +140,11 @@ fn desc_of(start: u32, size: u32, kind: DescKind) -> Desc {
 
 /// `covers START SIZE ADDRESS`: whether a scope covers an address.
 fn covers(alloc: Global, given: &[u32]) -> Result<String, Unanswered> {
-    let kind = DescKind::Cleanup { pad: 0 };
-    let desc = desc_of(number_at(given, 0)?, number_at(given, 1)?, kind);
-    let answer = if desc.covers(number_at(given, 2)?) {
-        "yes"
-    } else {
-        "no"
+    let [start, size, a] = given else {
+        return Err(Unanswered::NoWord);
     };
-    Ok(format!(in alloc; "{answer}")?)
+    let desc = desc_of(*start, *size, DescKind::Cleanup { pad: 0 });
+    yes_or_no(alloc, desc.covers(*a))
 }
 
 /// The type at a place in what a descriptor names, in an image with a table's words.
@@ -143,12 +156,10 @@ fn type_named(
 ) -> Result<String, Unanswered> {
     let file = file_of(alloc, words)?;
     let image = opened(alloc, &file)?;
-    let Ok(index) = Index::read(&image) else {
-        return Err(Unanswered::Because("no index"));
-    };
+    let index = index_of(&image)?;
     match spec_type(&index, &desc_of(0x8000, 8, kind), place) {
-        Some(ty) => Ok(format!(in alloc; "{ty:X}")?),
-        None => Ok(format!(in alloc; "none")?),
+        Some(ty) => word(alloc, ty),
+        None => said(alloc, "none"),
     }
 }
 

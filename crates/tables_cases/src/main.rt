@@ -2,12 +2,14 @@
 //! IHI 0038, the Itanium C++ ABI and the pages under docs/, or, where a file says so, from compilers.
 #![tactic(auto)]
 
+mod answers;
 mod codes;
 mod descriptors;
 mod matching;
 mod object;
 mod phases;
 mod rows;
+mod stack;
 mod starts;
 mod types;
 mod unwinding;
@@ -60,24 +62,9 @@ fn main(host: HostRuntime) -> Result<(), Error> {
             named: images.as_str(),
         },
     )?;
-    run_hierarchy(
-        &host,
-        "classes.txt",
-        "hierarchies.types",
-        "hierarchies.objects",
-    )?;
-    run_hierarchy(
-        &host,
-        "pointers.txt",
-        "hierarchies.types",
-        "hierarchies.objects",
-    )?;
-    run_hierarchy(
-        &host,
-        "words.txt",
-        "hierarchies.types",
-        "hierarchies.objects",
-    )?;
+    for name in ["classes.txt", "pointers.txt", "words.txt"] {
+        run_hierarchy(&host, name, "hierarchies.types", "hierarchies.objects")?;
+    }
     run_hierarchy(&host, "plain.txt", "plain.types", "none.objects")?;
     run_hierarchy(&host, "virtual.txt", "virtual.types", "none.objects")?;
     run_hierarchy(&host, "names.txt", "names.types", "none.objects")?;

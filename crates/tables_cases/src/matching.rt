@@ -1,10 +1,12 @@
 //! What is caught of thrown objects and pointers (docs/matching.md).
+use crate::answers::{said, with_number};
 use crate::object::{OBJECT, address, lay_object, lay_word};
+use crate::stack::memory;
 use bus_memories::flat::FlatBus;
-use case_rows::{Asked, Unanswered, first_word, number, number_at, numbers, want_of_memory};
+use case_rows::{Asked, Unanswered, first_word, number, numbers};
 use eh_match::{Match, type_match};
 use eh_types::TypeGraph;
-use std::alloc::{AllocError, Global};
+use std::alloc::Global;
 
 /// Where a thrown pointer stands, on the stack.
 const POINTER: u32 = 0x3FFF_D000;
@@ -30,33 +32,41 @@ impl<'a, 'b> Asked for Hierarchy<'a, 'b> {
     }
 }
 
-fn memory(alloc: Global) -> Result<FlatBus, Unanswered> {
-    match FlatBus::build(alloc, &[]) {
-        Ok(bus) => Ok(bus),
-        Err(_fault) => Err(want_of_memory()),
-    }
+/// A distance in bytes from what a text names.
+fn distance(alloc: Global, from: &str, bytes: u32) -> Result<String, Unanswered> {
+    Ok(format!(in alloc; "{from}+{bytes}")?)
 }
 
-/// A match by its distances, in bytes, from the object and from what the pointer points to.
-fn near_text(alloc: Global, found: Match, pointer: u32) -> Result<String, AllocError> {
+/// A match by its distances from the object and from what the pointer points to.
+fn near_text(alloc: Global, found: Match, pointer: u32) -> Result<String, Unanswered> {
     match found {
-        Match::Failed => format!(in alloc; "not caught"),
-        Match::Object(POINTER) => format!(in alloc; "the pointer"),
-        Match::Object(a) => format!(in alloc; "object+{}", a.wrapping_sub(OBJECT)),
-        Match::PointerToBase(0) => format!(in alloc; "null"),
-        Match::PointerToBase(a) => format!(in alloc; "base+{}", a.wrapping_sub(pointer)),
-        Match::Unreadable(a) => format!(in alloc; "unreadable {a:X}"),
+        Match::Object(POINTER) => said(alloc, "the pointer"),
+        Match::Object(a) => distance(alloc, "object", a.wrapping_sub(OBJECT)),
+        Match::PointerToBase(0) => said(alloc, "null"),
+        Match::PointerToBase(a) => distance(alloc, "base", a.wrapping_sub(pointer)),
+        Match::Failed | Match::Unreadable(_) => far_text(alloc, found),
     }
 }
 
 /// A match by its addresses.
-fn far_text(alloc: Global, found: Match) -> Result<String, AllocError> {
+fn far_text(alloc: Global, found: Match) -> Result<String, Unanswered> {
     match found {
-        Match::Failed => format!(in alloc; "not caught"),
-        Match::Object(a) => format!(in alloc; "object {a:X}"),
-        Match::PointerToBase(a) => format!(in alloc; "base {a:X}"),
-        Match::Unreadable(a) => format!(in alloc; "unreadable {a:X}"),
+        Match::Failed => said(alloc, "not caught"),
+        Match::Object(a) => with_number(alloc, "object", a),
+        Match::PointerToBase(a) => with_number(alloc, "base", a),
+        Match::Unreadable(a) => with_number(alloc, "unreadable", a),
     }
+}
+
+/// Stores words by their addresses, an address and a word after the other.
+fn lay_pairs(bus: &mut FlatBus, pairs: &[u32]) -> Result<(), Unanswered> {
+    for pair in pairs.chunks(2) {
+        let [a, word] = pair else {
+            return Err(Unanswered::NoWord);
+        };
+        lay_word(bus, *a, *word)?;
+    }
+    Ok(())
 }
 
 /// The name of what a pointer type points to, among types; none of another kind.
@@ -91,7 +101,7 @@ impl<'a, 'b> Hierarchy<'a, 'b> {
         let mut bus = memory(alloc)?;
         lay_object(&mut bus, self.objects, thrown)?;
         let found = self.found(&bus, thrown, OBJECT, wanted)?;
-        Ok(near_text(alloc, found, OBJECT)?)
+        near_text(alloc, found, OBJECT)
     }
 
     /// `pointer THROWN WANTED`: what is caught of a pointer to an object; `null` of a null pointer.
@@ -101,7 +111,7 @@ impl<'a, 'b> Hierarchy<'a, 'b> {
         lay_word(&mut bus, POINTER, pointer)?;
         lay_object(&mut bus, self.objects, pointee(self.types, thrown))?;
         let found = self.found(&bus, thrown, POINTER, wanted)?;
-        Ok(near_text(alloc, found, pointer)?)
+        near_text(alloc, found, pointer)
     }
 
     /// `match THROWN ADDRESS WANTED [ADDRESS WORD]..`: the same at an address, where these words are stored.
@@ -110,10 +120,8 @@ impl<'a, 'b> Hierarchy<'a, 'b> {
         let (object, rest) = first_word(rest);
         let (wanted, rest) = first_word(rest);
         let mut bus = memory(alloc)?;
-        for pair in numbers(alloc, rest)?.as_slice().chunks(2) {
-            lay_word(&mut bus, number_at(pair, 0)?, number_at(pair, 1)?)?;
-        }
+        lay_pairs(&mut bus, &numbers(alloc, rest)?)?;
         let found = self.found(&bus, thrown, number(object)?, wanted)?;
-        Ok(far_text(alloc, found)?)
+        far_text(alloc, found)
     }
 }

@@ -40,7 +40,16 @@ pub fn address(types: &str, name: &str) -> Result<u32, Unanswered> {
     Err(Unanswered::Because("no such type"))
 }
 
-/// The words of bases and their offset_flags, and in front of them how many bases there are.
+/// Adds the first base of those that a text lists, and its offset_flags. The text of the others is handed back.
+fn push_base<'a>(types: &str, words: &mut Vec<u32>, bases: &'a str) -> Result<&'a str, Unanswered> {
+    let (base, rest) = first_word(bases);
+    let (flags, rest) = first_word(rest);
+    words.push(address(types, base)?)?;
+    words.push(number(flags)?)?;
+    Ok(rest)
+}
+
+/// Adds bases and their offset_flags, and in front of them how many bases there are.
 fn push_bases(
     alloc: Global,
     types: &str,
@@ -51,18 +60,12 @@ fn push_bases(
     let mut count = 0u32;
     let mut rest = bases;
     for _ in 0..bases.len() {
-        if rest.is_empty() {
-            break;
+        if !rest.is_empty() {
+            rest = push_base(types, &mut pairs, rest)?;
+            count = count.wrapping_add(1);
         }
-        let (base, after) = first_word(rest);
-        let (flags, after) = first_word(after);
-        pairs.push(address(types, base)?)?;
-        pairs.push(number(flags)?)?;
-        count = count.wrapping_add(1);
-        rest = after;
     }
-    words.push(0)?;
-    words.push(count)?;
+    words.extend_from_slice(&[0, count])?;
     words.extend_from_slice(&pairs)?;
     Ok(())
 }
@@ -88,6 +91,27 @@ fn push_further(
     Ok(())
 }
 
+/// The words of a type whose name stands at an address: `KIND` and what the kind has.
+fn words_of(alloc: Global, types: &str, name: u32, text: &str) -> Result<Vec<u32>, Unanswered> {
+    let (kind, rest) = first_word(text);
+    let Some(first) = first_word_of(kind) else {
+        return Err(Unanswered::NotKnown);
+    };
+    let mut words = Vec::new(alloc);
+    words.extend_from_slice(&[first, name])?;
+    push_further(alloc, types, &mut words, kind, rest)?;
+    Ok(words)
+}
+
+/// Puts words at an address.
+fn put_words(alloc: Global, draft: &mut Draft, at: u32, words: &[u32]) -> Result<(), Unanswered> {
+    let mut bytes = Vec::new(alloc);
+    for word in words {
+        bytes.extend_from_slice(&word.to_le_bytes())?;
+    }
+    draft.put_bytes(at, &bytes)
+}
+
 /// Puts a type at an address.
 fn put_type(
     alloc: Global,
@@ -96,22 +120,14 @@ fn put_type(
     at: u32,
     line: &str,
 ) -> Result<(), Unanswered> {
-    let (name, rest) = first_word(line);
-    let (kind, rest) = first_word(rest);
+    let (name, text) = first_word(line);
     let name_at = at.wrapping_add(NAME_IN);
-    let mut words = Vec::new(alloc);
-    words.push(first_word_of(kind).ok_or(Unanswered::NotKnown)?)?;
-    words.push(name_at)?;
-    push_further(alloc, types, &mut words, kind, rest)?;
-    let mut bytes = Vec::new(alloc);
-    for word in &words {
-        bytes.extend_from_slice(&word.to_le_bytes())?;
+    let words = words_of(alloc, types, name_at, text)?;
+    put_words(alloc, draft, at, &words)?;
+    if name == "\"\"" {
+        return Ok(());
     }
-    draft.put_bytes(at, &bytes)?;
-    if name != "\"\"" {
-        draft.put_bytes(name_at, name.as_bytes())?;
-    }
-    Ok(())
+    draft.put_bytes(name_at, name.as_bytes())
 }
 
 /// The file of an image of types, and their addresses.
@@ -121,15 +137,21 @@ pub struct ListedTypes {
     addresses: Vec<u32>,
 }
 
-/// The types that a text lists.
-pub fn listed(alloc: Global, types: &str) -> Result<ListedTypes, Unanswered> {
-    let mut addresses = Vec::new(alloc);
+/// An image without types: a function, an empty index, the vtables, and a segment.
+fn front(alloc: Global) -> Result<Draft, Unanswered> {
     let mut draft = Draft::new(alloc);
     draft.set_entry(0x8000);
     draft.set_index(0x8000, 0);
     draft.put_symbol("_start", 0x8000, 16, SymbolKind::Function)?;
     put_vtables(&mut draft)?;
     draft.begin_segment(0x8000, 0x8000, false)?;
+    Ok(draft)
+}
+
+/// The types that a text lists.
+pub fn listed(alloc: Global, types: &str) -> Result<ListedTypes, Unanswered> {
+    let mut addresses = Vec::new(alloc);
+    let mut draft = front(alloc)?;
     let mut at = TYPES_AT;
     for line in types.lines() {
         put_type(alloc, &mut draft, types, at, line)?;
@@ -137,10 +159,8 @@ pub fn listed(alloc: Global, types: &str) -> Result<ListedTypes, Unanswered> {
         at = at.wrapping_add(STRIDE);
     }
     draft.put_bytes(at, &[0])?;
-    Ok(ListedTypes {
-        file: draft.into_file()?,
-        addresses,
-    })
+    let file = draft.into_file()?;
+    Ok(ListedTypes { file, addresses })
 }
 
 /// The graph that types are read as.
@@ -173,16 +193,22 @@ fn lay_vtable(bus: &mut FlatBus, point: u32, vtable: &str) -> Result<(), Unanswe
     Ok(())
 }
 
+/// Writes vtables and the places in the object that name them, each vtable behind the one before it.
+fn lay_vtables(bus: &mut FlatBus, vtables: &str) -> Result<(), Unanswered> {
+    let mut point = VTABLES;
+    for vtable in vtables.split(" ; ") {
+        lay_vtable(bus, point, vtable)?;
+        point = point.wrapping_add(0x40);
+    }
+    Ok(())
+}
+
 /// Writes an object of a type at `OBJECT`, with its vtables, where one is listed.
 pub fn lay_object(bus: &mut FlatBus, objects: &str, name: &str) -> Result<(), Unanswered> {
     for line in objects.lines() {
         let (other, vtables) = first_word(line);
         if other == name {
-            let mut point = VTABLES;
-            for vtable in vtables.split(" ; ") {
-                lay_vtable(bus, point, vtable)?;
-                point = point.wrapping_add(0x40);
-            }
+            lay_vtables(bus, vtables)?;
         }
     }
     Ok(())

@@ -3,9 +3,10 @@
 //! The functions: main at 8000 with a table at 9000; f at 801C, which saves r4 and lr; the stub of a throw at 8040, which saves
 //! nothing; the start at 8050, as f; one at 8060 whose codes lower the stack pointer; one at 8070 that saves lr alone; one at
 //! 8080 that is 100 bytes high; and no function from 8090 on.
+use crate::stack::memory;
 use bus_memories::flat::FlatBus;
 use case_images::image_of;
-use case_rows::{Unanswered, first_word, number, want_of_memory};
+use case_rows::{Unanswered, first_word, number};
 use eh_bus::bus::Bus;
 use eh_bytecode::Vrs;
 use std::alloc::Global;
@@ -55,9 +56,7 @@ pub fn file_of(alloc: Global, table: &str) -> Result<Vec<u8>, Unanswered> {
 
 /// The stack of a throw from f.
 pub fn stack(alloc: Global) -> Result<FlatBus, Unanswered> {
-    let Ok(mut bus) = FlatBus::build(alloc, &[]) else {
-        return Err(want_of_memory());
-    };
+    let mut bus = memory(alloc)?;
     for (a, word) in STACK {
         let _done = bus.store32(a, word);
     }
@@ -66,9 +65,7 @@ pub fn stack(alloc: Global) -> Result<FlatBus, Unanswered> {
 
 /// A stack of 65,536 bytes that all words of are one.
 pub fn flooded(alloc: Global, word: u32) -> Result<FlatBus, Unanswered> {
-    let Ok(mut bus) = FlatBus::build(alloc, &[]) else {
-        return Err(want_of_memory());
-    };
+    let mut bus = memory(alloc)?;
     for k in 0..0x4000u32 {
         let _done = bus.store32(0x3FFF_0000 + 4 * k, word);
     }

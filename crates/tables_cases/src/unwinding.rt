@@ -1,6 +1,8 @@
 //! Unwinding by the codes of an inline entry over a stack of known words.
+use crate::answers::{said, with_number};
+use crate::stack::memory;
 use bus_memories::flat::FlatBus;
-use case_rows::{Asked, Unanswered, first_word, number_at, numbers, want_of_memory};
+use case_rows::{Asked, Unanswered, first_word, number_at, numbers};
 use eh_bus::bus::Bus;
 use eh_bytecode::{Codes, CodesFault, UnwindEnd, Vrs, unwind};
 use std::alloc::{AllocError, Global};
@@ -35,9 +37,7 @@ fn lay(bus: &mut FlatBus, from: u32, words: &[u32]) {
 
 /// The stack with further words from an address on.
 fn stack(alloc: Global, from: u32, words: &[u32]) -> Result<FlatBus, Unanswered> {
-    let Ok(mut bus) = FlatBus::build(alloc, &[]) else {
-        return Err(want_of_memory());
-    };
+    let mut bus = memory(alloc)?;
     for k in 0..64u32 {
         let _done = bus.store32(SP + 4 * k, 0x100 + k);
     }
@@ -53,26 +53,30 @@ fn registers(sp: u32) -> [u32; 16] {
     ]
 }
 
+/// The place of bytes that begin no code.
+fn bad_code(alloc: Global, at: usize) -> Result<String, Unanswered> {
+    Ok(format!(in alloc; "bad code at {at}")?)
+}
+
 /// How an unwinding ends.
-fn end_text(alloc: Global, end: UnwindEnd) -> Result<String, AllocError> {
+fn end_text(alloc: Global, end: UnwindEnd) -> Result<String, Unanswered> {
     match end {
-        UnwindEnd::Finished => format!(in alloc; "finished"),
-        UnwindEnd::Refused => format!(in alloc; "refused"),
-        UnwindEnd::BadCode(at) => format!(in alloc; "bad code at {at}"),
-        UnwindEnd::Unreadable(a) => format!(in alloc; "unreadable {a:X}"),
+        UnwindEnd::Finished => said(alloc, "finished"),
+        UnwindEnd::Refused => said(alloc, "refused"),
+        UnwindEnd::BadCode(at) => bad_code(alloc, at),
+        UnwindEnd::Unreadable(a) => with_number(alloc, "unreadable", a),
     }
 }
 
 /// Adds the registers that aren't as they were.
 pub fn push_changed(
-    alloc: Global,
     text: &mut String,
     before: &[u32; 16],
     after: &[u32; 16],
 ) -> Result<(), AllocError> {
     for (k, (old, new)) in before.iter().zip(after).enumerate() {
         if old != new {
-            text.push_str(format!(in alloc; " r{k}={new:X}")?.as_str())?;
+            write!(text, " r{k}={new:X}")?;
         }
     }
     Ok(())
@@ -87,21 +91,32 @@ pub fn fault_text(fault: CodesFault) -> &'static str {
     }
 }
 
+/// How codes end over a stack, and the registers that they change.
+fn unwound_over(
+    alloc: Global,
+    codes: &Codes,
+    bus: &FlatBus,
+    sp: u32,
+) -> Result<String, Unanswered> {
+    let before = registers(sp);
+    let mut vrs = Vrs { r: before };
+    let end = unwind(codes, &mut vrs, bus);
+    let mut text = end_text(alloc, end)?;
+    push_changed(&mut text, &before, &vrs.r)?;
+    Ok(text)
+}
+
 /// `unwind WORD [SP [WORD..]]`: how the codes of an inline entry end, and the registers that they change; the further words
 /// stand from the stack pointer on.
 fn unwound(alloc: Global, given: &[u32]) -> Result<String, Unanswered> {
-    let codes = match Codes::inline(number_at(given, 0)?) {
-        Ok(codes) => codes,
-        Err(fault) => return Ok(format!(in alloc; "{}", fault_text(fault))?),
-    };
     let sp = given.get(1).copied().unwrap_or(SP);
-    let bus = stack(alloc, sp, given.get(2..).unwrap_or(&[]))?;
-    let before = registers(sp);
-    let mut vrs = Vrs { r: before };
-    let end = unwind(&codes, &mut vrs, &bus);
-    let mut text = end_text(alloc, end)?;
-    push_changed(alloc, &mut text, &before, &vrs.r)?;
-    Ok(text)
+    match Codes::inline(number_at(given, 0)?) {
+        Ok(codes) => {
+            let bus = stack(alloc, sp, given.get(2..).unwrap_or(&[]))?;
+            unwound_over(alloc, &codes, &bus, sp)
+        }
+        Err(fault) => said(alloc, fault_text(fault)),
+    }
 }
 
 /// The numbers as bytes.
@@ -113,16 +128,19 @@ fn bytes_of(alloc: Global, given: &[u32]) -> Result<Vec<u8>, AllocError> {
     Ok(bytes)
 }
 
+fn codes_text(alloc: Global, codes: Codes) -> Result<String, Unanswered> {
+    let mut text = String::from_str(alloc, "bytes")?;
+    for byte in codes {
+        write!(text, " {byte:02X}")?;
+    }
+    Ok(text)
+}
+
 /// `codes BYTE..`: the bytes of a table's codes, or why there are none.
 fn codes(alloc: Global, given: &[u32]) -> Result<String, Unanswered> {
     let bytes = bytes_of(alloc, given)?;
-    let codes = match Codes::table(bytes.as_slice()) {
-        Ok(codes) => codes,
-        Err(fault) => return Ok(format!(in alloc; "{}", fault_text(fault))?),
-    };
-    let mut text = format!(in alloc; "bytes")?;
-    for byte in codes {
-        text.push_str(format!(in alloc; " {byte:02X}")?.as_str())?;
+    match Codes::table(bytes.as_slice()) {
+        Ok(codes) => codes_text(alloc, codes),
+        Err(fault) => said(alloc, fault_text(fault)),
     }
-    Ok(text)
 }

@@ -1,13 +1,11 @@
-use Rattle.std.proofs.Common.{arith}
-use Rattle.bus_memories.proofs.FlagLemmas.{stack_release, release_are}
+use Rattle.std.proofs.Common.{◌≡◌, ◌-◌, ◌*◌, ◌/◌, min, arith}
+use Rattle.bus_memories.proofs.FlagLemmas.{stack_release}
+use Rattle.bus_memories.specs.declared.guards.TheConstants.{HOME_SIZE, HOME_WORDS}
+use Rattle.eh_bus.specs.declared.map.TheConstants.{STACK_START}
 use Rattle.bus_memories.proofs.guards.release.Goals as goal
 
 pub returns-clause-kept : goal.returns-clause-kept
-returns-clause-kept c =
-    stack_release c.args.a c.args.lowest c.words_below-end.result _ _ c.requires (omega arith) c.words_below-end.ensures.below
-    c.words_below-end.ensures.rest c.clear_below.ensures
-
-pub returns-clause-flags : goal.returns-clause-flags
-returns-clause-flags c =
-    rw c.max.ensures
-    (release_are c.args.lowest c.words_below-end.result _ _ c.requires (omega arith) c.words_below-end.ensures.within c.clear_below.ensures)
+returns-clause-kept c = λ high.
+    let e : min c.words_below-end.result (HOME_WORDS * c.loop-home.home) ≡ c.words_below-end.result = omega arith in
+    stack_release c.args.a c.args.low ((c.args.low - STACK_START) / HOME_SIZE) c.words_below-end.result high c.args.numbers.now c.loop-home.numbers (omega arith) c.requires.flags.whole (omega arith)
+    c.words_below-end.ensures.below c.words_below-end.ensures.rest (rw e at c.loop-home.invariant.released)

@@ -4,46 +4,48 @@ use Rattle.two_machines.specs.Checked.{program_of}
 use Rattle.eh_walk.proofs.Reaching.{starts_onward, turn_goes_on, turn_ends, stands, runs_out}
 use Rattle.eh_walk.proofs.reach.run_to_site.Goals as goal
 
-pub loop-events-init : goal.loop-events-init
-loop-events-init g c = record {
+pub loop-done-init : goal.loop-done-init
+loop-done-init g c = record {
   progress = starts_onward (program_of c.args.machine.now.accepted.now) c.args.machine.now.left
       (state_of c.args.machine.now.core (g.B.Bus.memory c.args.machine.now.shared.bus) c.args.machine.now.events) (g.I.Source.left c.args.input.now)
-      (g.O.Sink.written c.args.out.now) _ c.most_events-events.ensures;
+      (g.O.Sink.written c.args.out.now);
   input_kept = refl;
   out_kept = refl;
   same = refl;
+  left = omega arith;
 }
 
-pub loop-events-preserved : goal.loop-events-preserved
-loop-events-preserved g c = record {
+pub loop-done-preserved : goal.loop-done-preserved
+loop-done-preserved g c = record {
   progress = turn_goes_on (program_of c.args.machine.now.accepted.now) c.args.machine.now.left
       (state_of c.args.machine.now.core (g.B.Bus.memory c.args.machine.now.shared.bus) c.args.machine.now.events) (g.I.Source.left c.args.input.now)
-      c.loop-events.events c.loop-events.machine.left
-      (state_of c.loop-events.machine.core (g.B.Bus.memory c.loop-events.machine.shared.bus) c.loop-events.machine.events) (g.I.Source.left c.loop-events.input) (g.O.Sink.written c.args.out.now)
-      (g.O.Sink.written c.loop-events.out) c.loop-events.invariant.progress
-      _ _ _ _ c.left_after-machine.ensures (omega arith) (sym c.stands_there.ensures ∙ c.if-stands_there.false) c.in-Went.ensures.told;
-  input_kept = c.in-Went.ensures.faults.input.kept (λ e. cc) ∙ c.loop-events.invariant.input_kept;
-  out_kept = c.in-Went.ensures.faults.out.kept (λ e. cc) ∙ c.loop-events.invariant.out_kept;
-  same = c.loop-events.invariant.same;
+      c.loop-done.done
+      (state_of c.loop-done.machine.core (g.B.Bus.memory c.loop-done.machine.shared.bus) c.loop-done.machine.events) (g.I.Source.left c.loop-done.input) (g.O.Sink.written c.args.out.now)
+      (g.O.Sink.written c.loop-done.out) c.loop-done.invariant.progress
+      _ _ _ _ refl (omega arith) (sym c.stands_there.ensures ∙ c.if-stands_there.false) c.in-Went.ensures.told;
+  input_kept = c.in-Went.ensures.faults.input.kept (λ e. cc) ∙ c.loop-done.invariant.input_kept;
+  out_kept = c.in-Went.ensures.faults.out.kept (λ e. cc) ∙ c.loop-done.invariant.out_kept;
+  same = c.loop-done.invariant.same;
+  left = omega (arith, c.left_after-machine.ensures, c.loop-done.invariant.left);
 }
 
 pub returns-then-stands_there-clause-told : goal.returns-then-stands_there-clause-told
 returns-then-stands_there-clause-told g c =
     stands (program_of c.args.machine.now.accepted.now) c.args.machine.now.left
-    (state_of c.args.machine.now.core (g.B.Bus.memory c.args.machine.now.shared.bus) c.args.machine.now.events) (g.I.Source.left c.args.input.now) c.loop-events.events c.loop-events.machine.left
-    (state_of c.loop-events.machine.core (g.B.Bus.memory c.loop-events.machine.shared.bus) c.loop-events.machine.events) (g.I.Source.left c.loop-events.input) (g.O.Sink.written c.args.out.now)
-    (g.O.Sink.written c.loop-events.out) c.loop-events.invariant.progress (omega arith) (sym c.stands_there.ensures ∙ c.if-stands_there.true)
+    (state_of c.args.machine.now.core (g.B.Bus.memory c.args.machine.now.shared.bus) c.args.machine.now.events) (g.I.Source.left c.args.input.now) c.loop-done.done
+    (state_of c.loop-done.machine.core (g.B.Bus.memory c.loop-done.machine.shared.bus) c.loop-done.machine.events) (g.I.Source.left c.loop-done.input) (g.O.Sink.written c.args.out.now)
+    (g.O.Sink.written c.loop-done.out) c.loop-done.invariant.progress (omega arith) (sym c.stands_there.ensures ∙ c.if-stands_there.true)
 
 pub returns-in-Ended-clause-told : goal.returns-in-Ended-clause-told
 returns-in-Ended-clause-told g c =
     turn_ends (program_of c.args.machine.now.accepted.now) c.args.machine.now.left
-    (state_of c.args.machine.now.core (g.B.Bus.memory c.args.machine.now.shared.bus) c.args.machine.now.events) (g.I.Source.left c.args.input.now) c.loop-events.events c.loop-events.machine.left
-    (state_of c.loop-events.machine.core (g.B.Bus.memory c.loop-events.machine.shared.bus) c.loop-events.machine.events) (g.I.Source.left c.loop-events.input) (g.O.Sink.written c.args.out.now)
-    (g.O.Sink.written c.loop-events.out) c.loop-events.invariant.progress c.in-Ended.end _ _ _ (omega arith) (sym c.stands_there.ensures ∙ c.if-stands_there.false) c.in-Ended.ensures.told
+    (state_of c.args.machine.now.core (g.B.Bus.memory c.args.machine.now.shared.bus) c.args.machine.now.events) (g.I.Source.left c.args.input.now) c.loop-done.done
+    (state_of c.loop-done.machine.core (g.B.Bus.memory c.loop-done.machine.shared.bus) c.loop-done.machine.events) (g.I.Source.left c.loop-done.input) (g.O.Sink.written c.args.out.now)
+    (g.O.Sink.written c.loop-done.out) c.loop-done.invariant.progress c.in-Ended.end _ _ _ (omega arith) (sym c.stands_there.ensures ∙ c.if-stands_there.false) c.in-Ended.ensures.told
 
 pub returns-clause-told : goal.returns-clause-told
 returns-clause-told g c =
     runs_out (program_of c.args.machine.now.accepted.now) c.args.machine.now.left
-    (state_of c.args.machine.now.core (g.B.Bus.memory c.args.machine.now.shared.bus) c.args.machine.now.events) (g.I.Source.left c.args.input.now) c.loop-events.events c.loop-events.machine.left
-    (state_of c.loop-events.machine.core (g.B.Bus.memory c.loop-events.machine.shared.bus) c.loop-events.machine.events) (g.I.Source.left c.loop-events.input) (g.O.Sink.written c.args.out.now)
-    (g.O.Sink.written c.loop-events.out) c.loop-events.invariant.progress (omega arith)
+    (state_of c.args.machine.now.core (g.B.Bus.memory c.args.machine.now.shared.bus) c.args.machine.now.events) (g.I.Source.left c.args.input.now) c.loop-done.done
+    (state_of c.loop-done.machine.core (g.B.Bus.memory c.loop-done.machine.shared.bus) c.loop-done.machine.events) (g.I.Source.left c.loop-done.input) (g.O.Sink.written c.args.out.now)
+    (g.O.Sink.written c.loop-done.out) c.loop-done.invariant.progress (omega arith)

@@ -2,7 +2,7 @@ use Rattle.std.proofs.Common.{refl}
 use Rattle.ehabi_top.specs.BuildReport.{IsUnwritten, plain_report}
 use Rattle.ehabi_top.specs.Building.{image_bytes, refusal_of}
 use Rattle.ehabi_top.specs.Words.{texts}
-use Rattle.ehabi_top.specs.Yields.{Only}
+use Rattle.ehabi_top.specs.Yields.{Only, RefusedOf}
 use Rattle.ehabi_top.specs.declared.status.TheConstants.{DONE}
 use Rattle.ehabi_top.proofs.Doing.{keeps_bytes, keeps_fault}
 use Rattle.ehabi_top.proofs.Runners.{build_asks, build_leaves}
@@ -17,7 +17,7 @@ returns-in-Ok-Ok g c = λ input faults.
     let found = rw c.in-Ok-Ok.field-0-is at c.in-Ok-Ok.ensures.found in
     let asked = rw c.in-Ok-Ok.field-0-is at c.in-Ok-Ok.ensures.asked in
     let answers = rw c.as_slice.ensures.value at c.answer_text.ensures in
-    keeps_bytes _ (image_bytes names) (λ bytes. Only (plain_report bytes)) IsUnwritten (build_asks names) (build_leaves names) _ _ input _ _ faults _ _ _ bytes found.told found.kept _ refl asked
+    keeps_bytes _ (image_bytes names) (λ bytes. Only (plain_report bytes)) (RefusedOf IsUnwritten) (build_asks names) (build_leaves names) _ _ input _ _ faults _ _ _ bytes found.told found.kept _ refl asked
     (λ other i. yields_answer (Only (plain_report bytes)) ⊥ bytes DONE _ other _ _ i _ _ (λ b. refl) (done_says ⊥ (λ u. u)) done_reported answers)
 
 pub returns-in-Ok-Err : goal.returns-in-Ok-Err
@@ -26,5 +26,5 @@ returns-in-Ok-Err g c = λ input faults.
     let refusal = refusal_of c.in-Ok-Err.fault in
     let found = rw c.in-Ok-Err.field-0-is at c.in-Ok-Err.ensures.found in
     let asked = rw c.in-Ok-Err.field-0-is at c.in-Ok-Err.ensures.asked in
-    keeps_fault _ (image_bytes names) (λ bytes. Only (plain_report bytes)) IsUnwritten (build_asks names) (build_leaves names) _ _ input _ _ faults _ _ _ refusal found.told
+    keeps_fault _ (image_bytes names) (λ bytes. Only (plain_report bytes)) (RefusedOf IsUnwritten) (build_asks names) (build_leaves names) _ _ input _ _ faults _ _ _ refusal found.told
     c.answer_files_fault.ensures.status _ refl asked c.answer_files_fault.ensures.line

@@ -6,3 +6,6 @@ returns-in-Run g c = does_task c.args.request c.args.accepted.now _ _ _ _ c.in-R
 
 pub returns-in-Walk : goal.returns-in-Walk
 returns-in-Walk g c = does_task c.args.request c.args.accepted.now _ _ _ _ c.in-Walk.is c.walk_accepted.ensures
+
+pub returns-in-Force : goal.returns-in-Force
+returns-in-Force g c = does_task c.args.request c.args.accepted.now _ _ _ _ c.in-Force.is c.force_accepted.ensures

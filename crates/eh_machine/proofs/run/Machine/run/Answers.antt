@@ -18,7 +18,7 @@ loop-self-init g c = record {
   input_kept = refl;
   out_kept = refl;
   same = refl;
-  known = c.is_instr-known.ensures.role;
+  cache = c.new-cache.ensures (program_of c.args.self.now.accepted.now);
 }
 
 pub loop-self-preserved : goal.loop-self-preserved
@@ -30,7 +30,7 @@ loop-self-preserved g c = record {
   input_kept = c.in-Went.ensures.faults.input.kept (λ e. cc) ∙ c.loop-self.invariant.input_kept;
   out_kept = c.in-Went.ensures.faults.out.kept (λ e. cc) ∙ c.loop-self.invariant.out_kept;
   same = c.loop-self.invariant.same;
-  known = c.in-Went.ensures.known;
+  cache = c.in-Went.ensures.cache;
 }
 
 pub returns-in-Ended-clause-told : goal.returns-in-Ended-clause-told

@@ -5,9 +5,10 @@ use Rattle.eh_gates.specs.State.{State, state_of}
 use Rattle.two_machines.specs.Machine.{machine_of}
 use Rattle.thumb_core.specs.declared.ends.End.{End}
 use Rattle.two_machines.specs.Checked.{program_of}
+use Rattle.eh_machine.specs.Cached.{IsCache}
 use Rattle.eh_machine.proofs.run.Machine.run.Given as goal
 
--- what was done and what is left are the whole run, no count has changed, and what is known is of pc
+-- what was done and what is left are the whole run, no count has changed, and the cache is of the program
 abbrev pub invariant-loop-self : goal.invariant-loop-self
 invariant-loop-self g l = record {
   progress : IfSome (g.I.Source.left l.initial.input) (λ bytes. Progress State End (machine_of (program_of l.initial.self.accepted.now)) l.initial.self.left
@@ -19,7 +20,7 @@ invariant-loop-self g l = record {
   input_kept : g.I.Source.faults l.input ≡ g.I.Source.faults l.initial.input;
   out_kept : g.O.Sink.faults l.out ≡ g.O.Sink.faults l.initial.out;
   same : l.self.accepted ≡ l.initial.self.accepted;
-  known : l.known ≡ ((program_of l.initial.self.accepted.now).look l.self.core.regs.pc).is_instr;
+  cache : IsCache (program_of l.initial.self.accepted.now) l.cache;
 }
 
 abbrev pub decreases-loop-self : goal.decreases-loop-self

@@ -1,0 +1,72 @@
+//! Images and what an audit finds of them (docs/audit.md).
+use crate::findings::{findings_text, refused_text};
+use case_images::{image_of, opened};
+use case_rows::{Asked, Unanswered, decimal, first_word, want_of_memory};
+use frame_audit::{AuditFault, audit_image};
+use std::alloc::Global;
+
+/// What stands in front of the rows of the index: main is `push {r3, r4, lr}; movs r4, #1; bl leaf; pop {r3, r4, pc}`, leaf `bx lr`.
+const FRONT: &str =
+    "entry 8000 ; index 8100 18 ; function main 8000 A ; function leaf 8010 2 ; function far 20000000 6 ; segment 8000 200 ; code 8000 B518 2401 F000 F804 BD18 ; code 8010 4770 ; words 8100";
+
+/// What stands after them: far is `push {r7, lr}; svc #18; pop {r7, pc}`.
+const AFTER: &str = "segment 20000000 6 ; code 20000000 B580 DF12 BD80";
+
+/// Where the functions of `many` begin.
+const MANY: u32 = 0x8000;
+
+/// What audits are asked.
+#[derive(Clone, Copy)]
+pub struct Audits;
+
+impl Asked for Audits {
+    fn answer(&self, alloc: Global, question: &str) -> Result<String, Unanswered> {
+        let (what, rest) = first_word(question);
+        match what {
+            "rows" => audited(alloc, rows_text(alloc, rest)?.as_str()),
+            "image" => audited(alloc, rest),
+            "many" => audited(alloc, many_text(alloc, decimal(rest)?)?.as_str()),
+            _ => Err(Unanswered::NotKnown),
+        }
+    }
+}
+
+/// `rows MAIN FAR SECOND [TYPE]`: an image with these words of main's entry and of far's, where the second row begins, and a type symbol.
+fn rows_text(alloc: Global, rest: &str) -> Result<String, Unanswered> {
+    let (main, rest) = first_word(rest);
+    let (far, rest) = first_word(rest);
+    let (second, ty) = first_word(rest);
+    let further = if ty.is_empty() {
+        String::new(alloc)
+    } else {
+        format!(in alloc; " ; object _ZTI1A {ty} 8")?
+    };
+    Ok(format!(in alloc;
+        "{FRONT} >8000 {main} >{second} 80B0B0B0 >20000000 {far} ; {AFTER}{further}"
+    )?)
+}
+
+/// `many N`: an image of so many functions of one name, each `mov pc, r0`, and no index.
+fn many_text(alloc: Global, count: u32) -> Result<String, Unanswered> {
+    let size = count.wrapping_mul(2);
+    let mut text = format!(in alloc; "entry {MANY:X}")?;
+    for i in 0..count {
+        let at = MANY.wrapping_add(i.wrapping_mul(2));
+        text.push_str(format!(in alloc; " ; function f {at:X} 2")?.as_str())?;
+    }
+    text.push_str(format!(in alloc; " ; segment {MANY:X} {size:X} ; code {MANY:X}")?.as_str())?;
+    for _i in 0..count {
+        text.push_str(" 4687")?;
+    }
+    Ok(text)
+}
+
+/// What an audit finds of the image that a text describes.
+fn audited(alloc: Global, text: &str) -> Result<String, Unanswered> {
+    let file = image_of(alloc, text)?;
+    match audit_image(alloc, &opened(alloc, &file)?) {
+        Ok(audit) => Ok(findings_text(alloc, &audit)?),
+        Err(AuditFault::Index(fault)) => Ok(refused_text(alloc, fault)?),
+        Err(AuditFault::OutOfMemory) => Err(want_of_memory()),
+    }
+}

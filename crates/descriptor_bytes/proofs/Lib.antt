@@ -1,0 +1,5 @@
+pub mod TwoFirst
+pub mod Written
+pub mod Bytes
+pub mod Reading
+pub mod Tables

@@ -1,0 +1,35 @@
+-- What a decode cache holds: of each line what is so of the program, whatever the memory holds now.
+use Rattle.std.specs.Prelude.{◌≡◌, ℕ, ◌+◌, ◌%◌, ◌^◌, ◌<◌, nat_le, false, Option, Some, None, Ok, if◌then◌else◌, slice_index_or}
+use Rattle.eh_bus.specs.Memory.{Memory, fetch}
+use Rattle.thumb_isa.specs.Range.{InRange}
+use Rattle.thumb_isa.specs.Rows.{decoded_of}
+use Rattle.thumb_core.specs.Step.{instr_of}
+use Rattle.two_machines.specs.Program.{Program}
+use Rattle.eh_machine.specs.Passes.{at_of, HasRoles}
+use Rattle.eh_machine.specs.declared.decode_cache.TheConstants.{LINES}
+use Rattle.eh_machine.specs.declared.decode_cache.Halfwords.{Halfwords}
+use Rattle.eh_machine.specs.declared.decode_cache.CacheLine.{CacheLine}
+use Rattle.eh_machine.specs.declared.decode_cache.DecodeCache.{DecodeCache}
+
+-- they stand at an address; where no wide encoding begins, the second is 0
+pub record HasHalfwords (m : Memory) (a : ℕ) (h : Halfwords) : Type 0 where
+  pub first : fetch m a ≡ Ok h.first
+  pub second : (if nat_le 0xe800 h.first then fetch m ((a + 2) % 2 ^ 32) else Ok 0) ≡ Ok h.second
+
+-- the second is 0 where the first begins no wide encoding
+abbrev pub IsPair : Halfwords → Type 0
+IsPair h = nat_le 0xe800 h.first ≡ false → h.second ≡ 0
+
+-- its halfwords are the instruction, and the checker says of its address what is kept
+pub record IsOfLine (p : Program) (line : CacheLine) : Type 0 where
+  pub pair : IsPair line.halfwords
+  pub decoded : instr_of (decoded_of line.halfwords.first line.halfwords.second) ≡ Some (at_of line.fetched)
+  pub range : InRange line.fetched.instr
+  pub roles : HasRoles p line.address line.fetched
+
+abbrev pub IsLine : Program → Option CacheLine → Type 0
+IsLine p None = Unit {0}
+IsLine p (Some line) = IsOfLine p line
+
+pub record IsCache (p : Program) (cache : DecodeCache) : Type 0 where
+  pub lines : (k : ℕ) → k < LINES → IsLine p (slice_index_or cache.lines k None)

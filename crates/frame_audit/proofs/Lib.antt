@@ -1,0 +1,4 @@
+pub mod Listed
+pub mod Divided
+pub mod Clear
+pub mod Told

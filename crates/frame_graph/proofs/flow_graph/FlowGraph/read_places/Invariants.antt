@@ -1,0 +1,8 @@
+use Rattle.std.proofs.Common.{◌≡◌, length}
+use Rattle.frame_graph.specs.Places.{is_place, halfword_of}
+use Rattle.frame_graph.specs.KeptPlaces.{ArePlaces}
+use Rattle.frame_graph.proofs.flow_graph.FlowGraph.read_places.Given as goal
+
+abbrev pub invariant-loop-place : goal.invariant-loop-place
+invariant-loop-place l =
+    (length l.places.items ≡ l.place) × ArePlaces l.self l.places.items × (l.here.code ≡ is_place l.self l.place) × (l.here.halfword ≡ halfword_of l.self l.place)

@@ -1,0 +1,90 @@
+//! What stands at the places of a function, each read once. docs/flow-graphs.md, "Functions and places".
+ghost use Rattle.std.specs.Prelude.{◌≡◌, ◌+◌, ◌-◌, ◌/◌, ◌==◌, ◌&&◌, [], length, IfOk, if◌then◌else◌};
+ghost use Rattle.frame_graph.specs.KeptPlaces.{ArePlaces};
+
+use crate::flow_graph::FlowGraph;
+use crate::places::{Standing, standing_by};
+use eh_index::Index;
+use std::alloc::{AllocError, Global};
+
+/// What is kept of a place.
+#[derive(Clone, Copy, PartialEq, Eq, Debug)]
+pub struct KeptPlace {
+    /// Whether it is code of the function.
+    pub code: bool,
+    /// What stands there.
+    pub standing: Standing,
+}
+
+/// What is kept of the places of a function, by its first address and the first one above it: of all its places, one after the other, or
+/// of none.
+#[derive(Drop)]
+pub struct KeptPlaces {
+    pub(crate) start: u32,
+    pub(crate) end: u32,
+    pub(crate) places: Vec<KeptPlace>,
+}
+
+impl KeptPlaces {
+    /// Nothing is kept.
+    pub(crate) fn none(alloc: Global, index: &Index) -> KeptPlaces
+        ensures { ArePlaces (record { image = index.now; start = result.start; end = result.end }) result.places.items }
+    {
+        KeptPlaces {
+            start: 0,
+            end: 0,
+            places: Vec::new(alloc),
+        }
+    }
+
+    /// All places of a function. Each is read once, in their order.
+    pub(crate) fn read(
+        alloc: Global,
+        index: &Index,
+        start: u32,
+        end: u32,
+    ) -> Result<KeptPlaces, AllocError>
+        ensures start { IfOk result (λ kept. kept.start ≡ start) }
+        ensures end { IfOk result (λ kept. kept.end ≡ end) }
+        ensures places { IfOk result (λ kept. ArePlaces (record { image = index.now; start = kept.start; end = kept.end }) kept.places.items) }
+        ensures all { IfOk result (λ kept. length kept.places.items ≡ (end - start + 1) / 2) }
+    {
+        let places = FlowGraph::new(index, start, end).read_places(alloc)?;
+        Ok(KeptPlaces { start, end, places })
+    }
+
+    /// What is kept of the places of this function; nothing where it is another one.
+    pub(crate) fn places_of(&self, index: &Index, start: u32, end: u32) -> &[KeptPlace]
+        requires { ArePlaces (record { image = index.now; start = self.now.start; end = self.now.end }) self.now.places.items }
+        ensures lent { result.now ≡ (if self.now.start == start && self.now.end == end then self.now.places.items else []) }
+        ensures places { ArePlaces (record { image = index.now; start = start; end = end }) result.now }
+    {
+        if self.start == start && self.end == end {
+            &self.places
+        } else {
+            &[]
+        }
+    }
+}
+
+impl<'s, 'i, 'a> FlowGraph<'s, 'i, 'a> {
+    /// What stands at its places, each read once, in their order.
+    #[tactic(auto, using(crate::proofs::KeptPlaces::none_kept, crate::proofs::KeptPlaces::read_more))]
+    fn read_places(&self, alloc: Global) -> Result<Vec<KeptPlace>, AllocError>
+        ensures places { IfOk result (λ places. ArePlaces self.now places.items) }
+        ensures all { IfOk result (λ places. length places.items ≡ (self.now.end - self.now.start + 1) / 2) }
+    {
+        let count = self.end.saturating_sub(self.start).div_ceil(2);
+        let mut places = Vec::with_capacity(alloc, count as usize)?;
+        let mut here = self.fetch(0);
+        for place in 0..count {
+            let next = self.fetch(u64::from(place) + 1);
+            places.push(KeptPlace {
+                code: here.code,
+                standing: standing_by(here.halfword, next.halfword),
+            })?;
+            here = next;
+        }
+        Ok(places)
+    }
+}

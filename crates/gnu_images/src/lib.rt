@@ -1,0 +1,7 @@
+//! The unwind tables of an image with GNU's C++ tables, rewritten: each generic entry as a table of the compact model, and the rows of the
+//! index with them (IHI 0038). docs/gnu-tables.md states the rules.
+#![tactic(auto)]
+
+pub mod tables;
+
+pub use tables::{RefusedEntry, Tables, rewritten};

@@ -1,0 +1,237 @@
+//! All rows of an index, with the tables that stand for their generic entries. docs/gnu-tables.md states the rules.
+ghost use Rattle.std.specs.Prelude.{◌≡◌, ◌<◌, ◌++◌, [], OnOk, IfOk};
+ghost use Rattle.eh_index.specs.Rows.{entry_count};
+ghost use Rattle.gnu_tables.specs.Entries.{personality_in};
+ghost use Rattle.gnu_tables.specs.Heads.{area_of};
+ghost use Rattle.gnu_descriptors.specs.Codes.{codes_of};
+ghost use Rattle.gnu_descriptors.specs.Scopes.{scopes_of};
+ghost use Rattle.gnu_images.specs.Tables.{descriptors_of, filters_from, no_tables, place_after, with_kept, with_refused, with_table, with_area, with_judged, with_row, rewritten};
+ghost use Rattle.gnu_descriptors.specs.Filters.{with_filter};
+
+use descriptor_bytes::{OwnDescriptor, codes_end, push_table};
+use eh_index::Index;
+use gnu_descriptors::{Scoped, codes_of, scopes_of};
+use gnu_tables::{EntryFault, Generic, Lsda, personality_symbol, row_at, row_count};
+use std::alloc::{AllocError, Global};
+use std::marker::Model;
+use unwind_codes::row::{Entry, EntryBody};
+
+/// A generic entry that isn't rewritten.
+#[derive(Clone, Copy, PartialEq, Eq, Debug)]
+pub struct RefusedEntry {
+    /// The address of its function's first instruction.
+    pub start: u32,
+    /// Why not.
+    pub fault: EntryFault,
+}
+
+/// What stands for the unwind tables of an image.
+#[derive(Drop)]
+pub struct Tables {
+    /// The new tables, one after the other.
+    pub bytes: Vec<u8>,
+    /// The rows of the index.
+    pub rows: Vec<Entry>,
+    /// The address of each new catch with its filter.
+    pub filters: Vec<(u32, u32)>,
+    /// The entries that aren't rewritten; nothing unwinds through their functions.
+    pub refused: Vec<RefusedEntry>,
+}
+
+impl Model for Tables {
+    ghost use Rattle.gnu_images.specs.Lists.{Lists};
+
+    ghost Value = { Lists };
+
+    ghost view = { λ t. record { bytes = t.bytes.items; rows = t.rows.items; filters = t.filters.items; refused = t.refused.items } };
+}
+
+/// The descriptors of scopes.
+fn descriptors_of(alloc: Global, scopes: &[Scoped]) -> Result<Vec<OwnDescriptor>, AllocError>
+    ensures { IfOk result (λ v. v.items ≡ descriptors_of scopes.now) }
+{
+    scopes.iter().map(|s| s.descriptor).collect(alloc)
+}
+
+/// Adds the filter of a descriptor at an address, if it has one.
+fn push_filter(
+    filters: &mut Vec<(u32, u32)>,
+    place: u32,
+    filter: Option<u32>,
+) -> Result<(), AllocError>
+    ensures { OnOk result (filters.new.items ≡ filters.old.items ++ with_filter place filter []) }
+{
+    if let Some(filter) = filter {
+        filters.push((place, filter))?;
+    }
+    Ok(())
+}
+
+/// Adds the filters of catches that stand one after the other from `place` on.
+#[tactic(auto, using(crate::proofs::Filtering::filtering))]
+fn push_filters(
+    filters: &mut Vec<(u32, u32)>,
+    place: u32,
+    scopes: &[Scoped],
+) -> Result<(), AllocError>
+    ensures { OnOk result (filters.new.items ≡ filters.old.items ++ filters_from place scopes.now) }
+{
+    let mut at = place;
+    for s in scopes {
+        push_filter(filters, at, s.filter)?;
+        at = at.wrapping_add(s.descriptor.kind.size());
+    }
+    Ok(())
+}
+
+impl Tables {
+    /// None yet.
+    fn new(alloc: Global) -> Tables
+        ensures { result ≡ no_tables }
+    {
+        Tables {
+            bytes: Vec::new(alloc),
+            rows: Vec::new(alloc),
+            filters: Vec::new(alloc),
+            refused: Vec::new(alloc),
+        }
+    }
+
+    /// Where the next table stands, if the first one stands at `base`.
+    fn place_after(&self, base: u32) -> u32
+        ensures { result ≡ place_after base self.now }
+    {
+        base.wrapping_add((self.bytes.len() % 0x1_0000_0000) as u32)
+    }
+
+    /// Adds a row that stays as it is.
+    fn push_kept(&mut self, row: Entry) -> Result<(), AllocError>
+        ensures { OnOk result (self.new ≡ with_kept self.old row) }
+    {
+        self.rows.push(row)?;
+        Ok(())
+    }
+
+    /// Adds an entry that isn't rewritten: nothing unwinds through its function.
+    fn push_refused(&mut self, start: u32, fault: EntryFault) -> Result<(), AllocError>
+        ensures { OnOk result (self.new ≡ with_refused self.old start fault) }
+    {
+        self.rows.push(Entry {
+            start,
+            body: EntryBody::CantUnwind,
+        })?;
+        self.refused.push(RefusedEntry { start, fault })?;
+        Ok(())
+    }
+
+    /// Adds a table at `place`, with its row and its filters.
+    fn push_table(
+        &mut self,
+        place: u32,
+        start: u32,
+        codes: &[u8],
+        scopes: &[Scoped],
+        descriptors: &[OwnDescriptor],
+    ) -> Result<(), AllocError>
+        requires { descriptors.now ≡ descriptors_of scopes.now }
+        ensures { OnOk result (self.new ≡ with_table place self.old start codes.now scopes.now) }
+    {
+        push_table(&mut self.bytes, place, codes, descriptors)?;
+        push_filters(
+            &mut self.filters,
+            place.wrapping_add(codes_end(codes)),
+            scopes,
+        )?;
+        self.rows.push(Entry {
+            start,
+            body: EntryBody::Table(place),
+        })?;
+        Ok(())
+    }
+
+    /// Adds the table of an entry with its area, at `place`.
+    fn push_area(
+        &mut self,
+        alloc: Global,
+        place: u32,
+        entry: &Generic,
+        area: &Lsda,
+    ) -> Result<(), AllocError>
+        ensures { OnOk result (self.new ≡ with_table place self.old entry.now.start (codes_of entry.now) (scopes_of entry.now area.now)) }
+    {
+        let codes = codes_of(alloc, entry)?;
+        let scopes = scopes_of(alloc, entry, area)?;
+        let descriptors = descriptors_of(alloc, &scopes)?;
+        self.push_table(place, entry.start(), &codes, &scopes, &descriptors)
+    }
+
+    /// Adds an entry of which nothing is refused, at `place`. Its head is read.
+    fn push_accepted(
+        &mut self,
+        alloc: Global,
+        place: u32,
+        entry: &Generic,
+    ) -> Result<(), AllocError>
+        ensures { OnOk result (self.new ≡ with_area place self.old entry.now (area_of entry.now)) }
+    {
+        match entry.lsda() {
+            Ok(area) => self.push_area(alloc, place, entry, &area),
+            Err(_) => Ok(()),
+        }
+    }
+
+    /// Adds a generic entry, at `place`.
+    fn push_judged(
+        &mut self,
+        alloc: Global,
+        place: u32,
+        entry: &Generic,
+        fault: Option<EntryFault>,
+    ) -> Result<(), AllocError>
+        ensures { OnOk result (self.new ≡ with_judged place self.old entry.now fault) }
+    {
+        match fault {
+            None => self.push_accepted(alloc, place, entry),
+            Some(fault) => self.push_refused(entry.start(), fault),
+        }
+    }
+
+    /// Adds row k of an index, with a table behind those so far where its entry is generic.
+    #[tactic(auto, using(eh_index::proofs::Search::entries_len))]
+    fn push_row(
+        &mut self,
+        alloc: Global,
+        index: &Index,
+        personality: Option<u32>,
+        base: u32,
+        k: u32,
+    ) -> Result<(), AllocError>
+        requires row { k < entry_count index.now }
+        requires personality { personality ≡ personality_in index.now }
+        ensures { OnOk result (self.new ≡ with_row index.now base self.old k) }
+    {
+        let place = self.place_after(base);
+        match Generic::of(index, k) {
+            None => self.push_kept(row_at(index.image(), k)),
+            Some(entry) => {
+                let fault = entry.fault(index.image(), personality);
+                self.push_judged(alloc, place, &entry, fault)
+            }
+        }
+    }
+}
+
+/// The rows of an index, with tables of the compact model for its generic entries from the address `base` on. An entry with a fault isn't
+/// rewritten: nothing unwinds through its function, and it is listed. Linear in rows, records and actions.
+#[tactic(auto, using(crate::proofs::Rowing::rowing), unfolding(crate::specs::Tables::rewritten))]
+pub fn rewritten(alloc: Global, index: &Index, base: u32) -> Result<Tables, AllocError>
+    ensures { IfOk result (λ t. t ≡ rewritten index.now base) }
+{
+    let image = index.image();
+    let personality = personality_symbol(image);
+    let mut tables = Tables::new(alloc);
+    for k in 0..row_count(image) {
+        tables.push_row(alloc, index, personality, base, k)?;
+    }
+    Ok(tables)
+}

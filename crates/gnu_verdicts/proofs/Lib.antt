@@ -1,0 +1,6 @@
+pub mod Hearing
+pub mod Filters
+pub mod Saying
+pub mod Along
+pub mod Accepted
+pub mod Made

@@ -1,0 +1,4 @@
+pub mod Verdicts
+pub mod Read
+pub mod Laws
+pub mod Tables

@@ -1,0 +1,7 @@
+pub mod Seeing
+pub mod Stores
+pub mod Runs
+mod Noting
+mod Guarding
+mod Switching
+mod Entering

@@ -1,0 +1,16 @@
+use Rattle.thread_memory.specs.Owners.{changes_from}
+use Rattle.thread_memory.proofs.Entering.{stays_plain, enters}
+use Rattle.thread_memory.proofs.Seeing.{home_is}
+use Rattle.thread_memory.proofs.bus.ThreadBus.enter.Goals as goal
+
+pub invariant_of-self : goal.invariant_of-self
+invariant_of-self g c = record {
+  rising = c.args.self.now.rising;
+  within = c.requires;
+  at_home = home_is c.args.thread c.requires;
+  plain = stays_plain (changes_from c.args.self.now.thread c.args.thread 0 c.note.new.self.slots) (g.B.Bus.memory c.args.self.now.inner) (g.B.Bus.memory c.show.new.bus) c.show.ensures c.args.self.now.plain;
+}
+
+pub returns-clause-memory : goal.returns-clause-memory
+returns-clause-memory g c =
+    enters c.args.self.now.thread c.args.thread c.note.new.self.slots (g.B.Bus.memory c.args.self.now.inner) (g.B.Bus.memory c.show.new.bus) c.args.self.now.guards c.show.ensures

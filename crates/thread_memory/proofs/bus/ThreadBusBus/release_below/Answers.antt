@@ -1,0 +1,15 @@
+use Rattle.bus_memories.proofs.CallLaws.{guards_keep_map}
+use Rattle.eh_bus.proofs.GuardOrder.{filter_rises}
+use Rattle.eh_bus.specs.declared.map.TheConstants.{STACK_END}
+use Rattle.thread_memory.proofs.bus.ThreadBusBus.release_below.Goals as goal
+
+pub invariant_of-self : goal.invariant_of-self
+invariant_of-self g c = record {
+  rising = rw (c.release_from.ensures STACK_END) (filter_rises _ _ _ c.args.self.now.rising);
+  within = c.args.self.now.within;
+  at_home = c.args.self.now.at_home;
+  plain = c.args.self.now.plain;
+}
+
+pub returns-clause-keeps : goal.returns-clause-keeps
+returns-clause-keeps g c = guards_keep_map _ _

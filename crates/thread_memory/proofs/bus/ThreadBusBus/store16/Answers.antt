@@ -1,0 +1,20 @@
+use Rattle.std.proofs.Common.{◌≡◌, None, Some, inl, inr, refl, sym}
+use Rattle.bus_memories.proofs.CallLaws.{guards_keep_map, undone}
+use Rattle.thread_memory.proofs.Seeing.{seen_map}
+use Rattle.thread_memory.proofs.Stores.{store_reaches, store_through}
+use Rattle.thread_memory.specs.Seen.{aligned_hit}
+use Rattle.thread_memory.proofs.bus.ThreadBusBus.store16.Goals as goal
+
+pub returns-in-Some-clause-stored : goal.returns-in-Some-clause-stored
+returns-in-Some-clause-stored g c =
+    let e : aligned_hit c.args.self.now.guards 2 c.args.a ≡ Some c.in-Some.g = cc in
+    sym (store_reaches 2 _ c.args.a c.args.v c.in-Some.g (seen_map _ c.args.self.now.guards c.args.self.now.thread (g.met.B.Bus.is_map c.args.self.now.inner) c.args.self.now.rising c.args.self.now.within) (inr (inl refl)) e)
+
+pub returns-in-Some-clause-keeps : goal.returns-in-Some-clause-keeps
+returns-in-Some-clause-keeps g c = guards_keep_map _ c.args.self.now.guards
+
+pub returns-in-None-clause-undone : goal.returns-in-None-clause-undone
+returns-in-None-clause-undone g c =
+    let e : aligned_hit c.args.self.now.guards 2 c.args.a ≡ None = cc in
+    undone 2 _ _ _ _ c.args.v (seen_map _ _ _ (g.met.B.Bus.is_map c.args.self.now.inner) c.args.self.now.rising c.args.self.now.within)
+    (store_through 2 _ c.args.self.now.guards c.args.self.now.thread c.args.a c.args.v _ _ c.args.self.now.plain e c.store16.ensures.stored)

@@ -1,0 +1,14 @@
+use Rattle.std.proofs.Common.{◌≡◌, Some, inr, refl, sym}
+use Rattle.bus_memories.proofs.CallLaws.{guards_keep_map}
+use Rattle.thread_memory.proofs.Seeing.{seen_map}
+use Rattle.thread_memory.proofs.Stores.{store_reaches}
+use Rattle.thread_memory.specs.Seen.{aligned_hit}
+use Rattle.thread_memory.proofs.bus.ThreadBusBus.store32.Goals as goal
+
+pub returns-in-Some-clause-stored : goal.returns-in-Some-clause-stored
+returns-in-Some-clause-stored g c =
+    let e : aligned_hit c.args.self.now.guards 4 c.args.a ≡ Some c.in-Some.g = cc in
+    sym (store_reaches 4 _ c.args.a c.args.v c.in-Some.g (seen_map _ c.args.self.now.guards c.args.self.now.thread (g.met.B.Bus.is_map c.args.self.now.inner) c.args.self.now.rising c.args.self.now.within) (inr (inr refl)) e)
+
+pub returns-in-Some-clause-keeps : goal.returns-in-Some-clause-keeps
+returns-in-Some-clause-keeps g c = guards_keep_map _ c.args.self.now.guards

@@ -1,0 +1,14 @@
+use Rattle.std.proofs.Common.{arith}
+use Rattle.bus_memories.proofs.CallLaws.{guards_keep_map, run_undone}
+use Rattle.thread_memory.proofs.Runs.{run_through}
+use Rattle.thread_memory.proofs.Seeing.{seen_map}
+use Rattle.thread_memory.proofs.bus.ThreadBusBus.store_run.Goals as goal
+
+pub returns-in-Some-clause-keeps : goal.returns-in-Some-clause-keeps
+returns-in-Some-clause-keeps g c = guards_keep_map _ c.args.self.now.guards
+
+pub returns-in-None-clause-undone : goal.returns-in-None-clause-undone
+returns-in-None-clause-undone g c =
+    run_undone _ _ _ c.args.a _ (omega arith) (seen_map _ _ _ (g.met.B.Bus.is_map c.args.self.now.inner) c.args.self.now.rising c.args.self.now.within)
+    (run_through _ c.args.self.now.guards c.args.self.now.thread c.args.a _ _ _ c.args.self.now.plain
+    (c.in-None.ensures.none _ (g.met.B.Bus.is_map c.args.self.now.inner).segments) c.store_run.ensures.stored)

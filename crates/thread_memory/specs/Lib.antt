@@ -1,0 +1,4 @@
+pub mod Homes
+pub mod Seen
+pub mod Owners
+pub mod Laws

@@ -1,0 +1,4 @@
+mod Reading
+mod Tagging
+mod ScheduleLaws
+mod TagLaws

@@ -1,0 +1,11 @@
+//! The text of a schedule, whose digits say which thread does the next event, and the lines of a trace with the thread of each
+//! (docs/threads.md).
+#![tactic(auto)]
+
+pub mod laws;
+mod push;
+pub mod schedule;
+pub mod tags;
+
+pub use schedule::{ScheduleFault, read_schedule};
+pub use tags::{TagMemory, tag_lines};
