@@ -48,8 +48,8 @@ AllMeant : List Segment → List ℕ → Option ℕ → List Src → List ℕ �
 AllMeant m old base src r = (k : ℕ) → k < 16 → Meant m old base k (slice_index_or src k Same) (slice_index r k)
 
 -- ..
-place_of : List ℕ → Option ℕ → ℕ
-place_of old base = slice_index old (unwrap_or base 13)
+base_value : List ℕ → Option ℕ → ℕ
+base_value old base = slice_index old (unwrap_or base 13)
 
 from_meant : (m : List Segment) (old : List ℕ) (base : Option ℕ) (off : ℤ) (k x : ℕ) → loads 4 m ((slice_index old (unwrap_or base 13) + cast_unsigned w32 off) % 2 ^ 32) ≡ Ok x
     → Meant m old base k (from (is_some base) off) (word_in k x)

@@ -175,10 +175,10 @@ module _ (x : Accepted) (is : IsProgram x) (s : Recorded) (k : Keeps x s) (at : 
   abbrev base : Recorded
   base = record s { regs = regs; segments = s.segments }
 
-  abbrev moved : Recorded
-  moved = acts.activations_after (Return caller.back) (acts.reguarded_at (program_of x) s regs base)
+  abbrev recorded_after : Recorded
+  recorded_after = acts.activations_after (Return caller.back) (acts.reguarded_at (program_of x) s regs base)
 
-  moved_keeps : (outer : List Activation) → s.outer ≡ outer → leaves_cleanup (innermost_in (cleanups_in s.cleanups)) (reg_in s SP) new ≡ false → acts.return_end (program_of x) s.regs.pc outer regs ≡ None → Keeps x moved
+  moved_keeps : (outer : List Activation) → s.outer ≡ outer → leaves_cleanup (innermost_in (cleanups_in s.cleanups)) (reg_in s SP) new ≡ false → acts.return_end (program_of x) s.regs.pc outer regs ≡ None → Keeps x recorded_after
   moved_keeps [] e l h = absurd cc
   moved_keeps (a ∷ more) e l h =
       let fell : begins_function x.image.functions regs.pc ≡ false = go (begins_function x.image.functions regs.pc) h in

@@ -179,10 +179,10 @@ module _ (x : Accepted) (is : IsProgram x) (s : Recorded) (k : Keeps x s) (at : 
   none_pushed = ap pushes_some (fetched x.image at.function s.segments is.image at.of.among k.image at.place (Bx m) size s.regs (memory_of s) refl at.address stands).stands
 
   -- after the tests
-  abbrev moved : Recorded
-  moved = acts.activations_after (Return caller.back) (acts.reguarded_at (program_of x) s regs base)
+  abbrev recorded_after : Recorded
+  recorded_after = acts.activations_after (Return caller.back) (acts.reguarded_at (program_of x) s regs base)
 
-  moved_keeps : (outer : List Activation) → s.outer ≡ outer → acts.return_end (program_of x) s.regs.pc outer regs ≡ None → Keeps x moved
+  moved_keeps : (outer : List Activation) → s.outer ≡ outer → acts.return_end (program_of x) s.regs.pc outer regs ≡ None → Keeps x recorded_after
   moved_keeps [] e h = absurd cc
   moved_keeps (a ∷ more) e h =
       let fell : begins_function x.image.functions regs.pc ≡ false = go (begins_function x.image.functions regs.pc) h in

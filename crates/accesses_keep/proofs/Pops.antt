@@ -31,7 +31,7 @@ use Rattle.steps_keep.specs.frame_facts.declared.facts.Source.{Source}
 use Rattle.steps_keep.specs.frame_facts.declared.saves.Prologue.{Prologue}
 use Rattle.steps_keep.specs.frame_facts.After.{after_of, gone_on}
 use Rattle.steps_keep.specs.frame_facts.Branches.{returns_well}
-use Rattle.steps_keep.specs.frame_facts.Facts.{within}
+use Rattle.steps_keep.specs.frame_facts.Facts.{bounded_depth}
 use Rattle.steps_keep.specs.frame_facts.Lists.{loaded, popped_pc}
 use Rattle.steps_keep.specs.frame_facts.Machine.{Means}
 use Rattle.steps_keep.specs.frame_facts.Saves.{saves_within, moved_to, stack_word}
@@ -114,17 +114,17 @@ module _ (x : Accepted) (is : IsProgram x) (ranges : AreInRange x) (s : Recorded
     same_list : listed list ≡ low
     same_list = listed_low list ∙ ap (λ ks. low ++ ks) (with_pc_high list range.2 ∙ ap (λ n. cond (n == 1) (15 ∷ []) []) clear) ∙ append-nil low
 
-    after_pop : (g : Fact) → after_of P false place (Pop list) f ≡ Ok g → gone_on None (option_map (λ d. moved_to P d f1) (within (pos f.depth -ℤ pos (4 * length low)))) ≡ Ok g
+    after_pop : (g : Fact) → after_of P false place (Pop list) f ≡ Ok g → gone_on None (option_map (λ d. moved_to P d f1) (bounded_depth (pos f.depth -ℤ pos (4 * length low)))) ≡ Ok g
     after_pop g e =
-        subst (λ ks. gone_on None (option_map (λ d. moved_to P d (loaded P f 0 ks f)) (within (pos f.depth -ℤ pos (4 * length ks)))) ≡ Ok g) same_list
-        (subst (λ o. gone_on o (option_map (λ d. moved_to P d (loaded P f 0 (listed list) f)) (within (pos f.depth -ℤ pos (4 * length (listed list))))) ≡ Ok g)
+        subst (λ ks. gone_on None (option_map (λ d. moved_to P d (loaded P f 0 ks f)) (bounded_depth (pos f.depth -ℤ pos (4 * length ks)))) ≡ Ok g) same_list
+        (subst (λ o. gone_on o (option_map (λ d. moved_to P d (loaded P f 0 (listed list) f)) (bounded_depth (pos f.depth -ℤ pos (4 * length (listed list))))) ≡ Ok g)
         (ap (λ n. cond (n == 1) (Some (stack_word P f (pos (4 * length (listed list)) -ℤ pos 4))) None) clear) e)
 
     pop_holds : (r : List ℕ) → load_words s.segments sp (loads_from 0 low) s.regs.r ≡ Ok r → (g : Fact) → after_of P false place (Pop list) f ≡ Ok g
         → Holds P g s.first s.segments (with_next does.size (with_reg (record s.regs { r = r }) SP ((sp + low_bytes list) % 2 ^ 32)))
-    pop_holds r w g e = go (within (pos f.depth -ℤ pos (4 * length low))) refl (after_pop g e)
+    pop_holds r w g e = go (bounded_depth (pos f.depth -ℤ pos (4 * length low))) refl (after_pop g e)
       where
-        go : (o : Option ℕ) → within (pos f.depth -ℤ pos (4 * length low)) ≡ o → gone_on None (option_map (λ d. moved_to P d f1) o) ≡ Ok g
+        go : (o : Option ℕ) → bounded_depth (pos f.depth -ℤ pos (4 * length low)) ≡ o → gone_on None (option_map (λ d. moved_to P d f1) o) ≡ Ok g
             → Holds P g s.first s.segments (with_next does.size (with_reg (record s.regs { r = r }) SP ((sp + low_bytes list) % 2 ^ 32)))
         go None h q = absurd cc
         go (Some d) h q =
@@ -166,7 +166,7 @@ module _ (x : Accepted) (is : IsProgram x) (ranges : AreInRange x) (s : Recorded
     well = by_after (left x is s k at (Pop list) does.size does.stands).0 (left x is s k at (Pop list) does.size does.stands).1
       where
         by_after : (g : Fact) → after_of P false place (Pop list) f ≡ Ok g → (d : ℕ) × (d + (4 * length low + 4) ≡ f.depth) × ReturnsWell (moved_to P d f1) back_source
-        by_after g e = go (within (pos f.depth -ℤ pos (4 * length low + 4))) refl named
+        by_after g e = go (bounded_depth (pos f.depth -ℤ pos (4 * length low + 4))) refl named
           where
             some_pc : popped_pc P list f ≡ Some back_source
             some_pc = ap (λ n. cond (n == 1) (Some (stack_word P f (pos (4 * length (listed list)) -ℤ pos 4))) None) set_pc
@@ -175,13 +175,13 @@ module _ (x : Accepted) (is : IsProgram x) (ranges : AreInRange x) (s : Recorded
             same_loads : loaded P f 0 (listed list) f ≡ f1
             same_loads = ap (λ ks. loaded P f 0 ks f) both_lists ∙ loaded_pc P f 0 low f at.holds.describes.long
 
-            named : gone_on (Some back_source) (option_map (λ d. moved_to P d f1) (within (pos f.depth -ℤ pos (4 * length low + 4)))) ≡ Ok g
+            named : gone_on (Some back_source) (option_map (λ d. moved_to P d f1) (bounded_depth (pos f.depth -ℤ pos (4 * length low + 4)))) ≡ Ok g
             named =
-                subst (λ n. gone_on (Some back_source) (option_map (λ d. moved_to P d f1) (within (pos f.depth -ℤ pos n))) ≡ Ok g) count_is
-                (subst (λ y. gone_on (Some back_source) (option_map (λ d. moved_to P d y) (within (pos f.depth -ℤ pos (4 * length (listed list))))) ≡ Ok g) same_loads
-                (subst (λ o. gone_on o (option_map (λ d. moved_to P d (loaded P f 0 (listed list) f)) (within (pos f.depth -ℤ pos (4 * length (listed list))))) ≡ Ok g) some_pc e))
+                subst (λ n. gone_on (Some back_source) (option_map (λ d. moved_to P d f1) (bounded_depth (pos f.depth -ℤ pos n))) ≡ Ok g) count_is
+                (subst (λ y. gone_on (Some back_source) (option_map (λ d. moved_to P d y) (bounded_depth (pos f.depth -ℤ pos (4 * length (listed list))))) ≡ Ok g) same_loads
+                (subst (λ o. gone_on o (option_map (λ d. moved_to P d (loaded P f 0 (listed list) f)) (bounded_depth (pos f.depth -ℤ pos (4 * length (listed list))))) ≡ Ok g) some_pc e))
 
-            go : (o : Option ℕ) → within (pos f.depth -ℤ pos (4 * length low + 4)) ≡ o → gone_on (Some back_source) (option_map (λ d. moved_to P d f1) o) ≡ Ok g
+            go : (o : Option ℕ) → bounded_depth (pos f.depth -ℤ pos (4 * length low + 4)) ≡ o → gone_on (Some back_source) (option_map (λ d. moved_to P d f1) o) ≡ Ok g
                 → (d : ℕ) × (d + (4 * length low + 4) ≡ f.depth) × ReturnsWell (moved_to P d f1) back_source
             go None h q = absurd cc
             go (Some d) h q =

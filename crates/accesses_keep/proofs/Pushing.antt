@@ -32,7 +32,7 @@ use Rattle.steps_keep.specs.frame_facts.declared.facts.Fact.{Fact}
 use Rattle.steps_keep.specs.frame_facts.declared.facts.TheConstants.{DEEPEST}
 use Rattle.steps_keep.specs.frame_facts.declared.saves.Prologue.{Prologue}
 use Rattle.steps_keep.specs.frame_facts.After.{after_of, gone_on}
-use Rattle.steps_keep.specs.frame_facts.Facts.{within}
+use Rattle.steps_keep.specs.frame_facts.Facts.{bounded_depth}
 use Rattle.steps_keep.specs.frame_facts.Lists.{pushed_to}
 use Rattle.steps_keep.specs.frame_graph.Places.{address_of}
 use Rattle.steps_keep.specs.frame_check.Accepts.{Accepted}
@@ -93,9 +93,9 @@ module _ (x : Accepted) (is : IsProgram x) (s : Recorded) (k : Keeps x s) (list 
     pub gives : g ≡ pushed_to P place depth f
 
   pub is_after : (g : Fact) → after_of P false place (Push list) f ≡ Ok g → After g
-  is_after g e = go (within (pos f.depth +ℤ pos (4 * n))) refl e
+  is_after g e = go (bounded_depth (pos f.depth +ℤ pos (4 * n))) refl e
     where
-      go : (o : Option ℕ) → within (pos f.depth +ℤ pos (4 * n)) ≡ o → gone_on None (option_map (λ d. pushed_to P place d f) o) ≡ Ok g → After g
+      go : (o : Option ℕ) → bounded_depth (pos f.depth +ℤ pos (4 * n)) ≡ o → gone_on None (option_map (λ d. pushed_to P place d f) o) ≡ Ok g → After g
       go None h q = absurd cc
       go (Some d) h q = let v = within_pos (pos f.depth +ℤ pos (4 * n)) d h in record { depth = d; sum = omega (arith, ints, v.0); deep = v.1; gives = cc }
 

@@ -14,7 +14,7 @@ use Rattle.steps_keep.specs.thumb_core.declared.regs.Regs.{Regs}
 use Rattle.steps_keep.specs.frame_facts.declared.facts.Fact.{Fact}
 use Rattle.steps_keep.specs.frame_facts.declared.facts.Source.TheVariants.{Other, Entry, SpAt}
 use Rattle.steps_keep.specs.frame_facts.declared.saves.Prologue.{Prologue}
-use Rattle.steps_keep.specs.frame_facts.Facts.{source, within, sp_plus, sp_at}
+use Rattle.steps_keep.specs.frame_facts.Facts.{source, bounded_depth, sp_plus, sp_at}
 use Rattle.steps_keep.specs.frame_facts.Machine.{Means}
 use Rattle.steps_keep.specs.frame_facts.Saves.{saves_of, saves_within, moved_to}
 use Rattle.steps_keep.specs.two_machines.Activations.{Activation, Recorded, reg_in, memory_of}
@@ -55,7 +55,7 @@ take_more (suc j) (suc k) (y ∷ more) v l h = go (contains_cons v y (take j mor
 pub sp_holds : (p : Prologue) (f : Fact) (a : Activation) (segments : List Segment) (regs new : Regs) (d kept w : ℕ) (below : Bool) (h : Holds p f a segments regs) → AreOrdered p → length regs.r ≡ 15
     → new.r ≡ set regs.r 13 w → w + d ≤ a.caller.sp → (below ≡ false → w + d ≡ a.caller.sp) → kept ≤ f.kept → kept ≤ saves_within p d
     → Holds p (let g : Fact = record { depth = d; below = below; kept = kept; regs = f.regs } in g) a segments new
-sp_holds p f a segments regs new d kept w below h order count is lower exact fewer within = record {
+sp_holds p f a segments regs new d kept w below h order count is lower exact fewer below_depth = record {
   entry = h.entry;
   saved = h.saved;
   link = h.link;
@@ -69,7 +69,7 @@ sp_holds p f a segments regs new d kept w below h order count is lower exact few
   };
   lower = omega (arith, new_sp, lower);
   saves = λ v c. let k = h.saves v (take_more kept f.kept (saves_of p) v fewer c) in
-      record { low = k.low; deep = few_within d 0 order.0 kept (saves_of p) v order.1 within c; holds = k.holds; slot = k.slot };
+      record { low = k.low; deep = few_within d 0 order.0 kept (saves_of p) v order.1 below_depth c; holds = k.holds; slot = k.slot };
 }
   where
     sp_other : (k : ℕ) → k ≡ 13 → source f k ≡ Other
@@ -109,11 +109,11 @@ module _ (x : Accepted) (is : IsProgram x) (ranges : AreInRange x) (s : Recorded
       sp_holds P f s.first s.segments s.regs (with_next size (with_reg s.regs SP w)) d (min f.kept (saves_within P d)) (word_in SP w) f.below at.holds order k.sound.words.count refl
       (let lower = at.holds.lower in omega (arith, sum, lower)) (λ b. let sp = at.holds.describes.sp b in omega (arith, sum, sp)) (omega arith) (omega arith)
 
-  by_within : (w : ℕ) (z : ℤ) → ((d : ℕ) → z ≡ pos d → d ≤ DEEPEST → word_in SP w + d ≡ reg_in s SP + f.depth) → (g : Fact) → gone_on None (option_map (λ d. moved_to P d f) (within z)) ≡ Ok g
+  by_within : (w : ℕ) (z : ℤ) → ((d : ℕ) → z ≡ pos d → d ≤ DEEPEST → word_in SP w + d ≡ reg_in s SP + f.depth) → (g : Fact) → gone_on None (option_map (λ d. moved_to P d f) (bounded_depth z)) ≡ Ok g
       → Holds P g s.first s.segments (with_next size (with_reg s.regs SP w))
-  by_within w z sum g e = go (within z) refl e
+  by_within w z sum g e = go (bounded_depth z) refl e
     where
-      go : (o : Option ℕ) → within z ≡ o → gone_on None (option_map (λ d. moved_to P d f) o) ≡ Ok g → Holds P g s.first s.segments (with_next size (with_reg s.regs SP w))
+      go : (o : Option ℕ) → bounded_depth z ≡ o → gone_on None (option_map (λ d. moved_to P d f) o) ≡ Ok g → Holds P g s.first s.segments (with_next size (with_reg s.regs SP w))
       go None h e = absurd cc
       go (Some d) h e =
           let v = within_pos z d h in
@@ -128,14 +128,14 @@ module _ (x : Accepted) (is : IsProgram x) (ranges : AreInRange x) (s : Recorded
       (omega (arith, t, lower), omega (arith, home.low, k.low), k.sound.words.aligned, k.sound.words.small SP)
 
   -- ADD to sp
-  add_holds : (n : ℕ) → n < 512 → n % 4 ≡ 0 → (g : Fact) → gone_on None (option_map (λ d. moved_to P d f) (within (pos f.depth -ℤ pos n))) ≡ Ok g
+  add_holds : (n : ℕ) → n < 512 → n % 4 ≡ 0 → (g : Fact) → gone_on None (option_map (λ d. moved_to P d f) (bounded_depth (pos f.depth -ℤ pos n))) ≡ Ok g
       → Holds P g s.first s.segments (with_next size (with_reg s.regs SP (forward (reg_in s SP) (pos n))))
   add_holds n low quad g e =
       by_within (forward (reg_in s SP) (pos n)) (pos f.depth -ℤ pos n)
       (λ d z deep. let b = bounds in let sum : d + n ≡ f.depth = omega (arith, ints, z) in omega (arith, b.0, b.2, b.3, sum, low, quad)) g e
 
   -- SUB from sp
-  sub_holds : (n : ℕ) → n < 512 → n % 4 ≡ 0 → (g : Fact) → gone_on None (option_map (λ d. moved_to P d f) (within (pos f.depth +ℤ pos n))) ≡ Ok g
+  sub_holds : (n : ℕ) → n < 512 → n % 4 ≡ 0 → (g : Fact) → gone_on None (option_map (λ d. moved_to P d f) (bounded_depth (pos f.depth +ℤ pos n))) ≡ Ok g
       → Holds P g s.first s.segments (with_next size (with_reg s.regs SP (backward (reg_in s SP) (pos n))))
   sub_holds n low quad g e =
       by_within (backward (reg_in s SP) (pos n)) (pos f.depth +ℤ pos n)
@@ -148,9 +148,9 @@ module _ (x : Accepted) (is : IsProgram x) (ranges : AreInRange x) (s : Recorded
       where
         by_sp : (b : Bool) → f.below ≡ b → reg_in s SP + f.depth ≡ reg_in s SP + f.depth → Means at.holds.entry s.first.caller.sp (cond b Other (sp_at (pos f.depth -ℤ pos 0))) (reg_in s SP)
         by_sp true e r = tt
-        by_sp false e r = by_depth (within (pos f.depth -ℤ pos 0)) refl
+        by_sp false e r = by_depth (bounded_depth (pos f.depth -ℤ pos 0)) refl
           where
-            by_depth : (o : Option ℕ) → within (pos f.depth -ℤ pos 0) ≡ o → Means at.holds.entry s.first.caller.sp (option_map_or SpAt o Other) (reg_in s SP)
+            by_depth : (o : Option ℕ) → bounded_depth (pos f.depth -ℤ pos 0) ≡ o → Means at.holds.entry s.first.caller.sp (option_map_or SpAt o Other) (reg_in s SP)
             by_depth None h = tt
             by_depth (Some d) h = let v = within_pos (pos f.depth -ℤ pos 0) d h in let sum : d ≡ f.depth = omega (arith, ints, v.0) in let sp = at.holds.describes.sp e in omega (arith, sum, sp)
 

@@ -60,7 +60,7 @@ impl Labels {
     }
 
     /// The place of the label of a name.
-    pub fn place_of(&self, name: &Name) -> Option<Place>
+    pub fn place_named(&self, name: &Name) -> Option<Place>
         ensures { result ≡ find name.now (named_in self.now) }
     {
         match self.map.get(name) {

@@ -95,7 +95,7 @@ pub fn base(place: u64) -> u64
 pub fn text_place(labels: &Labels, name: &Name) -> Option<u64>
     ensures { result ≡ text_place (named_in labels.now) name.now }
 {
-    match labels.place_of(name) {
+    match labels.place_named(name) {
         Some(
             Place {
                 section: Section::Text,

@@ -18,7 +18,7 @@ const TOP_BIT: u32 = 0x8000_0000;
 pub fn is_known(labels: &Labels, name: &Name) -> bool
     ensures { result ≡ is_known (named_in labels.now) name.now }
 {
-    !is_local(name) || labels.place_of(name).is_some()
+    !is_local(name) || labels.place_named(name).is_some()
 }
 
 /// How far the first label stands after the second, where both stand in one section.
@@ -26,7 +26,7 @@ fn distance(labels: &Labels, a: &Name, b: &Name) -> Option<i128>
     ensures exact { result ≡ distance (named_in labels.now) a.now b.now }
     ensures bound { IfSome result (λ d. (neg_ℤ (pos (2 ^ 64)) <ℤ d) × (d <ℤ pos (2 ^ 64))) }
 {
-    match (labels.place_of(a), labels.place_of(b)) {
+    match (labels.place_named(a), labels.place_named(b)) {
         (Some(a), Some(b)) if a.section == b.section => {
             Some(i128::from(a.offset) - i128::from(b.offset))
         }

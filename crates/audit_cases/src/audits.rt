@@ -21,13 +21,19 @@ pub struct Audits;
 
 impl Asked for Audits {
     fn answer(&self, alloc: Global, question: &str) -> Result<String, Unanswered> {
-        let (what, rest) = first_word(question);
-        match what {
-            "rows" => audited(alloc, rows_text(alloc, rest)?.as_str()),
-            "image" => audited(alloc, rest),
-            "many" => audited(alloc, many_text(alloc, decimal(rest)?)?.as_str()),
-            _ => Err(Unanswered::NotKnown),
-        }
+        audited(alloc, file_of(alloc, question)?.as_slice())
+    }
+}
+
+/// The file of the image that a question is about.
+pub fn file_of(alloc: Global, question: &str) -> Result<Vec<u8>, Unanswered> {
+    let (what, rest) = first_word(question);
+    match what {
+        "rows" => image_of(alloc, rows_text(alloc, rest)?.as_str()),
+        "image" => image_of(alloc, rest),
+        "many" => image_of(alloc, many_text(alloc, decimal(rest)?)?.as_str()),
+        "long" => image_of(alloc, long_text(alloc, decimal(rest)?)?.as_str()),
+        _ => Err(Unanswered::NotKnown),
     }
 }
 
@@ -61,10 +67,19 @@ fn many_text(alloc: Global, count: u32) -> Result<String, Unanswered> {
     Ok(text)
 }
 
-/// What an audit finds of the image that a text describes.
-fn audited(alloc: Global, text: &str) -> Result<String, Unanswered> {
-    let file = image_of(alloc, text)?;
-    match audit_image(alloc, &opened(alloc, &file)?) {
+/// `long N`: an image of one function, `mov pc, r0`, with a name of so many bytes, and no index.
+fn long_text(alloc: Global, count: u32) -> Result<String, Unanswered> {
+    let mut text = format!(in alloc; "entry 8000 ; function ")?;
+    for _i in 0..count {
+        text.push('f')?;
+    }
+    text.push_str(" 8000 2 ; segment 8000 2 ; code 8000 4687")?;
+    Ok(text)
+}
+
+/// What an audit finds of the image in a file.
+fn audited(alloc: Global, file: &[u8]) -> Result<String, Unanswered> {
+    match audit_image(alloc, &opened(alloc, file)?) {
         Ok(audit) => Ok(findings_text(alloc, &audit)?),
         Err(AuditFault::Index(fault)) => Ok(refused_text(alloc, fault)?),
         Err(AuditFault::OutOfMemory) => Err(want_of_memory()),

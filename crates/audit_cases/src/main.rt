@@ -1,13 +1,16 @@
-//! Runs the cases of data/ on audits of images. Answers are by hand from docs/audit.md, docs/acceptance.md and docs/checking.md.
+//! Runs the cases of data/ on audits of images, and on what `ehabi_audit` writes of them. Answers are by hand from docs/audit.md, docs/acceptance.md and docs/checking.md.
 #![tactic(auto)]
 
 mod audits;
 mod findings;
+mod reports;
 
 use audits::Audits;
 use case_rows::run_file;
+use reports::Reports;
 use std::io::Error;
 
 fn main(host: HostRuntime) -> Result<(), Error> {
-    run_file(&host, "audits.txt", &Audits)
+    run_file(&host, "audits.txt", &Audits)?;
+    run_file(&host, "reports.txt", &Reports)
 }

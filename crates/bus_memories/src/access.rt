@@ -90,7 +90,7 @@ pub(crate) fn load_place(segments: &Segments, a: u32, n: u32) -> Result<&Segment
     ensures ok { IfOk result (λ i. fault_in (λ s. load_fault n a) n segments.now a ≡ None) }
     ensures fault { IfErr result (λ fault. fault_in (λ s. load_fault n a) n segments.now a ≡ Some fault) }
 {
-    let Some(i) = segments.place_of(a, n) else {
+    let Some(i) = segments.segment_holding(a, n) else {
         return Err(BusFault::Unmapped(a));
     };
     let segment = segments.get(i);
@@ -107,7 +107,7 @@ pub(crate) fn fetch_place(segments: &Segments, a: u32) -> Result<&Segment, BusFa
     ensures ok { IfOk result (λ i. fault_in (λ s. fetch_fault s a) 2 segments.now a ≡ None) }
     ensures fault { IfErr result (λ fault. fault_in (λ s. fetch_fault s a) 2 segments.now a ≡ Some fault) }
 {
-    let Some(i) = segments.place_of_code(a) else {
+    let Some(i) = segments.segment_holding_code(a) else {
         return Err(BusFault::Unmapped(a));
     };
     let segment = segments.get(i);
@@ -129,7 +129,7 @@ pub(crate) fn store_place(
     ensures ok { IfOk result (λ i. fault_in (λ s. store_fault n guards.now s a) n segments.now a ≡ None) }
     ensures fault { IfErr result (λ fault. fault_in (λ s. store_fault n guards.now s a) n segments.now a ≡ Some fault) }
 {
-    let Some(i) = segments.place_of(a, n) else {
+    let Some(i) = segments.segment_holding(a, n) else {
         return Err(BusFault::Unmapped(a));
     };
     match store_fault(n, guards, segments.get(i).may_write(), a) {
@@ -174,7 +174,7 @@ pub(crate) fn write_word(segments: &mut Segments, a: u32, v: u32)
     ensures written { segments.new ≡ written 4 segments.old a v }
     ensures kept { AreSegments segments.old → AreSegments segments.new }
 {
-    if let Some(i) = segments.place_of(a, 4) {
+    if let Some(i) = segments.segment_holding(a, 4) {
         segments.write32(i, a, v);
     }
 }
@@ -196,7 +196,7 @@ pub(crate) fn run_write(segments: &mut Segments, a: u32, words: &[u32])
 pub(crate) fn read_word(segments: &Segments, a: u32) -> u32
     ensures { result ≡ number_in 4 segments.now a }
 {
-    match segments.place_of(a, 4) {
+    match segments.segment_holding(a, 4) {
         Some(i) => {
             let segment = segments.get(i);
             segment.load32(a)

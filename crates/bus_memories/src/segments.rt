@@ -56,7 +56,7 @@ impl Segments {
 
     /// The first segment that holds the `n` bytes from `a` on.
     #[tactic(auto, using(crate::proofs::Places::unmapped))]
-    pub(crate) fn place_of(&self, a: u32, n: u32) -> Option<usize>
+    pub(crate) fn segment_holding(&self, a: u32, n: u32) -> Option<usize>
         ensures place { IfSome result (IsPlace n self.now a) }
         ensures unmapped { IfNone result ((f : Bytes → Option BusFault) → fault_in f n self.now a ≡ Some (Unmapped a)) }
     {
@@ -65,7 +65,7 @@ impl Segments {
 
     /// The segment that holds the halfword at `a`, where code is looked for: in the image's segments first.
     #[tactic(auto, using(crate::proofs::Places::by_holding, crate::proofs::Places::unmapped))]
-    pub(crate) fn place_of_code(&self, a: u32) -> Option<usize>
+    pub(crate) fn segment_holding_code(&self, a: u32) -> Option<usize>
         requires { AreApart self.now }
         ensures place { IfSome result (IsPlace 2 self.now a) }
         ensures unmapped { IfNone result ((f : Bytes → Option BusFault) → fault_in f 2 self.now a ≡ Some (Unmapped a)) }
@@ -75,7 +75,7 @@ impl Segments {
                 return Some(i);
             }
         }
-        self.place_of(a, 2)
+        self.segment_holding(a, 2)
     }
 
     fn position(&self, a: u32, n: u32) -> Option<usize>

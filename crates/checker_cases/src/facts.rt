@@ -65,7 +65,7 @@ fn source_of(word: &str) -> Result<Source, Unanswered> {
 }
 
 /// The place of a register in a fact.
-fn place_of(word: &str) -> Result<usize, Unanswered> {
+fn register_place(word: &str) -> Result<usize, Unanswered> {
     match register_of(word)? {
         14 => Ok(13),
         register => {
@@ -89,7 +89,7 @@ fn changed(fact: Fact, change: &str) -> Result<Fact, Unanswered> {
         "kept" => fact.kept = decimal(value)?,
         "below" => fact.below = value == "yes",
         register => {
-            let place = place_of(register)?;
+            let place = register_place(register)?;
             if let Some(source) = fact.regs.get_mut(place) {
                 *source = source_of(value)?;
             }

@@ -14,7 +14,7 @@ use Rattle.eh_desc.specs.declared.descriptor.DescKind.TheVariants.{Spec}
 use Rattle.eh_desc.specs.declared.descriptor.Found.{Found}
 use Rattle.eh_desc.specs.declared.descriptor.Found.TheVariants.{End, One, Fault}
 use Rattle.eh_desc.specs.declared.descriptor.TheConstants.{MOST_TYPES}
-use Rattle.eh_desc.specs.Grammar.{Form, word_at, address_at, with_word, cleanup_at, catch_at, has_types, padded_at, types_at, specification_at, kind_at, found_at, found, listed, items_in, items_from, where_codes, items_after}
+use Rattle.eh_desc.specs.Grammar.{Form, word_at, address_at, with_word, cleanup_at, catch_at, has_types, padded_at, types_at, specification_at, kind_at, found_at, descriptor_of, listed, items_in, items_from, where_codes, items_after}
 use Rattle.eh_desc.specs.Laws.{Follow, DescriptorsFollow}
 use Rattle.eh_desc.proofs.Room.{room}
 
@@ -41,7 +41,7 @@ catch_next t place len off at h = with_next t place (word_at t at) _ (λ w. with
 types_next : (t : Form) (place len off types count : ℕ) (padded : Bool) → place + 4 ≤ types → IsNext t place (types_at t place len off types count padded)
 types_next t place len off types count padded h =
     either t place (not (has_types t types count)) (Fault Short) _ tt
-    (either t place padded (padded_at t place len off types count) (found t place len off (Spec (address_at t types) count None) (types + 4 * count))
+    (either t place padded (padded_at t place len off types count) (descriptor_of t place len off (Spec (address_at t types) count None) (types + 4 * count))
     (with_next t place (word_at t (types + 4 * count)) _ (λ w. (omega arith, refl, refl))) (omega arith, refl, refl))
 
 specification_next : (t : Form) (place len off at : ℕ) → place ≤ at → IsNext t place (specification_at t place len off at)

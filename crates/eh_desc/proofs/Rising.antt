@@ -13,7 +13,7 @@ use Rattle.eh_desc.specs.declared.descriptor.DescKind.TheVariants.{Spec}
 use Rattle.eh_desc.specs.declared.descriptor.Found.{Found}
 use Rattle.eh_desc.specs.declared.descriptor.Found.TheVariants.{End, One, Fault}
 use Rattle.eh_desc.specs.declared.descriptor.TheConstants.{MOST_TYPES}
-use Rattle.eh_desc.specs.Grammar.{Form, word_at, address_at, with_word, cleanup_at, catch_at, has_types, padded_at, types_at, specification_at, kind_at, found_at, found, listed, items_in, items_from, where_codes, items_after}
+use Rattle.eh_desc.specs.Grammar.{Form, word_at, address_at, with_word, cleanup_at, catch_at, has_types, padded_at, types_at, specification_at, kind_at, found_at, descriptor_of, listed, items_in, items_from, where_codes, items_after}
 use Rattle.eh_desc.specs.Laws.{Rise, DescriptorsRise}
 use Rattle.eh_desc.proofs.Room.{room}
 use Rattle.eh_desc.proofs.Items.{one_next}
@@ -43,10 +43,10 @@ padded_inside : (t : Form) (place len off types count : ℕ) → IsInside t (pad
 padded_inside t place len off types count = with_inside t (types + 4 * count) _ _ refl (λ w h. h)
 
 types_inside : (t : Form) (place len off types count : ℕ) (padded there : Bool) → has_types t types count ≡ there
-    → IsInside t (cond (not there) (Fault Short) (cond padded (padded_at t place len off types count) (found t place len off (Spec (address_at t types) count None) (types + 4 * count))))
+    → IsInside t (cond (not there) (Fault Short) (cond padded (padded_at t place len off types count) (descriptor_of t place len off (Spec (address_at t types) count None) (types + 4 * count))))
 types_inside t place len off types count padded false e = tt
 types_inside t place len off types count padded true e =
-    either t padded (padded_at t place len off types count) (found t place len off (Spec (address_at t types) count None) (types + 4 * count))
+    either t padded (padded_at t place len off types count) (descriptor_of t place len off (Spec (address_at t types) count None) (types + 4 * count))
     (padded_inside t place len off types count) (grind (arith, nat_tests))
 
 specification_inside : (t : Form) (place len off at : ℕ) → IsInside t (specification_at t place len off at)

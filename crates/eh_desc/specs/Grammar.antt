@@ -54,8 +54,8 @@ with_word None further = Fault Short
 with_word (Some word) further = further word
 
 -- a descriptor at a place, with its scope, its kind and the place after it
-abbrev pub found : Form → ℕ → ℕ → ℕ → DescKind → ℕ → Found
-found t place len off kind next = One (record {
+abbrev pub descriptor_of : Form → ℕ → ℕ → ℕ → DescKind → ℕ → Found
+descriptor_of t place len off kind next = One (record {
   at = address_at t place;
   next = address_at t next;
   start = (t.start + even off) % 2 ^ 32;
@@ -66,12 +66,12 @@ found t place len off kind next = One (record {
 -- ---- after the scope: a cleanup's landing pad; a catch's landing pad and type; a specification's count, types and landing pad
 
 abbrev pub cleanup_at : Form → ℕ → ℕ → ℕ → ℕ → Found
-cleanup_at t place len off at = with_word (word_at t at) (λ pad. found t place len off (Cleanup (pad_by t at pad)) (at + 4))
+cleanup_at t place len off at = with_word (word_at t at) (λ pad. descriptor_of t place len off (Cleanup (pad_by t at pad)) (at + 4))
 
 abbrev pub catch_at : Form → ℕ → ℕ → ℕ → ℕ → Found
 catch_at t place len off at =
     with_word (word_at t at) (λ pad. with_word (word_at t (at + 4)) (λ type.
-    found t place len off (Catch (pad_by t at pad) (nat_le REFERENCE_MARK pad) (catch_type (address_at t (at + 4)) type)) (at + 8)))
+    descriptor_of t place len off (Catch (pad_by t at pad) (nat_le REFERENCE_MARK pad) (catch_type (address_at t (at + 4)) type)) (at + 8)))
 
 -- the types are there
 abbrev pub has_types : Form → ℕ → ℕ → Bool
@@ -80,13 +80,13 @@ has_types t at count = nat_le (at + 4 * count) (length t.bytes)
 abbrev pub padded_at : Form → ℕ → ℕ → ℕ → ℕ → ℕ → Found
 padded_at t place len off types count =
     with_word (word_at t (types + 4 * count)) (λ pad.
-    found t place len off (Spec (address_at t types) count (Some (pad_by t (types + 4 * count) pad))) (types + 4 * count + 4))
+    descriptor_of t place len off (Spec (address_at t types) count (Some (pad_by t (types + 4 * count) pad))) (types + 4 * count + 4))
 
 abbrev pub types_at : Form → ℕ → ℕ → ℕ → ℕ → ℕ → Bool → Found
 types_at t place len off types count padded =
     if not (has_types t types count) then Fault Short
     else (if padded then padded_at t place len off types count
-    else found t place len off (Spec (address_at t types) count None) (types + 4 * count))
+    else descriptor_of t place len off (Spec (address_at t types) count None) (types + 4 * count))
 
 abbrev pub specification_at : Form → ℕ → ℕ → ℕ → ℕ → Found
 specification_at t place len off at =

@@ -1,7 +1,7 @@
 //! Descriptors and their iterator (IHI 0038). docs/descriptors.md has the formats.
 ghost use Rattle.std.specs.Prelude.{◌≡◌, ◌+◌, ◌-◌, ◌*◌, ◌/◌, ◌%◌, ◌^◌, ◌<◌, ◌≤◌, ◌==◌, [], length, IfSome, IsTrue, ◌↔◌, nat_le, Some, None, Ok, Err};
 ghost use Rattle.std.specs.Iterator.{YieldsFirst, item_count};
-ghost use Rattle.eh_desc.specs.Grammar.{word_at, address_at, pad_by, type_by, catch_type, found, cleanup_at, catch_at, padded_at, types_at, specification_at, kind_at, found_at, items_from, items_of, table_items, type_in};
+ghost use Rattle.eh_desc.specs.Grammar.{word_at, address_at, pad_by, type_by, catch_type, descriptor_of, cleanup_at, catch_at, padded_at, types_at, specification_at, kind_at, found_at, items_from, items_of, table_items, type_in};
 ghost use Rattle.eh_desc.specs.Tables.{form};
 ghost use Rattle.eh_index.specs.Places.{table_of};
 
@@ -168,8 +168,8 @@ impl<'a> Table<'a> {
         even(prel31(self.address_at(place), word))
     }
 
-    fn found(&self, place: usize, scope: Scope, kind: DescKind, next: usize) -> Found
-        ensures { result ≡ found (form self.now) place scope.length scope.offset kind next }
+    fn descriptor_of(&self, place: usize, scope: Scope, kind: DescKind, next: usize) -> Found
+        ensures { result ≡ descriptor_of (form self.now) place scope.length scope.offset kind next }
     {
         let desc = Desc {
             at: self.address_at(place),
@@ -188,7 +188,7 @@ impl<'a> Table<'a> {
             return Found::Fault(DescFault::Short);
         };
         let pad = self.pad_by(scope.place, pad);
-        self.found(place, scope, DescKind::Cleanup { pad }, scope.place + 4)
+        self.descriptor_of(place, scope, DescKind::Cleanup { pad }, scope.place + 4)
     }
 
     fn catch(&self, place: usize, scope: Scope) -> Found
@@ -205,7 +205,7 @@ impl<'a> Table<'a> {
             reference: pad >= REFERENCE_MARK,
             ty: catch_type(self.address_at(scope.place + 4), ty),
         };
-        self.found(place, scope, kind, scope.place + 8)
+        self.descriptor_of(place, scope, kind, scope.place + 8)
     }
 
     /// A specification whose types stand at a place, with a landing pad after them.
@@ -223,7 +223,7 @@ impl<'a> Table<'a> {
             count,
             pad: Some(self.pad_by(at, pad)),
         };
-        self.found(place, scope, kind, at + 4)
+        self.descriptor_of(place, scope, kind, at + 4)
     }
 
     /// A specification whose types stand at a place.
@@ -244,7 +244,7 @@ impl<'a> Table<'a> {
             count,
             pad: None,
         };
-        self.found(place, scope, kind, after)
+        self.descriptor_of(place, scope, kind, after)
     }
 
     fn specification(&self, place: usize, scope: Scope) -> Found

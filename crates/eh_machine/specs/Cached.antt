@@ -1,24 +1,14 @@
 -- What a decode cache holds: of each line what is so of the program, whatever the memory holds now.
-use Rattle.std.specs.Prelude.{◌≡◌, ℕ, ◌+◌, ◌%◌, ◌^◌, ◌<◌, nat_le, false, Option, Some, None, Ok, if◌then◌else◌, slice_index_or}
-use Rattle.eh_bus.specs.Memory.{Memory, fetch}
+use Rattle.std.specs.Prelude.{◌≡◌, ℕ, ◌<◌, Option, Some, None, slice_index_or}
 use Rattle.thumb_isa.specs.Range.{InRange}
 use Rattle.thumb_isa.specs.Rows.{decoded_of}
 use Rattle.thumb_core.specs.Step.{instr_of}
 use Rattle.two_machines.specs.Program.{Program}
+use Rattle.code_halfwords.specs.Standing.{IsPair}
 use Rattle.eh_machine.specs.Passes.{at_of, HasRoles}
 use Rattle.eh_machine.specs.declared.decode_cache.TheConstants.{LINES}
-use Rattle.eh_machine.specs.declared.decode_cache.Halfwords.{Halfwords}
 use Rattle.eh_machine.specs.declared.decode_cache.CacheLine.{CacheLine}
 use Rattle.eh_machine.specs.declared.decode_cache.DecodeCache.{DecodeCache}
-
--- they stand at an address; where no wide encoding begins, the second is 0
-pub record HasHalfwords (m : Memory) (a : ℕ) (h : Halfwords) : Type 0 where
-  pub first : fetch m a ≡ Ok h.first
-  pub second : (if nat_le 0xe800 h.first then fetch m ((a + 2) % 2 ^ 32) else Ok 0) ≡ Ok h.second
-
--- the second is 0 where the first begins no wide encoding
-abbrev pub IsPair : Halfwords → Type 0
-IsPair h = nat_le 0xe800 h.first ≡ false → h.second ≡ 0
 
 -- its halfwords are the instruction, and the checker says of its address what is kept
 pub record IsOfLine (p : Program) (line : CacheLine) : Type 0 where

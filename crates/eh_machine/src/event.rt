@@ -115,7 +115,7 @@ fn turn_anew<B: Bus, I: Source, O: Sink>(
 {
     match fetch_checked(a, core, &shared.bus) {
         Ok(at) => {
-            cache.keep(core.regs.pc, at, &shared.bus);
+            cache.insert(core.regs.pc, at, &shared.bus);
             turn_at(a, &at, core, shared, events, input, out)
         }
         Err(end) => Turned::Ended(end),

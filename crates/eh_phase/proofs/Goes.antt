@@ -46,8 +46,8 @@ not_both (enters.Spec vrs pad) s c = c
 not_both enters.Unexpected s c = c
 not_both (enters.Terminate cause) s c = c
 
-abbrev place_of : Frame → Result Desc DescFault → Place
-place_of f i = record { frame = f; item = i }
+abbrev placed_item : Frame → Result Desc DescFault → Place
+placed_item f i = record { frame = f; item = i }
 
 cleans_by : (g : Goal) (f : Frame) (i : Result Desc DescFault) (more : List (Result Desc DescFault)) (qs : List Place) (vrs : Vrs) (pad next site : ℕ)
     → (first_some (entered_item g f) more ≡ Some (enters.Cleanup vrs pad next site) → Cleans g f more qs vrs pad next site)
@@ -63,8 +63,8 @@ cleans_by g f i more qs vrs pad next site further e (Quiet r n c b) =
       next_is = h.next_is;
       registers = h.registers;
       stands = h.stands;
-      due = due_past g (place_of f i) (placed f more ++ qs) b ∙ ap (λ o. cons_option o (due_in g (placed f more ++ qs))) c ∙ h.due;
-      reach = λ t. h.reach (sym (reached_past g (place_of f i) (placed f more ++ qs) r b) ∙ t);
+      due = due_past g (placed_item f i) (placed f more ++ qs) b ∙ ap (λ o. cons_option o (due_in g (placed f more ++ qs))) c ∙ h.due;
+      reach = λ t. h.reach (sym (reached_past g (placed_item f i) (placed f more ++ qs) r b) ∙ t);
     }
 cleans_by g f i more qs vrs pad next site further e (Clean d at is n c b) =
     let same : Some (enters.Cleanup (vrs_of f) at d.next f.site) ≡ Some (enters.Cleanup vrs pad next site) = sym (first_gives (entered_item g f) i more _ n) ∙ e in
@@ -77,8 +77,8 @@ cleans_by g f i more qs vrs pad next site further e (Clean d at is n c b) =
       next_is = cc;
       registers = cc;
       stands = cc;
-      due = due_past g (place_of f i) (placed f more ++ qs) b ∙ ap (λ o. cons_option o (due_in g (placed f more ++ qs))) c ∙ ap (λ t. t ∷ due_in g (placed f more ++ qs)) whole;
-      reach = λ t. sym (reached_past g (place_of f i) (placed f more ++ qs) (ap can_be_read is) b) ∙ t;
+      due = due_past g (placed_item f i) (placed f more ++ qs) b ∙ ap (λ o. cons_option o (due_in g (placed f more ++ qs))) c ∙ ap (λ t. t ∷ due_in g (placed f more ++ qs)) whole;
+      reach = λ t. sym (reached_past g (placed_item f i) (placed f more ++ qs) (ap can_be_read is) b) ∙ t;
     }
 cleans_by g f i more qs vrs pad next site further e (Stop t s r n b) =
     let same : Some t ≡ Some (enters.Cleanup vrs pad next site) = sym (first_gives (entered_item g f) i more _ n) ∙ e in
@@ -101,8 +101,8 @@ passes_by g f i more qs further e (Unread r k) = let h = first_gives (entered_it
 passes_by g f i more qs further e (Quiet r n c b) =
     let h = further (sym (first_past (entered_item g f) i more n) ∙ e) in
     record {
-      due = due_past g (place_of f i) (placed f more ++ qs) b ∙ ap (λ o. cons_option o (due_in g (placed f more ++ qs))) c ∙ h.due;
-      reach = reached_past g (place_of f i) (placed f more ++ qs) r b ∙ h.reach;
+      due = due_past g (placed_item f i) (placed f more ++ qs) b ∙ ap (λ o. cons_option o (due_in g (placed f more ++ qs))) c ∙ h.due;
+      reach = reached_past g (placed_item f i) (placed f more ++ qs) r b ∙ h.reach;
     }
 passes_by g f i more qs further e (Clean d at is n c b) = let h = first_gives (entered_item g f) i more _ n in absurd cc
 passes_by g f i more qs further e (Stop t s r n b) = let h = first_gives (entered_item g f) i more _ n in absurd cc

@@ -74,7 +74,7 @@ fn row<'g, 'a>(types: &'g [TypeInfo<'a>], ty: u32) -> Option<&'g TypeInfo<'a>>
 }
 
 /// The same, where contracts see its bases in these segments too.
-fn found<'g, 'a>(
+fn row_read<'g, 'a>(
     segments: &[Segment],
     types: &'g [TypeInfo<'a>],
     ty: u32,
@@ -184,7 +184,7 @@ impl<'a> TypeGraph<'a> {
         ensures holds { result ≡ is_some (row_of self.now ty) }
         ensures sound { IsSound self.now }
     {
-        match found(&self.segments, &self.types, ty) {
+        match row_read(&self.segments, &self.types, ty) {
             Some(_) => true,
             None => false,
         }
@@ -195,7 +195,7 @@ impl<'a> TypeGraph<'a> {
         ensures kind { result ≡ kind_of self.now ty }
         ensures sound { IsSound self.now }
     {
-        match found(&self.segments, &self.types, ty) {
+        match row_read(&self.segments, &self.types, ty) {
             Some(info) => Some(info.kind()),
             None => None,
         }
@@ -208,7 +208,7 @@ impl<'a> TypeGraph<'a> {
         ensures sound { IsSound self.now }
     {
         let segments = &self.segments[..];
-        match found(segments, &self.types, ty) {
+        match row_read(segments, &self.types, ty) {
             Some(info) => Bases::of(segments, info.at(), info.kind()),
             None => Bases::of(segments, 0, TypeKind::Other),
         }
@@ -219,7 +219,7 @@ impl<'a> TypeGraph<'a> {
         ensures name { result.now ≡ name_of self.now ty }
         ensures sound { IsSound self.now }
     {
-        match found(&self.segments, &self.types, ty) {
+        match row_read(&self.segments, &self.types, ty) {
             Some(info) => info.name(),
             None => &[],
         }

@@ -11,7 +11,7 @@ pub mod laws;
 mod reader;
 mod state;
 mod types;
-mod vtables;
+pub mod vtables;
 mod words;
 
 pub use bases::Bases;

@@ -55,7 +55,11 @@ fn wait(pending: &mut Vec<u32>, kind: TypeKind) -> Result<(), AllocError>
 }
 
 #[tactic(auto, using(elf_image::proofs::Entries::lookup_insert))]
-fn keep<'a>(done: &mut BTreeMap<u32, Done<'a>>, at: u32, d: Done<'a>) -> Result<(), AllocError>
+fn insert_done<'a>(
+    done: &mut BTreeMap<u32, Done<'a>>,
+    at: u32,
+    d: Done<'a>,
+) -> Result<(), AllocError>
     ensures { IfOk result (λ _. (q : ℕ) → lookup (is_at (nat_cmp q)) done.new.entries ≡ (if q == at then Some d.entry else lookup (is_at (nat_cmp q)) done.old.entries)) }
 {
     done.insert(at, d)?;
@@ -141,7 +145,7 @@ fn finish<'a>(source: &Source<'_, 'a>, state: &mut State<'a>, frame: Frame) -> R
     };
     wait(&mut state.pending, frame.kind)?;
     take_out(&mut state.open, frame.at);
-    keep(&mut state.done, frame.at, done)?;
+    insert_done(&mut state.done, frame.at, done)?;
     Ok(())
 }
 

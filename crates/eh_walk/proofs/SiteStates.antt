@@ -17,7 +17,7 @@ use Rattle.stands_for.specs.frame_graph.declared.places.Standing.TheVariants.{In
 use Rattle.stands_for.specs.frame_graph.Places.{is_udf, standing_at, standing_by, halfword_of, of_decoded, wide_of}
 use Rattle.stands_for.specs.frame_graph.FlowGraph.{FlowGraph}
 use Rattle.stands_for.specs.frame_graph.Edges.{is_undecodable, is_nothing}
-use Rattle.stands_for.specs.frame_flow.Causes.{shown, found}
+use Rattle.stands_for.specs.frame_flow.Causes.{shown, causes_at}
 use Rattle.stands_for.specs.frame_check.Accepts.{Accepted}
 use Rattle.stands_for.specs.frame_check.Judged.{IsPlaced}
 use Rattle.stands_for.specs.frame_check.Roots.{flow_graph_of}
@@ -95,7 +95,7 @@ module _ (x : Accepted) (is : IsProgram x) (s : Recorded) (k : Keeps x s) (at : 
   flow_graph = flow_graph_of x.image at.function
 
   not_nothing : standing_at flow_graph at.place ≡ Nothing → ⊥
-  unfolding found
+  unfolding causes_at
   not_nothing e =
       let c = code x at.function at.marks in
       let yes : is_undecodable c.flow_graph at.place ≡ true = ap is_nothing e in

@@ -2,53 +2,18 @@
 //! are those of docs/command-line.md; how the system's files and streams are taken is in docs/outside.md.
 #![tactic(auto)]
 
-ghost use Rattle.std.specs.Prelude.{◌≡◌, drop, map, IfOk, OnErr, MatchResult, string_bytes};
-ghost use Rattle.std.specs.Process.{exit_status};
-ghost use Rattle.std.specs.Vec.Iter.{into_iter_items};
+ghost use Rattle.std.specs.Prelude.{◌≡◌, map, IfOk, OnErr, string_bytes};
 ghost use Rattle.ehabi_top.specs.Answered.{IsAnswer};
-ghost use Rattle.ehabi_top.specs.Words.{texts};
-ghost use Rattle.ehabi_top.specs.Yields.{file_state, streams};
+ghost use Rattle.program_answers.specs.Files.{file_state};
+ghost use Rattle.ehabi_top.specs.Yields.{streams};
 
 use eh_files::{Files, HostFiles};
 use eh_port::{HostSink, HostSource, Sink, Source};
 use ehabi_top::ehabi_main;
-use ehabi_top::status::NO_MEMORY;
 use std::alloc::{AllocError, Global};
-use std::io::ErrorKind;
 use std::process::ExitCode;
-use std::{env, io, rt};
-
-/// All words that the system gives, the program's name first.
-pub fn all_of(alloc: Global, mut args: env::Args) -> Result<Vec<String>, AllocError>
-    ensures { IfOk result (λ words. words.items ≡ into_iter_items args) }
-{
-    let mut words = Vec::new(alloc);
-    while let Some(word) = args.next() {
-        words.push(word)?;
-    }
-    Ok(words)
-}
-
-/// The words after the program's name, in their order. An empty word is a word.
-pub fn after_name(words: &[String]) -> &[String]
-    ensures { result.now ≡ drop 1 words.now }
-{
-    match words {
-        [] => &[],
-        [_name, after @ ..] => after,
-    }
-}
-
-/// The texts of words.
-pub fn texts_of<'a>(alloc: Global, words: &'a [String]) -> Result<Vec<&'a str>, AllocError>
-    ensures { IfOk result (λ all. texts all.items ≡ map string_bytes words.now) }
-{
-    let mut texts = Vec::new(alloc);
-    for word in words {
-        texts.push(word.as_str())?;
-    }
-    Ok(texts)
-}
+use std::{io, rt};
+use system_words::{after_name, ended, texts_of, words_of};
 
 /// Does what the words ask for, all of them, and answers the status. Without memory for the words it does nothing.
 pub fn run_words<F: Files, I: Source, O: Sink>(
@@ -67,17 +32,6 @@ pub fn run_words<F: Files, I: Source, O: Sink>(
 {
     let texts = texts_of(alloc, words)?;
     Ok(ehabi_main(alloc, &texts, files, input, out))
-}
-
-// All words that the system gives. Words that are no text count as none at all, which are no command.
-fn words_of<R: rt::Env + AllocGlobal>(host: &R) -> Result<Vec<String>, AllocError> {
-    match env::args(host) {
-        Ok(args) => all_of(host.alloc(), args),
-        Err(error) => match error.kind() {
-            ErrorKind::OutOfMemory => Err(AllocError),
-            _ => Ok(Vec::new(host.alloc())),
-        },
-    }
 }
 
 /// The status of a program for the words, the files and the streams of its system.
@@ -110,14 +64,4 @@ pub fn run<R: rt::Env + rt::Files + Input + Print + AllocGlobal>(
 /// All that a program does: it ends with the status of its words, its files and its streams.
 pub fn program<R: rt::Env + rt::Files + Input + Print + AllocGlobal>(host: &R) -> ExitCode {
     ended(run(host))
-}
-
-/// How a program ends: with the status that the call answered, and without memory for its words with `NO_MEMORY`.
-pub fn ended(status: Result<u8, AllocError>) -> ExitCode
-    ensures { MatchResult status (λ n. exit_status result ≡ n) (λ _. exit_status result ≡ NO_MEMORY) }
-{
-    match status {
-        Ok(status) => ExitCode::from(status),
-        Err(AllocError) => ExitCode::from(NO_MEMORY),
-    }
 }

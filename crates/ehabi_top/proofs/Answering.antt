@@ -1,36 +1,15 @@
--- Texts that end a command.
-use Rattle.std.proofs.Common.{◌≡◌, ◌⊎◌, inl, ℕ, ◌≤◌, List, ◌++◌, Bool, true, false, Option, Result, Ok, Err, refl, sym, ap, ◌∙◌, arith}
+-- Texts that end a run.
+use Rattle.std.proofs.Common.{◌≡◌, ◌⊎◌, inl, ℕ, List, ◌++◌, Bool, true, false, Option, Result, Ok, Err, refl, sym, ap, ◌∙◌}
 use Rattle.std.specs.Bool.{OnFalse, OnTrue}
-use Rattle.std.proofs.KnownBytes.{Appends-trans}
-use Rattle.std.specs.Io.KnownBytes.{Appends}
-use Rattle.eh_port.specs.Causes.{Rose}
-use Rattle.eh_port.specs.Writing.{AppendsFewer}
-use Rattle.eh_port.proofs.Parts.{part_whole, part_fewer, part_first, part_then}
-use Rattle.ehabi_top.specs.declared.stop.Stop.{Stop}
-use Rattle.ehabi_top.specs.declared.stop.Stop.TheVariants.{Write, Memory}
+use Rattle.program_answers.specs.declared.stop.Stop.{Stop}
+use Rattle.program_answers.specs.declared.stop.Stop.TheVariants.{Write, Memory}
 use Rattle.guest_gates.specs.Ends.{is_fault}
 use Rattle.thumb_core.specs.declared.ends.End.{End}
 use Rattle.thumb_core.specs.declared.ends.End.TheVariants.{Exit, Terminate, Trap, Budget, ReadFault, WriteFault}
 use Rattle.ehabi_top.specs.Loading.{closing_of, status_of, stop_of_fault}
-use Rattle.ehabi_top.specs.Text.{end_line}
-use Rattle.ehabi_top.specs.Writes.{Answers, Stopped, AnswersRun}
-
-pub answers_whole : (a b : Option (List ℕ)) (f g status : ℕ) (text : List ℕ) → Appends a b text → f ≤ g → Answers text status (Ok status) a b f g
-answers_whole a b f g status text p later = record { ok = p; status_is = refl; part = part_whole a b text p; later = later; failed = tt }
-
-pub answers_none : (a b : Option (List ℕ)) (f g status : ℕ) (text : List ℕ) → AppendsFewer a b text → f ≤ g → Rose f g → Answers text status (Err Write) a b f g
-answers_none a b f g status text p later rose = record { ok = tt; status_is = tt; part = part_fewer a b text p; later = later; failed = (refl, rose) }
-
--- a first write that failed
-pub answers_stopped : (a b : Option (List ℕ)) (f g status : ℕ) (x y : List ℕ) → AppendsFewer a b x → f ≤ g → Rose f g → Answers (x ++ y) status (Err Write) a b f g
-answers_stopped a b f g status x y p later rose = record { ok = tt; status_is = tt; part = part_first a b x y (part_fewer a b x p); later = later; failed = (refl, rose) }
-
--- a first write that went, and what came then
-pub answers_both : (a b c : Option (List ℕ)) (f g h status : ℕ) (result : Result ℕ Stop) (x y : List ℕ) → Appends a b x → f ≤ g → Answers y status result b c g h → Answers (x ++ y) status result a c f h
-answers_both a b c f g h status (Ok s) x y p later w = record { ok = Appends-trans a b c x y p w.ok; status_is = w.status_is; part = part_then a b c x y p w.part; later = omega arith; failed = tt }
-answers_both a b c f g h status (Err stop) x y p later w = record { ok = tt; status_is = tt; part = part_then a b c x y p w.part; later = omega arith; failed = (w.failed.0, omega arith) }
-
--- ---- the end of a run
+use Rattle.report_lines.specs.Text.{end_line}
+use Rattle.program_answers.specs.Writes.{Answers, Stopped}
+use Rattle.ehabi_top.specs.Writes.{AnswersRun}
 
 not_fault : (b : Bool) (P Q : Type 0) → b ≡ false → P → OnFalse b P × OnTrue b Q
 not_fault true P Q e p = absurd (cc)

@@ -4,22 +4,25 @@ use Rattle.std.specs.Prelude.{IfOk, IfErr, IsOk, MatchResult, false, ◌↔◌}
 use Rattle.std.proofs.lemmas.Bool.{false≢true}
 use Rattle.ehabi_top.specs.Building.{refusal_of, wants_memory}
 use Rattle.ehabi_top.specs.declared.refusal.FilesFault.{FilesFault}
-use Rattle.ehabi_top.specs.declared.status.TheConstants.{USAGE, FILE_UNAVAILABLE}
-use Rattle.ehabi_top.specs.declared.stop.Stop.{Stop}
-use Rattle.ehabi_top.specs.declared.stop.Stop.TheVariants.{Read, Write, Memory}
+use Rattle.program_answers.specs.declared.status.TheConstants.{USAGE, FILE_UNAVAILABLE}
+use Rattle.program_answers.specs.declared.stop.Stop.{Stop}
+use Rattle.program_answers.specs.declared.stop.Stop.TheVariants.{Read, Write, Memory}
 use Rattle.ehabi_top.specs.AsksFor.{AsksFor, CallLacks, files_named}
 use Rattle.ehabi_top.specs.Finding.{Finds, FoundReports}
 use Rattle.ehabi_top.specs.GenerateReport.{GenerateReports, IsUnfitProgram}
-use Rattle.ehabi_top.specs.Loading.{Report, SaysWhy, SaysWhyBy, IsReported, IsOfCommand}
+use Rattle.ehabi_top.specs.Loading.{Report}
+use Rattle.program_answers.specs.Statuses.{SaysWhy, SaysWhyBy, IsReported, IsOfCommand}
 use Rattle.ehabi_top.specs.Report.{Reports, IfTold, Why, Does}
 use Rattle.ehabi_top.specs.Sources.{Refusal}
 use Rattle.ehabi_top.specs.Text.{usage}
 use Rattle.ehabi_top.specs.Words.{Command, GenerateProgram}
-use Rattle.ehabi_top.specs.Writes.{Answers}
-use Rattle.ehabi_top.specs.Yields.{FileState, Streams, streams, DoesWhole, DoesPart, YieldsBy, Yields}
+use Rattle.program_answers.specs.Writes.{Answers}
+use Rattle.program_answers.specs.Files.{FileState}
+use Rattle.ehabi_top.specs.Yields.{Streams, streams, DoesWhole, DoesPart, YieldsBy, Yields}
 use Rattle.ehabi_top.proofs.FilesAsked.{asks_more, asks_none}
-use Rattle.ehabi_top.proofs.Statuses.{usage_reported}
-use Rattle.ehabi_top.proofs.Yielding.{whole_answer, part_answer, whole_as, part_as, of_status, only_write}
+use Rattle.program_answers.proofs.Statuses.{usage_reported}
+use Rattle.ehabi_top.proofs.Yielding.{whole_answer, part_answer, whole_as, part_as}
+use Rattle.program_answers.proofs.Answering.{of_status, only_write}
 
 -- the files of a call
 abbrev pub Held : Type 0

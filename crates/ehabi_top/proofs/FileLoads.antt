@@ -5,13 +5,13 @@ use Rattle.eh_files.specs.declared.FileAnswer.{FileAnswer}
 use Rattle.eh_files.specs.declared.FileAnswer.TheVariants.{Found}
 use Rattle.eh_files.specs.declared.FileFault.{FileFault}
 use Rattle.eh_files.specs.declared.FileFault.TheVariants.{Failed, OutOfMemory}
-use Rattle.ehabi_top.specs.declared.stop.Stop.{Stop}
-use Rattle.ehabi_top.specs.declared.stop.Stop.TheVariants.{Read, Memory}
-use Rattle.ehabi_top.specs.Writes.{stop_of}
+use Rattle.program_answers.specs.declared.stop.Stop.{Stop}
+use Rattle.program_answers.specs.declared.stop.Stop.TheVariants.{Read, Memory}
+use Rattle.program_answers.specs.Writes.{stop_of}
 use Rattle.ehabi_top.specs.Building.{file_of, files_of, found_text}
 use Rattle.ehabi_top.specs.declared.sources.TheConstants.{FILE_LIMIT}
 use Rattle.ehabi_top.specs.Sources.{NamedText}
-use Rattle.ehabi_top.specs.Words.{texts}
+use Rattle.program_answers.specs.Words.{texts}
 use Rattle.ehabi_top.proofs.AllAnswers.{after, joined, refused_at, ended}
 
 same_err : {T : Type 0} (a b : Stop) → ◌≡◌ {A = Result T Stop} (Err a) (Err b) → a ≡ b

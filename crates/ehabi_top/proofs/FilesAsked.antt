@@ -7,9 +7,8 @@ use Rattle.eh_files.specs.FileList.{answer_of}
 use Rattle.eh_files.specs.declared.FileAnswer.{FileAnswer}
 use Rattle.eh_files.specs.declared.FileAnswer.TheVariants.{Found, Missing, TooLong}
 use Rattle.ehabi_top.specs.AsksFor.{AsksFor, and_after, up_to_unavailable}
-use Rattle.ehabi_top.specs.Loading.{IsUnavailable}
-use Rattle.ehabi_top.specs.Words.{texts}
-use Rattle.ehabi_top.specs.Yields.{FileState, file_state}
+use Rattle.program_answers.specs.Files.{IsUnavailable, FileState, file_state}
+use Rattle.program_answers.specs.Words.{texts}
 use Rattle.ehabi_top.specs.declared.sources.TheConstants.{FILE_LIMIT}
 
 -- the files of a call

@@ -6,8 +6,8 @@ use Rattle.elf_image.specs.declared.fault.ImageFault.TheVariants.{TooLarge}
 use Rattle.plain_run.specs.Machine.{flat_ran}
 use Rattle.ehabi_top.specs.FlatReport.{code_report, line_feed}
 use Rattle.ehabi_top.specs.Loading.{ran_report}
-use Rattle.ehabi_top.specs.Text.{image_fault_line}
-use Rattle.ehabi_top.specs.declared.status.TheConstants.{REFUSED}
+use Rattle.report_lines.specs.Text.{image_fault_line}
+use Rattle.program_answers.specs.declared.status.TheConstants.{REFUSED}
 
 pub code_large : (budget : ℕ) (code input : List ℕ) → MAX_IMAGE_SIZE < length code → code_report budget code input ≡ record { text = image_fault_line TooLarge; status = REFUSED; left = input }
 unfolding code_report

@@ -26,17 +26,20 @@ use Rattle.eh_walk.specs.declared.stopping.ForceFault.{ForceFault}
 use Rattle.eh_walk.specs.declared.stopping.ForceFault.TheVariants.{NotSite, NoFrame, InsideCleanup, NoStop, BadTables, BadType, PoolFull}
 use Rattle.ehabi_top.specs.BothRuns.{bytes_events, recorded_events}
 use Rattle.ehabi_top.specs.ForceReport.{unforced, from_forced, preceded, by_site_end, force_report, bytes_forced, activations_forced, bytes_from_site, accepted_force, recorded_force_report, ForcesAccepted, IsRefusal, IsRefusedForcing, IsUnforced, ForceSame, ForcesSame}
-use Rattle.ehabi_top.specs.Loading.{Report, Closing, SaysWhy, SaysWhyBy, IsOfCommand, closing_of, closed_report}
+use Rattle.ehabi_top.specs.Loading.{Report, Closing, closing_of, closed_report}
+use Rattle.program_answers.specs.Statuses.{SaysWhy, SaysWhyBy, IsOfCommand}
 use Rattle.ehabi_top.specs.RunReport.{run_report, trace}
-use Rattle.ehabi_top.specs.Text.{end_line}
+use Rattle.report_lines.specs.Text.{end_line}
 use Rattle.ehabi_top.specs.WalkReport.{bytes_to_site, recorded_to_site}
-use Rattle.ehabi_top.specs.Writes.{Answers, AnswersRun, Stopped}
+use Rattle.program_answers.specs.Writes.{Answers, Stopped}
+use Rattle.ehabi_top.specs.Writes.{AnswersRun}
 use Rattle.ehabi_top.specs.Yields.{Streams, streams, DoesWhole, DoesPart, Only, YieldsBy, Yields, RefusedWhere, RefusedOn}
-use Rattle.ehabi_top.specs.declared.status.TheConstants.{REFUSED}
-use Rattle.ehabi_top.specs.declared.stop.Stop.{Stop}
-use Rattle.ehabi_top.specs.declared.stop.Stop.TheVariants.{Read, Write, Memory}
+use Rattle.program_answers.specs.declared.status.TheConstants.{REFUSED}
+use Rattle.program_answers.specs.declared.stop.Stop.{Stop}
+use Rattle.program_answers.specs.declared.stop.Stop.TheVariants.{Read, Write, Memory}
 use Rattle.ehabi_top.specs.declared.words.TheConstants.{MOST_INSTRUCTIONS}
-use Rattle.ehabi_top.proofs.Statuses.{IsOfRun, end_of_run, says_end, says_unfit, refused_reported}
+use Rattle.ehabi_top.proofs.Statuses.{IsOfRun, end_of_run, says_end}
+use Rattle.program_answers.proofs.Statuses.{says_unfit, refused_reported}
 use Rattle.ehabi_top.proofs.Yielding.{Begun, at_false, yields_answer, yields_stopped}
 
 -- ---- over bytes and with recorded activations

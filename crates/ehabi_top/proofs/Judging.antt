@@ -5,18 +5,19 @@ use Rattle.elf_image.specs.Image.{Image}
 use Rattle.elf_image.specs.declared.fault.ImageFault.{ImageFault}
 use Rattle.frame_check.specs.Accepts.{Accepted, IsAccepted, IsSound}
 use Rattle.ehabi_top.specs.Accepting.{IsFound, IsRefused, IsRefusedBy, IsUnaccepted, BytesReportsBy, bytes_fault_line}
-use Rattle.ehabi_top.specs.Loading.{Report, SaysWhyBy}
+use Rattle.ehabi_top.specs.Loading.{Report}
+use Rattle.program_answers.specs.Statuses.{SaysWhyBy}
 use Rattle.ehabi_top.specs.TaskReport.{TaskPins, TaskRefuses}
-use Rattle.ehabi_top.specs.Writes.{Answers, Stopped}
+use Rattle.program_answers.specs.Writes.{Answers, Stopped}
 use Rattle.ehabi_top.specs.Yields.{Streams, streams, YieldsBy, Yields, RefusedWhere}
 use Rattle.ehabi_top.specs.declared.words.Task.{Task}
 use Rattle.ehabi_top.specs.declared.words.Task.TheVariants.{Run, Walk, Force}
 use Rattle.ehabi_top.specs.declared.accept.BytesFault.{BytesFault}
 use Rattle.ehabi_top.specs.declared.accept.BytesFault.TheVariants.{NoImage, NotAccepted}
-use Rattle.ehabi_top.specs.declared.status.TheConstants.{REFUSED}
-use Rattle.ehabi_top.specs.declared.stop.Stop.{Stop}
-use Rattle.ehabi_top.specs.declared.stop.Stop.TheVariants.{Memory}
-use Rattle.ehabi_top.proofs.Statuses.{says_refused, refused_reported}
+use Rattle.program_answers.specs.declared.status.TheConstants.{REFUSED}
+use Rattle.program_answers.specs.declared.stop.Stop.{Stop}
+use Rattle.program_answers.specs.declared.stop.Stop.TheVariants.{Memory}
+use Rattle.program_answers.proofs.Statuses.{says_refused, refused_reported}
 use Rattle.ehabi_top.proofs.Yielding.{yields_answer_by, yields_stopped_by, yields_as_by}
 
 -- ---- what is found is accepted, and what is refused isn't

@@ -1,5 +1,4 @@
 mod Answering
-mod Lines
 mod Registers
 mod AllAnswers
 mod FileLoads

@@ -18,14 +18,17 @@ use Rattle.ehabi_top.specs.BothRuns.{bytes_run, recorded_run, bytes_events, reco
 use Rattle.ehabi_top.specs.Building.{built}
 use Rattle.ehabi_top.specs.GenerateReport.{CountsAccepted, GenerateReports, IsUnfitProgram, counted_report, generated, summary_report, recorded_summary}
 use Rattle.ehabi_top.specs.Loading.{closing_of, status_of}
-use Rattle.ehabi_top.specs.Text.{end_line, summary}
-use Rattle.ehabi_top.specs.Writes.{Answers, AnswersRun, Stopped}
+use Rattle.report_lines.specs.Text.{end_line}
+use Rattle.ehabi_top.specs.Text.{summary}
+use Rattle.program_answers.specs.Writes.{Answers, Stopped}
+use Rattle.ehabi_top.specs.Writes.{AnswersRun}
 use Rattle.ehabi_top.specs.Yields.{Streams, streams, Yields}
-use Rattle.ehabi_top.specs.declared.status.TheConstants.{REFUSED}
-use Rattle.ehabi_top.specs.declared.stop.Stop.{Stop}
-use Rattle.ehabi_top.specs.declared.stop.Stop.TheVariants.{Memory}
+use Rattle.program_answers.specs.declared.status.TheConstants.{REFUSED}
+use Rattle.program_answers.specs.declared.stop.Stop.{Stop}
+use Rattle.program_answers.specs.declared.stop.Stop.TheVariants.{Memory}
 use Rattle.ehabi_top.specs.declared.words.TheConstants.{MOST_INSTRUCTIONS}
-use Rattle.ehabi_top.proofs.Statuses.{says_unfit, says_end, end_of_run, refused_reported, IsOfRun}
+use Rattle.program_answers.proofs.Statuses.{says_unfit, refused_reported}
+use Rattle.ehabi_top.proofs.Statuses.{says_end, end_of_run, IsOfRun}
 use Rattle.ehabi_top.proofs.Yielding.{at_false, yields_answer, yields_stopped, yields_as}
 
 -- neither source nor sink failed

@@ -3,7 +3,7 @@ use Rattle.std.proofs.Common.{◌≡◌, ℕ, Some, lit<, lit≤, refl}
 use Rattle.std.proofs.lemmas.Fmt.{decimal_digit, decimal_step}
 use borrow.Author.Count.{below_none, below_more}
 use Rattle.asm_read.specs.Operands.{register_of}
-use Rattle.ehabi_top.specs.CheckText.{register_name}
+use Rattle.report_lines.specs.CheckText.{register_name}
 use Rattle.ehabi_top.specs.Laws.{RegistersReadBack}
 
 abbrev IsRead : ℕ → Type 0

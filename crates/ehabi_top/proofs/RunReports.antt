@@ -12,7 +12,7 @@ use Rattle.ehabi_top.specs.TaskReport.{DoesTask, TaskReports, TaskPins, PinsTask
 use Rattle.ehabi_top.specs.Yields.{Streams, YieldsBy}
 use Rattle.ehabi_top.specs.declared.words.Request.{Request}
 use Rattle.ehabi_top.specs.declared.words.Task.{Task}
-use Rattle.ehabi_top.specs.declared.stop.Stop.{Stop}
+use Rattle.program_answers.specs.declared.stop.Stop.{Stop}
 
 -- the report of a run over bytes is that of the run with recorded activations
 same_report : (a : Accepted) (one : Ran State End) (two : Ran Recorded End) → SameRan HaveSameEvents one two → run_report bytes_events a one ≡ run_report recorded_events a two

@@ -4,7 +4,7 @@ use Rattle.eh_files.specs.FileList.{answer_of}
 use Rattle.eh_files.specs.declared.FileAnswer.{FileAnswer}
 use Rattle.eh_files.specs.declared.FileAnswer.TheVariants.{Found, Missing, TooLong}
 use Rattle.ehabi_top.specs.declared.sources.TheConstants.{FILE_LIMIT}
-use Rattle.ehabi_top.specs.declared.status.TheConstants.{FILE_UNAVAILABLE}
+use Rattle.program_answers.specs.declared.status.TheConstants.{FILE_UNAVAILABLE}
 use Rattle.ehabi_top.specs.declared.words.Request.{Request}
 use Rattle.ehabi_top.specs.Accepting.{BytesReportsBy, IsUnaccepted}
 use Rattle.ehabi_top.specs.BuildReport.{IsUnwritten, build_report, plain_report}
@@ -12,14 +12,17 @@ use Rattle.ehabi_top.specs.Building.{built, files_of, image_bytes, bytes_of_buil
 use Rattle.ehabi_top.specs.CheckReport.{ChecksAccepted}
 use Rattle.ehabi_top.specs.Finding.{FoundReports, bytes_of_answer, file_bytes, found_report}
 use Rattle.ehabi_top.specs.FlatReport.{IsTooLarge, code_report, flat_report}
-use Rattle.ehabi_top.specs.Loading.{Report, SaysWhyBy, IsUnavailable}
+use Rattle.ehabi_top.specs.Loading.{Report}
+use Rattle.program_answers.specs.Statuses.{SaysWhyBy}
+use Rattle.program_answers.specs.Files.{IsUnavailable}
 use Rattle.ehabi_top.specs.TaskReport.{RunBytesReports, RunBytesRefuse}
 use Rattle.ehabi_top.specs.Yields.{Only, RefusedOf}
 use Rattle.ehabi_top.specs.Sources.{NamedText, Refusal}
 use Rattle.ehabi_top.specs.Unfit.{RefusedHeld}
 use Rattle.ehabi_top.specs.Words.{FlatFile, BuildSources, CheckFile, CheckSources, RunFile, RunSources}
 use Rattle.ehabi_top.proofs.Doing.{Held, Asks, Reads, LeavesInput}
-use Rattle.ehabi_top.proofs.Statuses.{says_unavailable, built_fits, built_refused}
+use Rattle.program_answers.proofs.Statuses.{says_unavailable}
+use Rattle.ehabi_top.proofs.Statuses.{built_fits, built_refused}
 
 -- ---- one file
 

@@ -4,42 +4,13 @@ use Rattle.std.proofs.Common.{◌≡◌, ℕ, ◌<◌, List, Option, Result, Ok,
 use Rattle.guest_gates.specs.Ends.{is_fault}
 use Rattle.thumb_core.specs.declared.ends.End.{End}
 use Rattle.thumb_core.specs.declared.ends.End.TheVariants.{Exit, Terminate, Trap, Budget, ReadFault, WriteFault}
-use Rattle.ehabi_top.specs.declared.status.TheConstants.{DONE, EXIT_NONZERO, USAGE, REFUSED, FILE_UNAVAILABLE}
+use Rattle.program_answers.specs.declared.status.TheConstants.{DONE, EXIT_NONZERO, REFUSED, FILE_UNAVAILABLE}
 use Rattle.ehabi_top.specs.Building.{built, bytes_of_built, bytes_of_found}
-use Rattle.ehabi_top.specs.Loading.{SaysWhy, SaysWhyBy, IsReported, IsOfCommand, is_conclusive, status_of}
+use Rattle.program_answers.specs.Statuses.{SaysWhy, SaysWhyBy, IsOfCommand, is_conclusive}
+use Rattle.ehabi_top.specs.Loading.{status_of}
 use Rattle.ehabi_top.specs.Sources.{NamedText, Refusal}
 use Rattle.ehabi_top.specs.Unfit.{RefusedBuilt, RefusedSources}
-
-pub says_unavailable : (lacks unfit : Type 0) → lacks → (unfit → ⊥) → SaysWhy FILE_UNAVAILABLE lacks unfit
-says_unavailable lacks unfit l n = record { missing = ((λ _. l), (λ _. refl)); refused = ((λ h. absurd (omega arith)), (λ u. absurd (n u))) }
-
-pub says_unfit : (lacks unfit : Type 0) → (lacks → ⊥) → unfit → SaysWhy REFUSED lacks unfit
-says_unfit lacks unfit n u = record { missing = ((λ h. absurd (omega arith)), (λ l. absurd (n l))); refused = ((λ _. u), (λ _. refl)) }
-
-pub says_fine : (status : ℕ) (lacks unfit : Type 0) → (status ≡ FILE_UNAVAILABLE → ⊥) → (status ≡ REFUSED → ⊥) → (lacks → ⊥) → (unfit → ⊥) → SaysWhy status lacks unfit
-says_fine status lacks unfit ten three n m = record { missing = ((λ h. absurd (ten h)), (λ l. absurd (n l))); refused = ((λ h. absurd (three h)), (λ u. absurd (m u))) }
-
--- it is the status of a refusal, and this is told of it
-pub says_refused : (told : Type 0) → told → SaysWhyBy REFUSED ⊥ told
-says_refused told t = record { missing = ((λ h. absurd (omega arith)), (λ l. absurd l)); refused = t }
-
--- nothing is refused
-pub done_says : (unfit : Type 0) → (unfit → ⊥) → SaysWhy DONE ⊥ unfit
-done_says unfit n = says_fine DONE ⊥ unfit (λ h. omega arith) (λ h. omega arith) (λ l. l) n
-
--- ---- statuses of reports
-
-pub done_reported : IsOfCommand DONE
-done_reported = record { reported = record { conclusive = refl; bounded = omega arith }; other = λ e. omega arith }
-
-pub refused_reported : IsOfCommand REFUSED
-refused_reported = record { reported = record { conclusive = refl; bounded = omega arith }; other = λ e. omega arith }
-
-pub unavailable_reported : IsOfCommand FILE_UNAVAILABLE
-unavailable_reported = record { reported = record { conclusive = refl; bounded = omega arith }; other = λ e. omega arith }
-
-pub usage_reported : IsReported USAGE
-usage_reported = record { conclusive = refl; bounded = omega arith }
+use Rattle.program_answers.proofs.Statuses.{says_unavailable, says_unfit, says_fine, done_reported}
 
 -- ---- the end of a run
 

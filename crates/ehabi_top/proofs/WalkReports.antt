@@ -25,9 +25,10 @@ use Rattle.ehabi_top.specs.Loading.{closing_of}
 use Rattle.ehabi_top.specs.RunReport.{trace}
 use Rattle.ehabi_top.specs.Text.{trace_head}
 use Rattle.ehabi_top.specs.WalkReport.{walked, walked_by, walk_closing, walk_report, bytes_walk, bytes_to_site, activations_walk, recorded_to_site, accepted_walk, recorded_walk_report, WalksAccepted, WalkAlike, WalkSame}
-use Rattle.ehabi_top.specs.Writes.{Answers, AnswersRun}
-use Rattle.ehabi_top.specs.declared.status.TheConstants.{DONE}
-use Rattle.ehabi_top.specs.declared.stop.Stop.{Stop}
+use Rattle.program_answers.specs.Writes.{Answers}
+use Rattle.ehabi_top.specs.Writes.{AnswersRun}
+use Rattle.program_answers.specs.declared.status.TheConstants.{DONE}
+use Rattle.program_answers.specs.declared.stop.Stop.{Stop}
 use Rattle.ehabi_top.specs.declared.walk.TheConstants.{MOST_FRAMES}
 use Rattle.ehabi_top.proofs.Statuses.{IsOfRun, done_of_run, end_of_run}
 

@@ -14,12 +14,15 @@ use Rattle.eh_gates.specs.State.{State}
 use Rattle.eh_walk.specs.Reaching.{RunsToSite, after, most_events, site_machine}
 use Rattle.two_machines.specs.Machine.{machine_of}
 use Rattle.two_machines.specs.Program.{Program}
-use Rattle.ehabi_top.specs.declared.stop.Stop.{Stop}
-use Rattle.ehabi_top.specs.declared.stop.Stop.TheVariants.{Read, Write, Memory}
-use Rattle.ehabi_top.specs.Loading.{Report, Closing, SaysWhy, SaysWhyBy, IsOfCommand, closed_report, stop_of_fault}
-use Rattle.ehabi_top.specs.Writes.{Answers, AnswersRun, Stopped}
+use Rattle.program_answers.specs.declared.stop.Stop.{Stop}
+use Rattle.program_answers.specs.declared.stop.Stop.TheVariants.{Read, Write, Memory}
+use Rattle.ehabi_top.specs.Loading.{Report, Closing, closed_report, stop_of_fault}
+use Rattle.program_answers.specs.Statuses.{SaysWhy, SaysWhyBy, IsOfCommand}
+use Rattle.program_answers.specs.Writes.{Answers, Stopped}
+use Rattle.ehabi_top.specs.Writes.{AnswersRun}
 use Rattle.ehabi_top.specs.Yields.{Streams, streams, DoesWhole, DoesPart, YieldsBy, Yields, RefusedWhere}
-use Rattle.ehabi_top.specs.declared.status.TheConstants.{REFUSED}
+use Rattle.program_answers.specs.declared.status.TheConstants.{REFUSED}
+use Rattle.program_answers.proofs.Answering.{of_status, only_write}
 use Rattle.ehabi_top.proofs.Statuses.{IsOfRun}
 
 -- ---- a call that ended with a text
@@ -45,20 +48,6 @@ told_part : (Says : List ℕ → Report → Type 0) (text : List ℕ) (status : 
     → IfSome input (λ b. DoesPart (Says b) before now)
 told_part Says text status result None before now f g is a = tt
 told_part Says text status result (Some b) before now f g is a = part_answer (Says b) text status b result before now f g (is b) a
-
--- the answer's status is the only one
-pub of_status : (P : ℕ → Type 0) (text : List ℕ) (status : ℕ) (result : Result ℕ Stop) (before now : Option (List ℕ)) (f g : ℕ)
-    → P status → Answers text status result before now f g → IfOk result P
-of_status P text status (Ok s) before now f g p a = rw a.status_is p
-of_status P text status (Err stop) before now f g p a = tt
-
--- an answer stops by a failed write alone
-pub only_write : (text : List ℕ) (status : ℕ) (result : Result ℕ Stop) (stop : Stop) (before now : Option (List ℕ)) (f g : ℕ)
-    → Answers text status result before now f g → result ≡ Err stop → (stop ≡ Write) × Rose f g
-only_write text status (Ok s) stop before now f g a e = absurd (cc)
-only_write text status (Err other) stop before now f g a e =
-    let same : other ≡ stop = cc in
-    (sym same ∙ a.failed.0, a.failed.1)
 
 not_read : (stop : Stop) → stop ≡ Read → stop ≡ Write → ⊥
 not_read stop e h = cc

@@ -6,12 +6,12 @@ use Rattle.elf_image.specs.declared.fault.ImageFault.{ImageFault}
 use Rattle.frame_check.specs.Accepts.{Accepted, IsAccepted, IsSound, Refuses}
 use Rattle.frame_check.specs.declared.fault.CheckFault.{CheckFault}
 use Rattle.frame_check.specs.declared.fault.CheckFault.TheVariants as check
-use Rattle.ehabi_top.specs.CheckText.{index_line, cause_line, type_line}
+use Rattle.report_lines.specs.CheckText.{index_line, cause_line, type_line}
 use Rattle.ehabi_top.specs.Loading.{Report}
-use Rattle.ehabi_top.specs.Text.{image_fault_line}
+use Rattle.report_lines.specs.Text.{image_fault_line}
 use Rattle.ehabi_top.specs.declared.accept.BytesFault.{BytesFault}
 use Rattle.ehabi_top.specs.declared.accept.BytesFault.TheVariants.{NoImage, NotAccepted}
-use Rattle.ehabi_top.specs.declared.status.TheConstants.{REFUSED}
+use Rattle.program_answers.specs.declared.status.TheConstants.{REFUSED}
 
 -- ---- the step
 

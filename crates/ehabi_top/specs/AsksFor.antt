@@ -6,13 +6,13 @@ use Rattle.eh_files.specs.declared.FileAnswer.{FileAnswer}
 use Rattle.eh_files.specs.declared.FileAnswer.TheVariants.{Found, Missing, TooLong}
 use Rattle.ehabi_top.specs.Building.{refusal_of}
 use Rattle.ehabi_top.specs.Words.{Command, FlatFile, BuildSources, CheckFile, CheckSources, RunFile, RunSources, GenerateProgram}
-use Rattle.ehabi_top.specs.Yields.{FileState}
+use Rattle.program_answers.specs.Files.{FileState}
 use Rattle.ehabi_top.specs.declared.refusal.FilesFault.{FilesFault}
 use Rattle.ehabi_top.specs.declared.sources.Loaded.{Loaded}
 use Rattle.ehabi_top.specs.declared.sources.Loaded.TheVariants.{All, Lacks, Exceeds}
 use Rattle.ehabi_top.specs.declared.sources.TheConstants.{FILE_LIMIT}
-use Rattle.ehabi_top.specs.declared.status.TheConstants.{FILE_UNAVAILABLE}
-use Rattle.ehabi_top.specs.declared.stop.Stop.{Stop}
+use Rattle.program_answers.specs.declared.status.TheConstants.{FILE_UNAVAILABLE}
+use Rattle.program_answers.specs.declared.stop.Stop.{Stop}
 
 -- the files that a command names
 abbrev pub files_named : Option Command → List (List ℕ)

@@ -3,7 +3,7 @@ use Rattle.std.specs.Prelude.{ℕ, List}
 use Rattle.ehabi_top.specs.Building.{image_bytes}
 use Rattle.ehabi_top.specs.Finding.{found_report}
 use Rattle.ehabi_top.specs.Loading.{Report}
-use Rattle.ehabi_top.specs.declared.status.TheConstants.{DONE}
+use Rattle.program_answers.specs.declared.status.TheConstants.{DONE}
 
 -- bytes that are written, and nothing else
 abbrev pub plain_report : List ℕ → List ℕ → Report

@@ -22,13 +22,14 @@ use Rattle.eh_files.specs.declared.FileAnswer.{FileAnswer}
 use Rattle.eh_files.specs.declared.FileAnswer.TheVariants.{Found, Missing, TooLong}
 use Rattle.ehabi_top.specs.RefusalText.{source_line, asm_line, link_line}
 use Rattle.ehabi_top.specs.Sources.{NamedText, NamedStmts, Refusal, and_then, all_answers}
-use Rattle.ehabi_top.specs.Text.{missing_line, too_long_line, image_fault_line}
+use Rattle.program_answers.specs.Files.{missing_line, too_long_line}
+use Rattle.report_lines.specs.Text.{image_fault_line}
 use Rattle.ehabi_top.specs.declared.refusal.BuildFault.{BuildFault}
 use Rattle.ehabi_top.specs.declared.refusal.BuildFault.TheVariants.{InSource, InObject, InLink, InImage, OutOfMemory}
 use Rattle.ehabi_top.specs.declared.refusal.FilesFault.{FilesFault}
 use Rattle.ehabi_top.specs.declared.refusal.FilesFault.TheVariants as files
 use Rattle.ehabi_top.specs.declared.sources.TheConstants.{FILE_LIMIT}
-use Rattle.ehabi_top.specs.declared.status.TheConstants.{REFUSED, FILE_UNAVAILABLE}
+use Rattle.program_answers.specs.declared.status.TheConstants.{REFUSED, FILE_UNAVAILABLE}
 use Rattle.ehabi_top.specs.declared.sources.Loaded.{Loaded}
 use Rattle.ehabi_top.specs.declared.sources.Loaded.TheVariants.{All, Lacks, Exceeds}
 

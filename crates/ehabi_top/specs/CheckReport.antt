@@ -3,11 +3,11 @@ use Rattle.std.specs.Prelude.{ℕ, List, length}
 use Rattle.frame_check.specs.Accepts.{Accepted}
 use Rattle.ehabi_top.specs.Accepting.{BytesReportsBy}
 use Rattle.ehabi_top.specs.Building.{image_bytes}
-use Rattle.ehabi_top.specs.CheckText.{accepted_line}
+use Rattle.report_lines.specs.CheckText.{accepted_line}
 use Rattle.ehabi_top.specs.Finding.{file_bytes, FoundReports}
 use Rattle.ehabi_top.specs.Loading.{Report}
 use Rattle.ehabi_top.specs.Yields.{Only}
-use Rattle.ehabi_top.specs.declared.status.TheConstants.{DONE}
+use Rattle.program_answers.specs.declared.status.TheConstants.{DONE}
 
 -- the image is accepted, and the report says how many functions it has
 abbrev pub checked_report : Accepted → List ℕ → Report

@@ -7,13 +7,12 @@ use Rattle.eh_files.specs.declared.FileAnswer.TheVariants.{Found, Missing, TooLo
 use Rattle.ehabi_top.specs.Building.{refusal_of, wants_memory}
 use Rattle.ehabi_top.specs.Loading.{Report}
 use Rattle.ehabi_top.specs.Sources.{Refusal}
-use Rattle.ehabi_top.specs.Text.{missing_line, too_long_line}
-use Rattle.ehabi_top.specs.Yields.{FileState}
+use Rattle.program_answers.specs.Files.{missing_line, too_long_line, FileState}
 use Rattle.ehabi_top.specs.declared.refusal.FilesFault.{FilesFault}
 use Rattle.ehabi_top.specs.declared.sources.TheConstants.{FILE_LIMIT}
-use Rattle.ehabi_top.specs.declared.status.TheConstants.{FILE_UNAVAILABLE}
-use Rattle.ehabi_top.specs.declared.stop.Stop.{Stop}
-use Rattle.ehabi_top.specs.declared.stop.Stop.TheVariants.{Read, Write, Memory}
+use Rattle.program_answers.specs.declared.status.TheConstants.{FILE_UNAVAILABLE}
+use Rattle.program_answers.specs.declared.stop.Stop.{Stop}
+use Rattle.program_answers.specs.declared.stop.Stop.TheVariants.{Read, Write, Memory}
 
 abbrev pub bytes_of_answer : List ℕ → FileAnswer → Result (List ℕ) Refusal
 bytes_of_answer name (Found bytes) = Ok bytes

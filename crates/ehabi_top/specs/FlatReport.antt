@@ -6,8 +6,8 @@ use Rattle.elf_image.specs.declared.fault.ImageFault.TheVariants.{TooLarge}
 use Rattle.plain_run.specs.Machine.{flat_ran}
 use Rattle.ehabi_top.specs.Finding.{file_bytes, found_report}
 use Rattle.ehabi_top.specs.Loading.{Report, ran_report}
-use Rattle.ehabi_top.specs.Text.{image_fault_line}
-use Rattle.ehabi_top.specs.declared.status.TheConstants.{REFUSED}
+use Rattle.report_lines.specs.Text.{image_fault_line}
+use Rattle.program_answers.specs.declared.status.TheConstants.{REFUSED}
 
 -- after the guest's bytes stands a line feed, whatever the last state
 abbrev pub line_feed : State → List ℕ

@@ -23,9 +23,9 @@ use Rattle.eh_walk.specs.declared.stopping.ForceFault.TheVariants.{NotSite, NoFr
 use Rattle.ehabi_top.specs.BothRuns.{bytes_events, recorded_events}
 use Rattle.ehabi_top.specs.Loading.{Report, Closing}
 use Rattle.ehabi_top.specs.RunReport.{run_report, trace}
-use Rattle.ehabi_top.specs.Text.{end_line}
+use Rattle.report_lines.specs.Text.{end_line}
 use Rattle.ehabi_top.specs.WalkReport.{bytes_to_site, recorded_to_site}
-use Rattle.ehabi_top.specs.declared.status.TheConstants.{REFUSED, BUDGET_SPENT}
+use Rattle.program_answers.specs.declared.status.TheConstants.{REFUSED, BUDGET_SPENT}
 use Rattle.ehabi_top.specs.declared.words.TheConstants.{MOST_INSTRUCTIONS}
 
 -- the type that is thrown: that of int, or 0 where the image has no symbol of it

@@ -12,7 +12,8 @@ use Rattle.ehabi_top.specs.Building.{built, bytes_of_built}
 use Rattle.ehabi_top.specs.Finding.{FoundReports}
 use Rattle.ehabi_top.specs.Loading.{Report, status_of}
 use Rattle.ehabi_top.specs.Sources.{NamedText, Refusal}
-use Rattle.ehabi_top.specs.Text.{end_line, summary}
+use Rattle.report_lines.specs.Text.{end_line}
+use Rattle.ehabi_top.specs.Text.{summary}
 use Rattle.ehabi_top.specs.Unfit.{IsUnfitImage}
 use Rattle.ehabi_top.specs.declared.words.TheConstants.{MOST_INSTRUCTIONS}
 

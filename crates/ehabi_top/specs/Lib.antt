@@ -16,7 +16,6 @@ pub mod Building
 pub mod AsksFor
 pub mod Finding
 pub mod BuildReport
-pub mod CheckText
 pub mod Accepting
 pub mod CheckReport
 pub mod Laws

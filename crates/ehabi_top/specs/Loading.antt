@@ -1,53 +1,18 @@
 -- What a report is, and the parts that the reports of several commands share (docs/command-line.md).
-use Rattle.std.specs.Prelude.{ℕ, ◌≡◌, ◌≢◌, ◌≤◌, ◌==◌, ◌||◌, ◌↔◌, not, Bool, true, List, ◌++◌, if◌then◌else◌}
+use Rattle.std.specs.Prelude.{ℕ, ◌==◌, List, ◌++◌, if◌then◌else◌}
 use Rattle.event_runs.specs.Runs.{Ran}
-use Rattle.eh_files.specs.declared.FileAnswer.{FileAnswer}
-use Rattle.eh_files.specs.declared.FileAnswer.TheVariants.{Found, Missing, TooLong}
 use Rattle.thumb_core.specs.declared.ends.End.{End}
 use Rattle.thumb_core.specs.declared.ends.End.TheVariants.{Exit, Terminate, Trap, Budget, ReadFault, WriteFault}
-use Rattle.ehabi_top.specs.Text.{end_line}
-use Rattle.ehabi_top.specs.declared.status.TheConstants.{DONE, EXIT_NONZERO, USAGE, REFUSED, TERMINATED, TRAPPED, BUDGET_SPENT, READ_FAILED, WRITE_FAILED, NO_MEMORY, FILE_UNAVAILABLE}
-use Rattle.ehabi_top.specs.declared.stop.Stop.{Stop}
-use Rattle.ehabi_top.specs.declared.stop.Stop.TheVariants.{Read, Write}
+use Rattle.report_lines.specs.Text.{end_line}
+use Rattle.program_answers.specs.declared.status.TheConstants.{DONE, EXIT_NONZERO, TERMINATED, TRAPPED, BUDGET_SPENT, READ_FAILED, WRITE_FAILED}
+use Rattle.program_answers.specs.declared.stop.Stop.{Stop}
+use Rattle.program_answers.specs.declared.stop.Stop.TheVariants.{Read, Write}
 
 -- what the program writes, its status, and what it leaves of the input
 pub record Report : Type 0 where
   pub text : List ℕ
   pub status : ℕ
   pub left : List ℕ
-
--- ---- statuses
-
--- none of those of a failed read, a failed write and want of memory
-abbrev pub is_conclusive : ℕ → Bool
-is_conclusive status = not (status == READ_FAILED || status == WRITE_FAILED || status == NO_MEMORY)
-
--- a status that a report has
-pub record IsReported (status : ℕ) : Type 0 where
-  pub conclusive : is_conclusive status ≡ true
-  pub bounded : status ≤ FILE_UNAVAILABLE
-
--- .. of words that are a command
-pub record IsOfCommand (status : ℕ) : Type 0 where
-  pub reported : IsReported status
-  pub other : status ≢ USAGE
-
--- a status is FILE_UNAVAILABLE exactly where a file is missing or too long, and this is told of it besides
-pub record SaysWhyBy (status : ℕ) (lacks told : Type 0) : Type 0 where
-  pub missing : (status ≡ FILE_UNAVAILABLE) ↔ lacks
-  pub refused : told
-
--- .. that it is REFUSED exactly where what is there is refused
-abbrev pub SaysWhy : ℕ → Type 0 → Type 0 → Type 0
-SaysWhy status lacks unfit = SaysWhyBy status lacks ((status ≡ REFUSED) ↔ unfit)
-
--- ---- files
-
--- the file is missing or too long
-abbrev pub IsUnavailable : FileAnswer → Type 0
-IsUnavailable (Found bytes) = ⊥
-IsUnavailable Missing = Unit {0}
-IsUnavailable TooLong = Unit {0}
 
 -- ---- runs
 

@@ -8,7 +8,7 @@ use Rattle.eh_link.specs.FaultNames.{fault_name as link_name}
 use Rattle.eh_link.specs.declared.fault.LinkFault.{LinkFault}
 use Rattle.eh_link.specs.declared.fault.LinkFault.TheVariants as link
 use Rattle.eh_word.specs.Address.{address_text}
-use Rattle.ehabi_top.specs.Text.{refusal_line, after_blank}
+use Rattle.report_lines.specs.Text.{refusal_line, after_blank}
 
 -- ---- a text that is no source
 

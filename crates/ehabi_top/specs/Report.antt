@@ -5,11 +5,13 @@ use Rattle.std.specs.Prelude.{ℕ, ◌≡◌, ◌⊎◌, ◌↔◌, List, Option
 use Rattle.eh_port.specs.Causes.{Rose}
 use Rattle.eh_files.specs.FileList.{answer_of}
 use Rattle.ehabi_top.specs.declared.sources.TheConstants.{FILE_LIMIT}
-use Rattle.ehabi_top.specs.declared.status.TheConstants.{USAGE, FILE_UNAVAILABLE}
-use Rattle.ehabi_top.specs.declared.stop.Stop.{Stop}
-use Rattle.ehabi_top.specs.declared.stop.Stop.TheVariants.{Read, Write, Memory}
+use Rattle.program_answers.specs.declared.status.TheConstants.{USAGE, FILE_UNAVAILABLE}
+use Rattle.program_answers.specs.declared.stop.Stop.{Stop}
+use Rattle.program_answers.specs.declared.stop.Stop.TheVariants.{Read, Write, Memory}
 use Rattle.ehabi_top.specs.AsksFor.{AsksFor, CallLacks, files_named}
-use Rattle.ehabi_top.specs.Loading.{Report, IsUnavailable, IsReported}
+use Rattle.ehabi_top.specs.Loading.{Report}
+use Rattle.program_answers.specs.Files.{IsUnavailable, FileState}
+use Rattle.program_answers.specs.Statuses.{IsReported}
 use Rattle.ehabi_top.specs.Accepting.{IsUnaccepted}
 use Rattle.ehabi_top.specs.BuildReport.{build_report, IsUnwritten}
 use Rattle.ehabi_top.specs.Building.{files_of}
@@ -20,7 +22,7 @@ use Rattle.ehabi_top.specs.TaskReport.{RunReports, RunSourcesReports, RunBytesRe
 use Rattle.ehabi_top.specs.Text.{usage}
 use Rattle.ehabi_top.specs.Unfit.{RefusedHeld, RefusedSources}
 use Rattle.ehabi_top.specs.Words.{Command, FlatFile, BuildSources, CheckFile, CheckSources, RunFile, RunSources, GenerateProgram}
-use Rattle.ehabi_top.specs.Yields.{FileState, Streams, NoFault, DoesWhole, DoesPart, RefusedWhere, RefusedOf}
+use Rattle.ehabi_top.specs.Yields.{Streams, NoFault, DoesWhole, DoesPart, RefusedWhere, RefusedOf}
 
 -- ---- by command
 

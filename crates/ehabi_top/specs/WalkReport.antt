@@ -23,7 +23,7 @@ use Rattle.eh_walk.specs.declared.walk.WalkFrame.{WalkFrame}
 use Rattle.ehabi_top.specs.BothRuns.{bytes_events, recorded_events, HaveSameEvents}
 use Rattle.ehabi_top.specs.Loading.{Report, Closing, closing_of, closed_report}
 use Rattle.ehabi_top.specs.RunReport.{trace}
-use Rattle.ehabi_top.specs.declared.status.TheConstants.{DONE}
+use Rattle.program_answers.specs.declared.status.TheConstants.{DONE}
 use Rattle.ehabi_top.specs.declared.walk.TheConstants.{MOST_FRAMES}
 
 -- ---- what stands after the guest's bytes, and the status

@@ -1,6 +1,6 @@
 -- Which command the words ask for.
-use Rattle.std.specs.Prelude.{ℕ, ◌+◌, ◌-◌, ◌*◌, ◌&&◌, nat_eq, Bool, List, [], ◌∷◌, length, map, take, slice_index_or, codes, nat_le, if◌then◌else◌, Option, Some, None, option_map}
-use Rattle.std.specs.Borrow.{Bor}
+use Rattle.std.specs.Prelude.{ℕ, ◌+◌, ◌-◌, ◌*◌, ◌&&◌, nat_eq, Bool, List, [], ◌∷◌, length, take, slice_index_or, codes, nat_le, if◌then◌else◌, Option, Some, None, option_map}
+use Rattle.program_answers.specs.Words.{texts}
 use Rattle.std.specs.List.{ends_with, list_all}
 use Rattle.std.specs.Str.{bytes_eq}
 use Rattle.std.specs.Char.{is_ascii_digit}
@@ -28,10 +28,6 @@ pub data Command : Type 0 where
   RunSources : (names : List (List ℕ)) (request : Request) → Command
   -- `gen K M`: the program of a number, and how many functions it is asked for
   GenerateProgram : (number functions : ℕ) → Command
-
--- the words as texts
-abbrev pub texts : List (Bor (List ℕ)) → List (List ℕ)
-texts words = map (λ (w : Bor (List ℕ)). w.now) words
 
 -- the command that a form stands for
 abbrev pub command : Form → Command

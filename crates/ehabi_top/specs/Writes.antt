@@ -1,40 +1,12 @@
--- What a call that writes has done, and why the program stops early.
-use Rattle.std.specs.Prelude.{ℕ, ◌≡◌, ◌≤◌, ◌⊎◌, List, Option, OnOk, IfErr, IfOk, Result, Err}
+-- What a call that ends a run has written.
+use Rattle.std.specs.Prelude.{ℕ, ◌⊎◌, List, Option, Result}
 use Rattle.std.specs.Bool.{OnFalse, OnTrue}
-use Rattle.std.specs.Io.KnownBytes.{Appends}
-use Rattle.eh_port.specs.Causes.{Rose}
-use Rattle.eh_port.specs.Writing.{AppendsPart}
-use Rattle.eh_files.specs.declared.FileFault.{FileFault}
-use Rattle.eh_files.specs.declared.FileFault.TheVariants.{Failed, OutOfMemory}
 use Rattle.ehabi_top.specs.Loading.{Closing, stop_of_fault}
-use Rattle.ehabi_top.specs.declared.status.TheConstants.{READ_FAILED, WRITE_FAILED, NO_MEMORY}
-use Rattle.ehabi_top.specs.declared.stop.Stop.{Stop}
-use Rattle.ehabi_top.specs.declared.stop.Stop.TheVariants.{Read, Write, Memory}
+use Rattle.program_answers.specs.Writes.{Answers, Stopped}
+use Rattle.program_answers.specs.declared.stop.Stop.{Stop}
+use Rattle.program_answers.specs.declared.stop.Stop.TheVariants.{Memory}
 use Rattle.guest_gates.specs.Ends.{is_fault}
 use Rattle.thumb_core.specs.declared.ends.End.{End}
-
-abbrev pub stop_of : FileFault → Stop
-stop_of Failed = Read
-stop_of OutOfMemory = Memory
-
-abbrev pub stop_status : Stop → ℕ
-stop_status Read = READ_FAILED
-stop_status Write = WRITE_FAILED
-stop_status Memory = NO_MEMORY
-
--- a call that ends with a text and a status: all of the text at `Ok`, and else a part of it and a fault of the sink
-pub record Answers (text : List ℕ) (status : ℕ) (result : Result ℕ Stop) (before now : Option (List ℕ)) (faults_before faults_now : ℕ) : Type 0 where
-  pub ok : OnOk result (Appends before now text)
-  pub status_is : IfOk result (λ s. s ≡ status)
-  pub part : AppendsPart before now text
-  pub later : faults_before ≤ faults_now
-  pub failed : IfErr result (λ stop. (stop ≡ Write) × Rose faults_before faults_now)
-
--- nothing was done
-pub record Stopped (stop : Stop) (result : Result ℕ Stop) (before now : Option (List ℕ)) (faults_before faults_now : ℕ) : Type 0 where
-  pub is : result ≡ Err stop
-  pub same : now ≡ before
-  pub faultless : faults_now ≡ faults_before
 
 -- a call that ends a run with what stands after the guest's bytes, or found no memory for it; at a fault it writes nothing
 pub record AnswersRun (closing : Closing) (end : End) (result : Result ℕ Stop) (before now : Option (List ℕ)) (faults_before faults_now : ℕ) : Type 0 where

@@ -3,20 +3,11 @@ use Rattle.std.specs.Prelude.{ℕ, ◌≡◌, ◌⊎◌, ◌↔◌, List, Option
 use Rattle.std.specs.Io.KnownBytes.{Appends, Keeps}
 use Rattle.eh_port.specs.Causes.{Rose}
 use Rattle.eh_port.specs.Writing.{AppendsPart}
-use Rattle.ehabi_top.specs.Loading.{Report, SaysWhyBy, IsOfCommand}
-use Rattle.ehabi_top.specs.declared.status.TheConstants.{REFUSED}
-use Rattle.ehabi_top.specs.declared.stop.Stop.{Stop}
-use Rattle.ehabi_top.specs.declared.stop.Stop.TheVariants.{Read, Write, Memory}
-
--- what files tell, how often a read of one has failed, what is kept of the names that were asked for, and what that is after one more
-pub record FileState : Type 0 where
-  pub held : Option (List (List ℕ × List ℕ))
-  pub faults : ℕ
-  pub asked : ℕ
-  pub with_name : ℕ → List ℕ → ℕ
-
-abbrev pub file_state : Option (List (List ℕ × List ℕ)) → ℕ → ℕ → (ℕ → List ℕ → ℕ) → FileState
-file_state held faults asked with_name = record { held = held; faults = faults; asked = asked; with_name = with_name }
+use Rattle.ehabi_top.specs.Loading.{Report}
+use Rattle.program_answers.specs.Statuses.{SaysWhyBy, IsOfCommand}
+use Rattle.program_answers.specs.declared.status.TheConstants.{REFUSED}
+use Rattle.program_answers.specs.declared.stop.Stop.{Stop}
+use Rattle.program_answers.specs.declared.stop.Stop.TheVariants.{Read, Write, Memory}
 
 -- what a source and a sink tell, and how often each has failed
 pub record Streams : Type 0 where

@@ -2,20 +2,19 @@
 ghost use Rattle.std.specs.Prelude.{◌≡◌, ◌≢◌, ◌⊎◌, ◌-◌, MatchResult};
 ghost use Rattle.frame_check.specs.declared.fault.CheckFault.TheVariants.{OutOfMemory};
 ghost use Rattle.ehabi_top.specs.Accepting.{Judges, check_fault_line, bytes_fault_line};
-ghost use Rattle.ehabi_top.specs.CheckText.{cause_line};
-ghost use Rattle.ehabi_top.specs.Writes.{Answers, Stopped};
-ghost use Rattle.ehabi_top.specs.declared.status.TheConstants.{REFUSED};
-ghost use Rattle.ehabi_top.specs.declared.stop.Stop.TheVariants.{Memory};
+ghost use Rattle.report_lines.specs.CheckText.{cause_line};
+ghost use Rattle.program_answers.specs.Writes.{Answers, Stopped};
+ghost use Rattle.program_answers.specs.declared.status.TheConstants.{REFUSED};
+ghost use Rattle.program_answers.specs.declared.stop.Stop.TheVariants.{Memory};
 
-use crate::answer::answer_text;
-use crate::check_line::{index_line, push_cause, type_line};
-use crate::line::image_fault_line;
-use crate::status::REFUSED;
-use crate::stop::Stop;
 use eh_port::Sink;
 use elf_image::ImageFault;
 use elf_image::read::read_image;
 use frame_check::{Accepted, CheckFault, Rejected, check};
+use program_answers::Stop;
+use program_answers::answer::answer_text;
+use program_answers::status::REFUSED;
+use report_lines::{image_fault_line, index_line, push_cause, type_line};
 use std::alloc::Global;
 
 /// Why bytes are refused.

@@ -1,77 +1,22 @@
-//! What the program says last.
-ghost use Rattle.std.specs.Prelude.{◌≡◌, ◌≢◌, ◌++◌, IfOk, IfErr, IsErrOf, Ok, Err, true, false};
+//! What the program says at the end of a run.
+ghost use Rattle.std.specs.Prelude.{◌≡◌, IfOk, IfErr, IsErrOf, true, false};
 ghost use Rattle.ehabi_top.specs.Loading.{closing_of, status_of, stop_of_fault};
-ghost use Rattle.ehabi_top.specs.Writes.{Answers, AnswersRun};
-ghost use Rattle.ehabi_top.specs.Text.{missing_line, too_long_line, summary};
+ghost use Rattle.ehabi_top.specs.Writes.{AnswersRun};
+ghost use Rattle.ehabi_top.specs.Text.{summary};
 ghost use Rattle.ehabi_top.specs.RunReport.{trace};
-ghost use Rattle.ehabi_top.specs.declared.status.TheConstants.{FILE_UNAVAILABLE};
-ghost use Rattle.ehabi_top.specs.declared.stop.Stop.TheVariants.{Memory};
+ghost use Rattle.program_answers.specs.declared.stop.Stop.TheVariants.{Memory};
 ghost use Rattle.guest_gates.specs.Ends.{is_fault};
 
-use crate::line::end_line;
-use crate::status::{BUDGET_SPENT, DONE, EXIT_NONZERO, FILE_UNAVAILABLE, TERMINATED, TRAPPED};
-use crate::stop::Stop;
 use crate::summary::summary_lines;
-use eh_port::{Sink, put_all};
+use eh_port::Sink;
 use eh_trace::{Events, trace_lines};
 use frame_check::Accepted;
+use program_answers::Stop;
+use program_answers::answer::{answer_both, answer_three};
+use program_answers::status::{BUDGET_SPENT, DONE, EXIT_NONZERO, TERMINATED, TRAPPED};
+use report_lines::end_line;
 use std::alloc::Global;
 use thumb_core::ends::End;
-
-/// Ends with this text and this status.
-pub(crate) fn answer_text<O: Sink>(out: &mut O, text: &[u8], status: u8) -> Result<u8, Stop>
-    ensures { Answers text.now status result (O.written out.old) (O.written out.new) (O.faults out.old) (O.faults out.new) }
-{
-    match put_all(out, text) {
-        Ok(()) => Ok(status),
-        Err(_) => Err(Stop::Write),
-    }
-}
-
-/// Ends with these two texts and this status.
-pub(crate) fn answer_both<O: Sink>(
-    out: &mut O,
-    first: &[u8],
-    second: &[u8],
-    status: u8,
-) -> Result<u8, Stop>
-    ensures { Answers (first.now ++ second.now) status result (O.written out.old) (O.written out.new) (O.faults out.old) (O.faults out.new) }
-{
-    match put_all(out, first) {
-        Ok(()) => answer_text(out, second, status),
-        Err(_) => Err(Stop::Write),
-    }
-}
-
-/// Ends with these three texts and this status.
-pub(crate) fn answer_three<O: Sink>(
-    out: &mut O,
-    first: &[u8],
-    second: &[u8],
-    third: &[u8],
-    status: u8,
-) -> Result<u8, Stop>
-    ensures { Answers (first.now ++ (second.now ++ third.now)) status result (O.written out.old) (O.written out.new) (O.faults out.old) (O.faults out.new) }
-{
-    match put_all(out, first) {
-        Ok(()) => answer_both(out, second, third, status),
-        Err(_) => Err(Stop::Write),
-    }
-}
-
-/// Ends with the line of a file that is missing.
-pub(crate) fn answer_missing<O: Sink>(out: &mut O, name: &str) -> Result<u8, Stop>
-    ensures { Answers (missing_line name.now) FILE_UNAVAILABLE result (O.written out.old) (O.written out.new) (O.faults out.old) (O.faults out.new) }
-{
-    answer_both(out, name.as_bytes(), b": missing\n", FILE_UNAVAILABLE)
-}
-
-/// Ends with the line of a file that is too long.
-pub(crate) fn answer_too_long<O: Sink>(out: &mut O, name: &str) -> Result<u8, Stop>
-    ensures { Answers (too_long_line name.now) FILE_UNAVAILABLE result (O.written out.old) (O.written out.new) (O.faults out.old) (O.faults out.new) }
-{
-    answer_both(out, name.as_bytes(), b": too long\n", FILE_UNAVAILABLE)
-}
 
 // The status of an end, or the stop of a fault of the input or of the output.
 fn status_of(end: End) -> Result<u8, Stop>

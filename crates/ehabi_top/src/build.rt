@@ -5,15 +5,14 @@ ghost use Rattle.ehabi_top.specs.Building.{statements_of, assembled, linked_part
 ghost use Rattle.ehabi_top.specs.Finding.{Finds};
 ghost use Rattle.ehabi_top.specs.Report.{Does};
 ghost use Rattle.ehabi_top.specs.Sources.{NamedText, all_answers};
-ghost use Rattle.ehabi_top.specs.Words.{BuildSources, texts};
-ghost use Rattle.ehabi_top.specs.Yields.{file_state, streams};
+ghost use Rattle.ehabi_top.specs.Words.{BuildSources};
+ghost use Rattle.program_answers.specs.Words.{texts};
+ghost use Rattle.program_answers.specs.Files.{file_state};
+ghost use Rattle.ehabi_top.specs.Yields.{streams};
 
-use crate::answer::answer_text;
 use crate::named::{SourceStmts, SourceText};
 use crate::refusal::{BuildFault, FilesFault, answer_files_fault, is_memory};
 use crate::sources::{Loaded, load};
-use crate::status::DONE;
-use crate::stop::Stop;
 use asm_object::assemble;
 use asm_read::read_source;
 use eh_files::Files;
@@ -21,6 +20,9 @@ use eh_kit::stubs;
 use eh_link::link;
 use eh_port::Sink;
 use elf_write::{ImageParts, write_image};
+use program_answers::Stop;
+use program_answers::answer::answer_text;
+use program_answers::status::DONE;
 use relocatable_object::Object;
 use std::alloc::Global;
 

@@ -3,19 +3,21 @@ ghost use Rattle.std.specs.Prelude.{ℕ, List, Option, Some};
 ghost use Rattle.ehabi_top.specs.Accepting.{BytesReportsBy, IsUnaccepted};
 ghost use Rattle.ehabi_top.specs.CheckReport.{ChecksAccepted};
 ghost use Rattle.ehabi_top.specs.Report.{Does};
-ghost use Rattle.ehabi_top.specs.Words.{CheckFile, CheckSources, texts};
-ghost use Rattle.ehabi_top.specs.Yields.{Yields, file_state, streams};
+ghost use Rattle.ehabi_top.specs.Words.{CheckFile, CheckSources};
+ghost use Rattle.program_answers.specs.Words.{texts};
+ghost use Rattle.ehabi_top.specs.Yields.{Yields, streams};
+ghost use Rattle.program_answers.specs.Files.{file_state};
 
 use crate::accept::{accepted_of, answer_refused};
-use crate::answer::answer_text;
 use crate::build::built_files;
-use crate::check_line::accepted_line;
 use crate::refusal::answer_files_fault;
 use crate::sources::read_file;
-use crate::status::DONE;
-use crate::stop::Stop;
 use eh_files::Files;
 use eh_port::Sink;
+use program_answers::Stop;
+use program_answers::answer::answer_text;
+use program_answers::status::DONE;
+use report_lines::accepted_line;
 use std::alloc::Global;
 
 // Checks the image that these bytes stand for.

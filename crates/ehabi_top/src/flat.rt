@@ -3,20 +3,22 @@ ghost use Rattle.std.specs.Prelude.{Some};
 ghost use Rattle.ehabi_top.specs.FlatReport.{IsTooLarge, code_report};
 ghost use Rattle.ehabi_top.specs.Report.{Does};
 ghost use Rattle.ehabi_top.specs.Words.{FlatFile};
-ghost use Rattle.ehabi_top.specs.Yields.{Only, Yields, file_state, streams};
+ghost use Rattle.ehabi_top.specs.Yields.{Only, Yields, streams};
+ghost use Rattle.program_answers.specs.Files.{file_state};
 
-use crate::answer::{answer_end, answer_text};
-use crate::line::image_fault_line;
+use crate::answer::answer_end;
 use crate::refusal::answer_files_fault;
 use crate::sources::read_file;
-use crate::status::REFUSED;
-use crate::stop::Stop;
 use eh_bus::map::MAX_IMAGE_SIZE;
 use eh_files::Files;
 use eh_port::{Sink, Source};
 use elf_image::ImageFault;
 use image_memory::{CODE_START, code_memory, start_regs};
 use plain_run::flat_run;
+use program_answers::Stop;
+use program_answers::answer::answer_text;
+use program_answers::status::REFUSED;
+use report_lines::image_fault_line;
 use std::alloc::Global;
 
 // Runs these bytes.

@@ -7,12 +7,10 @@ ghost use Rattle.ehabi_top.specs.ForceReport.{ForcesAccepted, IsUnforced, IsRefu
 ghost use Rattle.ehabi_top.specs.RunReport.{trace};
 ghost use Rattle.ehabi_top.specs.Writes.{AnswersRun};
 ghost use Rattle.ehabi_top.specs.Yields.{Only, RefusedOn, Yields, YieldsBy, streams};
-ghost use Rattle.ehabi_top.specs.declared.status.TheConstants.{REFUSED};
+ghost use Rattle.program_answers.specs.declared.status.TheConstants.{REFUSED};
 
-use crate::answer::{answer_run, answer_three};
+use crate::answer::answer_run;
 use crate::recorded::forces_same;
-use crate::status::REFUSED;
-use crate::stop::Stop;
 use crate::words::MOST_INSTRUCTIONS;
 use eh_bus::bus::Bus;
 use eh_machine::Machine;
@@ -21,6 +19,9 @@ use eh_trace::{Events, trace_lines};
 use eh_walk::{ForceFault, force, run_to_site};
 use elf_image::Image;
 use frame_check::Accepted;
+use program_answers::Stop;
+use program_answers::answer::answer_three;
+use program_answers::status::REFUSED;
 use std::alloc::Global;
 use thumb_core::ends::End;
 

@@ -5,7 +5,8 @@ ghost use Rattle.ehabi_top.specs.Building.{built, fault_line, is_memory};
 ghost use Rattle.ehabi_top.specs.GenerateReport.{CountsAccepted, generated};
 ghost use Rattle.ehabi_top.specs.Report.{Does};
 ghost use Rattle.ehabi_top.specs.Words.{GenerateProgram};
-ghost use Rattle.ehabi_top.specs.Yields.{FileState, Yields, streams};
+ghost use Rattle.program_answers.specs.Files.{FileState};
+ghost use Rattle.ehabi_top.specs.Yields.{Yields, streams};
 
 use crate::accept::{accepted_of, answer_refused};
 use crate::answer::answer_summary;
@@ -13,12 +14,12 @@ use crate::build::built;
 use crate::named::SourceText;
 use crate::recorded::runs_same;
 use crate::refusal::{BuildFault, answer_build_fault, is_memory};
-use crate::stop::Stop;
 use crate::words::MOST_INSTRUCTIONS;
 use eh_kit::{MAX_FUNCTIONS, generate};
 use eh_machine::Machine;
 use eh_port::{Bytes, Sink, SureSink, SureSource};
 use frame_check::Accepted;
+use program_answers::Stop;
 use std::alloc::Global;
 
 // A source with nothing to read.

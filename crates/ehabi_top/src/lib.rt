@@ -3,44 +3,41 @@
 
 ghost use Rattle.ehabi_top.specs.Answered.{IsAnswer};
 ghost use Rattle.ehabi_top.specs.Report.{Does};
-ghost use Rattle.ehabi_top.specs.Words.{texts, command_of};
-ghost use Rattle.ehabi_top.specs.Yields.{file_state, streams};
+ghost use Rattle.program_answers.specs.Words.{texts};
+ghost use Rattle.ehabi_top.specs.Words.{command_of};
+ghost use Rattle.program_answers.specs.Files.{file_state};
+ghost use Rattle.ehabi_top.specs.Yields.{streams};
 
 mod accept;
 mod answer;
 mod build;
 mod check;
-mod check_line;
 mod flat;
 mod force;
 mod generated;
 pub mod laws;
-mod line;
 mod named;
 mod recorded;
 mod refusal;
 mod run;
 mod sources;
-pub mod status;
-mod stop;
 mod summary;
 mod walk;
 mod words;
 
-use answer::answer_text;
 use build::build;
 use check::{check_file, check_sources};
 use eh_files::Files;
 use eh_port::{Sink, Source};
 use flat::flat;
 use generated::count_program;
-pub use line::{Line, end_line};
 pub use plain_run::flat_run;
+use program_answers::Stop;
+use program_answers::answer::answer_text;
+use program_answers::status::USAGE;
 use run::{run, run_sources};
 pub use sources::FILE_LIMIT;
-use status::USAGE;
 use std::alloc::Global;
-pub use stop::Stop;
 pub use walk::MOST_FRAMES;
 pub use words::{
     Form, MOST_DIGITS, MOST_FRAME_DIGITS, MOST_FUNCTION_DIGITS, MOST_INSTRUCTIONS, MOST_NUMBER,

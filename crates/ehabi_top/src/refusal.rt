@@ -2,14 +2,10 @@
 ghost use Rattle.std.specs.Prelude.{◌≡◌, ◌≢◌, ◌≤◌, ◌++◌, length, codes, IfOk, true, false};
 ghost use Rattle.ehabi_top.specs.Building.{is_memory, is_link_memory, fault_line, wants_memory, refusal_of};
 ghost use Rattle.ehabi_top.specs.RefusalText.{source_place, asm_place, link_line};
-ghost use Rattle.ehabi_top.specs.Text.{refusal_line, after_blank};
-ghost use Rattle.ehabi_top.specs.Loading.{IsOfCommand};
-ghost use Rattle.ehabi_top.specs.Writes.{Answers};
+ghost use Rattle.report_lines.specs.Text.{refusal_line, after_blank};
+ghost use Rattle.program_answers.specs.Statuses.{IsOfCommand};
+ghost use Rattle.program_answers.specs.Writes.{Answers};
 
-use crate::answer::{answer_both, answer_missing, answer_text, answer_three, answer_too_long};
-use crate::line::{Line, append, image_fault_line, refusal_line, refusal_line_with};
-use crate::status::REFUSED;
-use crate::stop::Stop;
 use asm_layout::{AsmFault, AsmWhat};
 use asm_read::{SourceFault, SourceWhat};
 use eh_kit::KitMemory;
@@ -18,6 +14,12 @@ use eh_port::Sink;
 use eh_word::{Name, address_text};
 use elf_image::ImageFault;
 use itoa::Buffer;
+use program_answers::Stop;
+use program_answers::answer::{
+    answer_both, answer_missing, answer_text, answer_three, answer_too_long,
+};
+use program_answers::status::REFUSED;
+use report_lines::{Line, append, image_fault_line, refusal_line, refusal_line_with};
 use std::alloc::AllocFailed;
 
 /// Why sources give no image.

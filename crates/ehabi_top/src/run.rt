@@ -4,8 +4,10 @@ ghost use Rattle.std.specs.Prelude.{Some};
 ghost use Rattle.ehabi_top.specs.Report.{Does};
 ghost use Rattle.ehabi_top.specs.RunReport.{RunsAccepted};
 ghost use Rattle.ehabi_top.specs.TaskReport.{RunBytesReports, RunBytesRefuse, DoesTask, PinsTask};
-ghost use Rattle.ehabi_top.specs.Words.{RunFile, RunSources, texts};
-ghost use Rattle.ehabi_top.specs.Yields.{Yields, YieldsBy, file_state, streams};
+ghost use Rattle.ehabi_top.specs.Words.{RunFile, RunSources};
+ghost use Rattle.program_answers.specs.Words.{texts};
+ghost use Rattle.ehabi_top.specs.Yields.{Yields, YieldsBy, streams};
+ghost use Rattle.program_answers.specs.Files.{file_state};
 
 use crate::accept::{accepted_of, answer_refused};
 use crate::answer::answer_run;
@@ -14,13 +16,13 @@ use crate::force::force_accepted;
 use crate::recorded::runs_same;
 use crate::refusal::answer_files_fault;
 use crate::sources::read_file;
-use crate::stop::Stop;
 use crate::walk::walk_accepted;
 use crate::words::{Request, Task};
 use eh_files::Files;
 use eh_machine::Machine;
 use eh_port::{Sink, Source};
 use frame_check::Accepted;
+use program_answers::Stop;
 use std::alloc::Global;
 
 // Runs an accepted image.

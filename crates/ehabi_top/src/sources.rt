@@ -4,14 +4,14 @@ ghost use Rattle.eh_port.specs.Causes.{Rose};
 ghost use Rattle.ehabi_top.specs.AsksFor.{AsksFor, FindingLacks, LoadedLacks};
 ghost use Rattle.ehabi_top.specs.Building.{files_of, loaded};
 ghost use Rattle.ehabi_top.specs.Finding.{Finds, file_bytes};
-ghost use Rattle.ehabi_top.specs.Words.{texts};
-ghost use Rattle.ehabi_top.specs.Yields.{file_state};
+ghost use Rattle.program_answers.specs.Words.{texts};
+ghost use Rattle.program_answers.specs.Files.{file_state};
 
 use crate::named::SourceText;
 use crate::refusal::FilesFault;
-use crate::stop::Stop;
 use eh_files::{FileAnswer, Files};
 use eh_port::Bytes;
+use program_answers::Stop;
 use std::alloc::Global;
 
 /// The most bytes of a file.

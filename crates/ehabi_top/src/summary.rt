@@ -1,22 +1,12 @@
 //! The lines of a run whose events are counted (docs/command-line.md).
-ghost use Rattle.std.specs.Prelude.{◌≡◌, ◌+◌, ◌++◌, IfOk, OnOk};
+ghost use Rattle.std.specs.Prelude.{◌≡◌, ◌+◌, IfOk};
 ghost use Rattle.eh_trace.specs.Trace.{total_of};
 ghost use Rattle.eh_trace.specs.declared.event.EventKind.TheVariants.{Throw, Rethrow};
-ghost use Rattle.ehabi_top.specs.Text.{count_line, summary};
+ghost use Rattle.ehabi_top.specs.Text.{summary};
 
 use eh_trace::{EventKind, Events};
-use itoa::Buffer;
+use report_lines::push_count;
 use std::alloc::{AllocError, Global};
-
-/// Adds the line of a count.
-fn push_count(lines: &mut Vec<u8>, what: &[u8], count: u128) -> Result<(), AllocError>
-    ensures { OnOk result (lines.new.items ≡ lines.old.items ++ count_line what.now count) }
-{
-    lines.extend_from_slice(what)?;
-    lines.extend_from_slice(b" ")?;
-    lines.extend_from_slice(Buffer::new().format(count).as_bytes())?;
-    lines.extend_from_slice(b"\n")
-}
 
 /// How many exceptions were thrown, those thrown again among them.
 fn throws_of(events: &Events) -> u128

@@ -6,16 +6,17 @@ ghost use Rattle.ehabi_top.specs.Yields.{Yields, streams};
 ghost use Rattle.eh_gates.specs.State.{state_of};
 ghost use Rattle.thumb_core.specs.declared.ends.End.TheVariants.{Budget};
 
-use crate::answer::{answer_run, answer_three};
+use crate::answer::answer_run;
 use crate::recorded::walks_same;
-use crate::status::DONE;
-use crate::stop::Stop;
 use eh_bus::bus::Bus;
 use eh_machine::Machine;
 use eh_port::{Sink, Source};
 use eh_trace::{Events, trace_lines};
 use eh_walk::{Backtrace, WalkEnd, backtrace, run_to_site, walk_lines};
 use frame_check::Accepted;
+use program_answers::Stop;
+use program_answers::answer::answer_three;
+use program_answers::status::DONE;
 use std::alloc::Global;
 use thumb_core::ends::End;
 

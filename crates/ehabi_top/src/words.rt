@@ -1,7 +1,8 @@
 //! The forms of the words that the program is given.
 ghost use Rattle.std.specs.Borrow.{Bor};
 ghost use Rattle.std.specs.Prelude.{◌≡◌, ◌≤◌, ℕ, List, option_map};
-ghost use Rattle.ehabi_top.specs.Words.{command, texts, number_of, budget_of, program_number, program_functions, is_source, are_sources, flat_command, build_command, image_name, check_command, files_command, run_command, frame_number, force_command, gen_command, command_of};
+ghost use Rattle.ehabi_top.specs.Words.{command, number_of, budget_of, program_number, program_functions, is_source, are_sources, flat_command, build_command, image_name, check_command, files_command, run_command, frame_number, force_command, gen_command, command_of};
+ghost use Rattle.program_answers.specs.Words.{texts};
 
 use eh_kit::MAX_FUNCTIONS;
 

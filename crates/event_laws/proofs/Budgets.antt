@@ -214,7 +214,7 @@ module _ (p : Program) (s : Recorded) (input : List ℕ) where
 
   tested_recorded : (what : Stepped) (regs : Regs) (m : Memory) (o : Option End) → Fine o → OfRecorded (acts.onward p s (acts.tested p s what regs m o) input)
   tested_recorded what regs m (Some end) h = h
-  tested_recorded what regs m None h = acted_recorded what (acts.moved p s what regs m)
+  tested_recorded what regs m None h = acted_recorded what (acts.recorded_after p s what regs m)
 
   with_tests : (what : Stepped) (regs : Regs) (m : Memory) → OfRecorded (acts.onward p s (acts.with_tests p s what regs m) input)
   with_tests what regs m = tested_recorded what regs m (acts.tests p s what regs) (tests_are what regs)

@@ -1,7 +1,7 @@
 -- The ends that the tests of an event give.
-use Rattle.std.proofs.Common.{◌≡◌, ℕ, ◌<◌, ◌≤◌, Bool, false, cond, Option, Some, None, List, slice_index, refl, ap, ◌∙◌, arith}
+use Rattle.std.proofs.Common.{◌≡◌, ◌≢◌, ℕ, ◌<◌, ◌≤◌, Bool, true, false, cond, Option, Some, None, List, slice_index, refl, ap, ◌∙◌, arith}
 use Rattle.std.specs.Option.{option_or}
-use Rattle.std.proofs.lemmas.Bool.{lt-ltb, le-ltb}
+use Rattle.std.proofs.lemmas.Bool.{lt-ltb, le-ltb, ne_eqb}
 use Rattle.event_runs.specs.Runs.{Ends}
 use Rattle.eh_bus.specs.Memory.{Memory}
 use Rattle.eh_cxa.specs.Words.{word, block_slot}
@@ -17,7 +17,7 @@ use Rattle.thumb_core.specs.declared.ends.End.{End}
 use Rattle.thumb_core.specs.declared.ends.End.TheVariants as the_end
 use Rattle.eh_gates.specs.State.{State, reg}
 use Rattle.two_machines.specs.Program.{Program}
-use Rattle.two_machines.specs.Machine.{sp_end, control_flow_trap, tests, tested, checked, passed, onward, machine_event}
+use Rattle.two_machines.specs.Machine.{sp_end, fell_off, control_flow_trap, tests, tested, checked, passed, onward, machine_event}
 use Rattle.event_laws.specs.Stack.{Does}
 use Rattle.event_laws.specs.Tests.{TestsEndSo}
 use Rattle.event_laws.proofs.Stack.{does_is}
@@ -70,5 +70,14 @@ module _ (p : Program) (s : State) (input : List ℕ) where
       (ap (λ (o : Option End). option_or o (flow_trap (Return 0xFFFFFFFF) after))
       (no_landing inner s.memory.home.0 s.regs.pc (reg s SP) (slice_index after.r SP) (ap (innermost_at (word s.memory)) none) high))
 
+  back : (to : ℕ) (after : Regs) (m : Memory) → Does p s (Return to) after m → to ≢ 0xFFFFFFFF → block_slot s.globals.cleanup ≡ None → s.memory.home.0 ≤ slice_index after.r 13
+      → (p.look after.pc).is_function ≡ true → machine_event p s input ≡ Ends (the_end.Trap kind.FellOff after.pc s.regs.pc) s
+  back to after m d other none high begins =
+      ends (Return to) after m (the_end.Trap kind.FellOff after.pc s.regs.pc) d
+      (ap (λ (o : Option End). option_or o (flow_trap (Return to) after))
+      (no_landing inner s.memory.home.0 s.regs.pc (reg s SP) (slice_index after.r SP) (ap (innermost_at (word s.memory)) none) high)
+      ∙ ap (λ (b : Bool). cond b (Some (the_end.Exit (slice_index after.r 0))) (fell_off p s.regs.pc after.pc)) (ne_eqb to 0xFFFFFFFF other)
+      ∙ ap (λ (b : Bool). cond b (Some (the_end.Trap kind.FellOff after.pc s.regs.pc)) None) begins)
+
 pub end_so : TestsEndSo
-end_so p s input = record { unreached = unreached p s input; low = low p s input; nowhere = nowhere p s input; exits = exits p s input }
+end_so p s input = record { unreached = unreached p s input; low = low p s input; nowhere = nowhere p s input; exits = exits p s input; back = back p s input }

@@ -1,5 +1,5 @@
 -- The ends that the tests of an event give, each with its value (docs/machine.md, "An event").
-use Rattle.std.specs.Prelude.{◌≡◌, ℕ, ◌<◌, ◌≤◌, false, List, slice_index, None}
+use Rattle.std.specs.Prelude.{◌≡◌, ◌≢◌, ℕ, ◌<◌, ◌≤◌, true, false, List, slice_index, None}
 use Rattle.event_runs.specs.Runs.{Ends}
 use Rattle.eh_bus.specs.Memory.{Memory}
 use Rattle.eh_cxa.specs.Words.{block_slot}
@@ -29,6 +29,10 @@ pub record EndsByTests (p : Program) (s : State) (input : List ℕ) : Type 0 whe
   pub exits :
       (after : Regs) (m : Memory) → Does p s (Return 0xFFFFFFFF) after m → block_slot s.globals.cleanup ≡ None → s.memory.home.0 ≤ slice_index after.r 13
       → machine_event p s input ≡ Ends (the_end.Exit (slice_index after.r 0)) s
+  -- any other return, with no cleanup in progress, to where a function begins
+  pub back :
+      (to : ℕ) (after : Regs) (m : Memory) → Does p s (Return to) after m → to ≢ 0xFFFFFFFF → block_slot s.globals.cleanup ≡ None → s.memory.home.0 ≤ slice_index after.r 13
+      → (p.look after.pc).is_function ≡ true → machine_event p s input ≡ Ends (the_end.Trap kind.FellOff after.pc s.regs.pc) s
 
 abbrev pub TestsEndSo : Type 0
 TestsEndSo = (p : Program) (s : State) (input : List ℕ) → EndsByTests p s input

@@ -21,7 +21,8 @@ pub fn only_rises_are_refused()
 {}
 
 /// Where the checker reached no instruction the event is FellOff with pc; where sp falls below the running stack StackLimit with the new sp;
-/// a call to where no function begins BadCallTarget with the target; and a return to FFFFFFFF, with no cleanup in progress, exits with r0.
+/// a call to where no function begins BadCallTarget with the target; a return to FFFFFFFF, with no cleanup in progress, exits with r0, and any other
+/// one to where a function begins is FellOff with that address.
 pub fn tests_end_so()
     ensures { TestsEndSo }
 {}

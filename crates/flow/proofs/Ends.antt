@@ -4,7 +4,7 @@ use Rattle.std.proofs.lemmas.Option.{same_Some, none-some}
 use Rattle.std.proofs.lemmas.List.{get_or-set_same, length-set, length_push, length-replicate}
 use Rattle.std.proofs.lemmas.List.Sums.{sum_by-set}
 use Rattle.std.specs.List.{Contains}
-use Rattle.flow.specs.Flow.{Flow, IsState, at_entry, meeting, Stands, met, apart, fact_at, Passes, AreValid, AreStates}
+use Rattle.flow.specs.Flow.{Flow, IsState, at_entry, meeting, IsShownAt, met, apart, fact_at, Passes, AreValid, AreStates}
 use Rattle.flow.specs.Laws.{Laws, Falls, IsFinite, HasValidFacts, NoneStands, Decides, SolvingGivesStates}
 use Rattle.flow.proofs.Law.{none_stand}
 use Rattle.flow.specs.Sound.{Sound, weigh, weight}
@@ -86,15 +86,15 @@ module _ (F C : Type 0) (flow : Flow F C) (at_most : F → F → Type 0) (laws :
       keep F C flow at_most laws n inside facts work todo q g s (h, is, subst (λ x. at_most g x) one (laws.right q h g k (s.states q h is) (s.ahead q g (contains_head (q, g) todo)).0 e))
 
   pub merge_apart : (facts : List (Option F)) (work : List ℕ) (todo : List (ℕ × F)) (q : ℕ) (g h : F) (c : C)
-      → Sound F C flow at_most n facts work ((q, g) ∷ todo) → fact_at facts q ≡ Some h → flow.join h g ≡ None → flow.parted q c ≡ true → Stands F C flow q c
+      → Sound F C flow at_most n facts work ((q, g) ∷ todo) → fact_at facts q ≡ Some h → flow.join h g ≡ None → flow.parted q c ≡ true → IsShownAt F C flow q c
   merge_apart facts work todo q g h c s is e m = apart (s.states q h is) (s.ahead q g (contains_head (q, g) todo)).0 e m
 
   pub refused : (facts : List (Option F)) (work : List ℕ) (todo : List (ℕ × F)) (p : ℕ) (f : F) (c : C)
-      → Sound F C flow at_most n facts work todo → fact_at facts p ≡ Some f → flow.meets c p f ≡ true → Stands F C flow p c
+      → Sound F C flow at_most n facts work todo → fact_at facts p ≡ Some f → flow.meets c p f ≡ true → IsShownAt F C flow p c
   refused facts work todo p f c s is m = met (s.states p f is) m
 
   abbrev pub Outcome : Type 0
-  Outcome = ((facts : List (Option F)) × AreValid F C flow at_most facts × AreStates F C flow facts) ⊎ ((p : ℕ) × (c : C) × Stands F C flow p c)
+  Outcome = ((facts : List (Option F)) × AreValid F C flow at_most facts × AreStates F C flow facts) ⊎ ((p : ℕ) × (c : C) × IsShownAt F C flow p c)
 
   module _ (first : ℕ → F → Option C) (first_met : (p : ℕ) (f : F) (c : C) → first p f ≡ Some c → flow.meets c p f ≡ true) (first_none : (p : ℕ) (f : F) → first p f ≡ None → Passes flow p f) (named : ℕ → C) (named_is : (q : ℕ) → flow.parted q (named q) ≡ true) where
     follow : (fuel : ℕ) (rest : (facts : List (Option F)) (work : List ℕ) → Sound F C flow at_most n facts work [] → weight height top facts work < fuel → Outcome)
@@ -141,16 +141,16 @@ solved F C flow at_most laws finite =
 -- valid facts exist exactly where no cause stands
 pub decides : (F C : Type 0) (at_most : F → F → Type 0) → Decides F C at_most
 decides F C at_most flow laws finite =
-    let outcome : HasValidFacts F C flow at_most ⊎ ((p : ℕ) × (c : C) × Stands F C flow p c) = ⊎_elim
+    let outcome : HasValidFacts F C flow at_most ⊎ ((p : ℕ) × (c : C) × IsShownAt F C flow p c) = ⊎_elim
     (λ (v : (facts : List (Option F)) × AreValid F C flow at_most facts × AreStates F C flow facts). inl (v.0, v.1))
-    (λ (w : (p : ℕ) × (c : C) × Stands F C flow p c). inr w)
+    (λ (w : (p : ℕ) × (c : C) × IsShownAt F C flow p c). inr w)
     (solved F C flow at_most laws finite) in (
       outcome,
       (
         λ (v : HasValidFacts F C flow at_most). λ p c s. none_stand F C flow at_most laws v.0 v.1 p c s,
         λ (none : NoneStands F C flow). ⊎_elim
             (λ (v : HasValidFacts F C flow at_most). v)
-            (λ (w : (p : ℕ) × (c : C) × Stands F C flow p c). absurd (none w.0 w.1 w.2))
+            (λ (w : (p : ℕ) × (c : C) × IsShownAt F C flow p c). absurd (none w.0 w.1 w.2))
             outcome,
       ),
     )
@@ -159,5 +159,5 @@ decides F C at_most flow laws finite =
 pub solves : (F C : Type 0) (at_most : F → F → Type 0) → SolvingGivesStates F C at_most
 solves F C at_most flow laws finite none = ⊎_elim
     (λ (v : (facts : List (Option F)) × AreValid F C flow at_most facts × AreStates F C flow facts). v)
-    (λ (w : (p : ℕ) × (c : C) × Stands F C flow p c). absurd (none w.0 w.1 w.2))
+    (λ (w : (p : ℕ) × (c : C) × IsShownAt F C flow p c). absurd (none w.0 w.1 w.2))
     (solved F C flow at_most laws finite)

@@ -2,7 +2,7 @@
 use Rattle.std.proofs.Common.{ℕ, ◌≡◌, List, Option, sym, ◌∙◌, subst}
 use Rattle.std.proofs.lemmas.Bool.{true≢false}
 use Rattle.std.proofs.lemmas.Option.{same_Some}
-use Rattle.flow.specs.Flow.{Flow, IsState, at_entry, along, meeting, Stands, met, apart, Covered, AreValid}
+use Rattle.flow.specs.Flow.{Flow, IsState, at_entry, along, meeting, IsShownAt, met, apart, Covered, AreValid}
 use Rattle.flow.specs.Laws.{Laws, Bounds}
 
 module _ (F C : Type 0) (flow : Flow F C) (at_most : F → F → Type 0) (laws : Laws F C flow at_most) (facts : List (Option F)) (v : AreValid F C flow at_most facts) where
@@ -19,7 +19,7 @@ module _ (F C : Type 0) (flow : Flow F C) (at_most : F → F → Type 0) (laws :
       let one : d.0 ≡ c.0 = same_Some d.0 c.0 (sym d.1 ∙ c.1) in
       (c.0, c.1, laws.least f g h c.0 e c.2 (subst (λ k. at_most g k) one d.2))
 
-  pub none_stand : (p : ℕ) (c : C) → Stands F C flow p c → ⊥
+  pub none_stand : (p : ℕ) (c : C) → IsShownAt F C flow p c → ⊥
   none_stand _ _ (met {p} {f} {c} s m) =
       let d = below p f s in
       true≢false (sym m ∙ laws.passes p f d.0 d.2 (v.passes p d.0 d.1) c)

@@ -21,9 +21,9 @@ pub data IsState (F C : Type 0) (flow : Flow F C) : ℕ → F → Type 0 where
   meeting : {p : ℕ} {f g h : F} → IsState F C flow p f → IsState F C flow p g → flow.join f g ≡ Some h → IsState F C flow p h
 
 -- A cause stands at a place where a state there meets it, or where two states there have no meeting.
-pub data Stands (F C : Type 0) (flow : Flow F C) : ℕ → C → Type 0 where
-  met : {p : ℕ} {f : F} {c : C} → IsState F C flow p f → flow.meets c p f ≡ true → Stands F C flow p c
-  apart : {p : ℕ} {f g : F} {c : C} → IsState F C flow p f → IsState F C flow p g → flow.join f g ≡ None → flow.parted p c ≡ true → Stands F C flow p c
+pub data IsShownAt (F C : Type 0) (flow : Flow F C) : ℕ → C → Type 0 where
+  met : {p : ℕ} {f : F} {c : C} → IsState F C flow p f → flow.meets c p f ≡ true → IsShownAt F C flow p c
+  apart : {p : ℕ} {f g : F} {c : C} → IsState F C flow p f → IsState F C flow p g → flow.join f g ≡ None → flow.parted p c ≡ true → IsShownAt F C flow p c
 
 -- the fact of a place in a table, where it has one
 abbrev pub fact_at : {F : Type 0} → List (Option F) → ℕ → Option F

@@ -1,7 +1,7 @@
 -- What facts, their vagueness and their causes have to keep, and what then holds of states, valid facts and causes.
 use Rattle.std.specs.Prelude.{ℕ, ◌≡◌, ◌<◌, ◌⊎◌, ◌↔◌, List, true, Option, Some, None}
 use Rattle.std.specs.List.{Contains}
-use Rattle.flow.specs.Flow.{Flow, IsState, Stands, Passes, Covered, AreValid, AreStates}
+use Rattle.flow.specs.Flow.{Flow, IsState, IsShownAt, Passes, Covered, AreValid, AreStates}
 
 -- Being at most as vague is reflexive and transitive; the meeting of two facts is the least vague that both are at most as vague as,
 -- and facts that lie below one have a meeting; a fact that is less vague meets no more causes, and leads along no more edges and to
@@ -43,7 +43,7 @@ abbrev pub HasValidFacts : (F C : Type 0) → Flow F C → (F → F → Type 0) 
 HasValidFacts F C flow at_most = (facts : List (Option F)) × AreValid F C flow at_most facts
 
 abbrev pub NoneStands : (F C : Type 0) → Flow F C → Type 0
-NoneStands F C flow = (p : ℕ) (c : C) → Stands F C flow p c → ⊥
+NoneStands F C flow = (p : ℕ) (c : C) → IsShownAt F C flow p c → ⊥
 
 -- where facts are valid, each state is at most as vague as the fact of its place, and no cause stands
 abbrev pub Bounds : (F C : Type 0) → (F → F → Type 0) → Type 0
@@ -54,7 +54,7 @@ Bounds F C at_most = (flow : Flow F C) (facts : List (Option F)) → Laws F C fl
 -- cause stands
 abbrev pub Decides : (F C : Type 0) → (F → F → Type 0) → Type 0
 Decides F C at_most = (flow : Flow F C) → Laws F C flow at_most → IsFinite F C flow
-    → (HasValidFacts F C flow at_most ⊎ ((p : ℕ) × (c : C) × Stands F C flow p c))
+    → (HasValidFacts F C flow at_most ⊎ ((p : ℕ) × (c : C) × IsShownAt F C flow p c))
     × (HasValidFacts F C flow at_most ↔ NoneStands F C flow)
 
 -- where places and heights are finite, and no cause stands: valid facts each of which is a state. So their table has a fact exactly at

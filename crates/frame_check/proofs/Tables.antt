@@ -4,7 +4,7 @@ use Rattle.std.proofs.lemmas.List.{get_or-set_same, get_or-set_other, length-set
 use Rattle.std.proofs.lemmas.Bool.{eqb-true, eqb-false, ltb-true, ltb-false}
 use Rattle.frame_check.specs.declared.roles.Role.{Role}
 use Rattle.frame_check.specs.declared.roles.TheConstants.{PAGE_ROLES, NO_ROLE}
-use Rattle.frame_check.specs.Roles.{Table, IsTable, Grown, Ready, Put, table, in_page, place_of, role_at, half_role, look}
+use Rattle.frame_check.specs.Roles.{Table, IsTable, Grown, Ready, Put, table, in_page, role_place, role_at, half_role, look}
 
 -- where a halfword has a place, its page has one
 pub record Placed (t : Table) (h at : ℕ) : Type 0 where
@@ -12,14 +12,14 @@ pub record Placed (t : Table) (h at : ℕ) : Type 0 where
   pub is : get_or t.places (h / PAGE_ROLES) None ≡ Some page
   pub place : page * PAGE_ROLES + h % PAGE_ROLES ≡ at
 
-pub placed : (t : Table) (h at : ℕ) → place_of t.places h ≡ Some at → Placed t h at
+pub placed : (t : Table) (h at : ℕ) → role_place t.places h ≡ Some at → Placed t h at
 placed t h at e = go (get_or t.places (h / PAGE_ROLES) None) refl e
   where
     go : (o : Option ℕ) → get_or t.places (h / PAGE_ROLES) None ≡ o → in_page o h ≡ Some at → Placed t h at
     go None o e = absurd (cc)
     go (Some q) o e = record { page = q; is = o; place = cc }
 
-pub absent : (places : List (Option ℕ)) (h : ℕ) → place_of places h ≡ None → get_or places (h / PAGE_ROLES) None ≡ None
+pub absent : (places : List (Option ℕ)) (h : ℕ) → role_place places h ≡ None → get_or places (h / PAGE_ROLES) None ≡ None
 absent places h e = go (get_or places (h / PAGE_ROLES) None) refl e
   where
     go : (o : Option ℕ) → get_or places (h / PAGE_ROLES) None ≡ o → in_page o h ≡ None → get_or places (h / PAGE_ROLES) None ≡ None
@@ -27,11 +27,11 @@ absent places h e = go (get_or places (h / PAGE_ROLES) None) refl e
     go (Some q) o e = absurd (cc)
 
 -- a place lies among the roles
-pub inside : (t : Table) (h at : ℕ) → IsTable t → place_of t.places h ≡ Some at → at < length t.roles
+pub inside : (t : Table) (h at : ℕ) → IsTable t → role_place t.places h ≡ Some at → at < length t.roles
 inside t h at x e = let p = placed t h at e in omega (arith, x.within (h / PAGE_ROLES) p.page p.is, p.place)
 
 -- two halfwords with one place are one
-pub one_place : (t : Table) (h g at : ℕ) → IsTable t → place_of t.places h ≡ Some at → place_of t.places g ≡ Some at → h ≡ g
+pub one_place : (t : Table) (h g at : ℕ) → IsTable t → role_place t.places h ≡ Some at → role_place t.places g ≡ Some at → h ≡ g
 one_place t h g at x e f =
     let p = placed t h at e in
     let q = placed t g at f in
@@ -78,19 +78,19 @@ grown_sound old new n at x none g = record {
 pub grown_role : (old new : Table) (n at : ℕ) → IsTable old → get_or old.places n None ≡ None → Grown old new n at → (b : ℕ) → half_role new b ≡ half_role old b
 grown_role old new n at x none g b = go (b / PAGE_ROLES == n) refl
   where
-    kept : (o : Option ℕ) → place_of old.places b ≡ o → role_at new.roles o ≡ role_at old.roles o
+    kept : (o : Option ℕ) → role_place old.places b ≡ o → role_at new.roles o ≡ role_at old.roles o
     kept None e = refl
     kept (Some i) e = ap (λ (s : List Role). get_or s i NO_ROLE) g.roles ∙ get_or_append_left old.roles (replicate PAGE_ROLES NO_ROLE) NO_ROLE i (inside old b i x e)
 
     go : (t : Bool) → (b / PAGE_ROLES == n) ≡ t → half_role new b ≡ half_role old b
     go false t =
-        let same : place_of new.places b ≡ place_of old.places b = ap (λ (o : Option ℕ). in_page o b) (g.there (b / PAGE_ROLES) (eqb-false _ _ t)) in
-        ap (role_at new.roles) same ∙ kept (place_of old.places b) refl
+        let same : role_place new.places b ≡ role_place old.places b = ap (λ (o : Option ℕ). in_page o b) (g.there (b / PAGE_ROLES) (eqb-false _ _ t)) in
+        ap (role_at new.roles) same ∙ kept (role_place old.places b) refl
     go true t =
         let same : b / PAGE_ROLES ≡ n = eqb-true _ _ t in
-        let here : place_of new.places b ≡ Some (length old.roles / PAGE_ROLES * PAGE_ROLES + b % PAGE_ROLES) =
+        let here : role_place new.places b ≡ Some (length old.roles / PAGE_ROLES * PAGE_ROLES + b % PAGE_ROLES) =
         ap (λ (o : Option ℕ). in_page o b) (ap (λ (k : ℕ). get_or new.places k None) same ∙ g.here) in
-        let nothing : place_of old.places b ≡ None = ap (λ (o : Option ℕ). in_page o b) (ap (λ (k : ℕ). get_or old.places k None) same ∙ none) in
+        let nothing : role_place old.places b ≡ None = ap (λ (o : Option ℕ). in_page o b) (ap (λ (k : ℕ). get_or old.places k None) same ∙ none) in
         let at : length old.roles / PAGE_ROLES * PAGE_ROLES + b % PAGE_ROLES ≡ length old.roles + b % PAGE_ROLES = omega (arith, x.whole) in
         ap (role_at new.roles) (here ∙ ap Some at)
         ∙ ap (λ (s : List Role). get_or s (length old.roles + b % PAGE_ROLES) NO_ROLE) g.roles
@@ -105,7 +105,7 @@ grown_role old new n at x none g b = go (b / PAGE_ROLES == n) refl
             by true t = get_or-replicate n k NO_ROLE NO_ROLE (ltb-true k n t)
             by false t = get_or_past (replicate n NO_ROLE) k NO_ROLE (let l = ltb-false k n t in omega (arith, l, length-replicate n NO_ROLE))
 
-pub grown_ready : (old new : Table) (h at : ℕ) → IsTable old → place_of old.places h ≡ None → Grown old new (h / PAGE_ROLES) at → Ready old new h (at + h % PAGE_ROLES)
+pub grown_ready : (old new : Table) (h at : ℕ) → IsTable old → role_place old.places h ≡ None → Grown old new (h / PAGE_ROLES) at → Ready old new h (at + h % PAGE_ROLES)
 grown_ready old new h at x e g = record {
   place = ap (λ (o : Option ℕ). in_page o h) g.here ∙ ap Some (omega (arith, x.whole, g.begins));
   same = grown_role old new (h / PAGE_ROLES) at x (absent old.places h e) g;
@@ -129,7 +129,7 @@ put_here old mid a at role x even r = record { here = here; there = there }
         let e : (a % 2 == 1) ≡ false = ap (λ (k : ℕ). k == 1) even in
         rw e (ap (role_at (set mid.roles at role)) r.place ∙ get_or-set_same mid.roles at role NO_ROLE (inside mid (a / 2) at x r.place))
 
-    other : (b : ℕ) → (b ≡ a / 2 → ⊥) → (o : Option ℕ) → place_of mid.places b ≡ o → role_at (set mid.roles at role) o ≡ role_at mid.roles o
+    other : (b : ℕ) → (b ≡ a / 2 → ⊥) → (o : Option ℕ) → role_place mid.places b ≡ o → role_at (set mid.roles at role) o ≡ role_at mid.roles o
     other b ne None e = refl
     other b ne (Some i) e =
         get_or-set_other mid.roles at i role NO_ROLE (λ (same : i ≡ at). ne (one_place mid b (a / 2) at x (e ∙ ap Some same) r.place))
@@ -142,7 +142,7 @@ put_here old mid a at role x even r = record { here = here; there = there }
         by true t = refl
         by false t =
             let odd : b % 2 ≢ 1 = eqb-false _ _ t in
-            other (b / 2) (λ (e : b / 2 ≡ a / 2). ne (omega (arith, e, even, odd))) (place_of mid.places (b / 2)) refl ∙ r.same (b / 2)
+            other (b / 2) (λ (e : b / 2 ≡ a / 2). ne (omega (arith, e, even, odd))) (role_place mid.places (b / 2)) refl ∙ r.same (b / 2)
 
 -- what is made of roles that a page is added to
 pub grown : (places wide new : List (Option ℕ)) (roles filled : List Role) (n page : ℕ) → IsTable (table places roles) → n < length wide

@@ -25,15 +25,15 @@ abbrev pub in_page : Option ℕ → ℕ → Option ℕ
 in_page None h = None
 in_page (Some q) h = Some (q * PAGE_ROLES + h % PAGE_ROLES)
 
-abbrev pub place_of : List (Option ℕ) → ℕ → Option ℕ
-place_of places h = in_page (slice_index_or places (h / PAGE_ROLES) None) h
+abbrev pub role_place : List (Option ℕ) → ℕ → Option ℕ
+role_place places h = in_page (slice_index_or places (h / PAGE_ROLES) None) h
 
 abbrev pub role_at : List Role → Option ℕ → Role
 role_at roles None = NO_ROLE
 role_at roles (Some i) = slice_index_or roles i NO_ROLE
 
 abbrev pub half_role : Table → ℕ → Role
-half_role t h = role_at t.roles (place_of t.places h)
+half_role t h = role_at t.roles (role_place t.places h)
 
 -- the role of an address: of an odd one the blank one, and so of one whose page isn't there
 unfoldable pub look : Table → ℕ → Role
@@ -50,7 +50,7 @@ pub record Grown (old new : Table) (n at : ℕ) : Type 0 where
 
 -- halfword h has a place, and no role has changed
 pub record Ready (old new : Table) (h at : ℕ) : Type 0 where
-  pub place : place_of new.places h ≡ Some at
+  pub place : role_place new.places h ≡ Some at
   pub same : (b : ℕ) → half_role new b ≡ half_role old b
 
 -- the address has this role, and no other role has changed

@@ -1,6 +1,6 @@
 //! What a run asks of an address, found in constant time. docs/checking.md, "Look-ups".
 ghost use Rattle.std.specs.Prelude.{◌≡◌, ℕ, ◌+◌, ◌*◌, ◌/◌, ◌%◌, ◌^◌, ◌<◌, length, Some, None, IfOk, OnOk, slice_index_or, vec_len};
-ghost use Rattle.frame_check.specs.Roles.{Table, IsTable, Grown, Ready, Put, table, place_of, look, no_table};
+ghost use Rattle.frame_check.specs.Roles.{Table, IsTable, Grown, Ready, Put, table, role_place, look, no_table};
 
 use std::alloc::{AllocError, Global};
 use std::marker::Model;
@@ -51,8 +51,8 @@ fn place(places: &[Option<u32>], n: usize) -> Option<u32>
 }
 
 /// Where the role of a halfword stands, by its number.
-fn place_of(places: &[Option<u32>], h: u32) -> Option<usize>
-    ensures { result ≡ place_of places.now h }
+fn role_place(places: &[Option<u32>], h: u32) -> Option<usize>
+    ensures { result ≡ role_place places.now h }
 {
     let at = place(places, h as usize / PAGE_ROLES)?;
     Some(at as usize * PAGE_ROLES + h as usize % PAGE_ROLES)
@@ -100,7 +100,7 @@ fn ready(places: &mut Vec<Option<u32>>, roles: &mut Vec<Role>, h: u32) -> Result
     ensures sound { IsTable (table places.new.items roles.new.items) }
     ensures ready { IfOk result (λ at. Ready (table places.old.items roles.old.items) (table places.new.items roles.new.items) h at) }
 {
-    match place_of(places, h) {
+    match role_place(places, h) {
         Some(at) => Ok(at),
         None => {
             let first = add_page(places, roles, h as usize / PAGE_ROLES)?;
@@ -128,7 +128,7 @@ impl Roles {
         if a % 2 == 1 {
             return NO_ROLE;
         }
-        match place_of(&self.places, a / 2) {
+        match role_place(&self.places, a / 2) {
             None => NO_ROLE,
             Some(at) => self.roles[at],
         }

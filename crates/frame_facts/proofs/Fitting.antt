@@ -17,7 +17,7 @@ use Rattle.frame_facts.specs.declared.facts.Fact.{Fact}
 use Rattle.frame_facts.specs.declared.facts.TheConstants.{DEEPEST}
 use Rattle.frame_facts.specs.declared.saves.Save.{Save}
 use Rattle.frame_facts.specs.declared.saves.Prologue.{Prologue}
-use Rattle.frame_facts.specs.Facts.{source, with_source, lost, clobbered, within, sp_plus, shifted, entered, join_of, known, height, IsFit}
+use Rattle.frame_facts.specs.Facts.{source, with_source, lost, clobbered, bounded_depth, sp_plus, shifted, entered, join_of, known, height, IsFit}
 use Rattle.frame_facts.specs.Saves.{saves_within, stack_word, moved_to, to_depth}
 use Rattle.frame_facts.specs.Shifts.{shift_imm}
 use Rattle.frame_facts.specs.Data.{add_sub_imm3, imm8, alu, copied, sp_set, mov_high}
@@ -58,7 +58,7 @@ count_take q (suc m) (x ∷ xs) = omega (arith, sum_by-cons (λ y. cond (q y) 1 
 few_saves : (p : Prologue) (d : ℕ) → saves_within p d ≤ p.count
 few_saves p d = count_take (λ (s : Save). leb s.offset d) p.count p.saves
 
-within_is : (z : ℤ) (d : ℕ) → within z ≡ Some d → d ≤ DEEPEST
+within_is : (z : ℤ) (d : ℕ) → bounded_depth z ≡ Some d → d ≤ DEEPEST
 within_is (pos n) d h = let w = cond_some (leb n DEEPEST) n d h in subst (λ m. m ≤ DEEPEST) w.1 (leb-true n DEEPEST w.0)
 within_is (negsuc n) d h = absurd (none-some d h)
 
@@ -90,7 +90,7 @@ moved_fits : (p : Prologue) (d : ℕ) (f : Fact) → d ≤ DEEPEST → IsFit p.c
 moved_fits p d f l x = record { depth = l; kept = omega (arith, x.kept); long = x.long }
 
 to_depth_fits : (p : Prologue) (z : ℤ) (f : Fact) → IsFit p.count f → Gives p.count (to_depth p z f)
-to_depth_fits p z f x = mapped p.count (within z) (λ d. moved_to p d f) (λ d e. moved_fits p d f (within_is z d e) x)
+to_depth_fits p z f x = mapped p.count (bounded_depth z) (λ d. moved_to p d f) (λ d e. moved_fits p d f (within_is z d e) x)
 
 pushed_fits : (p : Prologue) (at d : ℕ) (f : Fact) → d ≤ DEEPEST → IsFit p.count f → IsFit p.count (pushed_to p at d f)
 pushed_fits p at d f l x =
@@ -99,7 +99,7 @@ pushed_fits p at d f l x =
 
 push_fits : (p : Prologue) (at list : ℕ) (f : Fact) → IsFit p.count f → Gives p.count (push p at list f)
 push_fits p at list f x =
-    mapped p.count (within (pos f.depth +ℤ pos (4 * length (listed list)))) (λ d. pushed_to p at d f)
+    mapped p.count (bounded_depth (pos f.depth +ℤ pos (4 * length (listed list)))) (λ d. pushed_to p at d f)
     (λ d e. pushed_fits p at d f (within_is (pos f.depth +ℤ pos (4 * length (listed list))) d e) x)
 
 loaded_fits : (n : ℕ) (p : Prologue) (old : Fact) (at : ℕ) (regs : List ℕ) (f : Fact) → IsFit n f → IsFit n (loaded p old at regs f)

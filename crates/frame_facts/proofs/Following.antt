@@ -16,7 +16,7 @@ use Rattle.frame_facts.specs.declared.facts.Source.TheVariants.{Entry, SpAt, Oth
 use Rattle.frame_facts.specs.declared.facts.Fact.{Fact}
 use Rattle.frame_facts.specs.declared.saves.Save.{Save}
 use Rattle.frame_facts.specs.declared.saves.Prologue.{Prologue}
-use Rattle.frame_facts.specs.Facts.{source, with_source, lost, clobbered, within, sp_at, sp_plus, shifted, is_entry, IsVaguer, IsAtMost}
+use Rattle.frame_facts.specs.Facts.{source, with_source, lost, clobbered, bounded_depth, sp_at, sp_plus, shifted, is_entry, IsVaguer, IsAtMost}
 use Rattle.frame_facts.specs.Saves.{saves_of, saves_within, lies_at, word, stack_word, moved_to, to_depth}
 use Rattle.frame_facts.specs.Shifts.{shift_imm}
 use Rattle.frame_facts.specs.Data.{add_sub_imm3, imm8, alu, copied, sp_set, mov_high, add_high}
@@ -99,7 +99,7 @@ moved_to_vaguer : (p : Prologue) (d : ℕ) (f g : Fact) → IsAtMost f g → IsA
 moved_to_vaguer p d f g x = record { depth = refl; below = x.below; kept = omega (arith, x.kept); long = x.long; regs = x.regs }
 
 to_depth_vaguer : (p : Prologue) (z : ℤ) (f g : Fact) → IsAtMost f g → NoVaguer (to_depth p z f) (to_depth p z g)
-to_depth_vaguer p z f g x = mapped (within z) (λ d. moved_to p d f) (λ d. moved_to p d g) (λ d. moved_to_vaguer p d f g x)
+to_depth_vaguer p z f g x = mapped (bounded_depth z) (λ d. moved_to p d f) (λ d. moved_to p d g) (λ d. moved_to_vaguer p d f g x)
 
 pushed_vaguer : (p : Prologue) (at d : ℕ) (f g : Fact) → IsAtMost f g → IsAtMost (pushed_to p at d f) (pushed_to p at d g)
 pushed_vaguer p at d f g x =
@@ -108,8 +108,8 @@ pushed_vaguer p at d f g x =
 
 push_vaguer : (p : Prologue) (at list : ℕ) (f g : Fact) → IsAtMost f g → NoVaguer (push p at list f) (push p at list g)
 push_vaguer p at list f g x =
-    subst (λ d. NoVaguer (push p at list f) (option_map (λ e. pushed_to p at e g) (within (pos d +ℤ pos (4 * length (listed list)))))) x.depth
-    (mapped (within (pos f.depth +ℤ pos (4 * length (listed list)))) (λ d. pushed_to p at d f) (λ d. pushed_to p at d g) (λ d. pushed_vaguer p at d f g x))
+    subst (λ d. NoVaguer (push p at list f) (option_map (λ e. pushed_to p at e g) (bounded_depth (pos d +ℤ pos (4 * length (listed list)))))) x.depth
+    (mapped (bounded_depth (pos f.depth +ℤ pos (4 * length (listed list)))) (λ d. pushed_to p at d f) (λ d. pushed_to p at d g) (λ d. pushed_vaguer p at d f g x))
 
 loaded_vaguer : (p : Prologue) (old old' : Fact) (at : ℕ) (regs : List ℕ) (f g : Fact) → IsAtMost old old' → IsAtMost f g → IsAtMost (loaded p old at regs f) (loaded p old' at regs g)
 loaded_vaguer p old old' at [] f g y x = x

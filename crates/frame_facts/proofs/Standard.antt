@@ -10,7 +10,7 @@ use Rattle.eh_bytecode.specs.declared.recipe.RecipeFault.{RecipeFault}
 use Rattle.eh_bytecode.specs.Recipe.{recipe}
 use Rattle.frame_facts.specs.declared.saves.Prologue.{Prologue}
 use Rattle.frame_facts.specs.declared.straight.Straight.{Straight}
-use Rattle.frame_facts.specs.Facts.{entered, within}
+use Rattle.frame_facts.specs.Facts.{entered, bounded_depth}
 use Rattle.frame_facts.specs.Saves.{saves_within, moved_to}
 use Rattle.frame_facts.specs.Prologues.{begun, taken, with_pushed}
 use Rattle.frame_facts.specs.After.{after_of}
@@ -20,7 +20,7 @@ use Rattle.frame_facts.specs.Frames.{pushed_list, popped_list, codes_of, Standar
 -- after the PUSH, by whether it stands before the prologue's end
 abbrev after_push : Bool → ℕ → Prologue → Option Straight
 after_push within_run mask q = option_map (λ f. record { fact = f; prologue = q })
-    (option_map (λ d. cond within_run (record entered { depth = d; kept = saves_within q d }) (moved_to q d entered)) (within (pos 0 +ℤ pos (4 * length (listed (pushed_list mask))))))
+    (option_map (λ d. cond within_run (record entered { depth = d; kept = saves_within q d }) (moved_to q d entered)) (bounded_depth (pos 0 +ℤ pos (4 * length (listed (pushed_list mask))))))
 
 abbrev push_to : Bool → ℕ → ℕ → ℕ → Option Straight
 push_to within_run start end mask =

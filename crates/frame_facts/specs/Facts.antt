@@ -29,13 +29,13 @@ entered = record {
 }
 
 -- a number of bytes below the CFA, where it is one
-abbrev pub within : ℤ → Option ℕ
-within (pos n) = if nat_le n DEEPEST then Some n else None
-within (negsuc n) = None
+abbrev pub bounded_depth : ℤ → Option ℕ
+bounded_depth (pos n) = if nat_le n DEEPEST then Some n else None
+bounded_depth (negsuc n) = None
 
 -- the CFA minus so many bytes
 abbrev pub sp_at : ℤ → Source
-sp_at offset = option_map_or SpAt (within offset) Other
+sp_at offset = option_map_or SpAt (bounded_depth offset) Other
 
 -- sp plus an offset
 abbrev pub sp_plus : Fact → ℤ → Source

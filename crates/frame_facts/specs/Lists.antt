@@ -5,7 +5,7 @@ use Rattle.thumb_core.specs.Words.{listed}
 use Rattle.frame_facts.specs.declared.facts.Source.{Source}
 use Rattle.frame_facts.specs.declared.facts.Fact.{Fact}
 use Rattle.frame_facts.specs.declared.saves.Prologue.{Prologue}
-use Rattle.frame_facts.specs.Facts.{with_source, lost, clobbered, within}
+use Rattle.frame_facts.specs.Facts.{with_source, lost, clobbered, bounded_depth}
 use Rattle.frame_facts.specs.Saves.{saves_within, stack_word, moved_to, to_depth}
 
 -- sp falls by a word for each register; in the prologue the saves that now lie at or above it are kept
@@ -13,7 +13,7 @@ abbrev pub pushed_to : Prologue → ℕ → ℕ → Fact → Fact
 pushed_to p at depth f = if nat_lt at p.end then record f { depth = depth; kept = saves_within p depth } else moved_to p depth f
 
 abbrev pub push : Prologue → ℕ → ℕ → Fact → Option Fact
-push p at list f = option_map (λ d. pushed_to p at d f) (within (pos f.depth +ℤ pos (4 * length (listed list))))
+push p at list f = option_map (λ d. pushed_to p at d f) (bounded_depth (pos f.depth +ℤ pos (4 * length (listed list))))
 
 -- registers take what words hold that stand one after the other, from an offset above the old sp on
 abbrev pub loaded : Prologue → Fact → ℕ → List ℕ → Fact → Fact

@@ -7,7 +7,7 @@ use Rattle.frame_facts.specs.declared.facts.Source.TheVariants.{Entry, Other}
 use Rattle.frame_facts.specs.declared.facts.Fact.{Fact}
 use Rattle.frame_facts.specs.declared.saves.Save.{Save}
 use Rattle.frame_facts.specs.declared.saves.Prologue.{Prologue}
-use Rattle.frame_facts.specs.Facts.{within}
+use Rattle.frame_facts.specs.Facts.{bounded_depth}
 
 abbrev pub saves_of : Prologue → List Save
 saves_of p = take p.count p.saves
@@ -34,4 +34,4 @@ moved_to p depth f = record f { depth = depth; kept = min f.kept (saves_within p
 
 -- the same, where it is a depth
 abbrev pub to_depth : Prologue → ℤ → Fact → Option Fact
-to_depth p depth f = option_map (λ d. moved_to p d f) (within depth)
+to_depth p depth f = option_map (λ d. moved_to p d f) (bounded_depth depth)

@@ -1,7 +1,7 @@
 //! Facts: what is known of registers and stack at a place, what two of them have in common. docs/acceptance.md, "Facts".
 ghost use Rattle.std.specs.Prelude.{◌≡◌, ℕ, ◌+◌, ◌-◌, ◌*◌, ◌<◌, ◌≤◌, ◌^◌, ◌==◌, ℤ, pos, ◌+ℤ◌, ◌-ℤ◌, length, IsTrue, ◌↔◌};
 ghost use Rattle.thumb_core.specs.Words.{listed};
-ghost use Rattle.frame_facts.specs.Facts.{source, with_source, entered, within, sp_at, sp_plus, shifted, is_entry, clobbered, met_source, same_source, same_sources, same_fact, join_of};
+ghost use Rattle.frame_facts.specs.Facts.{source, with_source, entered, bounded_depth, sp_at, sp_plus, shifted, is_entry, clobbered, met_source, same_source, same_sources, same_fact, join_of};
 
 /// The greatest depth of a frame, and of a place that a register is known to hold, in bytes below the CFA.
 pub const DEEPEST: u32 = 65_536;
@@ -58,8 +58,8 @@ pub fn entry_fact() -> Fact
 }
 
 /// A depth, where it is one.
-pub(crate) fn within(depth: i64) -> Option<u32>
-    ensures { result ≡ within depth }
+pub(crate) fn bounded_depth(depth: i64) -> Option<u32>
+    ensures { result ≡ bounded_depth depth }
 {
     if 0 <= depth && depth <= i64::from(DEEPEST) {
         Some(depth as u32)
@@ -72,7 +72,7 @@ pub(crate) fn within(depth: i64) -> Option<u32>
 pub(crate) fn sp_at(offset: i64) -> Source
     ensures { result ≡ sp_at offset }
 {
-    match within(offset) {
+    match bounded_depth(offset) {
         Some(offset) => Source::SpAt(offset),
         None => Source::Other,
     }

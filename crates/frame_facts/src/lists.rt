@@ -4,7 +4,7 @@ ghost use Rattle.thumb_core.specs.Words.{listed};
 ghost use Rattle.frame_facts.specs.Saves.{stack_word};
 ghost use Rattle.frame_facts.specs.Lists.{push, pushed_to, loaded, pop, popped_pc, ldm};
 
-use crate::facts::{Fact, Source, clobber, within};
+use crate::facts::{Fact, Source, bounded_depth, clobber};
 use crate::saves::Prologue;
 
 /// How many bytes the registers of a list take.
@@ -29,7 +29,7 @@ fn pushed_to(p: &Prologue, fact: &Fact, at: u32, depth: u32) -> Fact
         Fact {
             depth,
             below: fact.below,
-            kept: p.within(depth),
+            kept: p.saves_within(depth),
             regs: fact.regs,
         }
     } else {
@@ -41,7 +41,7 @@ fn pushed_to(p: &Prologue, fact: &Fact, at: u32, depth: u32) -> Fact
 pub(crate) fn push(p: &Prologue, fact: &Fact, at: u32, list: u16) -> Option<Fact>
     ensures { result ≡ push p.now at list fact.now }
 {
-    let depth = within(i64::from(fact.depth) + i64::from(bytes_of(list)))?;
+    let depth = bounded_depth(i64::from(fact.depth) + i64::from(bytes_of(list)))?;
     Some(pushed_to(p, fact, at, depth))
 }
 

@@ -2,7 +2,7 @@
 ghost use Rattle.std.specs.Prelude.{◌≡◌, ℕ, ◌<◌, ◌≤◌, ◌^◌, ℤ, pos, ◌+ℤ◌, take, length};
 ghost use Rattle.frame_facts.specs.Saves.{lies_at, saves_within, word, stack_word, moved_to, to_depth};
 
-use crate::facts::{Fact, Source, within};
+use crate::facts::{Fact, Source, bounded_depth};
 
 /// A word of the stack that the prologue saves a register in.
 #[derive(Clone, Copy, PartialEq, Eq, Debug)]
@@ -49,7 +49,7 @@ fn first(saves: &[Save], count: u32) -> &[Save]
 
 impl Prologue {
     /// How many saves lie at an offset of at most `depth`.
-    pub(crate) fn within(&self, depth: u32) -> u32
+    pub(crate) fn saves_within(&self, depth: u32) -> u32
         ensures count { result ≡ saves_within self.now depth }
         ensures few { result ≤ 16 }
     {
@@ -88,7 +88,7 @@ impl Prologue {
         Fact {
             depth,
             below: fact.below,
-            kept: fact.kept.min(self.within(depth)),
+            kept: fact.kept.min(self.saves_within(depth)),
             regs: fact.regs,
         }
     }
@@ -97,7 +97,7 @@ impl Prologue {
     pub(crate) fn to_depth(&self, fact: &Fact, depth: i64) -> Option<Fact>
         ensures { result ≡ to_depth self.now depth fact.now }
     {
-        let depth = within(depth)?;
+        let depth = bounded_depth(depth)?;
         Some(self.moved_to(fact, depth))
     }
 }

@@ -21,7 +21,7 @@ use Rattle.frame_graph.specs.Sites.{site_at, unwinding_at, is_scoped, pads_out}
 use Rattle.flow.specs.Flow.{Passes}
 use Rattle.flow.proofs.Work.{contains_none, contains_cons, contains_head, contains_tail}
 use Rattle.frame_flow.specs.Framed.{Framed}
-use Rattle.frame_flow.specs.Causes.{shown, answered, is_call, unwound, throws_in_leaf, site_causes, after_at, instruction_causes, found, number, register, same_register, same_cause, meets}
+use Rattle.frame_flow.specs.Causes.{shown, answered, is_call, unwound, throws_in_leaf, site_causes, after_at, instruction_causes, causes_at, number, register, same_register, same_cause, meets}
 use Rattle.frame_flow.specs.Flows.{flow_of}
 use Rattle.frame_flow.specs.Laws.{FoundAreMet}
 
@@ -80,10 +80,10 @@ instructions_vaguer x p f g (Some i) m h = instruction_vaguer x p f g i m h
 abbrev split : Framed → ℕ → List FrameCause → List FrameCause
 split x p more = shown (is_undecodable x.flow_graph p) Undecodable ++ (shown (branches_out x.flow_graph p) BranchOut ++ (shown (calls_nothing x.flow_graph p) CallNotFunction ++ more))
 
-pub found_parts : (x : Framed) (p : ℕ) (f : Fact) → found x p f ≡ []
+pub found_parts : (x : Framed) (p : ℕ) (f : Fact) → causes_at x p f ≡ []
     → (shown (is_undecodable x.flow_graph p) Undecodable ≡ []) × (shown (branches_out x.flow_graph p) BranchOut ≡ []) × (shown (calls_nothing x.flow_graph p) CallNotFunction ≡ [])
     × (option_map_or (instruction_causes x p f) (instruction_at x.flow_graph p) [] ≡ [])
-unfolding found
+unfolding causes_at
 found_parts x p f h =
     let d = option_map_or (instruction_causes x p f) (instruction_at x.flow_graph p) [] in
     let c = shown (calls_nothing x.flow_graph p) CallNotFunction in
@@ -94,15 +94,15 @@ found_parts x p f h =
     (u.0, v.0, w.0, w.1)
 
 pub parts_found : (x : Framed) (p : ℕ) (f : Fact) → shown (is_undecodable x.flow_graph p) Undecodable ≡ [] → shown (branches_out x.flow_graph p) BranchOut ≡ [] → shown (calls_nothing x.flow_graph p) CallNotFunction ≡ []
-    → option_map_or (instruction_causes x p f) (instruction_at x.flow_graph p) [] ≡ [] → found x p f ≡ []
-unfolding found
+    → option_map_or (instruction_causes x p f) (instruction_at x.flow_graph p) [] ≡ [] → causes_at x p f ≡ []
+unfolding causes_at
 parts_found x p f u v w h =
     let d = option_map_or (instruction_causes x p f) (instruction_at x.flow_graph p) [] in
     let c = shown (calls_nothing x.flow_graph p) CallNotFunction in
     let b = shown (branches_out x.flow_graph p) BranchOut in
     from_nils (shown (is_undecodable x.flow_graph p) Undecodable) (b ++ (c ++ d)) u (from_nils b (c ++ d) v (from_nils c d w h))
 
-pub found_vaguer : (x : Framed) (p : ℕ) (f g : Fact) → IsAtMost f g → found x p g ≡ [] → found x p f ≡ []
+pub found_vaguer : (x : Framed) (p : ℕ) (f g : Fact) → IsAtMost f g → causes_at x p g ≡ [] → causes_at x p f ≡ []
 found_vaguer x p f g m h =
     let w = found_parts x p g h in
     parts_found x p f w.0 w.1 w.2 (instructions_vaguer x p f g (instruction_at x.flow_graph p) m w.3)
@@ -164,20 +164,20 @@ contains_any c (d ∷ xs) h = ⊎_elim
 
 pub found_are_met : FoundAreMet
 unfolding meets
-found_are_met x c p f = (λ h. any_contains c (found x p f) h, λ h. contains_any c (found x p f) h)
+found_are_met x c p f = (λ h. any_contains c (causes_at x p f) h, λ h. contains_any c (causes_at x p f) h)
 
 -- no cause is found where none is met, and the other way round
 none_any : (xs : List FrameCause) → ((c : FrameCause) → list_any (same_cause c) xs ≡ false) → xs ≡ []
 none_any [] h = refl
 none_any (c ∷ xs) h = absurd (true≢false (sym (or_left (same_cause c c) (list_any (same_cause c) xs) (same_self c)) ∙ h c))
 
-pub passes_found : (x : Framed) (p : ℕ) (f : Fact) → Passes (flow_of x) p f → found x p f ≡ []
+pub passes_found : (x : Framed) (p : ℕ) (f : Fact) → Passes (flow_of x) p f → causes_at x p f ≡ []
 unfolding meets
-passes_found x p f h = none_any (found x p f) h
+passes_found x p f h = none_any (causes_at x p f) h
 
-pub found_passes : (x : Framed) (p : ℕ) (f : Fact) → found x p f ≡ [] → Passes (flow_of x) p f
+pub found_passes : (x : Framed) (p : ℕ) (f : Fact) → causes_at x p f ≡ [] → Passes (flow_of x) p f
 unfolding meets
 found_passes x p f h c = ap (λ l. list_any (same_cause c) l) h
 
-pub head_met : (x : Framed) (p : ℕ) (f : Fact) (c : FrameCause) (more : List FrameCause) → found x p f ≡ c ∷ more → meets x c p f ≡ true
+pub head_met : (x : Framed) (p : ℕ) (f : Fact) (c : FrameCause) (more : List FrameCause) → causes_at x p f ≡ c ∷ more → meets x c p f ≡ true
 head_met x p f c more e = (found_are_met x c p f).1 (subst (λ l. Contains l c) (sym e) (contains_head c more))

@@ -23,7 +23,7 @@ use Rattle.frame_graph.specs.Edges.{is_undecodable, branches_out, calls_nothing,
 use Rattle.frame_graph.specs.Sites.{site_at, unwinding_at, is_scoped, pads_out}
 use Rattle.flow.proofs.Work.{contains_none, contains_one, contains_head}
 use Rattle.frame_flow.specs.Framed.{Framed}
-use Rattle.frame_flow.specs.Causes.{shown, answered, is_call, unwound, throws_in_leaf, site_causes, after_at, instruction_causes, found}
+use Rattle.frame_flow.specs.Causes.{shown, answered, is_call, unwound, throws_in_leaf, site_causes, after_at, instruction_causes, causes_at}
 use Rattle.frame_flow.specs.Flows.{transfer}
 use Rattle.frame_flow.specs.Conditions.{Shows, AtSite, Disagrees, Holds, CausesAreConditions, TransferFollowsEdges}
 use Rattle.frame_flow.proofs.Causing.{found_are_met}
@@ -155,8 +155,8 @@ from_instruction x p f c (Some i) e h = ⊎_elim
     (λ (b : Contains (option_map_or (site_causes x (is_call i) f) (site_at x.flow_graph p) []) c). from_site x p f c i (site_at x.flow_graph p) e refl b)
     (Contains-append_cases (answered (after_at x p f i)) (option_map_or (site_causes x (is_call i) f) (site_at x.flow_graph p) []) c h)
 
-from : (x : Framed) (p : ℕ) (f : Fact) (c : FrameCause) → Contains (found x p f) c → From x p f c
-unfolding found
+from : (x : Framed) (p : ℕ) (f : Fact) (c : FrameCause) → Contains (causes_at x p f) c → From x p f c
+unfolding causes_at
 from x p f c h =
     let one = shown (is_undecodable x.flow_graph p) Undecodable in
     let two = shown (branches_out x.flow_graph p) BranchOut in
@@ -193,8 +193,8 @@ holds x p f c (throws i site e s h is) = subst (λ k. Holds x p f k) (sym is) (i
 
 -- ---- what holds is found
 
-in_instruction : (x : Framed) (p : ℕ) (f : Fact) (c : FrameCause) (i : Instr) → instruction_at x.flow_graph p ≡ Some i → Contains (instruction_causes x p f i) c → Contains (found x p f) c
-unfolding found
+in_instruction : (x : Framed) (p : ℕ) (f : Fact) (c : FrameCause) (i : Instr) → instruction_at x.flow_graph p ≡ Some i → Contains (instruction_causes x p f i) c → Contains (causes_at x p f) c
+unfolding causes_at
 in_instruction x p f c i e h =
     let one = shown (is_undecodable x.flow_graph p) Undecodable in
     let two = shown (branches_out x.flow_graph p) BranchOut in
@@ -203,16 +203,16 @@ in_instruction x p f c i e h =
     let there : Contains four c = subst (λ o. Contains (option_map_or (instruction_causes x p f) o []) c) (sym e) h in
     Contains-append_right one (two ++ (three ++ four)) c (Contains-append_right two (three ++ four) c (Contains-append_right three four c there))
 
-by_effect : (x : Framed) (p : ℕ) (f : Fact) (c : FrameCause) → Shows x p f c → Contains (found x p f) c
+by_effect : (x : Framed) (p : ℕ) (f : Fact) (c : FrameCause) → Shows x p f c → Contains (causes_at x p f) c
 by_effect x p f c h = in_instruction x p f c h.0 h.1
     (Contains-append_left (answered (after_at x p f h.0)) (option_map_or (site_causes x (is_call h.0) f) (site_at x.flow_graph p) []) c (is_answered (after_at x p f h.0) c h.2))
 
-at_the_site : (x : Framed) (p : ℕ) (f : Fact) (c : FrameCause) (i : Instr) (site : ℕ) → instruction_at x.flow_graph p ≡ Some i → site_at x.flow_graph p ≡ Some site → Contains (site_causes x (is_call i) f site) c → Contains (found x p f) c
+at_the_site : (x : Framed) (p : ℕ) (f : Fact) (c : FrameCause) (i : Instr) (site : ℕ) → instruction_at x.flow_graph p ≡ Some i → site_at x.flow_graph p ≡ Some site → Contains (site_causes x (is_call i) f site) c → Contains (causes_at x p f) c
 at_the_site x p f c i site e s h = in_instruction x p f c i e
     (Contains-append_right (answered (after_at x p f i)) (option_map_or (site_causes x (is_call i) f) (site_at x.flow_graph p) []) c
     (subst (λ o. Contains (option_map_or (site_causes x (is_call i) f) o []) c) (sym s) h))
 
-by_site : (x : Framed) (p : ℕ) (f : Fact) (c : FrameCause) → AtSite x p (λ i site. Disagrees x.prologue (unwinding_at x.flow_graph site) i f c) → Contains (found x p f) c
+by_site : (x : Framed) (p : ℕ) (f : Fact) (c : FrameCause) → AtSite x p (λ i site. Disagrees x.prologue (unwinding_at x.flow_graph site) i f c) → Contains (causes_at x p f) c
 by_site x p f c h =
     let i = h.0 in let site = h.1 in
     at_the_site x p f c i site h.2 h.3
@@ -220,8 +220,8 @@ by_site x p f c h =
     (shown (pads_out x.flow_graph site) PadDepth ++ shown (throws_in_leaf x.flow_graph site (is_call i) f) ThrowInLeafScope) c
     (is_unwound x.prologue (unwinding_at x.flow_graph site) i f c h.4))
 
-is_found : (x : Framed) (p : ℕ) (f : Fact) (c : FrameCause) → Holds x p f c → Contains (found x p f) c
-unfolding found
+is_found : (x : Framed) (p : ℕ) (f : Fact) (c : FrameCause) → Holds x p f c → Contains (causes_at x p f) c
+unfolding causes_at
 is_found x p f Undecodable h =
     Contains-append_left (shown (is_undecodable x.flow_graph p) Undecodable)
     (shown (branches_out x.flow_graph p) BranchOut ++ (shown (calls_nothing x.flow_graph p) CallNotFunction ++ option_map_or (instruction_causes x p f) (instruction_at x.flow_graph p) []))

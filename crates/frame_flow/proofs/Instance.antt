@@ -22,7 +22,7 @@ use Rattle.flow.specs.Laws.{Falls, IsFinite}
 use Rattle.flow.proofs.Work.{contains_none, contains_cons, contains_head, contains_tail}
 use Rattle.flow.proofs.Ends.{decides}
 use Rattle.frame_flow.specs.Framed.{Framed}
-use Rattle.frame_flow.specs.Causes.{answered, is_call, site_causes, after_at, instruction_causes, found, meets}
+use Rattle.frame_flow.specs.Causes.{answered, is_call, site_causes, after_at, instruction_causes, causes_at, meets}
 use Rattle.frame_flow.specs.Flows.{fact_of, fact_after, along_edge, along_edges, transfer, parted, parting, flow_of, count_of, IsStateOf}
 use Rattle.frame_flow.specs.Work.{top_of}
 use Rattle.frame_flow.specs.Laws.{FlowsKeepLaws, FactsDecide}
@@ -73,7 +73,7 @@ shows_none x p f i o e h =
     answered_ok (after_at x p f i) (both_nil (answered (after_at x p f i)) (option_map_or (site_causes x (is_call i) f) (site_at x.flow_graph p) []) k).0
 
 -- where no cause is found, an instruction has a fact after it
-pub passes_after : (x : Framed) (p : ℕ) (f : Fact) (i : Instr) → found x p f ≡ [] → instruction_at x.flow_graph p ≡ Some i → (g : Fact) × (after_at x p f i ≡ Ok g) × (fact_after x p f ≡ Some g)
+pub passes_after : (x : Framed) (p : ℕ) (f : Fact) (i : Instr) → causes_at x p f ≡ [] → instruction_at x.flow_graph p ≡ Some i → (g : Fact) × (after_at x p f i ≡ Ok g) × (fact_after x p f ≡ Some g)
 passes_after x p f i h e =
     let w = shows_none x p f i (instruction_at x.flow_graph p) e (found_parts x p f h).3 in
     (w.0, w.1, is_after x p f w.0 i e w.1)
@@ -163,11 +163,11 @@ abbrev pub first_of : List FrameCause → Option FrameCause
 first_of [] = None
 first_of (c ∷ more) = Some c
 
-first_is_met : (x : Framed) (p : ℕ) (f : Fact) (c : FrameCause) (l : List FrameCause) → found x p f ≡ l → first_of l ≡ Some c → meets x c p f ≡ true
+first_is_met : (x : Framed) (p : ℕ) (f : Fact) (c : FrameCause) (l : List FrameCause) → causes_at x p f ≡ l → first_of l ≡ Some c → meets x c p f ≡ true
 first_is_met x p f c [] e h = absurd (none-some c h)
 first_is_met x p f c (d ∷ more) e h = head_met x p f c more (e ∙ ap (λ k. k ∷ more) (same_Some d c h))
 
-first_is_none : (x : Framed) (p : ℕ) (f : Fact) (l : List FrameCause) → found x p f ≡ l → first_of l ≡ None → Passes (flow_of x) p f
+first_is_none : (x : Framed) (p : ℕ) (f : Fact) (l : List FrameCause) → causes_at x p f ≡ l → first_of l ≡ None → Passes (flow_of x) p f
 first_is_none x p f [] e h = found_passes x p f e
 first_is_none x p f (d ∷ more) e h = absurd (none-some d (sym h))
 
@@ -186,9 +186,9 @@ finite x l = record {
   height = height;
   top = top_of x;
   falls = falls x;
-  first = λ p f. first_of (found x p f);
-  first_met = λ p f c h. first_is_met x p f c (found x p f) refl h;
-  first_none = λ p f h. first_is_none x p f (found x p f) refl h;
+  first = λ p f. first_of (causes_at x p f);
+  first_met = λ p f c h. first_is_met x p f c (causes_at x p f) refl h;
+  first_none = λ p f h. first_is_none x p f (causes_at x p f) refl h;
   named = parting x;
   named_is = parting_is x;
 }

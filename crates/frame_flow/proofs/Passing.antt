@@ -10,7 +10,7 @@ use Rattle.frame_graph.specs.declared.places.Standing.TheVariants.{Instruction, 
 use Rattle.frame_graph.specs.Edges.{is_undecodable, branches_out, calls_nothing, instruction_of, instruction_at}
 use Rattle.frame_graph.specs.Sites.{site_at}
 use Rattle.frame_flow.specs.Framed.{Framed, Parts, framed_of}
-use Rattle.frame_flow.specs.Causes.{shown, answered, is_call, site_causes, after_at, instruction_causes, found}
+use Rattle.frame_flow.specs.Causes.{shown, answered, is_call, site_causes, after_at, instruction_causes, causes_at}
 use Rattle.frame_flow.specs.Flows.{fact_of, fact_after}
 use Rattle.frame_flow.specs.Work.{by_first, passed}
 
@@ -34,20 +34,20 @@ abbrev Rest : Framed → ℕ → Fact → Result (Option Fact) FrameCause
 Rest x p f = by_first (option_map_or (instruction_causes x p f) (instruction_at x.flow_graph p) []) (fact_after x p f)
 
 pub at_undecodable : (x : Framed) (p : ℕ) (f : Fact) → is_undecodable x.flow_graph p ≡ true → Err Undecodable ≡ passed x p f
-unfolding found
+unfolding causes_at
 at_undecodable x p f e = shown_true (is_undecodable x.flow_graph p) Undecodable
     (shown (branches_out x.flow_graph p) BranchOut ++ (shown (calls_nothing x.flow_graph p) CallNotFunction ++ option_map_or (instruction_causes x p f) (instruction_at x.flow_graph p) []))
     (fact_after x p f) e
 
 pub at_branch : (x : Framed) (p : ℕ) (f : Fact) → is_undecodable x.flow_graph p ≡ false → branches_out x.flow_graph p ≡ true → Err BranchOut ≡ passed x p f
-unfolding found
+unfolding causes_at
 at_branch x p f d e =
     let more = shown (calls_nothing x.flow_graph p) CallNotFunction ++ option_map_or (instruction_causes x p f) (instruction_at x.flow_graph p) [] in
     shown_true (branches_out x.flow_graph p) BranchOut more (fact_after x p f) e
     ∙ shown_false (is_undecodable x.flow_graph p) Undecodable (shown (branches_out x.flow_graph p) BranchOut ++ more) (fact_after x p f) d
 
 pub at_call : (x : Framed) (p : ℕ) (f : Fact) → is_undecodable x.flow_graph p ≡ false → branches_out x.flow_graph p ≡ false → calls_nothing x.flow_graph p ≡ true → Err CallNotFunction ≡ passed x p f
-unfolding found
+unfolding causes_at
 at_call x p f d b e =
     let last = option_map_or (instruction_causes x p f) (instruction_at x.flow_graph p) [] in
     let more = shown (calls_nothing x.flow_graph p) CallNotFunction ++ last in
@@ -56,7 +56,7 @@ at_call x p f d b e =
     ∙ shown_false (is_undecodable x.flow_graph p) Undecodable (shown (branches_out x.flow_graph p) BranchOut ++ more) (fact_after x p f) d
 
 at_rest : (x : Framed) (p : ℕ) (f : Fact) → IsFine x p → Rest x p f ≡ passed x p f
-unfolding found
+unfolding causes_at
 at_rest x p f fine =
     let last = option_map_or (instruction_causes x p f) (instruction_at x.flow_graph p) [] in
     let more = shown (calls_nothing x.flow_graph p) CallNotFunction ++ last in

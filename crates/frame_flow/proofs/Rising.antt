@@ -23,7 +23,7 @@ use Rattle.frame_graph.specs.Sites.{site_at, unwinding_at, pads_out}
 use Rattle.thumb_core.specs.declared.regs.TheConstants.{LR}
 use Rattle.flow.proofs.Work.{contains_none, contains_cons}
 use Rattle.frame_flow.specs.Framed.{Framed}
-use Rattle.frame_flow.specs.Causes.{shown, answered, is_call, unwound, throws_in_leaf, site_causes, after_at, instruction_causes, found, number}
+use Rattle.frame_flow.specs.Causes.{shown, answered, is_call, unwound, throws_in_leaf, site_causes, after_at, instruction_causes, causes_at, number}
 use Rattle.frame_flow.specs.Laws.{LowestIsFirst}
 
 -- each number lies above a bound and above those before it
@@ -129,8 +129,8 @@ place_rises : (x : Framed) (p : ℕ) (f : Fact) (o : Option Instr)
 place_rises x p f None = tt
 place_rises x p f (Some i) = call_rises x p f i (call_target (address_of x.flow_graph p) i) refl
 
-found_rises : (x : Framed) (p : ℕ) (f : Fact) → Rising 0 (found x p f)
-unfolding found
+found_rises : (x : Framed) (p : ℕ) (f : Fact) → Rising 0 (causes_at x p f)
+unfolding causes_at
 found_rises x p f =
     let more = shown (calls_nothing x.flow_graph p) CallNotFunction ++ option_map_or (instruction_causes x p f) (instruction_at x.flow_graph p) [] in
     shown_rises 0 (is_undecodable x.flow_graph p) Undecodable (shown (branches_out x.flow_graph p) BranchOut ++ more) (omega arith)

@@ -17,7 +17,7 @@ use Rattle.flow.proofs.Ends.{starts, refused, popped, blank}
 use Rattle.frame_flow.specs.declared.work.FrameFault.{FrameFault}
 use Rattle.frame_flow.specs.declared.work.FrameFault.TheVariants.{Stands, OutOfMemory}
 use Rattle.frame_flow.specs.Framed.{Framed}
-use Rattle.frame_flow.specs.Causes.{found}
+use Rattle.frame_flow.specs.Causes.{causes_at}
 use Rattle.frame_flow.specs.Flows.{fact_after, along_edge, along_edges, transfer, flow_of, count_of, StandsIn, HasFacts, NoneStands}
 use Rattle.frame_flow.specs.Work.{by_first, passed, IsSound, top_of, load, FaultStands, LacksFacts}
 use Rattle.frame_flow.proofs.Causing.{found_passes, head_met}
@@ -43,14 +43,14 @@ visit_none x facts work p s none = unasked Fact FrameCause (flow_of x) IsAtMost 
 pub visit_cause : (x : Framed) (facts : List (Option Fact)) (work : List ℕ) (p : ℕ) (f : Fact) (c : FrameCause)
     → IsSound x facts (work ++ p ∷ []) [] → fact_at facts p ≡ Some f → passed x p f ≡ Err c → StandsIn x p c
 visit_cause x facts work p f c s is h =
-    let w = err_is (found x p f) (fact_after x p f) (fact_after x p f) c h in
+    let w = err_is (causes_at x p f) (fact_after x p f) (fact_after x p f) c h in
     refused Fact FrameCause (flow_of x) IsAtMost (laws x) (count_of x.flow_graph) (inside x) height (top_of x) (falls x) facts (work ++ p ∷ []) [] p f c s is (head_met x p f c w.0 w.1)
 
 -- the edges of the place come in hand
 visit_on : (x : Framed) (facts : List (Option Fact)) (work : List ℕ) (p : ℕ) (f : Fact) (o : Option Fact)
     → IsSound x facts (work ++ p ∷ []) [] → fact_at facts p ≡ Some f → passed x p f ≡ Ok o → IsSound x facts work (along_edges o (edges_of x.flow_graph p))
 visit_on x facts work p f o s is h =
-    let w = ok_is (found x p f) (fact_after x p f) o h in
+    let w = ok_is (causes_at x p f) (fact_after x p f) o h in
     let t = take_up Fact FrameCause (flow_of x) IsAtMost (laws x) (count_of x.flow_graph) (inside x) facts work p f s is (found_passes x p f w.0) in
     subst (λ l. IsSound x facts work l) (transfer_by x p f o w.1) t
 

@@ -62,8 +62,8 @@ abbrev pub instruction_causes : Framed → ℕ → Fact → Instr → List Frame
 instruction_causes x p f i = answered (after_at x p f i) ++ option_map_or (site_causes x (is_call i) f) (site_at x.flow_graph p) []
 
 -- The causes that a fact meets at a place, the lowest first. Only BL can call what is no function, and it shows no cause by its effect.
-unfoldable pub found : Framed → ℕ → Fact → List FrameCause
-found x p f =
+unfoldable pub causes_at : Framed → ℕ → Fact → List FrameCause
+causes_at x p f =
     shown (is_undecodable x.flow_graph p) Undecodable ++ (shown (branches_out x.flow_graph p) BranchOut
     ++ (shown (calls_nothing x.flow_graph p) CallNotFunction ++ option_map_or (instruction_causes x p f) (instruction_at x.flow_graph p) []))
 
@@ -118,4 +118,4 @@ same_cause a b = (number a == number b) && same_register (register a) (register 
 
 -- a fact meets a cause at a place where the cause is among those found
 unfoldable pub meets : Framed → FrameCause → ℕ → Fact → Bool
-meets x c p f = list_any (same_cause c) (found x p f)
+meets x c p f = list_any (same_cause c) (causes_at x p f)

@@ -9,7 +9,7 @@ use Rattle.frame_graph.specs.declared.edges.Edge.{Edge}
 use Rattle.frame_graph.specs.FlowGraph.{FlowGraph}
 use Rattle.frame_graph.specs.Edges.{instruction_at}
 use Rattle.frame_graph.specs.Sites.{edges_of}
-use Rattle.flow.specs.Flow.{Flow, IsState, Stands}
+use Rattle.flow.specs.Flow.{Flow, IsState, IsShownAt}
 use Rattle.flow.specs.Laws as law
 use Rattle.frame_flow.specs.Framed.{Framed}
 use Rattle.frame_flow.specs.Causes.{after_at, meets}
@@ -59,7 +59,7 @@ abbrev pub IsStateOf : Framed → ℕ → Fact → Type 0
 IsStateOf x = IsState Fact FrameCause (flow_of x)
 
 abbrev pub StandsIn : Framed → ℕ → FrameCause → Type 0
-StandsIn x = Stands Fact FrameCause (flow_of x)
+StandsIn x = IsShownAt Fact FrameCause (flow_of x)
 
 -- the function has valid facts
 abbrev pub HasFacts : Framed → Type 0

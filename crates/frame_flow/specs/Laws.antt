@@ -8,7 +8,7 @@ use Rattle.frame_graph.specs.Reach.{IsReached}
 use Rattle.flow.specs.Flow.{AreValid, fact_at}
 use Rattle.flow.specs.Laws as law
 use Rattle.frame_flow.specs.Framed.{Framed}
-use Rattle.frame_flow.specs.Causes.{number, found, meets}
+use Rattle.frame_flow.specs.Causes.{number, causes_at, meets}
 use Rattle.frame_flow.specs.Flows.{flow_of, IsStateOf, HasFacts, NoneStands}
 
 -- the flow of a function keeps the laws of flows: vagueness is an order, meetings are least, a fact that is less vague meets no more
@@ -21,11 +21,11 @@ FactsDecide = (x : Framed) → x.flow_graph.start < x.flow_graph.end → HasFact
 
 -- a fact meets the causes that are found, and no other
 abbrev pub FoundAreMet : Type 0
-FoundAreMet = (x : Framed) (c : FrameCause) (p : ℕ) (f : Fact) → (meets x c p f ≡ true) ↔ Contains (found x p f) c
+FoundAreMet = (x : Framed) (c : FrameCause) (p : ℕ) (f : Fact) → (meets x c p f ≡ true) ↔ Contains (causes_at x p f) c
 
 -- the first one found has the lowest number
 abbrev pub LowestIsFirst : Type 0
-LowestIsFirst = (x : Framed) (p : ℕ) (f : Fact) (c d : FrameCause) (more : List FrameCause) → found x p f ≡ c ∷ more → Contains more d → number c < number d
+LowestIsFirst = (x : Framed) (p : ℕ) (f : Fact) (c d : FrameCause) (more : List FrameCause) → causes_at x p f ≡ c ∷ more → Contains more d → number c < number d
 
 -- Where a function has valid facts, the places that have a state are those that are reached, and each of them has a fact.
 pub record FactsReach : Type 0 where

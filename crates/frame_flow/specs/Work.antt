@@ -8,7 +8,7 @@ use Rattle.flow.specs.Sound.{Sound, weight}
 use Rattle.frame_flow.specs.declared.work.FrameFault.{FrameFault}
 use Rattle.frame_flow.specs.declared.work.FrameFault.TheVariants.{Stands, OutOfMemory}
 use Rattle.frame_flow.specs.Framed.{Framed}
-use Rattle.frame_flow.specs.Causes.{found}
+use Rattle.frame_flow.specs.Causes.{causes_at}
 use Rattle.frame_flow.specs.Flows.{fact_after, parting, flow_of, count_of, StandsIn, HasFacts}
 
 -- ---- a place
@@ -20,7 +20,7 @@ by_first (c ∷ more) x = Err c
 
 -- the fact after a place, where it meets no cause there; else the lowest
 abbrev pub passed : Framed → ℕ → Fact → Result (Option Fact) FrameCause
-passed x p f = by_first (found x p f) (fact_after x p f)
+passed x p f = by_first (causes_at x p f) (fact_after x p f)
 
 -- ---- the work list
 

@@ -1,7 +1,7 @@
 //! The causes that a fact meets at a place, the lowest first. docs/acceptance.md, "Causes".
 ghost use Rattle.std.specs.Prelude.{◌≡◌, ◌+◌, ◌*◌, ◌<◌, ◌^◌};
 ghost use Rattle.frame_flow.specs.Framed.{framed_of};
-ghost use Rattle.frame_flow.specs.Causes.{is_call, unwound, throws_in_leaf, site_causes, found};
+ghost use Rattle.frame_flow.specs.Causes.{is_call, unwound, throws_in_leaf, site_causes, causes_at};
 ghost use Rattle.frame_flow.specs.Flows.{fact_after, parting};
 ghost use Rattle.frame_flow.specs.Work.{by_first, passed};
 ghost use Rattle.frame_graph.specs.Sites.{unwinding_at, pads_out};

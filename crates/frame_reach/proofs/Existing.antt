@@ -5,7 +5,7 @@ use Rattle.std.specs.List.{Contains}
 use Rattle.std.specs.Option.{is_some}
 use Rattle.std.proofs.lemmas.Bool.{true≢false, eqb-true, eq-eqb, cases_eq}
 use Rattle.std.proofs.lemmas.Option.{same_Some, none-some}
-use Rattle.flow.specs.Flow.{Flow, IsState, at_entry, meeting, Stands, met, apart, fact_at}
+use Rattle.flow.specs.Flow.{Flow, IsState, at_entry, meeting, IsShownAt, met, apart, fact_at}
 use Rattle.flow.specs.Flow.{along as moves}
 use Rattle.flow.specs.Laws.{Laws, IsFinite}
 use Rattle.flow.proofs.Law.{below}
@@ -86,7 +86,7 @@ finite s = record {
   named_is = λ q. refl;
 }
 
-none_stand : (s : FlowGraph) (p : ℕ) (c : Unit {0}) → Stands (Unit {0}) (Unit {0}) (flow_of s) p c → ⊥
+none_stand : (s : FlowGraph) (p : ℕ) (c : Unit {0}) → IsShownAt (Unit {0}) (Unit {0}) (flow_of s) p c → ⊥
 none_stand s _ _ (met state m) = true≢false (sym m)
 none_stand s _ _ (apart {p} {f} state other e m) = none-some f (sym e)
 

@@ -42,7 +42,7 @@ use Rattle.accesses_keep.specs.frame_graph.FlowGraph.{FlowGraph}
 use Rattle.accesses_keep.specs.frame_graph.Edges.{is_undecodable, branches_out, calls_nothing, instruction_at, straight_edges, edges_to}
 use Rattle.accesses_keep.proofs.frame_graph.Landings.{landings_follow}
 use Rattle.accesses_keep.specs.frame_reach.Marks.{Marks}
-use Rattle.accesses_keep.specs.frame_flow.Causes.{shown, answered, after_at, unwound, throws_in_leaf, site_causes, is_call, instruction_causes, found}
+use Rattle.accesses_keep.specs.frame_flow.Causes.{shown, answered, after_at, unwound, throws_in_leaf, site_causes, is_call, instruction_causes, causes_at}
 use Rattle.accesses_keep.specs.frame_flow.Flows.{IsStateOf}
 use Rattle.accesses_keep.proofs.frame_flow.Causing.{found_are_met}
 use Rattle.accesses_keep.specs.frame_check.Accepts.{Accepted}
@@ -135,11 +135,11 @@ module _ (x : Accepted) (is : IsProgram x) (f : Function) (m : Marks) (start : �
   abbrev s : FlowGraph
   s = flow_graph_of x.image f
 
-  not_found : (cause : FrameCause) → Contains (found (code x f m) p fact) cause → ⊥
+  not_found : (cause : FrameCause) → Contains (causes_at (code x f m) p fact) cause → ⊥
   not_found cause h = none_stands x f m is.sound of.among of.are p cause (met state ((found_are_met (code x f m) cause p fact).1 h))
 
-  at_the_site : (cause : FrameCause) → Contains (site_causes (code x f m) (is_call i) fact site) cause → Contains (found (code x f m) p fact) cause
-  unfolding found
+  at_the_site : (cause : FrameCause) → Contains (site_causes (code x f m) (is_call i) fact site) cause → Contains (causes_at (code x f m) p fact) cause
+  unfolding causes_at
   at_the_site cause here =
       let site_part : Contains (option_map_or (site_causes (code x f m) (is_call i) fact) (site_at s p) []) cause = rw site_is here in
       let instr_part : Contains (instruction_causes (code x f m) p fact i) cause = Contains-append_right (answered (after_at (code x f m) p fact i)) _ cause site_part in

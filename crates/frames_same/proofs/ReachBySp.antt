@@ -20,14 +20,14 @@ use Rattle.accesses_keep.specs.stands_for.Cleanups.{by_sp}
 same_barrier : (g : Goal) (f h : Frame) (d : Desc) → f.site ≡ h.site → f.sp ≡ h.sp → is_barrier_item g f (Ok d) ≡ is_barrier_item g h (Ok d)
 same_barrier g f h d same e = rw (same, e) refl
 
-abbrev pub place_of : Frame → Result Desc DescFault → Place
-place_of f i = record { frame = f; item = i }
+abbrev pub placed_item : Frame → Result Desc DescFault → Place
+placed_item f i = record { frame = f; item = i }
 
-pub reached_read : (g : Goal) (f : Frame) (d : Desc) (ps : List Place) → is_reached_in g (place_of f (Ok d) ∷ ps) ≡ is_barrier_item g f (Ok d) || is_reached_in g ps
+pub reached_read : (g : Goal) (f : Frame) (d : Desc) (ps : List Place) → is_reached_in g (placed_item f (Ok d) ∷ ps) ≡ is_barrier_item g f (Ok d) || is_reached_in g ps
 unfolding is_reached_in
-reached_read g f d ps = rw (take_while-cons (λ (x : Place). can_be_read x.item) (place_of f (Ok d)) ps) refl
+reached_read g f d ps = rw (take_while-cons (λ (x : Place). can_be_read x.item) (placed_item f (Ok d)) ps) refl
 
-pub reached_unread : (g : Goal) (f : Frame) (fault : DescFault) (ps : List Place) → is_reached_in g (place_of f (Err fault) ∷ ps) ≡ false
+pub reached_unread : (g : Goal) (f : Frame) (fault : DescFault) (ps : List Place) → is_reached_in g (placed_item f (Err fault) ∷ ps) ≡ false
 unfolding is_reached_in
 reached_unread g f fault ps = refl
 

@@ -47,7 +47,7 @@ use Rattle.accesses_keep.specs.frame_graph.Reach.{IsReached}
 use Rattle.accesses_keep.specs.frame_graph.Sites.{site_at, unwinding_at}
 use Rattle.accesses_keep.specs.frame_graph.Edges.{instruction_at, is_undecodable, branches_out, calls_nothing}
 use Rattle.accesses_keep.specs.frame_reach.Marks.{Marks}
-use Rattle.accesses_keep.specs.frame_flow.Causes.{shown, answered, after_at, site_causes, is_call, instruction_causes, found, unwound as unwound_causes}
+use Rattle.accesses_keep.specs.frame_flow.Causes.{shown, answered, after_at, site_causes, is_call, instruction_causes, causes_at, unwound as unwound_causes}
 use Rattle.accesses_keep.specs.frame_flow.Flows.{IsStateOf}
 use Rattle.accesses_keep.proofs.frame_flow.Causing.{found_are_met}
 use Rattle.accesses_keep.proofs.frame_flow.Reaching.{state_reached}
@@ -175,11 +175,11 @@ module _ (x : Accepted) (is : IsProgram x) (recipes : CodesAreRecipes x) (f : Fu
   well : IsWell s
   well = All-contains (λ (g : Function). IsWell (flow_graph_of x.image g)) x.image.functions f is.sound.functions of.among
 
-  not_found : (cause : FrameCause) → Contains (found (code x f m) p fact) cause → ⊥
+  not_found : (cause : FrameCause) → Contains (causes_at (code x f m) p fact) cause → ⊥
   not_found cause h = none_stands x f m is.sound of.among of.are p cause (met state ((found_are_met (code x f m) cause p fact).1 h))
 
-  at_the_site : (cause : FrameCause) → Contains (unwound_causes (code x f m).prologue (unwinding_at s site) (is_call i) fact) cause → Contains (found (code x f m) p fact) cause
-  unfolding found
+  at_the_site : (cause : FrameCause) → Contains (unwound_causes (code x f m).prologue (unwinding_at s site) (is_call i) fact) cause → Contains (causes_at (code x f m) p fact) cause
+  unfolding causes_at
   at_the_site cause h =
       let here : Contains (site_causes (code x f m) (is_call i) fact site) cause = Contains-append_left (unwound_causes (code x f m).prologue (unwinding_at s site) (is_call i) fact) _ cause h in
       let site_part : Contains (option_map_or (site_causes (code x f m) (is_call i) fact) (site_at s p) []) cause = rw site_is here in

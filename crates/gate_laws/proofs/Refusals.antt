@@ -1,13 +1,13 @@
 -- The ends of the gates of exceptions, each with its value.
-use Rattle.std.proofs.Common.{◌≡◌, ◌⊎◌, inl, inr, ℕ, ◌<◌, ◌≤◌, ◌==◌, Bool, true, false, cond, Option, None, Result, Ok, Err, refl, sym, ap, subst, arith}
+use Rattle.std.proofs.Common.{◌≡◌, ◌⊎◌, inl, inr, ℕ, ◌<◌, ◌≤◌, ◌==◌, Bool, true, false, cond, Option, None, Result, Ok, Err, refl, sym, ap, subst, ◌∙◌, arith}
 use Rattle.std.specs.Prelude.{is_some}
 use Rattle.std.proofs.lemmas.Bool.{eqb-true}
 use Rattle.eh_bus.specs.Memory.{Memory}
-use Rattle.eh_types.specs.Graph.{row_of}
-use Rattle.eh_cxa.specs.Words.{word, put_all, object_slot}
+use Rattle.eh_types.specs.Graph.{Row, row_of}
+use Rattle.eh_cxa.specs.Words.{word, put_all, block_slot, object_slot}
 use Rattle.eh_cxa.specs.Allocate.{allocate_of, free_of}
 use Rattle.eh_cxa.specs.Throw.{throw_fault, thrown_of}
-use Rattle.eh_cxa.specs.Catch.{begin_catch_of, end_catch_of}
+use Rattle.eh_cxa.specs.Catch.{begin_catch_of, end_catch_of, rethrow_at}
 use Rattle.eh_cxa.specs.declared.globals.Globals.{Globals}
 use Rattle.eh_cxa.specs.declared.globals.CxaFault.{CxaFault}
 use Rattle.eh_phase.specs.declared.verdict.Thrown.{Thrown}
@@ -28,11 +28,11 @@ use Rattle.thumb_core.specs.declared.ends.End.TheVariants.{Trap, Terminate}
 use Rattle.eh_gates.specs.declared.state.Turned.TheVariants.{Went, Ended}
 use Rattle.eh_gates.specs.declared.gates.TheConstants.{ALLOCATE_GATE, FREE_GATE, THROW_GATE, BEGIN_CATCH_GATE, END_CATCH_GATE, RETHROW_GATE, END_CLEANUP_GATE, UNEXPECTED_GATE, TERMINATE_GATE, UNCAUGHT_GATE}
 use Rattle.eh_gates.specs.State.{State, Tables, Outcome, reg, logged}
-use Rattle.eh_gates.specs.CallGates.{fault_end, allocated, freed, caught, dropped}
+use Rattle.eh_gates.specs.CallGates.{fault_end, refused, allocated, freed, caught, dropped}
 use Rattle.eh_gates.specs.Landing.{entered}
 use Rattle.eh_gates.specs.Throwing.{frames_from, frames_seen, barrier_words, with_barrier, handed, throw_to, throw_event, size_of, barrier_in, searched, sought, from_barrier, flies_to, flies, first_flight, throws, thrown_first, thrown_of_block, second_flight, rethrow_end, rethrows}
 use Rattle.eh_gates.specs.Gates.{gate_of}
-use Rattle.gate_laws.specs.Refusals.{IsTrap, Terminates, NoWord, IsUnread, caught_type, GatesEndAsTold, OtherGatesAreNone}
+use Rattle.gate_laws.specs.Refusals.{IsTrap, Terminates, NoWord, IsUnread, caught_type, GatesEndAsTold, OtherGatesAreNone, RefusalsComeInOrder}
 use Rattle.gate_laws.proofs.Answers.{ErrIs, allocate_err, free_err, throw_err, may_throw_err, catch_err, end_catch_err, rethrow_err, rethrow_top}
 use Rattle.gate_laws.proofs.Unread.{unread}
 
@@ -223,3 +223,36 @@ are_none g number next s out =
     unless P (number == UNEXPECTED_GATE) _ _ (not_at number 23 out (omega arith) (omega arith)) (
     unless P (number == TERMINATE_GATE) _ _ (not_at number 24 out (omega arith) (omega arith)) (
     unless P (number == UNCAUGHT_GATE) _ _ (not_at number 25 out (omega arith) (omega arith)) refl)))))))))
+
+-- ---- which refusal comes first
+
+no_type : (g : Tables) (s : State) (what : EventKind) (thrown : Thrown) (further : Barrier → State → Outcome) → row_of g.types thrown.ty ≡ None
+    → from_barrier further (sought g s what thrown) ≡ (Ended (Trap trap.BadType thrown.ty s.regs.pc), s)
+unfolding sought
+no_type g s what thrown further e =
+    ap (λ (o : Option Row). from_barrier further (cond (is_some o) (barrier_in s.regs.pc (searched g s thrown), logged s (throw_event what s.memory thrown (size_of s thrown))) (Err (Trap trap.BadType thrown.ty s.regs.pc), s))) e
+
+module _ (g : Tables) (next : ℕ) (s : State) where
+  no_object : (why : CxaFault) → throw_fault (word s.memory) (object_slot (reg s 0)) ≡ Err why → gate_of g 18 next s ≡ (Ended (Trap trap.BadObject (reg s 0) s.regs.pc), s)
+  unfolding gate_of
+  no_object why e =
+      let P : CxaFault → Type 0 = λ w. refused w (reg s 0) s ≡ (Ended (Trap trap.BadObject (reg s 0) s.regs.pc), s) in
+      ap (throws g s) e ∙ subst (ErrIs P) e (may_throw_err P (word s.memory) (object_slot (reg s 0)) refl)
+
+  no_thrown_type : throw_fault (word s.memory) (object_slot (reg s 0)) ≡ Ok tt → row_of g.types (reg s 1) ≡ None → gate_of g 18 next s ≡ (Ended (Trap trap.BadType (reg s 1) s.regs.pc), s)
+  unfolding gate_of
+  no_thrown_type e none = ap (throws g s) e ∙ no_type g s kind.Throw (thrown_first s) (λ b t. flies g t (reg s 0) (first_flight t) b) none
+
+  nothing_caught : block_slot s.globals.caught ≡ None → gate_of g 21 next s ≡ (Ended (Terminate cause.NothingCaught), s)
+  unfolding gate_of
+  nothing_caught e = ap (λ (o : Option ℕ). rethrows g s (rethrow_at (word s.memory) s.globals o).answer) e
+
+  no_caught_type : (block : ℕ) → (second_flight s).answer ≡ Ok block → row_of g.types (caught_type s) ≡ None → gate_of g 21 next s ≡ (Ended (Trap trap.BadType (caught_type s) s.regs.pc), s)
+  unfolding gate_of
+  no_caught_type block e none =
+      ap (rethrows g s) e
+      ∙ no_type g s kind.Rethrow (thrown_of_block s block) (λ b t. flies g t block (second_flight t) b) (ap (row_of g.types) (top_type s block e) ∙ none)
+      ∙ ap (λ (ty : ℕ). (Ended (Trap trap.BadType ty s.regs.pc), s)) (top_type s block e)
+
+pub come_in_order : RefusalsComeInOrder
+come_in_order g next s = record { object = no_object g next s; thrown_type = no_thrown_type g next s; nothing = nothing_caught g next s; caught_type = no_caught_type g next s }

@@ -1,8 +1,11 @@
 -- The ends of the gates of exceptions, each with its value (docs/machine.md, "Gates").
-use Rattle.std.specs.Prelude.{◌≡◌, ◌⊎◌, ℕ, ◌<◌, Ok}
+use Rattle.std.specs.Prelude.{◌≡◌, ◌⊎◌, ℕ, ◌<◌, None, Ok, Err}
 use Rattle.eh_bus.specs.Memory.{Memory, load}
-use Rattle.eh_cxa.specs.Words.{word, block_slot}
-use Rattle.eh_cxa.specs.Throw.{thrown_of}
+use Rattle.eh_cxa.specs.Words.{word, block_slot, object_slot}
+use Rattle.eh_cxa.specs.Throw.{throw_fault, thrown_of}
+use Rattle.eh_cxa.specs.Catch.{rethrow_of}
+use Rattle.eh_cxa.specs.declared.globals.CxaFault.{CxaFault}
+use Rattle.eh_types.specs.Graph.{row_of}
 use Rattle.thumb_core.specs.declared.ends.Cause.{Cause}
 use Rattle.thumb_core.specs.declared.ends.Cause.TheVariants as cause
 use Rattle.thumb_core.specs.declared.ends.TrapKind.{TrapKind}
@@ -54,3 +57,21 @@ GatesEndAsTold = (g : Tables) (next : ℕ) (s t : State) (end : End) → EndAsTo
 -- a gate of no number of these is none
 abbrev pub OtherGatesAreNone : Type 0
 OtherGatesAreNone = (g : Tables) (number next : ℕ) (s : State) → (number < 16) ⊎ (25 < number) → gate_of g number next s ≡ (Ended (Trap kind.UnknownGate number s.regs.pc), s)
+
+-- ---- which refusal comes first
+
+-- what may not be thrown is refused before its type is asked for, and a type that the graph doesn't hold before anything is done; the state stays
+pub record ComeInOrder (g : Tables) (next : ℕ) (s : State) : Type 0 where
+  pub object :
+      (why : CxaFault) → throw_fault (word s.memory) (object_slot (reg s 0)) ≡ Err why
+      → gate_of g 18 next s ≡ (Ended (Trap kind.BadObject (reg s 0) s.regs.pc), s)
+  pub thrown_type :
+      throw_fault (word s.memory) (object_slot (reg s 0)) ≡ Ok tt → row_of g.types (reg s 1) ≡ None
+      → gate_of g 18 next s ≡ (Ended (Trap kind.BadType (reg s 1) s.regs.pc), s)
+  pub nothing : block_slot s.globals.caught ≡ None → gate_of g 21 next s ≡ (Ended (Terminate cause.NothingCaught), s)
+  pub caught_type :
+      (block : ℕ) → (rethrow_of (word s.memory) s.globals).answer ≡ Ok block → row_of g.types (caught_type s) ≡ None
+      → gate_of g 21 next s ≡ (Ended (Trap kind.BadType (caught_type s) s.regs.pc), s)
+
+abbrev pub RefusalsComeInOrder : Type 0
+RefusalsComeInOrder = (g : Tables) (next : ℕ) (s : State) → ComeInOrder g next s

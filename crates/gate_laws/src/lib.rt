@@ -4,7 +4,7 @@
 ghost use Rattle.gate_laws.specs.Landings.{LandingsAreAsTold, ThrowsLand, GatesGoAfter};
 ghost use Rattle.gate_laws.specs.CallAnswers.{CallsAnswer};
 ghost use Rattle.gate_laws.specs.PadEvents.{LandingsHaveTheirEvent};
-ghost use Rattle.gate_laws.specs.Refusals.{GatesEndAsTold, OtherGatesAreNone};
+ghost use Rattle.gate_laws.specs.Refusals.{GatesEndAsTold, OtherGatesAreNone, RefusalsComeInOrder};
 ghost use Rattle.gate_laws.specs.Resumes.{CleanupsGoOnFromTheKept};
 ghost use Rattle.gate_laws.specs.Throws.{ThrowsAddTheirEvent, FailedSearchesAddOne};
 ghost use Rattle.gate_laws.specs.Pointers.{PointersCanBeLoaded, ObjectsAreGiven, CatchesGive};
@@ -34,6 +34,12 @@ pub fn gates_go_after()
 /// Each gate ends the run by these ends alone, each with its value.
 pub fn gates_end_as_told()
     ensures { GatesEndAsTold }
+{}
+
+/// What may not be thrown is refused before its type is asked for, a rethrow of nothing before all else, and a type that the graph doesn't hold before
+/// anything is done.
+pub fn refusals_come_in_order()
+    ensures { RefusalsComeInOrder }
 {}
 
 /// A gate below 16 or above 25 is none of exceptions.

@@ -1,2 +1,4 @@
 pub mod Filtering
 pub mod Rowing
+pub mod Halving
+pub mod Refusing

@@ -2,6 +2,10 @@
 //! index with them (IHI 0038). docs/gnu-tables.md states the rules.
 #![tactic(auto)]
 
+pub mod filters;
+pub mod refusal;
 pub mod tables;
 
-pub use tables::{RefusedEntry, Tables, rewritten};
+pub use filters::filter_of;
+pub use refusal::{GnuFault, SITES_LIMIT, rows_refusal, sites_refusal};
+pub use tables::{RefusedEntry, Tables, rewritten, rewritten_within_limit};

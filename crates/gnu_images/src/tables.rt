@@ -1,5 +1,5 @@
 //! All rows of an index, with the tables that stand for their generic entries. docs/gnu-tables.md states the rules.
-ghost use Rattle.std.specs.Prelude.{◌≡◌, ◌<◌, ◌++◌, [], OnOk, IfOk};
+ghost use Rattle.std.specs.Prelude.{◌≡◌, ◌≢◌, ◌<◌, ◌++◌, [], None, Some, OnOk, IfOk, IfErr};
 ghost use Rattle.eh_index.specs.Rows.{entry_count};
 ghost use Rattle.gnu_tables.specs.Entries.{personality_in};
 ghost use Rattle.gnu_tables.specs.Heads.{area_of};
@@ -7,7 +7,10 @@ ghost use Rattle.gnu_descriptors.specs.Codes.{codes_of};
 ghost use Rattle.gnu_descriptors.specs.Scopes.{scopes_of};
 ghost use Rattle.gnu_images.specs.Tables.{descriptors_of, filters_from, no_tables, place_after, with_kept, with_refused, with_table, with_area, with_judged, with_row, rewritten};
 ghost use Rattle.gnu_descriptors.specs.Filters.{with_filter};
+ghost use Rattle.gnu_images.specs.Refusal.{sites_refusal};
+ghost use Rattle.gnu_images.specs.declared.refusal.GnuFault.TheVariants.{OutOfMemory};
 
+use crate::refusal::{GnuFault, sites_refusal};
 use descriptor_bytes::{OwnDescriptor, codes_end, push_table};
 use eh_index::Index;
 use gnu_descriptors::{Scoped, codes_of, scopes_of};
@@ -102,6 +105,16 @@ impl Tables {
         ensures { result ≡ place_after base self.now }
     {
         base.wrapping_add((self.bytes.len() % 0x1_0000_0000) as u32)
+    }
+
+    /// The bytes of the tables, the rows, the filters and the refused entries.
+    pub fn into_lists(self) -> (Vec<u8>, Vec<Entry>, Vec<(u32, u32)>, Vec<RefusedEntry>)
+        ensures bytes { result.0.items ≡ self.bytes }
+        ensures rows { result.1.items ≡ self.rows }
+        ensures filters { result.2.items ≡ self.filters }
+        ensures refused { result.3.items ≡ self.refused }
+    {
+        (self.bytes, self.rows, self.filters, self.refused)
     }
 
     /// Adds a row that stays as it is.
@@ -234,4 +247,18 @@ pub fn rewritten(alloc: Global, index: &Index, base: u32) -> Result<Tables, Allo
         tables.push_row(alloc, index, personality, base, k)?;
     }
     Ok(tables)
+}
+
+/// What `rewritten` gives, where not too many bytes of call-site tables are to be read. TooLarge exactly where the call-site tables of all
+/// rows have more than 1,048,576 bytes. Linear in rows, records and actions.
+pub fn rewritten_within_limit(alloc: Global, index: &Index, base: u32) -> Result<Tables, GnuFault>
+    ensures accepted { IfOk result (λ _. sites_refusal index.now ≡ None) }
+    ensures made { IfOk result (λ t. t ≡ rewritten index.now base) }
+    // Want of memory alone is free.
+    ensures refused { IfErr result (λ fault. fault ≢ OutOfMemory → sites_refusal index.now ≡ Some fault) }
+{
+    match sites_refusal(index) {
+        None => Ok(rewritten(alloc, index, base)?),
+        Some(fault) => Err(fault),
+    }
 }

@@ -3,15 +3,22 @@ use crate::command::file;
 use case_rows::{Asked, Unanswered};
 use eh_files::{FileList, MemFiles};
 use eh_port::{Bytes, CallNumbers, MemSink, MemSource};
+use ehabi_audit_top::audit_main;
 use ehabi_top::ehabi_main;
 use std::alloc::{AllocError, Global};
 use std::fs;
 
-/// The files that commands find, besides the image.
+/// The files that commands find, besides the images.
 const FILES: [&str; 4] = ["c.bin", "echo.bin", "a.s", "b.s"];
 
-/// The name of the image.
-const IMAGE: &str = "reading.elf";
+/// The name of the image that reads.
+const READING: &str = "reading.elf";
+
+/// The name of the image of which two functions aren't well.
+const UNWELL: &str = "unwell.elf";
+
+/// The first word of a row whose other words are those of `ehabi_audit`.
+const AUDIT: &str = "audit";
 
 /// More calls than any command of a row makes of one port.
 const MANY: u64 = 64;
@@ -20,11 +27,12 @@ const READ_FAILED: u8 = 7;
 
 const WRITE_FAILED: u8 = 8;
 
-/// Commands over the files of the folder where the program runs, and an image.
+/// Commands over the files of the folder where the program runs, and two images.
 #[derive(Drop)]
 pub struct Calls<'a> {
     pub host: &'a HostRuntime,
-    pub image: &'a [u8],
+    pub reading: &'a [u8],
+    pub unwell: &'a [u8],
 }
 
 /// The words of a command, and its input.
@@ -106,7 +114,8 @@ impl Calls<'_> {
             let bytes = fs::read(self.host, name)?;
             files.push(file(alloc, name, bytes.as_slice())?)?;
         }
-        files.push(file(alloc, IMAGE, self.image)?)?;
+        files.push(file(alloc, READING, self.reading)?)?;
+        files.push(file(alloc, UNWELL, self.unwell)?)?;
         Ok(FileList::of_vec(files))
     }
 
@@ -136,7 +145,12 @@ impl Calls<'_> {
             faults: 0,
         };
         let words = command.words.as_slice();
-        let status = ehabi_main(alloc, words, &mut files, &mut input, &mut out);
+        let status = match words {
+            [first, after @ ..] if *first == AUDIT => {
+                audit_main(alloc, after, &mut files, &mut out)
+            }
+            _ => ehabi_main(alloc, words, &mut files, &mut input, &mut out),
+        };
         let read_faults = files.faults.saturating_add(input.faults);
         Ok(Outcome {
             written: out.written,

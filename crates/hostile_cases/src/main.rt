@@ -21,9 +21,11 @@ fn main(host: HostRuntime) -> Result<(), Error> {
     run_parts(&host, "parts.txt", thrown.as_slice())?;
     run_changes(&host, "changes.txt", thrown.as_slice())?;
     let reading = built(&host, "reading.s")?;
+    let unwell = built(&host, "unwell.s")?;
     let calls = Calls {
         host: &host,
-        image: reading.as_slice(),
+        reading: reading.as_slice(),
+        unwell: unwell.as_slice(),
     };
     run_file(&host, "calls.txt", &calls)?;
     run_file(&host, "outside.txt", &Outside { host: &host })

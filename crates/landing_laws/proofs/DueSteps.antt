@@ -43,8 +43,8 @@ not_both (enters.Spec vrs pad) s c = c
 not_both enters.Unexpected s c = c
 not_both (enters.Terminate cause) s c = c
 
-abbrev place_of : Frame → Result Desc DescFault → Place
-place_of f i = record { frame = f; item = i }
+abbrev placed_item : Frame → Result Desc DescFault → Place
+placed_item f i = record { frame = f; item = i }
 
 cleans_by : (g : Goal) (f : Frame) (i : Result Desc DescFault) (more : List (Result Desc DescFault)) (qs : List Place) (vrs : Vrs) (pad next site : ℕ)
     → (first_some (entered_item g f) more ≡ Some (Cleanup vrs pad next site) → Cleans g f more qs vrs pad next site) → first_some (entered_item g f) (i ∷ more) ≡ Some (Cleanup vrs pad next site) → Sort g f i
@@ -60,7 +60,7 @@ cleans_by g f i more qs vrs pad next site further e (Quiet r n c b) =
       next_is = h.next_is;
       registers = h.registers;
       stands = h.stands;
-      due = due_past g (place_of f i) (placed f more ++ qs) b ∙ ap (λ o. cons_option o (due_in g (placed f more ++ qs))) c ∙ h.due;
+      due = due_past g (placed_item f i) (placed f more ++ qs) b ∙ ap (λ o. cons_option o (due_in g (placed f more ++ qs))) c ∙ h.due;
     }
 cleans_by g f i more qs vrs pad next site further e (Clean d at is n c b) =
     let same : Some (enters.Cleanup (vrs_of f) at d.next f.site) ≡ Some (Cleanup vrs pad next site) = sym (first_gives (entered_item g f) i more _ n) ∙ e in
@@ -73,7 +73,7 @@ cleans_by g f i more qs vrs pad next site further e (Clean d at is n c b) =
       next_is = cc;
       registers = cc;
       stands = cc;
-      due = due_past g (place_of f i) (placed f more ++ qs) b ∙ ap (λ o. cons_option o (due_in g (placed f more ++ qs))) c ∙ ap (λ t. t ∷ due_in g (placed f more ++ qs)) whole;
+      due = due_past g (placed_item f i) (placed f more ++ qs) b ∙ ap (λ o. cons_option o (due_in g (placed f more ++ qs))) c ∙ ap (λ t. t ∷ due_in g (placed f more ++ qs)) whole;
     }
 cleans_by g f i more qs vrs pad next site further e (Stop t s r n b) =
     let same : Some t ≡ Some (Cleanup vrs pad next site) = sym (first_gives (entered_item g f) i more _ n) ∙ e in

@@ -21,7 +21,7 @@ use Rattle.thumb_core.specs.declared.ends.End.{End}
 use Rattle.two_machines.specs.Program.{Program, program_tables}
 use Rattle.two_machines.specs.Activations.{Activation, Caller, Recorded, memory_of, freed_in}
 use Rattle.two_machines.specs.ActivationLaws.{callers}
-use Rattle.two_machines.specs.ActivationMachine.{left_by, reguarded_at, moved, tested, tests, stepped, checked, passed, onward, gated, in_state, event_of, gate_of, registers_after, returned, pops_back, trapped_by, recorded_event}
+use Rattle.two_machines.specs.ActivationMachine.{left_by, reguarded_at, recorded_after, tested, tests, stepped, checked, passed, onward, gated, in_state, event_of, gate_of, registers_after, returned, pops_back, trapped_by, recorded_event}
 use Rattle.two_machines.specs.Corresponds.{IsNoCall}
 use Rattle.landing_laws.proofs.Beside.{SameBarrier, same_segments}
 use Rattle.landing_laws.proofs.Kept.{Moved}
@@ -87,17 +87,17 @@ module _ (s : Recorded) where
 
     by_test : (what : Stepped) → IsNoCall what → (regs : Regs) (m : Memory) → KeepsMap (memory_of s) m → (o : Option End) → QuietBy (onward p s (tested p s what regs m o) input)
     by_test what h regs m k (Some end) = tt
-    by_test Done h regs m k None = record { cleanups = refl; same = words_kept (moved p s Done regs m) m k refl; moved = inl (0, base_moved regs m) }
+    by_test Done h regs m k None = record { cleanups = refl; same = words_kept (recorded_after p s Done regs m) m k refl; moved = inl (0, base_moved regs m) }
     by_test (Call target ret) h regs m k None = record {
       cleanups = refl;
-      same = words_kept (moved p s (Call target ret) regs m) m k refl;
-      moved = inr ((moved p s (Call target ret) regs m).first, (moved p s (Call target ret) regs m).outer, refl, base_moved regs m);
+      same = words_kept (recorded_after p s (Call target ret) regs m) m k refl;
+      moved = inr ((recorded_after p s (Call target ret) regs m).first, (recorded_after p s (Call target ret) regs m).outer, refl, base_moved regs m);
     }
     by_test (Return to) h regs m k None =
         let base = reguarded_at p s regs (record s { regs = regs; segments = m.segments }) in
         by_left base.outer base m k refl refl refl (base_moved regs m)
     by_test (Gate number) h regs m k None = by_number number regs h
-    by_test (Trap trap) h regs m k None = record { cleanups = refl; same = words_kept (moved p s (Trap trap) regs m) m k refl; moved = inl (0, base_moved regs m) }
+    by_test (Trap trap) h regs m k None = record { cleanups = refl; same = words_kept (recorded_after p s (Trap trap) regs m) m k refl; moved = inl (0, base_moved regs m) }
 
     by_step : (o : Stepping) → IsNoCall o.0 → KeepsMap (memory_of s) o.2 → QuietBy (onward p s (stepped p s o) input)
     by_step (Trap trap, regs, m) h k = go (pops_back s)

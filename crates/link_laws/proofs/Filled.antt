@@ -134,8 +134,8 @@ pub decodes_in : (i : Instr) (s : Section) (objects : List Object) (entry : List
     → Decodes i (part_in s (filled_of (placed_of objects) placed)) k → DecodesAt i image (address_in s placed.at + k)
 decodes_in i s objects entry image placed one k e h = record { encoding = h.encoding; there = code_in h.encoding s objects entry image placed one k e h.there; means = h.means }
 
-moved : (i : Instr) (k : ℕ) (xs ys : List ℕ) → xs ≡ ys → Decodes i xs k → Decodes i ys k
-moved i k xs ys e h = let P : List ℕ → Type 0 = λ l. Decodes i l k in subst P e h
+decodes_same : (i : Instr) (k : ℕ) (xs ys : List ℕ) → xs ≡ ys → Decodes i xs k → Decodes i ys k
+decodes_same i k xs ys e h = let P : List ℕ → Type 0 = λ l. Decodes i l k in subst P e h
 
 -- ---- the law
 
@@ -207,15 +207,15 @@ filled_at objects entry image placed one stmts before after reloc few accepted e
         }
     by Call meaning is inside whole reach small =
         decodes_in _ reloc.section objects entry image placed one reloc.offset e
-        (moved _ reloc.offset _ _ whole
+        (decodes_same _ reloc.offset _ _ whole
         (law_of_calls (meaning_of (placed_of objects) placed) reloc.section (address_in reloc.section placed.at) (bytes_at reloc.section placed.object) before reloc after meaning is (omega (arith, inside, small)) reach))
     by Jump meaning is inside whole reach small =
         decodes_in _ reloc.section objects entry image placed one reloc.offset e
-        (moved _ reloc.offset _ _ whole
+        (decodes_same _ reloc.offset _ _ whole
         (law_of_jumps (meaning_of (placed_of objects) placed) reloc.section (address_in reloc.section placed.at) (bytes_at reloc.section placed.object) before reloc after meaning is (omega (arith, inside, small)) reach))
     by CondJump meaning is inside whole reach small = λ half there.
         decodes_in _ reloc.section objects entry image placed one reloc.offset e
-        (moved _ reloc.offset _ _ whole
+        (decodes_same _ reloc.offset _ _ whole
         (law_of_cond_jumps (meaning_of (placed_of objects) placed) reloc.section (address_in reloc.section placed.at) (bytes_at reloc.section placed.object) before reloc after meaning is (omega (arith, inside, small)) reach half there))
 
 pub law_of_filled : FieldsAreFilled

@@ -292,8 +292,8 @@ labels_in w = labels_of (entries_of (source w)) (source w)
 abbrev section_of : Wording → Section
 section_of w = (walk_over (source w) w.before).at.section
 
-abbrev place_of : Wording → ℕ
-place_of w = (here (walk_over (source w) w.before).at).offset + 4 * length w.front
+abbrev word_place : Wording → ℕ
+word_place w = (here (walk_over (source w) w.before).at).offset + 4 * length w.front
 
 some_fields : (front : List Expr) (x : Expr) (back : List Expr) → has_fields (front ++ x ∷ back) ≡ true
 some_fields front x back = not_none (length (front ++ x ∷ back)) (omega (arith, length-append front (x ∷ back)))
@@ -314,7 +314,7 @@ bytes_count : (labels : List Named) (exprs : List Expr) → length (words_bytes 
 bytes_count labels exprs = each_has (λ v. word_bytes (held labels v)) 4 (λ v. refl) (map word_of exprs) ∙ ap (λ n. 4 * n) (words_count exprs)
 
 -- the bytes of the section have there what the assembler holds for the word
-word_reads : (w : Wording) (x : ℕ) → held (labels_in w) (word_of w.value) ≡ x → Reads 4 (bytes_at (section_of w) w.placed.object) (place_of w) (x % 256 ^ 4)
+word_reads : (w : Wording) (x : ℕ) → held (labels_in w) (word_of w.value) ≡ x → Reads 4 (bytes_at (section_of w) w.placed.object) (word_place w) (x % 256 ^ 4)
 word_reads w x e =
     let own = word_given w in
     let labels = labels_in w in
@@ -328,7 +328,7 @@ word_reads w x e =
     ∙ ap (λ n. first ++ (word_bytes n ++ last)) e))
     (bytes_count labels w.front)
 
-word_clears : (w : Wording) → link_of (word_of w.value) ≡ None → (j : ℕ) → place_of w ≤ j → j < place_of w + 4 → IsInNoField (section_of w) j w.placed.object.relocs
+word_clears : (w : Wording) → link_of (word_of w.value) ≡ None → (j : ℕ) → word_place w ≤ j → j < word_place w + 4 → IsInNoField (section_of w) j w.placed.object.relocs
 word_clears w none j from below =
     let own = word_given w in
     let offset = (here (walk_over (source w) w.before).at).offset in
@@ -341,7 +341,7 @@ word_clears w none j from below =
     (omega (arith, own.small, count, ap length split, words_count (values w)))
     (omega (arith, from, words_count w.front)) (omega (arith, below, words_count w.front))))
 
-word_field : (w : Wording) (link : Link) → link_of (word_of w.value) ≡ Some link → Has w.placed.object.relocs (field_at (section_of w) (place_of w) link)
+word_field : (w : Wording) (link : Link) → link_of (word_of w.value) ≡ Some link → Has w.placed.object.relocs (field_at (section_of w) (word_place w) link)
 word_field w link e =
     let own = word_given w in
     let offset = (here (walk_over (source w) w.before).at).offset in
@@ -351,7 +351,7 @@ word_field w link e =
     let there = words_have (section_of w) offset (map word_of w.front) (word_of w.value) (map word_of w.back) link low e in
     let P : List Word → Type 0 = λ l. Has (word_relocs (section_of w) offset l) (field_at (section_of w) (offset + 4 * length (map word_of w.front)) link) in
     let Q : ℕ → Type 0 = λ n. Has (word_relocs (section_of w) offset (map word_of (values w))) (field_at (section_of w) (offset + 4 * n) link) in
-    own.fields (field_at (section_of w) (place_of w) link) (subst Q (words_count w.front) (subst P (sym (words_split w.front w.back w.value)) there))
+    own.fields (field_at (section_of w) (word_place w) link) (subst Q (words_count w.front) (subst P (sym (words_split w.front w.back w.value)) there))
 
 known_in : {A : Type 0} (p : A → Bool) (front : List A) (x : A) (back : List A) → list_all p (front ++ x ∷ back) ≡ true → p x ≡ true
 known_in p [] x back h = first (p x) _ h
@@ -464,7 +464,7 @@ law_of_words objects entry image placed one before more line front back value fe
       part = address_in (section_of w) placed.at;
       begins = begins_at (section_of w) objects placed one;
       says =
-          word_says objects entry image placed one (source w) (section_of w) (place_of w) value
+          word_says objects entry image placed one (source w) (section_of w) (word_place w) value
           (record {
             few = few;
             accepted = accepted;

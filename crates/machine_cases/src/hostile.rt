@@ -204,7 +204,7 @@ pub fn well(alloc: Global, desk: &Desk, given: &[u32]) -> Result<String, Unanswe
 }
 
 /// Where the gate with a number stands in gates.s.
-fn place_of(gate: u8) -> u32 {
+fn gate_place(gate: u8) -> u32 {
     0x7FE2u32.wrapping_add(u32::from(gate).wrapping_mul(2))
 }
 
@@ -213,7 +213,7 @@ fn stand(desk: &mut Desk, gate: u8, given: u32, ty: u32) {
     desk.set_reg(0, given);
     desk.set_reg(1, ty);
     desk.set_reg(13, MAIN_SP);
-    desk.set_reg(15, place_of(gate));
+    desk.set_reg(15, gate_place(gate));
     desk.put_stack(&STACK);
 }
 

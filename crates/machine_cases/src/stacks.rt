@@ -85,7 +85,7 @@ enum Place {
     Nowhere,
 }
 
-fn place_of(back: u32) -> Place {
+fn stack_place(back: u32) -> Place {
     if back == 0xFFFF_FFFF {
         return Place::End;
     }
@@ -115,7 +115,7 @@ fn entered(desk: &Desk, stack: &[(u32, u32)]) -> Result<[u32; 4], Cause> {
     let mut back = desk.reg(14);
     let mut cleanup = None;
     for _ in 0..WORDS {
-        match place_of(back) {
+        match stack_place(back) {
             Place::End => return Err(Cause::NoHandler),
             Place::Bare | Place::Nowhere => return Err(Cause::CannotUnwind),
             Place::Main => return Ok(cleanup.unwrap_or([0x800A, sp, r4, BLOCK])),

@@ -2,6 +2,7 @@
 //! and the gates are 0 to 2.
 #![tactic(auto)]
 
+mod decode_cache;
 mod event;
 mod run;
 

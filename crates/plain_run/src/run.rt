@@ -4,6 +4,7 @@ ghost use Rattle.eh_port.specs.Causes.{Rose};
 ghost use Rattle.image_memory.specs.Start.{State};
 ghost use Rattle.plain_run.specs.Machine.{FlatRuns, FlatRunsGiven};
 
+use crate::decode_cache::DecodeCache;
 use crate::event::turn;
 use eh_bus::bus::Bus;
 use eh_port::{Sink, Source};
@@ -34,10 +35,11 @@ pub fn flat_run<B: Bus, I: Source, O: Sink>(
     ensures input_later { I.faults input.old ≤ I.faults input.new }
     ensures out_later { O.faults out.old ≤ O.faults out.new }
 {
+    let mut cache = DecodeCache::new();
     let mut left = budget;
     while left > 0 {
         left -= 1;
-        match turn(regs, bus, input, out) {
+        match turn(&mut cache, regs, bus, input, out) {
             None => {}
             Some(end) => return end,
         }

@@ -10,7 +10,7 @@ use Rattle.accepted_code.specs.frame_facts.declared.saves.Prologue.{Prologue}
 use Rattle.accepted_code.specs.frame_facts.Saves.{saves_within, moved_to, stack_word, saves_of}
 use Rattle.accepted_code.specs.thumb_isa.declared.instr.Instr.{Instr}
 use Rattle.accepted_code.specs.thumb_isa.declared.instr.Instr.TheVariants.{Push, ShiftImm, AddSubReg, AddSubImm3, Imm8, Alu, AddHigh, CmpHigh, MovHigh, Bx, Blx, LdrLit, MemReg, MemImm, MemSp, Adr, AddRdSp, AddSp, SubSp, Extend, Rev, Pop, Hint, Stm, Ldm, BCond, Svc, B, Bl, Barrier}
-use Rattle.accepted_code.specs.frame_facts.Facts.{lost, clobbered, source, within, with_source}
+use Rattle.accepted_code.specs.frame_facts.Facts.{lost, clobbered, source, bounded_depth, with_source}
 use Rattle.accepted_code.specs.thumb_core.Words.{listed}
 use Rattle.accepted_code.specs.frame_facts.After.{effect}
 use Rattle.accepted_code.specs.frame_facts.Data.{add_sub_imm3, imm8, alu, copied, sp_set}
@@ -85,7 +85,7 @@ other_frame q at (MemSp load t off) f g may down e = go load e
 other_frame q at (Adr d off) f g may down e = give q f (lost d f) g (refl, inl refl) e
 other_frame q at (AddRdSp d off) f g may down e = give q f (with_source f d _) g (refl, inl refl) e
 other_frame q at (AddSp off) f g may down e = absurd cc
-other_frame q at (SubSp (pos n)) f g may down e = by_depth (within (pos f.depth +ℤ pos n)) e
+other_frame q at (SubSp (pos n)) f g may down e = by_depth (bounded_depth (pos f.depth +ℤ pos n)) e
   where
     by_depth : (o : Option ℕ) → option_map (λ d. moved_to q d f) o ≡ Some g → Frame q f g
     by_depth None x = absurd cc
@@ -123,7 +123,7 @@ pub within_all : (p : Prologue) (d : ℕ) → Holds16 p d → saves_within p d �
 within_all p d h = all_within 0 d d (saves_of p) h.rise (omega arith) ∙ length_saves p h.long h.few
 
 push_frame : (q : Prologue) (at list : ℕ) (f g : Fact) → at < q.end → effect q false at (Push list) f ≡ Some g → (g.below ≡ f.below) × (g.kept ≡ saves_within q g.depth)
-push_frame q at list f g l e = go (within (pos f.depth +ℤ pos (4 * length (listed list)))) e
+push_frame q at list f g l e = go (bounded_depth (pos f.depth +ℤ pos (4 * length (listed list)))) e
   where
     go : (o : Option ℕ) → option_map (λ d. pushed_to q at d f) o ≡ Some g → (g.below ≡ f.below) × (g.kept ≡ saves_within q g.depth)
     go None x = absurd cc

@@ -18,7 +18,7 @@ use Rattle.accepted_code.specs.thumb_core.Words.{listed}
 use Rattle.accepted_code.specs.frame_facts.declared.facts.Fact.{Fact}
 use Rattle.accepted_code.specs.frame_facts.declared.facts.Source.{Source}
 use Rattle.accepted_code.specs.frame_facts.After.{effect, after_of, gone_on}
-use Rattle.accepted_code.specs.frame_facts.Facts.{within, with_source, source}
+use Rattle.accepted_code.specs.frame_facts.Facts.{bounded_depth, with_source, source}
 use Rattle.accepted_code.specs.frame_facts.Lists.{pushed_to}
 use Rattle.accepted_code.specs.frame_facts.Data.{sp_set, copied}
 use Rattle.accepted_code.specs.frame_facts.Prologues.{may_stand, is_callers, with_save, saved, with_pushed, pushed_by, ended, taken}
@@ -102,7 +102,7 @@ effect_same q P at (MemSp load t off) f g may k a b e h =
 effect_same q P at (Adr d off) f g may k a b e h = e
 effect_same q P at (AddRdSp d off) f g may k a b e h = e
 effect_same q P at (AddSp off) f g may k a b e h = absurd cc
-effect_same q P at (SubSp off) f g may k a b e h = go (within (pos f.depth +ℤ off)) e
+effect_same q P at (SubSp off) f g may k a b e h = go (bounded_depth (pos f.depth +ℤ off)) e
   where
     go : (o : Option ℕ) → option_map (λ d. moved_to q d f) o ≡ Some g → option_map (λ d. moved_to P d f) o ≡ Some g
     go None x = absurd cc
@@ -112,7 +112,7 @@ effect_same q P at (SubSp off) f g may k a b e h = go (within (pos f.depth +ℤ 
         ap (λ n. Some (let y : Fact = record f { depth = d; kept = min f.kept n } in y)) (within_same q P g.depth d (omega (arith, depth)) h) ∙ x
 effect_same q P at (Extend op d m) f g may k a b e h = e
 effect_same q P at (Rev op d m) f g may k a b e h = e
-effect_same q P at (Push list) f g may k a b e h = go (within (pos f.depth +ℤ pos (4 * length (listed list)))) e
+effect_same q P at (Push list) f g may k a b e h = go (bounded_depth (pos f.depth +ℤ pos (4 * length (listed list)))) e
   where
     to_q : (d : ℕ) → pushed_to q at d f ≡ (let y : Fact = record f { depth = d; kept = saves_within q d } in y)
     to_q d = ap (λ t. cond t (let y : Fact = record f { depth = d; kept = saves_within q d } in y) (moved_to q d f)) a

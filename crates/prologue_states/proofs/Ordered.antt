@@ -19,7 +19,7 @@ use Rattle.accepted_code.specs.frame_facts.declared.facts.Source.TheVariants.{En
 use Rattle.accepted_code.specs.frame_facts.Prologues.{is_callers, saved, with_save, with_pushed, may_stand, pushed_by, ended, taken, begun, run_on}
 use Rattle.accepted_code.specs.frame_facts.declared.saves.TheConstants.{MOST_SAVES}
 use Rattle.accepted_code.specs.frame_facts.declared.facts.Fact.{Fact}
-use Rattle.accepted_code.specs.frame_facts.Facts.{source, within}
+use Rattle.accepted_code.specs.frame_facts.Facts.{source, bounded_depth}
 use Rattle.accepted_code.specs.frame_facts.declared.facts.TheConstants.{DEEPEST}
 use Rattle.accepted_code.specs.thumb_core.Words.{listed}
 use Rattle.accepted_code.specs.frame_facts.After.{effect}
@@ -128,7 +128,7 @@ with_push p q f (reg ∷ more) h e = go (with_pushed p f more) refl e (λ r w. w
         with_one r q (f.depth + 4 * length more) (f.depth + 4 * length (reg ∷ more)) (saved (f.depth + 4 * length (reg ∷ more)) (source f reg)) (each r is) (omega arith)
         (λ v w. saved_offset (f.depth + 4 * length (reg ∷ more)) (source f reg) v w) x
 
-pub within_pos : (z : ℤ) (d : ℕ) → within z ≡ Some d → (z ≡ pos d) × (d ≤ DEEPEST)
+pub within_pos : (z : ℤ) (d : ℕ) → bounded_depth z ≡ Some d → (z ≡ pos d) × (d ≤ DEEPEST)
 within_pos (pos n) d e = go (nat_le n DEEPEST) refl e
   where
     go : (b : Bool) → nat_le n DEEPEST ≡ b → cond b (Some n) None ≡ Some d → (◌≡◌ {A = ℤ} (pos n) (pos d)) × (d ≤ DEEPEST)
@@ -138,9 +138,9 @@ within_pos (negsuc n) d e = absurd cc
 
 -- the depth after a push
 pub push_depth : (q : Prologue) (at list : ℕ) (f g : Fact) → effect q false at (Push list) f ≡ Some g → g.depth ≡ f.depth + 4 * length (listed list)
-push_depth q at list f g e = go (within (pos f.depth +ℤ pos (4 * length (listed list)))) refl e
+push_depth q at list f g e = go (bounded_depth (pos f.depth +ℤ pos (4 * length (listed list)))) refl e
   where
-    go : (o : Option ℕ) → within (pos f.depth +ℤ pos (4 * length (listed list))) ≡ o → option_map (λ d. pushed_to q at d f) o ≡ Some g → g.depth ≡ f.depth + 4 * length (listed list)
+    go : (o : Option ℕ) → bounded_depth (pos f.depth +ℤ pos (4 * length (listed list))) ≡ o → option_map (λ d. pushed_to q at d f) o ≡ Some g → g.depth ≡ f.depth + 4 * length (listed list)
     go None h x = absurd cc
     go (Some d) h x =
         let w = within_pos (pos f.depth +ℤ pos (4 * length (listed list))) d h in

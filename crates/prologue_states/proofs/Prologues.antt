@@ -9,7 +9,7 @@ use Rattle.std.proofs.lemmas.List.{append_assoc}
 use Rattle.accepted_code.specs.thumb_isa.declared.instr.Instr.{Instr}
 use Rattle.accepted_code.specs.thumb_isa.declared.instr.Instr.TheVariants.{SubSp, ShiftImm, AddSubReg, AddSubImm3, Imm8, Alu, AddHigh, CmpHigh, MovHigh, Bx, Blx, LdrLit, MemReg, MemImm, MemSp, Adr, AddRdSp, AddSp, Extend, Rev, Push, Pop, Hint, Stm, Ldm, BCond, Svc, B, Bl, Barrier}
 use Rattle.accepted_code.specs.frame_facts.declared.facts.Fact.{Fact}
-use Rattle.accepted_code.specs.frame_facts.Facts.{lost, clobbered, within, source, with_source, IsFit}
+use Rattle.accepted_code.specs.frame_facts.Facts.{lost, clobbered, bounded_depth, source, with_source, IsFit}
 use Rattle.accepted_code.specs.frame_facts.declared.facts.TheConstants.{DEEPEST}
 use Rattle.accepted_code.specs.frame_facts.declared.saves.Prologue.{Prologue}
 use Rattle.accepted_code.specs.frame_facts.Lists.{pushed_to}
@@ -54,17 +54,17 @@ pub clobbered_depth : (regs : List ℕ) (f : Fact) → (clobbered regs f).depth 
 clobbered_depth [] f = refl
 clobbered_depth (r ∷ more) f = clobbered_depth more (lost r f)
 
-within_is : (z : ℤ) (d n : ℕ) → within z ≡ Some d → z ≡ pos n → d ≡ n
-within_is z d n e is = go (nat_le n DEEPEST) (subst (λ y. within y ≡ Some d) is e)
+within_is : (z : ℤ) (d n : ℕ) → bounded_depth z ≡ Some d → z ≡ pos n → d ≡ n
+within_is z d n e is = go (nat_le n DEEPEST) (subst (λ y. bounded_depth y ≡ Some d) is e)
   where
     go : (b : Bool) → cond b (Some n) None ≡ Some d → d ≡ n
     go true x = sym (same_Some n d x)
     go false x = absurd cc
 
-to_deeper : (f g : Fact) (z : ℤ) (n : ℕ) (P : ℕ → Fact) → ((d : ℕ) → (P d).depth ≡ d) → z ≡ pos n → f.depth ≤ n → option_map P (within z) ≡ Some g → f.depth ≤ g.depth
-to_deeper f g z n P is at l e = go (within z) refl e
+to_deeper : (f g : Fact) (z : ℤ) (n : ℕ) (P : ℕ → Fact) → ((d : ℕ) → (P d).depth ≡ d) → z ≡ pos n → f.depth ≤ n → option_map P (bounded_depth z) ≡ Some g → f.depth ≤ g.depth
+to_deeper f g z n P is at l e = go (bounded_depth z) refl e
   where
-    go : (o : Option ℕ) → within z ≡ o → option_map P o ≡ Some g → f.depth ≤ g.depth
+    go : (o : Option ℕ) → bounded_depth z ≡ o → option_map P o ≡ Some g → f.depth ≤ g.depth
     go None h x = absurd cc
     go (Some d) h x = let same = within_is z d n h at in let depth : d ≡ g.depth = sym (is d) ∙ ap (λ (y : Fact). y.depth) (same_Some (P d) g x) in omega (arith, same, depth, l)
 

@@ -29,9 +29,10 @@ use Rattle.ehabi_top.specs.GenerateReport.{summary_report}
 use Rattle.ehabi_top.specs.Loading.{Report, Closing, closing_of, ran_report, status_of}
 use Rattle.ehabi_top.specs.RunReport.{accepted_report, run_report, trace}
 use Rattle.ehabi_top.specs.TaskReport.{TaskReports}
-use Rattle.ehabi_top.specs.Text.{trace_head, end_line, summary}
+use Rattle.ehabi_top.specs.Text.{trace_head, summary}
+use Rattle.report_lines.specs.Text.{end_line}
 use Rattle.ehabi_top.specs.WalkReport.{accepted_walk, walk_closing, walk_report, walked, walked_by}
-use Rattle.ehabi_top.specs.declared.status.TheConstants.{DONE}
+use Rattle.program_answers.specs.declared.status.TheConstants.{DONE}
 use Rattle.ehabi_top.specs.declared.walk.TheConstants.{MOST_FRAMES}
 use Rattle.ehabi_top.specs.declared.words.Task.{Task}
 use Rattle.ehabi_top.specs.declared.words.Task.TheVariants.{Run, Walk, Force}

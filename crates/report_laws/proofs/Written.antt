@@ -30,9 +30,10 @@ use Rattle.ehabi_top.specs.ForceReport.{accepted_force, bytes_forced, by_site_en
 use Rattle.ehabi_top.specs.GenerateReport.{summary_report}
 use Rattle.ehabi_top.specs.Loading.{Report, Closing, closing_of, ran_report, status_of}
 use Rattle.ehabi_top.specs.RunReport.{accepted_report, run_report}
-use Rattle.ehabi_top.specs.Text.{end_line, image_fault_line, summary}
+use Rattle.report_lines.specs.Text.{end_line, image_fault_line}
+use Rattle.ehabi_top.specs.Text.{summary}
 use Rattle.ehabi_top.specs.WalkReport.{accepted_walk, walk_closing, walked_by, bytes_to_site, bytes_walk}
-use Rattle.ehabi_top.specs.declared.status.TheConstants.{DONE, EXIT_NONZERO, REFUSED}
+use Rattle.program_answers.specs.declared.status.TheConstants.{DONE, EXIT_NONZERO, REFUSED}
 use Rattle.ehabi_top.specs.declared.walk.TheConstants.{MOST_FRAMES}
 use Rattle.report_laws.specs.Written.{EndsSo, RunEnds, WalkEnds, CountEnds, ForceEnds, ReportsAreWritten, trace_of, forced_at}
 

@@ -1,3 +1,4 @@
 pub mod OneReport
 pub mod Numbers
 pub mod Written
+pub mod Commands

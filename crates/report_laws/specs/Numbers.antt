@@ -2,11 +2,11 @@
 use Rattle.std.specs.Prelude.{◌≡◌}
 use Rattle.ehabi_top.specs.declared.sources.TheConstants as ehabi_top-sources
 use Rattle.ehabi_top.specs.declared.words.TheConstants as ehabi_top-words
-use Rattle.ehabi_top.specs.declared.status.TheConstants as ehabi_top-status
+use Rattle.program_answers.specs.declared.status.TheConstants as program_answers-status
 use Rattle.ehabi_top.specs.declared.walk.TheConstants as ehabi_top-walk
 use Rattle.eh_walk.specs.declared.reach.TheConstants as eh_walk-reach
 
--- the numbers that the definitions of ehabi_top and eh_walk cite
+-- the numbers that the definitions of program_answers, ehabi_top and eh_walk cite
 pub record CommandNumbers : Type 0 where
   pub file_limit : ehabi_top-sources.FILE_LIMIT ≡ 4194304
   pub most_instructions : ehabi_top-words.MOST_INSTRUCTIONS ≡ 1000000000
@@ -17,14 +17,14 @@ pub record CommandNumbers : Type 0 where
   pub most_frame_digits : ehabi_top-words.MOST_FRAME_DIGITS ≡ 4
   pub most_frames : ehabi_top-walk.MOST_FRAMES ≡ 65536
   pub most_further : eh_walk-reach.MOST_FURTHER ≡ 1000000
-  pub done : ehabi_top-status.DONE ≡ 0
-  pub exit_nonzero : ehabi_top-status.EXIT_NONZERO ≡ 1
-  pub usage : ehabi_top-status.USAGE ≡ 2
-  pub refused : ehabi_top-status.REFUSED ≡ 3
-  pub terminated : ehabi_top-status.TERMINATED ≡ 4
-  pub trapped : ehabi_top-status.TRAPPED ≡ 5
-  pub budget_spent : ehabi_top-status.BUDGET_SPENT ≡ 6
-  pub read_failed : ehabi_top-status.READ_FAILED ≡ 7
-  pub write_failed : ehabi_top-status.WRITE_FAILED ≡ 8
-  pub no_memory : ehabi_top-status.NO_MEMORY ≡ 9
-  pub file_unavailable : ehabi_top-status.FILE_UNAVAILABLE ≡ 10
+  pub done : program_answers-status.DONE ≡ 0
+  pub exit_nonzero : program_answers-status.EXIT_NONZERO ≡ 1
+  pub usage : program_answers-status.USAGE ≡ 2
+  pub refused : program_answers-status.REFUSED ≡ 3
+  pub terminated : program_answers-status.TERMINATED ≡ 4
+  pub trapped : program_answers-status.TRAPPED ≡ 5
+  pub budget_spent : program_answers-status.BUDGET_SPENT ≡ 6
+  pub read_failed : program_answers-status.READ_FAILED ≡ 7
+  pub write_failed : program_answers-status.WRITE_FAILED ≡ 8
+  pub no_memory : program_answers-status.NO_MEMORY ≡ 9
+  pub file_unavailable : program_answers-status.FILE_UNAVAILABLE ≡ 10

@@ -1,6 +1,7 @@
-//! The report of an accepted image's run is one; what reports say last; and the limits and statuses of the command line, in digits (docs/command-line.md).
+//! The report of an accepted image's run is one; what reports say last; what the report of each command is made of; and the limits and statuses of the command line, in digits (docs/command-line.md).
 #![tactic(auto)]
 
+ghost use Rattle.report_laws.specs.Commands.{CommandsAreTold};
 ghost use Rattle.report_laws.specs.Numbers.{CommandNumbers};
 ghost use Rattle.report_laws.specs.OneReport.{ReportsAreOne, CountsAreOne, RefusalsAreOne};
 ghost use Rattle.report_laws.specs.Written.{ReportsAreWritten};
@@ -33,6 +34,13 @@ pub fn refusals_are_one()
 pub fn reports_are_written()
     ensures { ReportsAreWritten }
 {}
+
+/// What the report of each command says, by its files and by the bytes that it works on.
+pub fn commands_are_told()
+    ensures { CommandsAreTold }
+{
+    reports_are_written();
+}
 
 /// The limits of files, of the budget and of the words, and the statuses.
 pub fn command_numbers()

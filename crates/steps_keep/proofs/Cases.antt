@@ -21,7 +21,7 @@ use Rattle.stands_for.specs.frame_facts.declared.cause.FrameCause.TheVariants.{U
 use Rattle.stands_for.specs.frame_graph.declared.places.Standing.{Standing}
 use Rattle.stands_for.specs.frame_graph.declared.places.Standing.TheVariants.{Instruction, Udf, Nothing}
 use Rattle.stands_for.specs.frame_graph.Edges.{is_undecodable, is_nothing}
-use Rattle.stands_for.specs.frame_flow.Causes.{shown, found}
+use Rattle.stands_for.specs.frame_flow.Causes.{shown, causes_at}
 use Rattle.stands_for.specs.frame_check.Roots.{flow_graph_of}
 use Rattle.stands_for.specs.two_machines.Machine as bytes
 use Rattle.stands_for.specs.two_machines.ActivationMachine as acts
@@ -84,7 +84,7 @@ udf_undefined first e =
 
 module _ (x : Accepted) (s : Recorded) (input : List ℕ) (is : IsProgram x) (k : Keeps x s) (at : StandsAt x s.first s.segments s.regs s.regs.pc) where
   not_nothing : standing_at (flow_graph_of x.image at.function) at.place ≡ Nothing → ⊥
-  unfolding found
+  unfolding causes_at
   not_nothing e =
       let c = code x at.function at.marks in
       let yes : is_undecodable c.flow_graph at.place ≡ true = ap is_nothing e in

@@ -11,7 +11,7 @@ use Rattle.stands_for.specs.frame_facts.declared.facts.Fact.{Fact}
 use Rattle.stands_for.specs.flow.Flow.{met}
 use Rattle.stands_for.specs.frame_flow.Framed.{Framed}
 use Rattle.stands_for.proofs.frame_flow.Causing.{found_are_met}
-use Rattle.stands_for.specs.frame_flow.Causes.{found, shown}
+use Rattle.stands_for.specs.frame_flow.Causes.{causes_at, shown}
 use Rattle.stands_for.specs.frame_flow.Flows.{IsStateOf, NoneStands}
 use Rattle.stands_for.specs.elf_image.Image.{Image, is_code_in}
 use Rattle.stands_for.specs.elf_image.Marks.{marked}
@@ -59,7 +59,7 @@ use Rattle.stands_for.proofs.Moves.{moved_holds}
 use Rattle.stands_for.proofs.SimpleTurns.{fetch, simple_turns}
 
 -- what is found at a place with a state stands there
-pub not_found : (c : Framed) (p : ℕ) (f : Fact) → NoneStands c → IsStateOf c p f → (cause : FrameCause) → Contains (found c p f) cause → ⊥
+pub not_found : (c : Framed) (p : ℕ) (f : Fact) → NoneStands c → IsStateOf c p f → (cause : FrameCause) → Contains (causes_at c p f) cause → ⊥
 not_found c p f none state cause h = none p cause (met state ((found_are_met c cause p f).1 h))
 
 -- ---- code is even
@@ -115,7 +115,7 @@ module _ (x : Accepted) (is : IsProgram x) (s : Recorded) (k : Keeps x s) (at : 
     at_instr = stands_instruction flow_graph at.place i size stands
 
     not_out : (b : Bool) → branches_out flow_graph at.place ≡ b → b ≡ false
-    unfolding found
+    unfolding causes_at
     not_out true e = absurd (not_found (code x at.function at.marks) at.place at.fact none at.state BranchOut
         (let first : Contains (shown (branches_out flow_graph at.place) BranchOut) BranchOut = rw e (contains_head BranchOut []) in
         Contains-append_right (shown (is_undecodable flow_graph at.place) Undecodable) _ BranchOut (Contains-append_left (shown (branches_out flow_graph at.place) BranchOut) _ BranchOut first)))

@@ -11,7 +11,7 @@ use Rattle.stands_for.proofs.flow.Work.{contains_head}
 use Rattle.stands_for.specs.thumb_core.declared.regs.TheConstants.{LR}
 use Rattle.stands_for.specs.frame_facts.declared.cause.FrameCause.TheVariants.{CallState, Undecodable, BranchOut, CallNotFunction, PadDepth, ThrowInLeafScope}
 use Rattle.stands_for.specs.frame_facts.declared.facts.Fact.{Fact}
-use Rattle.stands_for.specs.frame_flow.Causes.{shown, answered, unwound, is_call, found, site_causes, instruction_causes, after_at, throws_in_leaf}
+use Rattle.stands_for.specs.frame_flow.Causes.{shown, answered, unwound, is_call, causes_at, site_causes, instruction_causes, after_at, throws_in_leaf}
 use Rattle.stands_for.specs.thumb_core.Registers.{reg}
 use Rattle.stands_for.specs.eh_bytecode.declared.recipe.Recipe.{Recipe}
 use Rattle.stands_for.specs.frame_facts.declared.saves.Prologue.{Prologue}
@@ -75,8 +75,8 @@ module _ (c : Framed) (p : ℕ) (f : Fact) (none : NoneStands c) (state : IsStat
   site : (site : ℕ) × (site_at c.flow_graph p ≡ Some site)
   site = let w = call_site (address_of c.flow_graph p) i call in (w.0, ap (λ (o : Option Instr). option_and_then (site_of (address_of c.flow_graph p)) o) at ∙ w.1)
 
-  shown_at_call : f.depth < 4 → Shows (found c p f)
-  unfolding found
+  shown_at_call : f.depth < 4 → Shows (causes_at c p f)
+  unfolding causes_at
   shown_at_call low =
       let w = no_room c.prologue (unwinding_at c.flow_graph site.0) f low in
       let here : Contains (site_causes c true f site.0) w.0 =

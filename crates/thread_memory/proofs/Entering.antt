@@ -27,7 +27,7 @@ all_seen (x ∷ xs) m guards thread = ap (put_all xs) (put_seen m x.slot x.place
 pub stays_plain : (xs : List Write) (m m' : Memory) → m' ≡ put_all xs m → m.guards ≡ [] → m'.guards ≡ []
 stays_plain xs m m' e z = rw e (put_plain xs m ∙ z)
 
-pub enters : (old new : ℕ) (owners : List Holding) (m m' : Memory) (guards : List ℕ) → m' ≡ put_all (changes_from old new 0 owners) m
-    → seen m' guards new ≡ switched old new owners (seen m guards old)
-enters old new owners m m' guards e =
-    rw e (sym (ap (λ (n : Memory). record n { home = home_of new }) (all_seen (changes_from old new 0 owners) m guards old)))
+pub enters : (old new home : ℕ) (owners : List Holding) (m m' : Memory) (guards : List ℕ) → m' ≡ put_all (changes_from old new 0 owners) m
+    → seen m' guards new ≡ switched old new owners (seen m guards home)
+enters old new home owners m m' guards e =
+    rw e (sym (ap (λ (n : Memory). record n { home = home_of new }) (all_seen (changes_from old new 0 owners) m guards home)))

@@ -6,8 +6,9 @@ use Rattle.eh_bus.specs.Memory.{stays_guarded}
 use Rattle.eh_bus.specs.declared.map.TheConstants.{STACK_END}
 use Rattle.eh_bus.proofs.AccessLaws.{store_misses, store_keeps}
 use Rattle.eh_bus.proofs.GuardLaws.{has_filter, in_filter}
+use Rattle.eh_bus.proofs.PartLaws.{guarded_refused}
 use Rattle.thread_memory.specs.Homes.{home_of}
-use Rattle.thread_memory.specs.Laws.{HomesPart, HomesAreApart, ReleasesNoOthers, ReleasesItsOwn, StoresMissGuards}
+use Rattle.thread_memory.specs.Laws.{HomesPart, HomesAreApart, ReleasesNoOthers, ReleasesItsOwn, StoresMissGuards, GuardedStoresAreRefused}
 use Rattle.thread_memory.specs.Seen.{seen}
 
 pub law_of_homes : HomesPart
@@ -47,3 +48,6 @@ law_of_misses n m guards thread a v g m' e has = record {
   apart = store_misses n (seen m guards thread) a v m' g e has;
   same = store_keeps n (seen m guards thread) a v m' g e has;
 }
+
+pub law_of_refused : GuardedStoresAreRefused
+law_of_refused n m guards thread a v g map w e has l u = guarded_refused n (seen m guards thread) a v g map w e has l u

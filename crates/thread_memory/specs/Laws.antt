@@ -1,9 +1,11 @@
 -- What threads that share a memory keep from each other (docs/threads.md).
-use Rattle.std.specs.Prelude.{◌≡◌, ℕ, ◌<◌, ◌≤◌, List, length, slice_index_or, Some, None, true, Ok, Err}
+use Rattle.std.specs.Prelude.{◌≡◌, ℕ, ◌+◌, ◌%◌, ◌<◌, ◌≤◌, ◌==◌, List, length, slice_index_or, Some, None, true, Ok, Err}
 use Rattle.eh_bus.specs.Lists.{Has}
 use Rattle.eh_bus.specs.Map.{IsMap}
 use Rattle.eh_bus.specs.Memory.{Memory, load, store, released}
+use Rattle.eh_bus.specs.Place.{IsWidth}
 use Rattle.eh_bus.specs.Segment.{Apart}
+use Rattle.eh_bus.specs.declared.fault.BusFault.TheVariants.{SavedSlot}
 use Rattle.eh_bus.specs.declared.map.TheConstants.{STACK_END, STACK_START}
 use Rattle.eh_cxa.specs.Allocate.{free_of}
 use Rattle.eh_cxa.specs.Catch.{begin_catch_of}
@@ -51,6 +53,12 @@ abbrev pub StoresMissGuards : Type 0
 StoresMissGuards =
     (n : ℕ) (m : Memory) (guards : List ℕ) (thread a v g : ℕ) (m' : Memory) → store n (seen m guards thread) a v ≡ (Ok tt, m') → Has guards g
     → Misses n (seen m guards thread) m' a g
+
+-- an aligned store to a guarded word is refused with its address and changes nothing, whichever thread stores and whichever thread's word it is
+abbrev pub GuardedStoresAreRefused : Type 0
+GuardedStoresAreRefused =
+    (n : ℕ) (m : Memory) (guards : List ℕ) (thread a v g : ℕ) → IsMap (seen m guards thread) → IsWidth n → (a % n == 0) ≡ true → Has guards g → g ≤ a → a < g + 4
+    → store n (seen m guards thread) a v ≡ (Err (SavedSlot g), seen m guards thread)
 
 -- ---- exceptions
 

@@ -64,16 +64,16 @@ impl<B: Bus + Drop> ThreadBus<B> {
 }
 
 impl<B: Bus> ThreadBus<B> {
-    /// Enters another thread. What each slot holds is told by the states that the thread that ran reads now, and the slots read as the
-    /// thread sees them that is entered. Guarded words stay.
-    pub fn enter(&mut self, owners: &mut Owners, thread: usize)
+    /// Enters a thread after another one, which has run. What each slot holds is told by the states that the one that ran reads now, and the
+    /// slots read as the thread sees them that is entered. Guarded words stay.
+    pub fn enter(&mut self, owners: &mut Owners, ran: usize, thread: usize)
         requires { thread < THREADS }
-        ensures owners { owners.new.slots ≡ owners_after self.old.thread (word (B.memory self.old.inner)) owners.old.slots }
-        ensures memory { seen (B.memory self.new.inner) self.new.guards self.new.thread ≡ switched self.old.thread thread owners.new.slots (seen (B.memory self.old.inner) self.old.guards self.old.thread) }
+        ensures owners { owners.new.slots ≡ owners_after ran (word (B.memory self.old.inner)) owners.old.slots }
+        ensures memory { seen (B.memory self.new.inner) self.new.guards self.new.thread ≡ switched ran thread owners.new.slots (seen (B.memory self.old.inner) self.old.guards self.old.thread) }
         ensures thread { self.new.thread ≡ thread }
     {
-        owners.note(self.thread, &self.inner);
-        owners.show(self.thread, thread, &mut self.inner);
+        owners.note(ran, &self.inner);
+        owners.show(ran, thread, &mut self.inner);
         self.thread = thread;
     }
 

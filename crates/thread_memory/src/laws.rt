@@ -1,5 +1,5 @@
 //! What threads that share a memory keep from each other (docs/threads.md): laws above the definitions.
-ghost use Rattle.thread_memory.specs.Laws.{HomesPart, HomesAreApart, ReleasesNoOthers, ReleasesItsOwn, StoresMissGuards, RunnersReadTheirOwn, UntouchedStay, FreedAreNobodys, MadeAreItsOwn, SwitchesShow, OthersAreShut, OwnersReadTheirOwn, InDigits};
+ghost use Rattle.thread_memory.specs.Laws.{HomesPart, HomesAreApart, ReleasesNoOthers, ReleasesItsOwn, StoresMissGuards, GuardedStoresAreRefused, RunnersReadTheirOwn, UntouchedStay, FreedAreNobodys, MadeAreItsOwn, SwitchesShow, OthersAreShut, OwnersReadTheirOwn, InDigits};
 
 /// Each address of the stack lies in the home of one thread.
 pub fn homes_part_the_stack()
@@ -13,9 +13,10 @@ pub fn releases_stay_at_home()
     ensures own { ReleasesItsOwn }
 {}
 
-/// No store of any thread reaches a guarded word of any thread.
+/// No store of any thread reaches a guarded word of any thread; an aligned one to such a word is refused with its address.
 pub fn stores_miss_guards()
-    ensures { StoresMissGuards }
+    ensures missed { StoresMissGuards }
+    ensures refused { GuardedStoresAreRefused }
 {}
 
 /// What a thread reads when another is entered is what it is told to read again. A slot that reads as it was seen before is as it was, one

@@ -70,7 +70,8 @@ fn stored(alloc: Global, done: Result<(), BusFault>) -> Result<String, Unanswere
 fn enters(alloc: Global, shared: &mut Shared, given: &[u32]) -> Result<String, Unanswered> {
     let thread = number_at(given, 0)? as usize;
     if thread < THREADS {
-        shared.bus.enter(&mut shared.owners, thread);
+        let ran = shared.bus.thread();
+        shared.bus.enter(&mut shared.owners, ran, thread);
         return nothing(alloc);
     }
     Err(Unanswered::NotKnown)

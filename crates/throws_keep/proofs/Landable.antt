@@ -78,7 +78,7 @@ module _ (t : Form) where
   types_small : (place len off types count : ℕ) (padded : Bool) → SmallFound (types_at t place len off types count padded)
   types_small place len off types count padded = go (has_types t types count) padded
     where
-      go : (b c : Bool) → SmallFound (cond (not b) (what.Fault Short) (cond c (padded_at t place len off types count) (grammar.found t place len off (Spec (grammar.address_at t types) count None) (types + 4 * count))))
+      go : (b c : Bool) → SmallFound (cond (not b) (what.Fault Short) (cond c (padded_at t place len off types count) (grammar.descriptor_of t place len off (Spec (grammar.address_at t types) count None) (types + 4 * count))))
       go true true = padded_small place len off types count
       go true false = (omega arith, omega arith)
       go false c = tt

@@ -8,7 +8,7 @@ use Rattle.thumb_core.specs.declared.regs.Stepped.TheVariants.{Call}
 use Rattle.thumb_core.specs.declared.ends.End.{End}
 use Rattle.two_machines.specs.Program.{Program}
 use Rattle.two_machines.specs.Activations.{Caller, Activation, Recorded, memory_of, freed_in}
-use Rattle.two_machines.specs.ActivationMachine.{tested, tests, moved, checked, passed, stepped, onward, recorded_event}
+use Rattle.two_machines.specs.ActivationMachine.{tested, tests, recorded_after, checked, passed, stepped, onward, recorded_event}
 use Rattle.two_machines.specs.ActivationLaws.{IsCalled, CallsRecord, callers}
 
 pub callers_stay : (home : ℕ × ℕ) (old new : ℕ) (acts : List Activation) → callers (map (λ (a : Activation). freed_in home old new a) acts) ≡ callers acts
@@ -16,7 +16,7 @@ callers_stay home old new [] = refl
 callers_stay home old new (a ∷ more) = ap (λ (cs : List Caller). a.caller ∷ cs) (callers_stay home old new more)
 
 module _ (p : Program) (s t : Recorded) (input text left : List ℕ) (target ret : ℕ) (regs : Regs) (m : Memory) where
-  is_called : IsCalled target ret s (moved p s (Call target ret) regs m)
+  is_called : IsCalled target ret s (recorded_after p s (Call target ret) regs m)
   is_called = record {
     recorded = record { function = refl; back = refl; sp = refl; saved = refl; slots = refl };
     outer = ap (λ (cs : List Caller). s.first.caller ∷ cs) (callers_stay s.home _ _ s.outer);
@@ -25,8 +25,8 @@ module _ (p : Program) (s t : Recorded) (input text left : List ℕ) (target ret
   from_test : (o : Option End) → onward p s (tested p s (Call target ret) regs m o) input ≡ Goes t text left → IsCalled target ret s t
   from_test (Some end) e = absurd (cc)
   from_test None e =
-      let goes : ◌≡◌ {A = Event Recorded End} (Goes (moved p s (Call target ret) regs m) [] input) (Goes t text left) = e in
-      let state : moved p s (Call target ret) regs m ≡ t = cc in
+      let goes : ◌≡◌ {A = Event Recorded End} (Goes (recorded_after p s (Call target ret) regs m) [] input) (Goes t text left) = e in
+      let state : recorded_after p s (Call target ret) regs m ≡ t = cc in
       subst (λ (x : Recorded). IsCalled target ret s x) state is_called
 
   from_check : (b : Bool) → step_of s.regs (memory_of s) ≡ (Call target ret, regs, m) → onward p s (checked p s b) input ≡ Goes t text left → IsCalled target ret s t

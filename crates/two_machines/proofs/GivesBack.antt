@@ -23,7 +23,7 @@ use Rattle.thumb_core.specs.declared.regs.Stepped.TheVariants.{Done, Call, Retur
 use Rattle.thumb_core.specs.declared.ends.End.{End}
 use Rattle.two_machines.specs.Program.{Program}
 use Rattle.two_machines.specs.Activations.{Caller, Activation, Recorded, memory_of, callee, registers_of, ends_at, where_unwound, framed_at, outside}
-use Rattle.two_machines.specs.ActivationMachine.{returned, tested, tests, moved, checked, passed, stepped, pops_back, trapped_by, onward, recorded_event, left_by, reguarded_at}
+use Rattle.two_machines.specs.ActivationMachine.{returned, tested, tests, recorded_after, checked, passed, stepped, pops_back, trapped_by, onward, recorded_event, left_by, reguarded_at}
 use Rattle.two_machines.specs.ActivationLaws.{IsBack, IsWhole, IsReturn, AreWhole, ReturnsGiveBack, site_and_sp, recorded_places, FramesAreActivations}
 
 -- ---- registers that a caller left
@@ -52,8 +52,8 @@ module _ (p : Program) (s t : Recorded) (input text left : List ℕ) (whole : Is
   from_test to regs m (Some end) e = absurd (cc)
   from_test to regs m None e =
       let after : Regs = returned s.first.caller regs in
-      let goes : ◌≡◌ {A = Event Recorded End} (Goes (moved p s (Return to) after m) [] input) (Goes t text left) = e in
-      let state : moved p s (Return to) after m ≡ t = cc in
+      let goes : ◌≡◌ {A = Event Recorded End} (Goes (recorded_after p s (Return to) after m) [] input) (Goes t text left) = e in
+      let state : recorded_after p s (Return to) after m ≡ t = cc in
       let base = reguarded_at p s after (record s { regs = after; segments = m.segments }) in
       is_back s.first.caller t regs whole (ap (λ (x : Recorded). x.regs) (sym state) ∙ left_regs base.outer base)
 

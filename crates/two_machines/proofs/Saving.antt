@@ -15,7 +15,7 @@ use Rattle.thumb_core.specs.declared.regs.Stepped.TheVariants.{Done}
 use Rattle.thumb_core.specs.declared.ends.End.{End}
 use Rattle.two_machines.specs.Program.{Program}
 use Rattle.two_machines.specs.Activations.{Caller, Activation, Recorded, memory_of, slots_of, guarded_of, reg_in, freed_in}
-use Rattle.two_machines.specs.ActivationMachine.{tested, tests, moved, checked, passed, stepped, onward, recorded_event}
+use Rattle.two_machines.specs.ActivationMachine.{tested, tests, recorded_after, checked, passed, stepped, onward, recorded_event}
 use Rattle.two_machines.specs.RecordedSlots.{SlotsAreGuarded, saves_of, KeepSlots, AreSaved, SavesBecomeSlots}
 use Rattle.two_machines.proofs.Calling.{callers_stay}
 use Rattle.two_machines.proofs.Released.{where_it_stays, it_stays}
@@ -91,7 +91,7 @@ module _ (p : Program) (s : Recorded) (regs : Regs) (m : Memory) where
   keep [] = tt
   keep (a ∷ more) = ((λ g. stay_has s.home (reg_in s SP) new a.slots g), keep more)
 
-  saved : AreSaved p s (moved p s Done regs m)
+  saved : AreSaved p s (recorded_after p s Done regs m)
   saved = record {
     first = λ g.
         let f = stay_has s.home (reg_in s SP) new (saves_of p s new ++ s.first.slots) g in
@@ -104,8 +104,8 @@ module _ (p : Program) (s t : Recorded) (input text left : List ℕ) (regs : Reg
   from_test : (o : Option End) → onward p s (tested p s Done regs m o) input ≡ Goes t text left → AreSaved p s t
   from_test (Some end) e = absurd (cc)
   from_test None e =
-      let goes : ◌≡◌ {A = Event Recorded End} (Goes (moved p s Done regs m) [] input) (Goes t text left) = e in
-      let state : moved p s Done regs m ≡ t = cc in
+      let goes : ◌≡◌ {A = Event Recorded End} (Goes (recorded_after p s Done regs m) [] input) (Goes t text left) = e in
+      let state : recorded_after p s Done regs m ≡ t = cc in
       subst (λ (x : Recorded). AreSaved p s x) state (saved p s regs m)
 
   from_check : (b : Bool) → step_of s.regs (memory_of s) ≡ (Done, regs, m) → onward p s (checked p s b) input ≡ Goes t text left → AreSaved p s t

@@ -27,7 +27,7 @@ use Rattle.thumb_core.specs.declared.regs.Stepped.TheVariants.{Return, Trap}
 use Rattle.thumb_core.specs.declared.regs.TheConstants.{SP, LR, PC}
 use Rattle.two_machines.specs.Program.{Program}
 use Rattle.two_machines.specs.Activations.{Activation, Caller, Recorded, reg_in, slots_of, memory_of, with_caller}
-use Rattle.two_machines.specs.ActivationMachine.{returned, activations_after, left_by, reguarded_in, moved, tests, tested, with_tests, popped, popped_back, pops_some, pops_back, trapped_by, stepped, checked, passed, onward, recorded_event}
+use Rattle.two_machines.specs.ActivationMachine.{returned, activations_after, left_by, reguarded_in, recorded_after, tests, tested, with_tests, popped, popped_back, pops_some, pops_back, trapped_by, stepped, checked, passed, onward, recorded_event}
 use Rattle.two_machines.specs.SlotWords.{over, event_over, is_free, LoadNoSlot, DifferInSlots, ReturnsReadNoSlot}
 
 -- ---- loads from both
@@ -157,7 +157,7 @@ module _ (p : Program) (s : Recorded) (segments : List Segment) (input : List �
   left_over [] u = refl
   left_over (a ∷ more) u = refl
 
-  moved_same : (to : ℕ) (regs : Regs) → moved p t (Return to) regs (memory_of t) ≡ over segments (moved p s (Return to) regs (memory_of s))
+  moved_same : (to : ℕ) (regs : Regs) → recorded_after p t (Return to) regs (memory_of t) ≡ over segments (recorded_after p s (Return to) regs (memory_of s))
   moved_same to regs =
       let base : ℕ → Recorded = λ n. reguarded_in (p.look s.regs.pc).saves n (reg_in s SP) (slice_index regs.r SP) (record s { regs = regs }) in
       ap (λ (n : ℕ). activations_after (Return to) (over segments (base n))) (ap pushes_some same_instr)

@@ -403,15 +403,15 @@ activations_after (Return to) s = left_by s.outer s
 activations_after (Gate number) s = s
 activations_after (Trap trap) s = s
 
-abbrev pub moved : Program → Recorded → Stepped → Regs → Memory → Recorded
-moved p s what regs m = activations_after what (reguarded_at p s regs (record s { regs = regs; segments = m.segments }))
+abbrev pub recorded_after : Program → Recorded → Stepped → Regs → Memory → Recorded
+recorded_after p s what regs m = activations_after what (reguarded_at p s regs (record s { regs = regs; segments = m.segments }))
 
 abbrev pub Passed : Type 0
 Passed = Result Stepped End × Recorded
 
 abbrev pub tested : Program → Recorded → Stepped → Regs → Memory → Option End → Passed
 tested p s what regs m (Some end) = (Err end, s)
-tested p s what regs m None = (Ok what, moved p s what regs m)
+tested p s what regs m None = (Ok what, recorded_after p s what regs m)
 
 abbrev pub with_tests : Program → Recorded → Stepped → Regs → Memory → Passed
 with_tests p s what regs m = tested p s what regs m (tests p s what regs)

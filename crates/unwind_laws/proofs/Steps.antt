@@ -43,14 +43,14 @@ no_elements [] ys h = (refl, h)
 no_elements (x ∷ xs) ys h = cc
 
 -- one that pops nothing only moves the pointer
-moved : (v : ℕ) (e : Effect) → ℕ
-moved v e = (v + risen e + (2 ^ 32 - fallen e)) % 2 ^ 32
+vsp_after : (v : ℕ) (e : Effect) → ℕ
+vsp_after v e = (v + risen e + (2 ^ 32 - fallen e)) % 2 ^ 32
 
 pops_none : (segments : List Segment) (v : ℕ) (r registers : List ℕ) → registers ≡ [] → after segments (at v r) (Pops registers) ≡ Goes (at ((v + 4 * 0) % 2 ^ 32) r)
 pops_none segments v r registers none = ap (λ l. after segments (at v r) (Pops l)) none
 
-one_moves : (segments : List Segment) (v : ℕ) (r : List ℕ) (e : Effect) → is_other e ≡ false → pops e ≡ [] → after segments (at v r) e ≡ Goes (at (moved v e) r)
-unfolding moved
+one_moves : (segments : List Segment) (v : ℕ) (r : List ℕ) (e : Effect) → is_other e ≡ false → pops e ≡ [] → after segments (at v r) e ≡ Goes (at (vsp_after v e) r)
+unfolding vsp_after
 one_moves segments v r (Rises by) other none = ap (λ v. Goes (at v r)) (let e : (v + by) % 2 ^ 32 ≡ (v + by + (2 ^ 32 - 0)) % 2 ^ 32 = omega arith in e)
 one_moves segments v r (Falls by) other none = ap (λ v. Goes (at v r)) (let e : (v + (2 ^ 32 - by)) % 2 ^ 32 ≡ (v + 0 + (2 ^ 32 - by)) % 2 ^ 32 = omega arith in e)
 one_moves segments v r (Pops registers) other none =
@@ -62,27 +62,27 @@ one_moves segments v r Finishes other none = cc
 -- codes that only raise the pointer, and codes that only lower it
 pub rising : (segments : List Segment) (v w : ℕ) (r : List ℕ) (codes : List Code) → sum_by lowered codes ≡ 0 → flat_map popped codes ≡ [] → list_any does_other codes ≡ false →
     v + sum_by raised codes ≡ w → w < 2 ^ 32 → Reaches segments (at v r) codes (at w r)
-unfolding moved
+unfolding vsp_after
 rising segments v w r [] low none keep is small = λ following. ap (λ v. runs segments (at v r) following) (let e : v ≡ w = omega arith in e)
 rising segments v w r (code ∷ codes) low none keep is small =
     let other = or_no (does_other code) (list_any does_other codes) keep in
     let nothing = no_elements (popped code) (flat_map popped codes) none in
     let lows : lowered code + sum_by lowered codes ≡ 0 = sym (sum_by-cons lowered code codes) ∙ low in
     let ups : sum_by raised (code ∷ codes) ≡ raised code + sum_by raised codes = sum_by-cons raised code codes in
-    reaches_more segments (at v r) (at (moved v (effect code)) r) (at w r) code codes (one_moves segments v r (effect code) other.0 nothing.0)
-    (rising segments (moved v (effect code)) w r codes (omega (arith, lows)) nothing.1 other.1 (omega (arith, lows, ups)) small)
+    reaches_more segments (at v r) (at (vsp_after v (effect code)) r) (at w r) code codes (one_moves segments v r (effect code) other.0 nothing.0)
+    (rising segments (vsp_after v (effect code)) w r codes (omega (arith, lows)) nothing.1 other.1 (omega (arith, lows, ups)) small)
 
 pub falling : (segments : List Segment) (v w : ℕ) (r : List ℕ) (codes : List Code) → sum_by raised codes ≡ 0 → flat_map popped codes ≡ [] → list_any does_other codes ≡ false →
     v ≡ w + sum_by lowered codes → v < 2 ^ 32 → Reaches segments (at v r) codes (at w r)
-unfolding moved
+unfolding vsp_after
 falling segments v w r [] up none keep is small = λ following. ap (λ v. runs segments (at v r) following) (let e : v ≡ w = omega arith in e)
 falling segments v w r (code ∷ codes) up none keep is small =
     let other = or_no (does_other code) (list_any does_other codes) keep in
     let nothing = no_elements (popped code) (flat_map popped codes) none in
     let ups : raised code + sum_by raised codes ≡ 0 = sym (sum_by-cons raised code codes) ∙ up in
     let lows : sum_by lowered (code ∷ codes) ≡ lowered code + sum_by lowered codes = sum_by-cons lowered code codes in
-    reaches_more segments (at v r) (at (moved v (effect code)) r) (at w r) code codes (one_moves segments v r (effect code) other.0 nothing.0)
-    (falling segments (moved v (effect code)) w r codes (omega (arith, ups)) nothing.1 other.1 (omega (arith, ups, lows)) (omega arith))
+    reaches_more segments (at v r) (at (vsp_after v (effect code)) r) (at w r) code codes (one_moves segments v r (effect code) other.0 nothing.0)
+    (falling segments (vsp_after v (effect code)) w r codes (omega (arith, ups)) nothing.1 other.1 (omega (arith, ups, lows)) (omega arith))
 
 -- codes lead to some pointer and change no register
 pub record Leads (segments : List Segment) (v : ℕ) (r : List ℕ) (codes : List Code) : Type 0 where
@@ -95,8 +95,8 @@ moving segments v r [] none keep = record { to = v; reaches = λ following. refl
 moving segments v r (code ∷ codes) none keep =
     let other = or_no (does_other code) (list_any does_other codes) keep in
     let nothing = no_elements (popped code) (flat_map popped codes) none in
-    let on = moving segments (moved v (effect code)) r codes nothing.1 other.1 in
+    let on = moving segments (vsp_after v (effect code)) r codes nothing.1 other.1 in
     record {
       to = on.to;
-      reaches = reaches_more segments (at v r) (at (moved v (effect code)) r) (at on.to r) code codes (one_moves segments v r (effect code) other.0 nothing.0) on.reaches;
+      reaches = reaches_more segments (at v r) (at (vsp_after v (effect code)) r) (at on.to r) code codes (one_moves segments v r (effect code) other.0 nothing.0) on.reaches;
     }

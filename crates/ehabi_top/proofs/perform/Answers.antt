@@ -1,7 +1,7 @@
 use Rattle.ehabi_top.proofs.Asking.{asked_of}
 use Rattle.ehabi_top.proofs.Doing.{usage_does}
-use Rattle.ehabi_top.specs.Words.{texts}
-use Rattle.ehabi_top.specs.Yields.{file_state}
+use Rattle.program_answers.specs.Words.{texts}
+use Rattle.program_answers.specs.Files.{file_state}
 use Rattle.ehabi_top.proofs.perform.Goals as goal
 
 pub returns-in-None : goal.returns-in-None

@@ -23,4 +23,4 @@ returns-in-Err-clause-faults g c = fault_free_end c.in-Err.end _ _ c.in-Err.ensu
 -- ---- what is kept
 
 pub returns-in-Ok-clause-cache : goal.returns-in-Ok-clause-cache
-returns-in-Ok-clause-cache g c = c.keep.ensures (program_of c.args.a.now) c.requires c.in-Ok.ensures.fetched
+returns-in-Ok-clause-cache g c = c.insert.ensures (program_of c.args.a.now) c.requires c.in-Ok.ensures.fetched

@@ -12,8 +12,8 @@ returns-then-frame-from-clause-shown c =
 pub returns-clause-reading : goal.returns-clause-reading
 returns-clause-reading c =
     finished c.args.source.now.image.now c.args.source.now.roots.now (done_at c.args.state.now) _ (open_at c.args.state.now) _ c.args.frame (tops c.args.state.now) c.args.state.now.pending.items c.wait.new.pending.items _ c.in_ok-wait.ensures
-    c.requires.reading c.requires.all (omega (arith, c.if-frame-from.false, c.from.ensures)) c.in_ok-info.ensures.row c.in_ok-keep.ensures c.take_out.ensures
+    c.requires.reading c.requires.all (omega (arith, c.if-frame-from.false, c.from.ensures)) c.in_ok-info.ensures.row c.in_ok-insert_done.ensures c.take_out.ensures
 
 pub returns-clause-less : goal.returns-clause-less
 returns-clause-less c =
-    work_finished (done_at c.args.state.now) _ c.args.frame (tops c.args.state.now) c.args.state.now.pending.items c.wait.new.pending.items _ c.in_ok-wait.ensures c.in_ok-keep.ensures
+    work_finished (done_at c.args.state.now) _ c.args.frame (tops c.args.state.now) c.args.state.now.pending.items c.wait.new.pending.items _ c.in_ok-wait.ensures c.in_ok-insert_done.ensures

@@ -1,12 +1,12 @@
 use Rattle.std.proofs.Common.{refl}
 use Rattle.ehabi_top.specs.BuildReport.{IsUnwritten, plain_report}
 use Rattle.ehabi_top.specs.Building.{image_bytes, refusal_of}
-use Rattle.ehabi_top.specs.Words.{texts}
+use Rattle.program_answers.specs.Words.{texts}
 use Rattle.ehabi_top.specs.Yields.{Only, RefusedOf}
-use Rattle.ehabi_top.specs.declared.status.TheConstants.{DONE}
+use Rattle.program_answers.specs.declared.status.TheConstants.{DONE}
 use Rattle.ehabi_top.proofs.Doing.{keeps_bytes, keeps_fault}
 use Rattle.ehabi_top.proofs.Runners.{build_asks, build_leaves}
-use Rattle.ehabi_top.proofs.Statuses.{done_says, done_reported}
+use Rattle.program_answers.proofs.Statuses.{done_says, done_reported}
 use Rattle.ehabi_top.proofs.Yielding.{yields_answer}
 use Rattle.ehabi_top.proofs.build.build.Goals as goal
 

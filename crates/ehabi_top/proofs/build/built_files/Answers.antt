@@ -2,8 +2,8 @@ use Rattle.std.proofs.Common.{Ok, Err, refl, rules}
 use Rattle.std.proofs.lemmas.Bool.{false≢true}
 use Rattle.std.proofs.lemmas.Result.{err_from_is_err_and}
 use Rattle.ehabi_top.specs.Building.{fault_line, image_bytes}
-use Rattle.ehabi_top.specs.Text.{missing_line, too_long_line}
-use Rattle.ehabi_top.specs.Words.{texts}
+use Rattle.program_answers.specs.Files.{missing_line, too_long_line}
+use Rattle.program_answers.specs.Words.{texts}
 use Rattle.ehabi_top.specs.declared.refusal.FilesFault.TheVariants.{Missing, TooLong, Sources}
 use Rattle.ehabi_top.proofs.Doing.{finds_ok}
 use Rattle.ehabi_top.proofs.FilesAsked.{asks_more, asks_never}

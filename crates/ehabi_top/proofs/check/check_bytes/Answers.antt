@@ -2,10 +2,10 @@ use Rattle.std.proofs.Common.{◌∙◌, ap, length, refl}
 use Rattle.elf_image.specs.Image.{Image}
 use Rattle.ehabi_top.specs.Accepting.{BytesReportsBy, IsUnaccepted}
 use Rattle.ehabi_top.specs.CheckReport.{ChecksAccepted}
-use Rattle.ehabi_top.specs.CheckText.{accepted_line}
-use Rattle.ehabi_top.specs.declared.status.TheConstants.{DONE}
+use Rattle.report_lines.specs.CheckText.{accepted_line}
+use Rattle.program_answers.specs.declared.status.TheConstants.{DONE}
 use Rattle.ehabi_top.proofs.Judging.{found_yields, refused_yields}
-use Rattle.ehabi_top.proofs.Statuses.{done_says, done_reported}
+use Rattle.program_answers.proofs.Statuses.{done_says, done_reported}
 use Rattle.ehabi_top.proofs.Yielding.{yields_answer, yields_memory}
 use Rattle.ehabi_top.proofs.check.check_bytes.Goals as goal
 

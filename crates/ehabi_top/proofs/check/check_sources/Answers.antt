@@ -2,7 +2,7 @@ use Rattle.std.proofs.Common.{refl}
 use Rattle.ehabi_top.specs.Accepting.{BytesReportsBy, IsUnaccepted}
 use Rattle.ehabi_top.specs.Building.{image_bytes, refusal_of}
 use Rattle.ehabi_top.specs.CheckReport.{ChecksAccepted}
-use Rattle.ehabi_top.specs.Words.{texts}
+use Rattle.program_answers.specs.Words.{texts}
 use Rattle.ehabi_top.specs.Yields.{RefusedOf}
 use Rattle.ehabi_top.proofs.Doing.{keeps_bytes, keeps_fault}
 use Rattle.ehabi_top.proofs.Runners.{check_sources_asks, check_sources_leaves}

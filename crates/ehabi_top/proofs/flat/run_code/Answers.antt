@@ -5,11 +5,12 @@ use Rattle.elf_image.specs.declared.fault.ImageFault.TheVariants.{TooLarge}
 use Rattle.plain_run.specs.Machine.{flat_machine}
 use Rattle.ehabi_top.specs.FlatReport.{IsTooLarge, code_report, line_feed}
 use Rattle.ehabi_top.specs.Loading.{closing_of}
-use Rattle.ehabi_top.specs.Text.{image_fault_line}
-use Rattle.ehabi_top.specs.declared.status.TheConstants.{REFUSED}
+use Rattle.report_lines.specs.Text.{image_fault_line}
+use Rattle.program_answers.specs.declared.status.TheConstants.{REFUSED}
 use Rattle.ehabi_top.specs.Yields.{Only}
 use Rattle.ehabi_top.proofs.FlatReports.{code_large, code_small}
-use Rattle.ehabi_top.proofs.Statuses.{end_of_run, says_unfit, refused_reported}
+use Rattle.ehabi_top.proofs.Statuses.{end_of_run}
+use Rattle.program_answers.proofs.Statuses.{says_unfit, refused_reported}
 use Rattle.ehabi_top.proofs.Yielding.{yields_answer, yields_memory, yields_run}
 use Rattle.ehabi_top.proofs.flat.run_code.Goals as goal
 

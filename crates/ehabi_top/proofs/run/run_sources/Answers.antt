@@ -1,6 +1,6 @@
 use Rattle.std.proofs.Common.{refl}
 use Rattle.ehabi_top.specs.TaskReport.{RunBytesReports, RunBytesRefuse}
-use Rattle.ehabi_top.specs.Words.{texts}
+use Rattle.program_answers.specs.Words.{texts}
 use Rattle.ehabi_top.specs.Building.{image_bytes, refusal_of}
 use Rattle.ehabi_top.proofs.Doing.{does_bytes, does_fault}
 use Rattle.ehabi_top.proofs.Runners.{sources_asks, sources_reads}

@@ -3,7 +3,7 @@ use Rattle.std.proofs.lemmas.Bool.{false≢true}
 use Rattle.std.proofs.lemmas.Result.{err_from_is_err_and}
 use Rattle.std.proofs.lemmas.List.{drop_all, drop_more}
 use Rattle.eh_files.specs.declared.FileAnswer.TheVariants.{Missing, TooLong}
-use Rattle.ehabi_top.specs.Text.{missing_line, too_long_line}
+use Rattle.program_answers.specs.Files.{missing_line, too_long_line}
 use Rattle.ehabi_top.proofs.FileLoads.{next_found, next_lacks, all_found, wants_of}
 use Rattle.ehabi_top.proofs.FilesAsked.{kept_with, goes_after, asks_to_unavailable, asks_early, asks_all}
 use Rattle.ehabi_top.proofs.sources.load.Goals as goal

@@ -1,5 +1,5 @@
 use Rattle.std.proofs.Common.{◌≡◌, ◌+◌, drop, take, fold, IfSome}
-use Rattle.ehabi_top.specs.Words.{texts}
+use Rattle.program_answers.specs.Words.{texts}
 use Rattle.ehabi_top.specs.AsksFor.{up_to_unavailable}
 use Rattle.ehabi_top.specs.Building.{files_of}
 use Rattle.ehabi_top.proofs.AllAnswers.{after}

@@ -1,6 +1,7 @@
 use Rattle.std.proofs.Common.{◌≡◌, drop}
 use Rattle.std.specs.List.{list_all}
-use Rattle.ehabi_top.specs.Words.{texts, is_source}
+use Rattle.program_answers.specs.Words.{texts}
+use Rattle.ehabi_top.specs.Words.{is_source}
 use Rattle.ehabi_top.proofs.words.are_sources.Given as goal
 
 -- the names so far are of sources

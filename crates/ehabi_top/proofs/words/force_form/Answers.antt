@@ -3,7 +3,8 @@ use Rattle.std.specs.Prelude.{nat_le}
 use Rattle.std.specs.Borrow.{Bor}
 use Rattle.std.proofs.Math.Seq.{take-append_seam}
 use Rattle.std.proofs.lemmas.List.{map-append, get_or_push, length-append}
-use Rattle.ehabi_top.specs.Words.{force_command, with_frame, texts, frame_number}
+use Rattle.ehabi_top.specs.Words.{force_command, with_frame, frame_number}
+use Rattle.program_answers.specs.Words.{texts}
 use Rattle.ehabi_top.proofs.words.force_form.Goals as goal
 
 -- the last word is the number of the frame

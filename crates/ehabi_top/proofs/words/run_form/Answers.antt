@@ -3,7 +3,8 @@ use Rattle.std.specs.Prelude.{nat_le}
 use Rattle.std.specs.Borrow.{Bor}
 use Rattle.std.proofs.Math.Seq.{take-append_seam}
 use Rattle.std.proofs.lemmas.List.{map-append, get_or_push, length-append}
-use Rattle.ehabi_top.specs.Words.{run_command, with_budget, texts, budget_of}
+use Rattle.ehabi_top.specs.Words.{run_command, with_budget, budget_of}
+use Rattle.program_answers.specs.Words.{texts}
 use Rattle.ehabi_top.specs.declared.words.Task.{Task}
 use Rattle.ehabi_top.proofs.words.run_form.Goals as goal
 

@@ -8,12 +8,13 @@ use Rattle.thumb_core.specs.declared.ends.End.{End}
 use Rattle.plain_run.proofs.run.flat_run.Goals as goal
 
 pub loop-left-init : goal.loop-left-init
-loop-left-init g c = record { progress = starts State End flat_machine _ _ _ _; given = given_starts State End flat_machine _ _ _; input_later = omega arith; out_later = omega arith }
+loop-left-init g c = record { progress = starts State End flat_machine _ _ _ _; given = given_starts State End flat_machine _ _ _; cache = c.new-cache.ensures; input_later = omega arith; out_later = omega arith }
 
 pub loop-left-preserved : goal.loop-left-preserved
 loop-left-preserved g c = record {
   progress = goes_on State End flat_machine _ _ _ _ _ _ _ _ _ _ _ (omega arith) c.loop-left.invariant.progress c.in-None.ensures.told;
   given = given_goes_on State End flat_machine _ _ _ _ _ _ _ _ (omega arith) c.loop-left.invariant.given c.in-None.ensures.given;
+  cache = c.in-None.ensures.cache;
   input_later = omega arith;
   out_later = omega arith;
 }

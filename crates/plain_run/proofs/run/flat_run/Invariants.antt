@@ -2,11 +2,12 @@ use Rattle.std.proofs.Common.{◌≤◌, IfSome}
 use Rattle.event_runs.proofs.Progress.{Progress}
 use Rattle.given_input.proofs.Loops.{GivenProgress}
 use Rattle.image_memory.specs.Start.{State}
+use Rattle.plain_run.specs.Cached.{IsCache}
 use Rattle.plain_run.specs.Machine.{flat_machine}
 use Rattle.thumb_core.specs.declared.ends.End.{End}
 use Rattle.plain_run.proofs.run.flat_run.Given as goal
 
--- what was done and what is left are the whole run, and no count has fallen
+-- what was done and what is left are the whole run, the cache has what halfwords mean, and no count has fallen
 abbrev pub invariant-loop-left : goal.invariant-loop-left
 invariant-loop-left g l = record {
   progress : IfSome (g.I.Source.left l.initial.input) (λ bytes. Progress State End flat_machine l.budget
@@ -14,6 +15,7 @@ invariant-loop-left g l = record {
       l.left (record { regs = l.regs; memory = g.B.Bus.memory l.bus }) (g.I.Source.left l.input) (g.O.Sink.written l.initial.out) (g.O.Sink.written l.out));
   given : GivenProgress State End flat_machine l.budget (record { regs = l.initial.regs; memory = g.B.Bus.memory l.initial.bus })
       l.left (record { regs = l.regs; memory = g.B.Bus.memory l.bus }) (g.O.Sink.written l.initial.out) (g.O.Sink.written l.out);
+  cache : IsCache l.cache;
   input_later : g.I.Source.faults l.initial.input ≤ g.I.Source.faults l.input;
   out_later : g.O.Sink.faults l.initial.out ≤ g.O.Sink.faults l.out;
 }

@@ -1,0 +1,5 @@
+mod Numbers
+mod Words
+mod Lines
+mod Builds
+mod Answers

@@ -1,0 +1,52 @@
+//! What `ehabi_audit` does with the words, the files and the output of its system, and the status that it ends with. The rules
+//! are those of docs/audit.md; how the system's files and streams are taken is in docs/outside.md.
+#![tactic(auto)]
+
+ghost use Rattle.std.specs.Prelude.{◌≡◌, map, IfOk, OnErr, string_bytes};
+ghost use Rattle.ehabi_audit_top.specs.Answered.{IsAuditAnswer};
+ghost use Rattle.program_answers.specs.Files.{file_state};
+
+use eh_files::{Files, HostFiles};
+use eh_port::{HostSink, Sink};
+use ehabi_audit_top::audit_main;
+use std::alloc::{AllocError, Global};
+use std::process::ExitCode;
+use std::{io, rt};
+use system_words::{after_name, ended, texts_of, words_of};
+
+/// Audits the file that the words name, and answers the status. Without memory for the words it does nothing.
+pub fn run_words<F: Files, O: Sink>(
+    alloc: Global,
+    words: &[String],
+    files: &mut F,
+    out: &mut O,
+) -> Result<u8, AllocError>
+    // Where there is memory for the words, all that is promised of `audit_main` holds of them.
+    ensures answer { IfOk result (IsAuditAnswer (map string_bytes words.now)
+        (file_state (F.held files.old) (F.faults files.old) (F.asked files.old) F.with_name) (file_state (F.held files.new) (F.faults files.new) (F.asked files.new) F.with_name)
+        (O.written out.old) (O.written out.new) (O.faults out.old) (O.faults out.new)) }
+    ensures nothing { OnErr result ((F.asked files.new ≡ F.asked files.old) × (O.written out.new ≡ O.written out.old)) }
+{
+    let texts = texts_of(alloc, words)?;
+    Ok(audit_main(alloc, &texts, files, out))
+}
+
+/// The status of a program for the words, the files and the output of its system.
+pub fn run<R: rt::Env + rt::Files + Print + AllocGlobal>(host: &R) -> Result<u8, AllocError> {
+    let words = words_of(host)?;
+    let mut files = HostFiles {
+        host,
+        faults: 0,
+        asked: 0,
+    };
+    let mut out = HostSink {
+        writer: io::writer(host),
+        faults: 0,
+    };
+    run_words(host.alloc(), after_name(&words), &mut files, &mut out)
+}
+
+/// All that a program does: it ends with the status of its words, its files and its output.
+pub fn program<R: rt::Env + rt::Files + Print + AllocGlobal>(host: &R) -> ExitCode {
+    ended(run(host))
+}

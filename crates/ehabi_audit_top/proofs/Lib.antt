@@ -1,0 +1,6 @@
+mod Writings
+mod Tellings
+mod Files
+mod Endings
+mod Listed
+mod Summaries

@@ -1,0 +1,85 @@
+-- A list of what isn't well is empty exactly where nothing is said against the image.
+use Rattle.std.proofs.Common.{◌≡◌, ℕ, List, [], ◌∷◌, ◌++◌, ◌-◌, Bool, true, false, Option, Some, None, refl, sym, ap, subst, ◌∙◌, arith}
+use Rattle.std.specs.Prelude.{◌↔◌, ◌&&◌, flat_map}
+use Rattle.std.specs.Option.{is_none}
+use Rattle.std.specs.List.{list_all}
+use Rattle.std.proofs.lemmas.Bool.{and_parts}
+use Rattle.eh_types.specs.declared.fault.TypeFault.{TypeFault}
+use Rattle.frame_audit.specs.Audits.{Audit, is_clear}
+use Rattle.frame_audit.specs.Listing.{Audited}
+use Rattle.frame_audit.specs.declared.functions.Unwell.{Unwell}
+use Rattle.frame_audit.proofs.Listed.{unlisted_is_well}
+use Rattle.program_answers.specs.declared.status.TheConstants.{DONE}
+use Rattle.report_lines.specs.CheckText.{cause_text}
+use Rattle.ehabi_audit_top.specs.Laws.{LinesAreOfUnwell, StatusIsOfList}
+use Rattle.ehabi_audit_top.specs.Report.{clear_status}
+use Rattle.ehabi_audit_top.specs.Text.{address_end, finding_line, function_line, unwell_line, types_text, listed_text}
+
+-- a text that ends in some text isn't empty
+ends_some : (xs ys : List ℕ) → (ys ≡ [] → ⊥) → xs ++ ys ≡ [] → ⊥
+ends_some [] ys n e = n e
+ends_some (x ∷ xs) ys n e = cc
+
+both_none : (xs ys : List ℕ) → xs ++ ys ≡ [] → (xs ≡ []) × (ys ≡ [])
+both_none [] ys e = (refl, e)
+both_none (x ∷ xs) ys e = absurd (cc)
+
+begun : (x : ℕ) (xs : List ℕ) → x ∷ xs ≡ [] → ⊥
+begun x xs e = cc
+
+line_some : (a : Audited) (u : Unwell) → unwell_line a u ≡ [] → ⊥
+line_some a u e = ends_some (cause_text a.name (u.at - a.start) u.cause) (address_end u.at) (λ e2. begun _ _ e2) e
+
+no_line : (a : Audited) (o : Option Unwell) → finding_line a o ≡ [] → o ≡ None
+no_line a None e = refl
+no_line a (Some u) e = absurd (line_some a u e)
+
+none_is : {X : Type 0} (o : Option X) → is_none o ≡ true → o ≡ None
+none_is None e = refl
+none_is (Some x) e = absurd (cc)
+
+pub lines_are_of_unwell : LinesAreOfUnwell
+lines_are_of_unwell image f a is = ((λ e. (unlisted_is_well image f a is).0 (no_line a a.unwell e)), (λ w. ap (finding_line a) ((unlisted_is_well image f a is).1 w)))
+
+-- ---- all of them
+
+clear_lines : (xs : List Audited) → list_all (λ (a : Audited). is_none a.unwell) xs ≡ true → flat_map function_line xs ≡ []
+clear_lines [] e = refl
+clear_lines (a ∷ xs) e =
+    let two = and_parts (is_none a.unwell) (list_all (λ (b : Audited). is_none b.unwell) xs) e in
+    let one : function_line a ≡ [] = ap (finding_line a) (none_is a.unwell two.0) in
+    subst (λ (text : List ℕ). text ++ flat_map function_line xs ≡ []) (sym one) (clear_lines xs two.1)
+
+lines_clear : (xs : List Audited) → flat_map function_line xs ≡ [] → list_all (λ (a : Audited). is_none a.unwell) xs ≡ true
+lines_clear [] e = refl
+lines_clear (a ∷ xs) e =
+    let two = both_none (function_line a) (flat_map function_line xs) e in
+    let one : a.unwell ≡ None = no_line a a.unwell two.0 in
+    let rest = lines_clear xs two.1 in
+    rw one rest
+
+types_none : (t : Option TypeFault) → types_text t ≡ [] → is_none t ≡ true
+types_none None e = refl
+types_none (Some fault) e = absurd (begun _ _ e)
+
+both_true : (p q : Bool) → p ≡ true → q ≡ true → (p && q) ≡ true
+both_true p q e h = rw e h
+
+cleared : (clear : Bool) → clear_status clear ≡ DONE → clear ≡ true
+cleared true e = refl
+cleared false e = absurd (omega (arith, e))
+
+pub status_is_of_list : StatusIsOfList
+unfolding is_clear
+status_is_of_list x = (forth, back)
+  where
+    forth : clear_status (is_clear x) ≡ DONE → listed_text x ≡ []
+    forth e =
+        let two = and_parts (list_all (λ (a : Audited). is_none a.unwell) x.functions) (is_none x.types) (cleared (is_clear x) e) in
+        let types : types_text x.types ≡ [] = ap types_text (none_is x.types two.1) in
+        subst (λ (text : List ℕ). text ++ types_text x.types ≡ []) (sym (clear_lines x.functions two.0)) types
+
+    back : listed_text x ≡ [] → clear_status (is_clear x) ≡ DONE
+    back e =
+        let two = both_none (flat_map function_line x.functions) (types_text x.types) e in
+        ap clear_status (both_true _ _ (lines_clear x.functions two.0) (types_none x.types two.1))

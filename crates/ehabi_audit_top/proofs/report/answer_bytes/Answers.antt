@@ -1,0 +1,18 @@
+use Rattle.std.proofs.Common.{◌∙◌, Result, refl, sym, subst}
+use Rattle.elf_image.specs.Image.{Image}
+use Rattle.elf_image.specs.declared.fault.ImageFault.{ImageFault}
+use Rattle.ehabi_audit_top.specs.Does.{Tells}
+use Rattle.ehabi_audit_top.specs.Report.{ReadReports, IsAcceptedRead}
+use Rattle.ehabi_audit_top.proofs.Tellings.{judges_refused, tells_answered, tells_none}
+use Rattle.ehabi_audit_top.proofs.report.answer_bytes.Goals as goal
+
+pub returns-in-Ok : goal.returns-in-Ok
+returns-in-Ok g c = rw c.in-Ok.ensures.image c.answer_image.ensures
+
+pub returns-in_default : goal.returns-in_default
+returns-in_default g c =
+    rw (c.in-Err.ensures.refused c.in_default.not-OutOfMemory)
+    (tells_answered _ _ _ _ _ _ _ _ refl (judges_refused _ (λ a. a)) _ (rw (c.as_slice.ensures.value ∙ c.image_fault_line.ensures) at c.answer_text.ensures))
+
+pub returns-in-OutOfMemory : goal.returns-in-OutOfMemory
+returns-in-OutOfMemory g c = tells_none _ _ _ _

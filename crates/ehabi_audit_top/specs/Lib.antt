@@ -1,0 +1,7 @@
+pub mod Words
+pub mod Text
+pub mod Writing
+pub mod Report
+pub mod Does
+pub mod Answered
+pub mod Laws

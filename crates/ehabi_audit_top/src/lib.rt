@@ -1,0 +1,66 @@
+//! All that `ehabi_audit FILE` does, over any files and sink (docs/audit.md, "The program").
+#![tactic(auto)]
+
+ghost use Rattle.ehabi_audit_top.specs.Answered.{IsAuditAnswer};
+ghost use Rattle.ehabi_audit_top.specs.Does.{Does};
+ghost use Rattle.ehabi_audit_top.specs.Words.{name_of};
+ghost use Rattle.program_answers.specs.Files.{file_state};
+ghost use Rattle.program_answers.specs.Words.{texts};
+
+pub mod laws;
+mod listing;
+mod report;
+mod summary;
+mod words;
+
+use eh_files::Files;
+use eh_port::Sink;
+use program_answers::Stop;
+use program_answers::answer::answer_text;
+use program_answers::status::USAGE;
+pub use report::MOST_BYTES;
+use report::answer_file;
+use std::alloc::Global;
+pub use words::{HYPHEN, name_of};
+
+// Audits the file that the words name.
+fn perform<F: Files, O: Sink>(
+    alloc: Global,
+    words: &[&str],
+    files: &mut F,
+    out: &mut O,
+) -> Result<u8, Stop>
+    ensures { Does (name_of (texts words.now)) (file_state (F.held files.old) (F.faults files.old) (F.asked files.old) F.with_name) (file_state (F.held files.new) (F.faults files.new) (F.asked files.new) F.with_name)
+        result (O.written out.old) (O.written out.new) (O.faults out.old) (O.faults out.new) }
+{
+    match name_of(words) {
+        None => answer_text(out, b"usage: ehabi_audit FILE\n", USAGE),
+        Some(name) => answer_file(alloc, name, files, out),
+    }
+}
+
+/// All that the program does. The words are those after the program's name, and the answer is its status:
+///
+/// - 0: the checker accepts the image, and nothing is listed;
+/// - 2: the words aren't one name;
+/// - 3: functions or types are listed, or the line says why the file isn't audited;
+/// - 7: a read of the file failed;
+/// - 8: a write of the output failed;
+/// - 9: there was no memory;
+/// - 10: the file is missing, or has more than 67,108,864 bytes.
+pub fn audit_main<F: Files, O: Sink>(
+    alloc: Global,
+    words: &[&str],
+    files: &mut F,
+    out: &mut O,
+) -> u8
+    // What is promised stands in the fields of `IsAuditAnswer`: that it wrote a whole report and answered its status, or a first part of
+    // one with a cause, and when exactly the status is 0, 2, 3 and 10.
+    ensures { IsAuditAnswer (texts words.now) (file_state (F.held files.old) (F.faults files.old) (F.asked files.old) F.with_name) (file_state (F.held files.new) (F.faults files.new) (F.asked files.new) F.with_name)
+        (O.written out.old) (O.written out.new) (O.faults out.old) (O.faults out.new) result }
+{
+    match perform(alloc, words, files, out) {
+        Ok(status) => status,
+        Err(stop) => stop.status(),
+    }
+}

@@ -1,0 +1,110 @@
+//! What is said against an image, line by line (docs/audit.md, "The program").
+ghost use Rattle.std.specs.Prelude.{◌≡◌, ◌++◌, flat_map, IfOk, OnOk};
+ghost use Rattle.ehabi_audit_top.specs.Text.{address_end, unwell_line, function_line, types_text, listed_text, audit_text};
+ghost use Rattle.ehabi_audit_top.specs.Writing.{Writes};
+
+use crate::summary::summary_lines;
+use eh_port::{Sink, put_all};
+use eh_types::TypeFault;
+use eh_word::address_text;
+use frame_audit::{Audit, Audited, Unwell};
+use program_answers::Stop;
+use report_lines::{push_cause_text, type_line};
+use std::alloc::{AllocError, Global};
+
+/// Writes a text.
+fn write_text<O: Sink>(out: &mut O, text: &[u8]) -> Result<(), Stop>
+    ensures { Writes text.now result (O.written out.old) (O.written out.new) (O.faults out.old) (O.faults out.new) }
+{
+    match put_all(out, text) {
+        Ok(()) => Ok(()),
+        Err(_) => Err(Stop::Write),
+    }
+}
+
+/// Puts an address and the end of its line after others.
+fn push_address(line: &mut Vec<u8>, at: u32) -> Result<(), AllocError>
+    ensures { OnOk result (line.new.items ≡ line.old.items ++ address_end at) }
+{
+    let address = address_text(at);
+    line.extend_from_slice(b" at ")?;
+    line.extend_from_slice(&address)?;
+    line.extend_from_slice(b"\n")
+}
+
+/// Puts the line of a function that isn't well after others.
+fn push_unwell(line: &mut Vec<u8>, a: &Audited, unwell: Unwell) -> Result<(), AllocError>
+    ensures { OnOk result (line.new.items ≡ line.old.items ++ unwell_line a.now unwell) }
+{
+    let offset = unwell.at.saturating_sub(a.start);
+    push_cause_text(line, a.name, offset, unwell.cause)?;
+    push_address(line, unwell.at)
+}
+
+/// The line of a function that isn't well, and nothing of one that is.
+fn function_line(alloc: Global, a: &Audited) -> Result<Vec<u8>, AllocError>
+    ensures { IfOk result (λ line. line.items ≡ function_line a.now) }
+{
+    let mut line = Vec::new(alloc);
+    match a.unwell {
+        None => {}
+        Some(unwell) => push_unwell(&mut line, a, unwell)?,
+    }
+    Ok(line)
+}
+
+/// Writes the line of a function that isn't well.
+fn write_function<O: Sink>(alloc: Global, out: &mut O, a: &Audited) -> Result<(), Stop>
+    ensures { Writes (function_line a.now) result (O.written out.old) (O.written out.new) (O.faults out.old) (O.faults out.new) }
+{
+    match function_line(alloc, a) {
+        Ok(line) => write_text(out, line.as_slice()),
+        Err(_) => Err(Stop::Memory),
+    }
+}
+
+/// Writes the lines of the functions that aren't well, each when it is made: a line may be as long as a file.
+fn write_functions<O: Sink>(alloc: Global, out: &mut O, functions: &[Audited]) -> Result<(), Stop>
+    ensures { Writes (flat_map function_line functions.now) result (O.written out.old) (O.written out.new) (O.faults out.old) (O.faults out.new) }
+{
+    for a in functions {
+        match write_function(alloc, out, a) {
+            Ok(()) => {}
+            Err(stop) => return Err(stop),
+        }
+    }
+    Ok(())
+}
+
+/// Writes the line of types that mean no graph.
+fn write_types<O: Sink>(out: &mut O, types: Option<TypeFault>) -> Result<(), Stop>
+    ensures { Writes (types_text types) result (O.written out.old) (O.written out.new) (O.faults out.old) (O.faults out.new) }
+{
+    match types {
+        None => write_text(out, b""),
+        Some(fault) => write_text(out, type_line(fault).as_slice()),
+    }
+}
+
+/// Writes all that is said against the image.
+fn write_list<O: Sink>(alloc: Global, out: &mut O, audit: &Audit) -> Result<(), Stop>
+    ensures { Writes (listed_text audit.now) result (O.written out.old) (O.written out.new) (O.faults out.old) (O.faults out.new) }
+{
+    match write_functions(alloc, out, audit.functions()) {
+        Ok(()) => write_types(out, audit.types()),
+        Err(stop) => Err(stop),
+    }
+}
+
+/// Writes an audit: all that is said against the image, and the summary.
+pub(crate) fn write_audit<O: Sink>(alloc: Global, out: &mut O, audit: &Audit) -> Result<(), Stop>
+    ensures { Writes (audit_text audit.now) result (O.written out.old) (O.written out.new) (O.faults out.old) (O.faults out.new) }
+{
+    match write_list(alloc, out, audit) {
+        Ok(()) => match summary_lines(alloc, audit) {
+            Ok(lines) => write_text(out, lines.as_slice()),
+            Err(_) => Err(Stop::Memory),
+        },
+        Err(stop) => Err(stop),
+    }
+}

@@ -1,0 +1,34 @@
+-- Threads that are looked at one after the other.
+use Rattle.std.proofs.Common.{◌≡◌, ℕ, suc, ◌+◌, ◌<◌, ◌≤◌, true, false, List, [], length, get_or, drop, Option, Some, None, is_some, refl, ◌∙◌, arith}
+use Rattle.std.proofs.lemmas.List.{at_drop_more, drop_all}
+use Rattle.thread_run.specs.declared.thread.Thread.{Thread}
+use Rattle.thread_run.specs.Threads.{core_of, none_runs}
+use Rattle.thread_run.specs.Starting.{unstarted_from}
+
+-- ---- whether one runs
+
+pub none_first : (threads : List (Option Thread)) (i : ℕ) → i < length threads → is_some (core_of (get_or threads i None)) ≡ true
+    → none_runs threads ≡ none_runs (drop i threads) → none_runs threads ≡ false
+none_first threads i h runs e = e ∙ at_drop_more none_runs threads i None h ∙ rw runs refl
+
+pub none_next : (threads : List (Option Thread)) (i : ℕ) → i < length threads → is_some (core_of (get_or threads i None)) ≡ false
+    → none_runs threads ≡ none_runs (drop i threads) → none_runs threads ≡ none_runs (drop (i + 1) threads)
+none_next threads i h stands e = e ∙ at_drop_more none_runs threads i None h ∙ rw stands refl
+
+pub none_at_all : (threads : List (Option Thread)) (i : ℕ) → length threads ≤ i → none_runs threads ≡ none_runs (drop i threads) → none_runs threads ≡ true
+none_at_all threads i h e = let all : drop i threads ≡ [] = drop_all i threads h in rw all at e
+
+-- ---- the first that was never started
+
+pub unstarted_here : (threads : List (Option Thread)) (i : ℕ) → i < length threads → is_some (get_or threads i None) ≡ false
+    → unstarted_from 0 threads ≡ unstarted_from i (drop i threads) → unstarted_from 0 threads ≡ Some i
+unstarted_here threads i h none e = e ∙ at_drop_more (unstarted_from i) threads i None h ∙ rw none refl
+
+pub unstarted_next : (threads : List (Option Thread)) (i : ℕ) → i < length threads → is_some (get_or threads i None) ≡ true
+    → unstarted_from 0 threads ≡ unstarted_from i (drop i threads) → unstarted_from 0 threads ≡ unstarted_from (i + 1) (drop (i + 1) threads)
+unstarted_next threads i h some e =
+    let on : suc i ≡ i + 1 = omega arith in
+    e ∙ at_drop_more (unstarted_from i) threads i None h ∙ rw (some, on) refl
+
+pub all_started : (threads : List (Option Thread)) (i : ℕ) → length threads ≤ i → unstarted_from 0 threads ≡ unstarted_from i (drop i threads) → unstarted_from 0 threads ≡ None
+all_started threads i h e = let all : drop i threads ≡ [] = drop_all i threads h in rw all at e

@@ -1,0 +1,27 @@
+use Rattle.std.proofs.Common.{◌≡◌, ◌≤◌, IfSome, length}
+use Rattle.event_runs.proofs.Progress.{Progress}
+use Rattle.thumb_core.specs.declared.ends.End.{End}
+use Rattle.two_machines.specs.Checked.{program_of}
+use Rattle.thread_memory.specs.Seen.{seen}
+use Rattle.thread_run.specs.Elements.{joint_of}
+use Rattle.thread_run.specs.Schedules.{Scheduled, at_first}
+use Rattle.thread_run.proofs.Running.{elements_of, at_place}
+use Rattle.thread_run.proofs.element.Threads.elements.Given as goal
+
+-- what was done and what is left are the whole run, and no count has changed
+abbrev pub invariant-loop-left : goal.invariant-loop-left
+invariant-loop-left g l = record {
+  progress : IfSome (g.I.Source.left l.initial.input) (λ bytes. Progress Scheduled End (elements_of (program_of l.initial.self.accepted.now) l.schedule) l.budget
+      (at_first (joint_of l.initial.self.threads l.initial.self.entered l.initial.self.owners.slots
+      (seen (g.B.Bus.memory l.initial.self.shared.bus.inner) l.initial.self.shared.bus.guards l.initial.self.shared.bus.thread) l.initial.self.events l.initial.self.tags)) bytes
+      l.left (at_place (joint_of l.self.threads l.self.entered l.self.owners.slots
+      (seen (g.B.Bus.memory l.self.shared.bus.inner) l.self.shared.bus.guards l.self.shared.bus.thread) l.self.events l.self.tags) l.at)
+      (g.I.Source.left l.input) (g.O.Sink.written l.initial.out) (g.O.Sink.written l.out));
+  input_kept : g.I.Source.faults l.input ≡ g.I.Source.faults l.initial.input;
+  out_kept : g.O.Sink.faults l.out ≡ g.O.Sink.faults l.initial.out;
+  same : l.self.accepted ≡ l.initial.self.accepted;
+  place : l.at ≤ length l.schedule;
+}
+
+abbrev pub decreases-loop-left : goal.decreases-loop-left
+decreases-loop-left g l = l.left

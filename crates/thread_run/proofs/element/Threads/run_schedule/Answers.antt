@@ -1,0 +1,10 @@
+use Rattle.two_machines.specs.Checked.{program_of}
+use Rattle.thread_memory.specs.Seen.{seen}
+use Rattle.thread_run.specs.Elements.{joint_of}
+use Rattle.thread_run.proofs.Running.{over_before}
+use Rattle.thread_run.proofs.element.Threads.run_schedule.Goals as goal
+
+pub returns-in-Some-clause-told : goal.returns-in-Some-clause-told
+returns-in-Some-clause-told g c =
+    over_before (program_of c.args.self.now.accepted.now) c.args.schedule.now c.args.budget (joint_of c.args.self.now.threads c.args.self.now.entered c.args.self.now.owners.slots (seen (g.B.Bus.memory c.args.self.now.shared.bus.inner) c.args.self.now.shared.bus.guards c.args.self.now.shared.bus.thread) c.args.self.now.events c.args.self.now.tags)
+    (g.I.Source.left c.args.input.now) (g.O.Sink.written c.args.out.now) c.in-Some.number c.in-Some.ensures

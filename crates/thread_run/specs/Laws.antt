@@ -1,0 +1,102 @@
+-- What elements of a schedule do to the threads (docs/threads.md, "Laws").
+use Rattle.std.specs.Prelude.{◌≡◌, ℕ, ◌-◌, List, [], ◌∷◌, Option, Some, None, slice_index, slice_index_or}
+use Rattle.event_runs.specs.Runs.{Event, Goes, Ends}
+use Rattle.guest_gates.specs.Gates.{r0}
+use Rattle.thumb_core.specs.declared.ends.End.{End}
+use Rattle.eh_gates.specs.declared.state.Core.{Core}
+use Rattle.eh_gates.specs.declared.state.Turned.TheVariants.{Went}
+use Rattle.eh_gates.specs.State.{State}
+use Rattle.two_machines.specs.Program.{Program}
+use Rattle.two_machines.specs.Machine.{machine_event}
+use Rattle.two_machines.specs.Checked.{program_of}
+use Rattle.two_machines.specs.Activations.{Recorded}
+use Rattle.two_machines.specs.ActivationMachine.{recorded_event}
+use Rattle.stands_for.specs.Stands.{IsProgram, StandsFor}
+use Rattle.machines_agree.specs.Turned.{AreBytes}
+use Rattle.frame_check.specs.Accepts.{Accepted}
+use Rattle.thread_run.specs.declared.starting.TheConstants.{START_GATE, NO_THREAD}
+use Rattle.thread_run.specs.declared.thread.Thread.{Thread}
+use Rattle.thread_run.specs.Threads.{core_of, all_over, ended_with, put_thread}
+use Rattle.thread_run.specs.Starting.{answered, new_core, start_gate, start_refusal}
+use Rattle.thread_run.specs.Elements.{Joint, as_entered, state_in, core_in, with_event, element}
+
+-- the threads after an element, whether the run goes on or not
+abbrev pub threads_of : Event Joint End → List (Option Thread)
+threads_of (Goes w text left) = w.threads
+threads_of (Ends end w) = w.threads
+
+abbrev pub thread_of_number : List (Option Thread) → ℕ → Option Thread
+thread_of_number threads number = slice_index_or threads number None
+
+-- ---- the thread that is named
+
+-- an element of a thread that has ended, and of one that was never started, is passed over: nothing changes, nothing is written and taken
+abbrev pub OthersPassOver : Type 0
+OthersPassOver =
+    (p : Program) (thread : ℕ) (w : Joint) (input : List ℕ) → core_of (thread_of_number w.threads thread) ≡ None → element p (Some thread) w input ≡ Goes w [] input
+
+-- where the event of the machine that unwinds goes on, in the state of the thread, so does the element, with what it wrote and what it left
+abbrev pub EventsAreTheMachines : Type 0
+EventsAreTheMachines =
+    (p : Program) (thread : ℕ) (w : Joint) (core : Core) (input text left : List ℕ) (b : State)
+    → core_of (thread_of_number w.threads thread) ≡ Some core → machine_event p (state_in core (as_entered thread w)) input ≡ Goes b text left
+    → element p (Some thread) w input ≡ Goes (with_event thread b (put_thread w.threads thread (core_in b) None) (as_entered thread w)) text left
+
+-- Where the machine with recorded activations goes on, from a state that the thread's own stands for, so does the element; and what the event
+-- left of the thread stands for what that leads to. So each throw of a thread goes over the thread's own activations.
+pub record EventFollows (x : Accepted) (thread : ℕ) (w : Joint) (t : Recorded) (input text left : List ℕ) : Type 0 where
+  pub bytes : State
+  pub goes :
+      element (program_of x) (Some thread) w input
+      ≡ Goes (with_event thread bytes (put_thread w.threads thread (core_in bytes) None) (as_entered thread w)) text left
+  pub stands : StandsFor x bytes t
+
+abbrev pub OwnEventsFollow : Type 0
+OwnEventsFollow =
+    (x : Accepted) (thread : ℕ) (w : Joint) (core : Core) (s t : Recorded) (input text left : List ℕ) → IsProgram x → AreBytes input
+    → core_of (thread_of_number w.threads thread) ≡ Some core → StandsFor x (state_in core (as_entered thread w)) s
+    → recorded_event (program_of x) s input ≡ Goes t text left → EventFollows x thread w t input text left
+
+-- ---- the others
+
+-- a thread that was started is as it was after an element of another one, whether it has ended or not
+abbrev pub OthersStand : Type 0
+OthersStand =
+    (p : Program) (thread other : ℕ) (w : Joint) (input : List ℕ) (t : Thread) → (other ≡ thread → ⊥) → thread_of_number w.threads other ≡ Some t
+    → thread_of_number (threads_of (element p (Some thread) w input)) other ≡ Some t
+
+-- ---- starts
+
+-- of two threads that are there the next one is the third: it begins at the function with its argument, and the one that asked goes on
+abbrev pub ThirdStarts : Type 0
+ThirdStarts =
+    (p : Program) (core : Core) (one two : Thread) → start_refusal p core.regs ≡ None
+    → start_gate p 0 core (Some one ∷ Some two ∷ None ∷ None ∷ [])
+    ≡ (
+      Went,
+      Some (record { core = answered core 2; ended = None }) ∷ Some two
+          ∷ Some (record { core = new_core 2 (r0 core.regs - 1) (slice_index core.regs.r 1); ended = None }) ∷ None ∷ [],
+    )
+
+-- where four were started none more is, also where some of them have ended
+abbrev pub NoFifthStarts : Type 0
+NoFifthStarts =
+    (p : Program) (core : Core) (one two three four : Thread) → start_refusal p core.regs ≡ None
+    → start_gate p 0 core (Some one ∷ Some two ∷ Some three ∷ Some four ∷ [])
+    ≡ (Went, Some (record { core = answered core NO_THREAD; ended = None }) ∷ Some two ∷ Some three ∷ Some four ∷ [])
+
+-- ---- the end
+
+-- where the run is over no thread runs, and its number is that of thread 0
+pub record IsOver (threads : List (Option Thread)) (number : ℕ) : Type 0 where
+  pub none : (thread : ℕ) → core_of (thread_of_number threads thread) ≡ None
+  pub first : ended_with (thread_of_number threads 0) ≡ Some number
+
+abbrev pub OverWhereAllEnded : Type 0
+OverWhereAllEnded = (threads : List (Option Thread)) (number : ℕ) → all_over threads ≡ Some number → IsOver threads number
+
+-- ---- in digits
+
+pub record InDigits : Type 0 where
+  pub gate : START_GATE ≡ 32
+  pub none : NO_THREAD ≡ 4294967295

@@ -1,0 +1,94 @@
+//! What the end of a thread's event does to the threads (docs/threads.md, "Ends").
+ghost use Rattle.std.specs.Prelude.{◌≡◌, ◌<◌};
+ghost use Rattle.two_machines.specs.Checked.{program_of};
+ghost use Rattle.thread_memory.specs.declared.homes.TheConstants.{THREADS};
+ghost use Rattle.thread_run.specs.Ending.{thread_ends, asks_to_start, stopped, after_end, turn_outcome};
+
+use crate::starting::{START_GATE, start_gate};
+use crate::thread::{Thread, all_over, put_thread};
+use eh_gates::{Core, Turned};
+use frame_check::Accepted;
+use thread_memory::THREADS;
+use thumb_core::ends::{End, TrapKind};
+
+/// A thread ends with a number: the run goes on, but where it was the last that ran.
+fn thread_ends(
+    threads: &mut [Option<Thread>; THREADS],
+    thread: usize,
+    core: &Core,
+    number: u32,
+) -> Turned
+    requires { thread < THREADS }
+    ensures { (result, threads.new) ≡ thread_ends thread core.now number threads.old }
+{
+    put_thread(threads, thread, core, Some(number));
+    match all_over(threads) {
+        None => Turned::Went,
+        Some(number) => Turned::Ended(End::Exit(number)),
+    }
+}
+
+/// Whether a trap of the machine of one thread is that of the gate that starts one.
+fn asks_to_start(kind: TrapKind, value: u32) -> bool
+    ensures { result ≡ asks_to_start kind value }
+{
+    if let TrapKind::UnknownGate = kind {
+        return value == START_GATE;
+    }
+    false
+}
+
+/// Any other end ends the run, and the thread stands where it was.
+fn stopped(threads: &mut [Option<Thread>; THREADS], thread: usize, core: &Core, end: End) -> Turned
+    requires { thread < THREADS }
+    ensures { (result, threads.new) ≡ stopped thread core.now end threads.old }
+{
+    put_thread(threads, thread, core, None);
+    Turned::Ended(end)
+}
+
+/// What the end of a thread's event does.
+fn after_end(
+    a: &Accepted,
+    threads: &mut [Option<Thread>; THREADS],
+    thread: usize,
+    core: &Core,
+    end: End,
+) -> Turned
+    requires { thread < THREADS }
+    ensures { (result, threads.new) ≡ after_end (program_of a.now) thread core.now end threads.old }
+{
+    match end {
+        End::Exit(number) => thread_ends(threads, thread, core, number),
+        End::Trap(kind, value, _) => {
+            if asks_to_start(kind, value) {
+                start_gate(a, threads, thread, core)
+            } else {
+                stopped(threads, thread, core, end)
+            }
+        }
+        End::Terminate(_) | End::Budget | End::ReadFault | End::WriteFault => {
+            stopped(threads, thread, core, end)
+        }
+    }
+}
+
+/// What an event of a thread does to the threads, once it left this core.
+pub(crate) fn apply_turn(
+    a: &Accepted,
+    threads: &mut [Option<Thread>; THREADS],
+    thread: usize,
+    core: &Core,
+    turned: Turned,
+) -> Turned
+    requires { thread < THREADS }
+    ensures { (result, threads.new) ≡ turn_outcome (program_of a.now) thread core.now turned threads.old }
+{
+    match turned {
+        Turned::Went => {
+            put_thread(threads, thread, core, None);
+            Turned::Went
+        }
+        Turned::Ended(end) => after_end(a, threads, thread, core, end),
+    }
+}

@@ -1,0 +1,25 @@
+//! Another thread is entered, where an element of the schedule names one (docs/threads.md, "A run").
+ghost use Rattle.std.specs.Prelude.{◌≡◌, ◌<◌};
+ghost use Rattle.thread_memory.specs.Seen.{seen};
+ghost use Rattle.thread_memory.specs.declared.homes.TheConstants.{THREADS};
+ghost use Rattle.thread_run.specs.Elements.{owners_seen, memory_seen};
+
+use eh_bus::bus::Bus;
+use thread_memory::{Owners, THREADS, ThreadBus};
+
+/// Enters a thread after the one that is entered. While one thread goes on nothing is done.
+pub(crate) fn enter<B: Bus>(
+    bus: &mut ThreadBus<B>,
+    owners: &mut Owners,
+    entered: usize,
+    thread: usize,
+)
+    requires { thread < THREADS }
+    ensures owners { owners.new.slots ≡ owners_seen thread entered (seen (B.memory bus.old.inner) bus.old.guards bus.old.thread) owners.old.slots }
+    ensures memory { seen (B.memory bus.new.inner) bus.new.guards bus.new.thread ≡ memory_seen thread entered (seen (B.memory bus.old.inner) bus.old.guards bus.old.thread) owners.old.slots }
+{
+    if thread == entered {
+        return;
+    }
+    bus.enter(owners, entered, thread);
+}

@@ -1,0 +1,70 @@
+//! The thread of each event that is kept (docs/threads.md, "Tags").
+ghost use Rattle.std.specs.Prelude.{◌≡◌, ◌-◌, [], length, IfOk, All, ◌<◌};
+ghost use Rattle.thread_run.specs.Tags.{with_tag, with_tags, tags_up_to};
+
+use eh_trace::TraceMemory;
+use eh_trace::events::MAX_KEPT;
+use std::alloc::Global;
+use std::marker::Model;
+
+/// The thread of each event that is kept.
+#[derive(Drop)]
+pub struct Tags {
+    kept: Vec<u8>,
+}
+
+impl Model for Tags {
+    ghost use Rattle.std.specs.Prelude.{◌≤◌, ℕ, List, vec_capacity};
+    ghost use Rattle.eh_trace.specs.declared.events.TheConstants.{MAX_KEPT};
+
+    ghost Value = { List ℕ };
+
+    ghost view = { λ t. t.kept.items };
+
+    ghost invariant = { λ t. MAX_KEPT ≤ vec_capacity t.kept };
+}
+
+impl Tags {
+    /// None, with room for all that are ever kept.
+    pub fn reserve(alloc: Global) -> Result<Tags, TraceMemory>
+        ensures { IfOk result (λ t. t ≡ []) }
+    {
+        Ok(Tags {
+            kept: Vec::with_capacity(alloc, MAX_KEPT)?,
+        })
+    }
+
+    /// One more, while fewer are kept than events may be. Takes no memory.
+    fn add(&mut self, thread: u8)
+        ensures { self.new ≡ with_tag thread self.old }
+    {
+        if self.kept.len() < MAX_KEPT {
+            self.kept.push(thread).unwrap();
+        }
+    }
+
+    /// The number of the tags.
+    fn len(&self) -> usize
+        ensures { result ≡ length self.now }
+    {
+        self.kept.len()
+    }
+
+    /// Of so many events those that have no tag yet are the thread's. Takes no memory.
+    pub(crate) fn reach(&mut self, thread: u8, count: usize)
+        ensures { self.new ≡ tags_up_to thread count self.old }
+    {
+        let mut missing = count.saturating_sub(self.len());
+        while missing > 0 {
+            missing -= 1;
+            self.add(thread);
+        }
+    }
+
+    /// The tags, in order.
+    pub fn as_slice(&self) -> &[u8]
+        ensures { result.now ≡ self.now }
+    {
+        &self.kept
+    }
+}
