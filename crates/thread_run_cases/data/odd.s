@@ -1,0 +1,10 @@
+@ main begins at 8000 and asks at 8004 for a thread at 4 with bit 0 set, where no function begins.
+.global main
+.type main, %function
+main: .fnstart
+.save {r4, lr}
+push {r4, lr}
+movs r0, #5
+svc #32
+pop {r4, pc}
+.fnend
