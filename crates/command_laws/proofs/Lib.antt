@@ -3,3 +3,4 @@ mod Words
 mod Lines
 mod Builds
 mod Answers
+mod Calls

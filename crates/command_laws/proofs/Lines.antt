@@ -84,6 +84,7 @@ refusals = record {
     after_cantunwind = λ name line. refl;
     too_long = λ name line. refl;
   };
+  schedules = λ name offset. refl;
   links = record { duplicate = λ name. refl; undefined = λ name. refl; no_entry = refl; too_large = refl; relocation_range = λ place. refl };
   images = record {
     truncated = λ need. refl;

@@ -1,19 +1,19 @@
 -- Which words are which command.
-use Rattle.std.specs.Prelude.{if◌then◌else◌, nat_le, take, slice_index_or, codes}
+use Rattle.std.specs.Prelude.{if◌then◌else◌, is_some, ◌||◌, nat_le, take, slice_index_or, codes}
 use Rattle.std.specs.List.{list_all}
 use Rattle.std.specs.Str.{bytes_eq}
 use Rattle.std.proofs.Common.{◌≡◌, ◌↔◌, ◌⊎◌, inl, inr, ℕ, ◌-◌, ◌≤◌, ◌&&◌, Bool, true, false, List, [], ◌∷◌, ◌++◌, length, Option, option_map, Some, None, refl, sym, ap, subst, ◌∙◌, arith, append_assoc}
 use Rattle.std.proofs.Math.Seq.{take-append_seam}
-use Rattle.std.proofs.lemmas.Bool.{leb-true, le-leb, and_parts, and_from, true≢false}
+use Rattle.std.proofs.lemmas.Bool.{leb-true, le-leb, and_parts, and_from, true≢false, false≢true}
 use Rattle.std.proofs.lemmas.Bool.Decides.{Decides-eqb}
 use Rattle.std.proofs.lemmas.List.{get_or_push, length-append}
 use Rattle.std.proofs.lemmas.Option.{same_Some, none-some}
 use Rattle.std.proofs.lemmas.Slice.Eq.{bytes_eq-Decides, ends_is}
-use Rattle.ehabi_top.specs.Words.{Command, FlatFile, BuildSources, CheckFile, CheckSources, RunFile, RunSources, GenerateProgram, budget_of, flat_command, is_source, are_sources, build_command, image_name, check_command, files_command, with_budget, run_command, frame_number, with_frame, force_command, program_number, program_functions, program_of, gen_command, command_of}
+use Rattle.ehabi_top.specs.Words.{Command, FlatFile, BuildSources, CheckFile, CheckSources, RunFile, RunSources, RunThreads, GenerateProgram, budget_of, flat_command, is_source, are_sources, build_command, image_name, check_command, files_command, with_budget, run_command, frame_number, with_frame, force_command, is_schedule, are_program, thread_files, with_elements, threads_command, program_number, program_functions, program_of, gen_command, command_of}
 use Rattle.ehabi_top.specs.declared.words.Request.{Request}
 use Rattle.ehabi_top.specs.declared.words.Task.{Task}
 use Rattle.ehabi_top.specs.declared.words.Task.TheVariants.{Run, Walk, Force}
-use Rattle.command_laws.specs.Words.{IsNumber, IsBudget, IsSource, AllAreSources, AreSources, IsImage, AreRunWords, AreWordsOf, WordsAreCommands}
+use Rattle.command_laws.specs.Words.{IsNumber, IsBudget, IsSource, AllAreSources, AreSources, IsImage, AreProgram, IsSchedule, AreRunWords, AreWordsOf, WordsAreCommands}
 use Rattle.command_laws.proofs.Numbers.{number, budget, program, functions}
 
 -- ---- names
@@ -175,6 +175,14 @@ module _ (names : List (List ℕ)) (word : List ℕ) where
   unfolding force_command
   force_push = rw (some, front, last) refl
 
+  threads_push : threads_command (names ++ word ∷ []) ≡ with_elements names (budget_of word)
+  unfolding threads_command
+  threads_push = rw (some, front, last) refl
+
+  files_push : (budget : ℕ) → thread_files (names ++ word ∷ []) budget ≡ (if is_schedule word && are_program names then Some (RunThreads (names ++ word ∷ []) budget) else None)
+  unfolding thread_files
+  files_push budget = rw (some, front, last) refl
+
 -- words that ask for a run have a budget as the last one, and files before it
 pub record RunParts (t : Task) (rest : List (List ℕ)) (c : Command) : Type 0 where
   pub names : List (List ℕ)
@@ -254,11 +262,83 @@ force_words rest c e =
     let is : rest ≡ q.names ++ q.word ∷ p.word ∷ [] = p.is ∙ ap (λ l. l ++ p.word ∷ []) q.is ∙ append_assoc q.names (q.word ∷ []) (p.word ∷ []) in
     files_to (Force p.frame) q.budget q.names (codes "force" ∷ rest) c (q.word, p.word, ap (λ l. codes "force" ∷ l) is, q.number, p.number) q.files
 
+-- ---- `threads`
+
+schedules : (name : List ℕ) → (is_schedule name ≡ true) ↔ IsSchedule name
+schedules name = let e = ends_is Decides-eqb name (codes ".sched") (is_schedule name) refl in (λ t. (take (length name - 6) name, e.0 t), λ s. e.1 s.0 s.1)
+
+one_image : (files : List (List ℕ)) → are_sources files ≡ false → is_some (image_name files) ≡ true → (name : List ℕ) × (files ≡ name ∷ []) × IsImage name
+one_image [] p e = absurd (false≢true e)
+one_image (name ∷ []) p e = go (nat_le 1 (length name)) refl e
+  where
+    go : (t : Bool) → nat_le 1 (length name) ≡ t → is_some (if t then Some name else None) ≡ true → (other : List ℕ) × (name ∷ [] ≡ other ∷ []) × IsImage other
+    go true q e = (name, refl, record { some = leb-true 1 (length name) q; no_source = λ s. true≢false (sym ((sources (name ∷ [])).1 (alone name s)) ∙ p) })
+    go false q e = absurd (false≢true e)
+one_image (name ∷ more ∷ names) p e = absurd (false≢true e)
+
+program_to : (files : List (List ℕ)) → are_program files ≡ true → AreProgram files
+unfolding are_program
+program_to files e = go (are_sources files) refl e
+  where
+    go : (t : Bool) → are_sources files ≡ t → (t || is_some (image_name files)) ≡ true → AreProgram files
+    go true p e = inl ((sources files).0 p)
+    go false p e = inr (one_image files p e)
+
+program_from : (files : List (List ℕ)) → AreProgram files → are_program files ≡ true
+unfolding are_program
+program_from files h = elim h [
+  | inl s ↦ ap (λ t. t || is_some (image_name files)) ((sources files).1 s)
+  | inr i ↦
+      ap (λ l. are_sources l || is_some (image_name l)) i.1
+      ∙ ap (λ t. t || is_some (image_name (i.0 ∷ []))) (no_sources i.0 i.2)
+      ∙ ap (λ t. is_some (if t then Some i.0 else None)) (le-leb 1 (length i.0) i.2.some)
+]
+
+files_words : (names : List (List ℕ)) (word : List ℕ) (n : ℕ) (rest : List (List ℕ)) (c : Command) → rest ≡ names ++ word ∷ [] → IsBudget word n → thread_files names n ≡ Some c
+    → AreWordsOf c (codes "threads" ∷ rest)
+unfolding thread_files
+files_words [] word n rest c is b e = absurd (none-some c e)
+files_words (first ∷ more) word n rest c is b e =
+    let parts = last_of first more in
+    go parts.0 parts.1 parts.2 (is_schedule parts.1 && are_program parts.0) refl (sym (files_push parts.0 parts.1 n) ∙ ap (λ l. thread_files l n) (sym parts.2) ∙ e)
+  where
+    go : (files : List (List ℕ)) (schedule : List ℕ) → first ∷ more ≡ files ++ schedule ∷ [] → (t : Bool) → (is_schedule schedule && are_program files) ≡ t
+        → (if t then Some (RunThreads (files ++ schedule ∷ []) n) else None) ≡ Some c → AreWordsOf c (codes "threads" ∷ rest)
+    go files schedule at false q e = absurd (none-some c e)
+    go files schedule at true q e =
+        let p = and_parts (is_schedule schedule) (are_program files) q in
+        let all : rest ≡ files ++ schedule ∷ word ∷ [] = is ∙ ap (λ l. l ++ word ∷ []) at ∙ append_assoc files (schedule ∷ []) (word ∷ []) in
+        subst (λ d. AreWordsOf d (codes "threads" ∷ rest)) (same_Some (RunThreads (files ++ schedule ∷ []) n) c e)
+        (files, schedule, word, refl, ap (λ l. codes "threads" ∷ l) all, program_to files p.1, (schedules schedule).0 p.0, b)
+
+threads_words : (rest : List (List ℕ)) (c : Command) → threads_command rest ≡ Some c → AreWordsOf c (codes "threads" ∷ rest)
+unfolding threads_command
+threads_words [] c e = absurd (none-some c e)
+threads_words (first ∷ rest) c e =
+    let parts = last_of first rest in
+    go parts.0 parts.1 parts.2 (budget_of parts.1) refl (sym (threads_push parts.0 parts.1) ∙ ap threads_command (sym parts.2) ∙ e)
+  where
+    go : (names : List (List ℕ)) (word : List ℕ) → first ∷ rest ≡ names ++ word ∷ [] → (o : Option ℕ) → budget_of word ≡ o → with_elements names o ≡ Some c
+        → AreWordsOf c (codes "threads" ∷ first ∷ rest)
+    go names word is None q e = absurd (none-some c e)
+    go names word is (Some n) q e = files_words names word n (first ∷ rest) c is ((budget word n).0 q) e
+
+threads_from : (files : List (List ℕ)) (schedule number : List ℕ) (n : ℕ) → AreProgram files → IsSchedule schedule → IsBudget number n
+    → threads_command (files ++ schedule ∷ number ∷ []) ≡ Some (RunThreads (files ++ schedule ∷ []) n)
+threads_from files schedule number n p s b =
+    ap threads_command (sym (append_assoc files (schedule ∷ []) (number ∷ [])))
+    ∙ threads_push (files ++ schedule ∷ []) number ∙ ap (with_elements (files ++ schedule ∷ [])) ((budget number n).1 b)
+    ∙ files_push files schedule n
+    ∙ ap (λ t. if t then Some (RunThreads (files ++ schedule ∷ []) n) else None) (and_from (is_schedule schedule) (are_program files) ((schedules schedule).1 s) (program_from files p))
+
 -- ---- by the first word
 
 -- the command by the first word, from one of the names on
+abbrev by_threads : List ℕ → List (List ℕ) → Option Command
+by_threads word rest = if bytes_eq word (codes "threads") then threads_command rest else None
+
 abbrev by_force : List ℕ → List (List ℕ) → Option Command
-by_force word rest = if bytes_eq word (codes "force") then force_command rest else None
+by_force word rest = if bytes_eq word (codes "force") then force_command rest else by_threads word rest
 
 abbrev by_walk : List ℕ → List (List ℕ) → Option Command
 by_walk word rest = if bytes_eq word (codes "walk") then run_command Walk rest else by_force word rest
@@ -287,7 +367,8 @@ words_of : (words : List (List ℕ)) (c : Command) → command_of words ≡ Some
 unfolding command_of
 words_of [] c e = absurd (none-some c e)
 words_of (word ∷ rest) c e =
-    let force = by_word word (codes "force") rest (force_command rest) None c (force_words rest c) (λ f. absurd (none-some c f)) in
+    let threads = by_word word (codes "threads") rest (threads_command rest) None c (threads_words rest c) (λ f. absurd (none-some c f)) in
+    let force = by_word word (codes "force") rest (force_command rest) (by_threads word rest) c (force_words rest c) threads in
     let walk = by_word word (codes "walk") rest (run_command Walk rest) (by_force word rest) c (walk_words rest c) force in
     let gen = by_word word (codes "gen") rest (gen_command rest) (by_walk word rest) c (gen_to rest c) walk in
     let run = by_word word (codes "run") rest (run_command Run rest) (by_gen word rest) c (run_words rest c) gen in
@@ -310,6 +391,7 @@ command_is (CheckFile name) words h = ap command_of h.0 ∙ check_from name h.1
 command_is (CheckSources names) words h = ap command_of h.0 ∙ check_sources_from names h.1
 command_is (RunFile name request) words h = run_command_of request.task request.budget (name ∷ []) words (RunFile name request) h.0 (files_file name request h.1)
 command_is (RunSources names request) words h = run_command_of request.task request.budget names words (RunSources names request) h.0 (files_sources names request h.1)
+command_is (RunThreads names n) words h = ap command_of h.4 ∙ threads_from h.0 h.1 h.2 n h.5 h.6 h.7 ∙ ap (λ l. Some (RunThreads l n)) (sym h.3)
 command_is (GenerateProgram k m) words h = ap command_of h.2 ∙ gen_from h.0 h.1 k m h.3 h.4 h.5 h.6 h.7
 
 none_of : (words : List (List ℕ)) → ((c : Command) → AreWordsOf c words → ⊥) → command_of words ≡ None

@@ -16,7 +16,7 @@ use Rattle.frame_facts.specs.declared.cause.FrameCause.TheVariants as cause
 use Rattle.eh_trace.specs.Text.{offset_text}
 use Rattle.eh_word.specs.Address.{address_text}
 use Rattle.report_lines.specs.CheckText.{index_line, cause_line, type_line, register_name}
-use Rattle.ehabi_top.specs.RefusalText.{source_line, asm_line, link_line}
+use Rattle.ehabi_top.specs.RefusalText.{source_line, asm_line, link_line, schedule_line}
 use Rattle.report_lines.specs.Text.{image_fault_line}
 
 -- ---- sources
@@ -58,6 +58,10 @@ pub record ObjectLines : Type 0 where
   pub two_personalities : IsObjectLine (asm.Unwind directive.TwoPersonalities) (codes "TwoPersonalities")
   pub after_cantunwind : IsObjectLine (asm.Unwind directive.AfterCantunwind) (codes "AfterCantunwind")
   pub too_long : IsObjectLine (asm.Unwind directive.TooLong) (codes "TooLong")
+
+-- FILE: BadSchedule OFFSET
+abbrev pub ScheduleLines : Type 0
+ScheduleLines = (name : List ℕ) (offset : ℕ) → schedule_line name offset ≡ name ++ (codes ": BadSchedule " ++ decimal offset ++ codes "\n")
 
 -- link: WHAT, and the name or the place that it speaks of
 pub record LinkLines : Type 0 where
@@ -154,6 +158,7 @@ pub record RegisterNames : Type 0 where
 pub record RefusalsAreWritten : Type 0 where
   pub sources : SourceLines
   pub objects : ObjectLines
+  pub schedules : ScheduleLines
   pub links : LinkLines
   pub images : ImageLines
   pub indexes : IndexLines

@@ -1,6 +1,6 @@
 -- Which words are which command, in letters and digits (docs/command-line.md, "Words").
-use Rattle.std.specs.Prelude.{◌≡◌, ◌↔◌, ℕ, ◌+◌, ◌*◌, ◌^◌, ◌≤◌, List, [], ◌∷◌, ◌++◌, length, codes, Some, None}
-use Rattle.ehabi_top.specs.Words.{Command, FlatFile, BuildSources, CheckFile, CheckSources, RunFile, RunSources, GenerateProgram, command_of}
+use Rattle.std.specs.Prelude.{◌≡◌, ◌↔◌, ◌⊎◌, ℕ, ◌+◌, ◌*◌, ◌^◌, ◌≤◌, List, [], ◌∷◌, ◌++◌, length, codes, Some, None}
+use Rattle.ehabi_top.specs.Words.{Command, FlatFile, BuildSources, CheckFile, CheckSources, RunFile, RunSources, RunThreads, GenerateProgram, command_of}
 use Rattle.ehabi_top.specs.declared.words.Task.{Task}
 use Rattle.ehabi_top.specs.declared.words.Task.TheVariants.{Run, Walk, Force}
 
@@ -44,6 +44,14 @@ pub record IsImage (name : List ℕ) : Type 0 where
   pub some : 1 ≤ length name
   pub no_source : IsSource name → ⊥
 
+-- a program's files: sources, or one image
+abbrev pub AreProgram : List (List ℕ) → Type 0
+AreProgram names = AreSources names ⊎ ((name : List ℕ) × (names ≡ name ∷ []) × IsImage name)
+
+-- the name of a schedule ends in `.sched`
+abbrev pub IsSchedule : List ℕ → Type 0
+IsSchedule name = (stem : List ℕ) × (name ≡ stem ++ codes ".sched")
+
 -- ---- commands
 
 -- what asks for a run: its word, the files, how many instructions may run, and of `force` the number of a frame
@@ -60,6 +68,9 @@ AreWordsOf (CheckFile name) words = (words ≡ codes "check" ∷ name ∷ []) ×
 AreWordsOf (CheckSources names) words = (words ≡ codes "check" ∷ names) × AreSources names
 AreWordsOf (RunFile name request) words = AreRunWords request.task request.budget (name ∷ []) words × IsImage name
 AreWordsOf (RunSources names request) words = AreRunWords request.task request.budget names words × AreSources names
+AreWordsOf (RunThreads names budget) words =
+    (files : List (List ℕ)) × (schedule : List ℕ) × (number : List ℕ) × (names ≡ files ++ schedule ∷ [])
+    × (words ≡ codes "threads" ∷ (files ++ schedule ∷ number ∷ [])) × AreProgram files × IsSchedule schedule × IsBudget number budget
 AreWordsOf (GenerateProgram number functions) words =
     (first : List ℕ) × (second : List ℕ) × (words ≡ codes "gen" ∷ first ∷ second ∷ []) × IsNumber 10 first number × (number ≤ 4294967295)
     × IsNumber 4 second functions × (1 ≤ functions) × (functions ≤ 4000)

@@ -1,9 +1,10 @@
-//! Which words are which command, what the lines of refusals are, how sources are built, and what a call answers (docs/command-line.md), in
-//! letters and digits.
+//! Which words are which command, what the lines of refusals are, how sources are built, what a call answers, and what any call has done
+//! (docs/command-line.md), in letters and digits.
 #![tactic(auto)]
 
 ghost use Rattle.command_laws.specs.Answers.{AnswersAreReports};
 ghost use Rattle.command_laws.specs.Builds.{BuildsAreInOrder};
+ghost use Rattle.command_laws.specs.Calls.{CallsAreTold};
 ghost use Rattle.command_laws.specs.Lines.{RefusalsAreWritten};
 ghost use Rattle.command_laws.specs.Words.{WordsAreCommands};
 
@@ -25,4 +26,11 @@ pub fn builds_are_in_order()
 /// A call that ended by none of 7, 8 and 9 wrote all of a report of its words, answered its status and left its input.
 pub fn answers_are_reports()
     ensures { AnswersAreReports }
+{}
+
+/// However a call ended: it wrote nothing or the first bytes of a report; 7, 8 and 9 have their causes, and where nothing failed all was done or
+/// memory was wanted; 10 is of a named file that is missing or too long, and 3 of one that is refused, whatever the input is; and each file was
+/// asked for once, in the order of the names.
+pub fn calls_are_told()
+    ensures { CallsAreTold }
 {}

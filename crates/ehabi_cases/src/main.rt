@@ -14,7 +14,7 @@ use case_file::run_file;
 use std::io::Error;
 
 /// The files of cases.
-const FILES: [&str; 15] = [
+const FILES: [&str; 16] = [
     "commands.txt",
     "sources.txt",
     "bytes.txt",
@@ -28,6 +28,7 @@ const FILES: [&str; 15] = [
     "traps.txt",
     "walks.txt",
     "forced.txt",
+    "threads.txt",
     "generated.txt",
     "failing.txt",
 ];

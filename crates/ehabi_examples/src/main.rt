@@ -37,8 +37,9 @@ const EXAMPLES: [&str; 20] = [
     "check/split_entry.s",
 ];
 
-/// Those that throw, one that would have spoilt what a throw needs, one that is walked, and one that is unwound by force.
-const THROWS: [&str; 13] = [
+/// Those that throw, one that would have spoilt what a throw needs, one that is walked, one that is unwound by force, and two whose threads
+/// run by a schedule.
+const THROWS: [&str; 15] = [
     "throw.s",
     "cleanups.s",
     "rethrow.s",
@@ -52,6 +53,8 @@ const THROWS: [&str; 13] = [
     "saved_slot.s",
     "walk.s",
     "force.s",
+    "threads.s",
+    "threads_saved_slot.s",
 ];
 
 /// What the head comment of an example says: the words of its command after the program's name, its input, what it
@@ -150,13 +153,20 @@ fn is_built(host: &HostRuntime, sources: &[&str]) -> Result<bool, Error> {
     })
 }
 
-/// The sources of a command: what stands after its first word, and for all but `check` in front of its last one.
+/// Words without the last one.
+fn all_but_last<'a, 'w>(words: &'w [&'a str]) -> Option<&'w [&'a str]> {
+    words.split_last().map(|(_last, front)| front)
+}
+
+/// The sources of a command: what stands after its first word, for all but `check` in front of its last one, and for `threads` in front of its
+/// schedule.
 fn sources_of<'a, 'w>(words: &'w [&'a str]) -> Option<&'w [&'a str]> {
     let (command, rest) = words.split_first()?;
-    if *command == "check" {
-        return Some(rest);
+    match *command {
+        "check" => Some(rest),
+        "threads" => all_but_last(all_but_last(rest)?),
+        _ => all_but_last(rest),
     }
-    rest.split_last().map(|(_budget, sources)| sources)
 }
 
 /// What comes of an example.

@@ -3,7 +3,7 @@ use Rattle.std.specs.Prelude.{◌<◌, ◌&&◌, nat_le, if◌then◌else◌, op
 use Rattle.std.specs.Str.{bytes_eq}
 use Rattle.std.proofs.Common.{◌≡◌, ◌≤◌, ℕ, List, [], ◌∷◌, Option, Some, None, Bool, true, false, IfSome, refl, sym, subst, leb-true, arith}
 use Rattle.eh_kit.specs.declared.program_text.TheConstants.{MAX_FUNCTIONS}
-use Rattle.ehabi_top.specs.Words.{Command, FlatFile, BuildSources, CheckFile, CheckSources, RunFile, RunSources, GenerateProgram, if_between, number_of, budget_of, program_number, program_functions, program_of, flat_command, are_sources, build_command, image_name, check_command, files_command, with_budget, run_command, with_frame, frame_number, force_command, gen_command, command_of}
+use Rattle.ehabi_top.specs.Words.{Command, FlatFile, BuildSources, CheckFile, CheckSources, RunFile, RunSources, RunThreads, GenerateProgram, if_between, number_of, budget_of, program_number, program_functions, program_of, flat_command, are_sources, build_command, image_name, check_command, files_command, with_budget, run_command, with_frame, frame_number, force_command, thread_files, with_elements, threads_command, gen_command, command_of}
 use Rattle.ehabi_top.specs.declared.words.Request.{Request}
 use Rattle.ehabi_top.specs.declared.words.Task.{Task}
 use Rattle.ehabi_top.specs.declared.words.Task.TheVariants as task
@@ -22,6 +22,7 @@ IsAsked (Some (CheckFile name)) = Unit {0}
 IsAsked (Some (CheckSources names)) = Unit {0}
 IsAsked (Some (RunFile name request)) = Unit {0}
 IsAsked (Some (RunSources names request)) = Unit {0}
+IsAsked (Some (RunThreads names budget)) = Unit {0}
 IsAsked (Some (GenerateProgram number functions)) = AreAsked functions
 
 either : (b : Bool) (x y : Option Command) → IsAsked x → IsAsked y → IsAsked (if b then x else y)
@@ -72,6 +73,18 @@ force_asked : (words : List (List ℕ)) → IsAsked (force_command words)
 unfolding force_command
 force_asked words = either _ (with_frame _ _) None (frame_asked _ _) tt
 
+thread_files_asked : (names : List (List ℕ)) (budget : ℕ) → IsAsked (thread_files names budget)
+unfolding thread_files
+thread_files_asked names budget = either _ (Some (RunThreads names budget)) None tt tt
+
+elements_asked : (names : List (List ℕ)) (budget : Option ℕ) → IsAsked (with_elements names budget)
+elements_asked names None = tt
+elements_asked names (Some budget) = thread_files_asked names budget
+
+threads_asked : (words : List (List ℕ)) → IsAsked (threads_command words)
+unfolding threads_command
+threads_asked words = either _ (with_elements _ _) None (elements_asked _ _) tt
+
 between : (low high n : ℕ) → IfSome (if_between low high (Some n)) (λ n. (low ≤ n) × (n ≤ high))
 between low high n = go (nat_le low n) (nat_le n high) refl refl
   where
@@ -104,8 +117,11 @@ gen_asked (number ∷ functions ∷ []) = program_asked (program_number number) 
 gen_asked (number ∷ functions ∷ more ∷ rest) = tt
 
 -- the command by the first word, from one of the names on
+abbrev by_threads : List ℕ → List (List ℕ) → Option Command
+by_threads word rest = if bytes_eq word (codes "threads") then threads_command rest else None
+
 abbrev by_force : List ℕ → List (List ℕ) → Option Command
-by_force word rest = if bytes_eq word (codes "force") then force_command rest else None
+by_force word rest = if bytes_eq word (codes "force") then force_command rest else by_threads word rest
 
 abbrev by_walk : List ℕ → List (List ℕ) → Option Command
 by_walk word rest = if bytes_eq word (codes "walk") then run_command task.Walk rest else by_force word rest
@@ -126,7 +142,8 @@ pub asked : (words : List (List ℕ)) → IsAsked (command_of words)
 unfolding command_of
 asked [] = tt
 asked (word ∷ rest) =
-    let force = either (bytes_eq word (codes "force")) (force_command rest) None (force_asked rest) tt in
+    let threads = either (bytes_eq word (codes "threads")) (threads_command rest) None (threads_asked rest) tt in
+    let force = either (bytes_eq word (codes "force")) (force_command rest) (by_threads word rest) (force_asked rest) threads in
     let walk = either (bytes_eq word (codes "walk")) (run_command task.Walk rest) (by_force word rest) (run_asked task.Walk rest) force in
     let gen = either (bytes_eq word (codes "gen")) (gen_command rest) (by_walk word rest) (gen_asked rest) walk in
     let run = either (bytes_eq word (codes "run")) (run_command task.Run rest) (by_gen word rest) (run_asked task.Run rest) gen in

@@ -28,12 +28,12 @@ use Rattle.program_answers.proofs.Answering.{of_status, only_write}
 abbrev pub Held : Type 0
 Held = List (List ℕ × List ℕ)
 
--- ---- the bytes that a command asks the files for
+-- ---- what a command asks the files for
 
--- What it reports of these, and what its status says of them: `Refuses` pins where it refuses bytes, by what is told of the input.
-pub record Asks (command : Option Command) (ask : Held → Result (List ℕ) Refusal) (Says : List ℕ → List ℕ → Report → Type 0) (Refuses : List ℕ → Option (List ℕ) → ℕ → Type 0) : Type 0 where
+-- What it reports of what they give, bytes mostly, and what its status says of them: `Refuses` pins where it is refused, by what is told of the input.
+pub record Asks {T : Type 0} (command : Option Command) (ask : Held → Result T Refusal) (Says : T → List ℕ → Report → Type 0) (Refuses : T → Option (List ℕ) → ℕ → Type 0) : Type 0 where
   pub reports : (held : Held) (input : List ℕ) (r : Report) → FoundReports Says (ask held) input r → Reports command held input r
-  pub fits : (held : Held) (input : Option (List ℕ)) (bytes : List ℕ) (status : ℕ) → ask held ≡ Ok bytes → SaysWhyBy status ⊥ (Refuses bytes input status) → Why command held input status
+  pub fits : (held : Held) (input : Option (List ℕ)) (made : T) (status : ℕ) → ask held ≡ Ok made → SaysWhyBy status ⊥ (Refuses made input status) → Why command held input status
   pub lacks : (held : Held) (input : Option (List ℕ)) (refusal : Refusal) → ask held ≡ Err refusal → Why command held input refusal.status
   pub some : command ≡ None → ⊥
 
@@ -78,12 +78,12 @@ asked_fault : (command : Option Command) (ended : Type 0) (files files' : FileSt
 asked_fault command ended files files' text status result before now f g did asked a =
     asks_more (files_named command) ended (status ≡ FILE_UNAVAILABLE) (IsOk result) (CallLacks result) files files' (λ _. did) (lacks_call text status result before now f g a) asked
 
-module _ (command : Option Command) (ask : Held → Result (List ℕ) Refusal) (Says : List ℕ → List ℕ → Report → Type 0) (Refuses : List ℕ → Option (List ℕ) → ℕ → Type 0)
+module _ {T : Type 0} (command : Option Command) (ask : Held → Result T Refusal) (Says : T → List ℕ → Report → Type 0) (Refuses : T → Option (List ℕ) → ℕ → Type 0)
     (asks : Asks command ask Says Refuses) where
-  why_found : (held : Option Held) (input : Option (List ℕ)) (bytes : List ℕ) → IfSome held (λ h. ask h ≡ Ok bytes) → (s : ℕ) → SaysWhyBy s ⊥ (Refuses bytes input s)
+  why_found : (held : Option Held) (input : Option (List ℕ)) (made : T) → IfSome held (λ h. ask h ≡ Ok made) → (s : ℕ) → SaysWhyBy s ⊥ (Refuses made input s)
       → IfSome held (λ h. Why command h input s)
-  why_found None input bytes e s w = tt
-  why_found (Some h) input bytes e s w = asks.fits h input bytes s e w
+  why_found None input made e s w = tt
+  why_found (Some h) input made e s w = asks.fits h input made s e w
 
   why_unavailable : (held : Option Held) (input : Option (List ℕ)) (refusal : Refusal) → IfSome held (λ h. ask h ≡ Err refusal) → IfSome held (λ h. Why command h input refusal.status)
   why_unavailable None input refusal e = tt
@@ -92,14 +92,14 @@ module _ (command : Option Command) (ask : Held → Result (List ℕ) Refusal) (
   unavailable_says : (h : Held) (b : List ℕ) (refusal : Refusal) → ask h ≡ Err refusal → Reports command h b (record { text = refusal.line; status = refusal.status; left = b })
   unavailable_says h b refusal e = asks.reports h b (record { text = refusal.line; status = refusal.status; left = b }) (rw e refl)
 
-  -- ---- commands that run bytes: the bytes are there
-  pub does_bytes : (reads : Reads command) (files files' : FileState) (old new : Streams) (result : Result ℕ Stop) (bytes : List ℕ)
-      → IfSome files.held (λ held. ask held ≡ Ok bytes) → files'.faults ≡ files.faults → (ended : Type 0) → ended → AsksFor (files_named command) ended ⊥ files files'
-      → YieldsBy (Says bytes) (Refuses bytes) old new result → Does command files files' old new result
-  does_bytes reads files files' old new result bytes found same ended did asked y = record {
+  -- ---- commands that run something: it is there
+  pub does_bytes : (reads : Reads command) (files files' : FileState) (old new : Streams) (result : Result ℕ Stop) (made : T)
+      → IfSome files.held (λ held. ask held ≡ Ok made) → files'.faults ≡ files.faults → (ended : Type 0) → ended → AsksFor (files_named command) ended ⊥ files files'
+      → YieldsBy (Says made) (Refuses made) old new result → Does command files files' old new result
+  does_bytes reads files files' old new result made found same ended did asked y = record {
     whole = reads (λ held b left. IfOk result (λ s. DoesWhole (Reports command held b) s left old.output new.output)) files.held old.input new.input (whole files.held found);
     part = reads (λ held b left. DoesPart (Reports command held b) old.output new.output) files.held old.input new.input (part files.held found);
-    why = why_all command files.held old.input (λ s. SaysWhyBy s ⊥ (Refuses bytes old.input s)) result (λ s w. why_found files.held old.input bytes found s w) y.why;
+    why = why_all command files.held old.input (λ s. SaysWhyBy s ⊥ (Refuses made old.input s)) result (λ s w. why_found files.held old.input made found s w) y.why;
     read = λ e. inr (y.read e);
     write = y.write;
     memory = λ e. (same, y.memory e);
@@ -108,14 +108,14 @@ module _ (command : Option Command) (ask : Held → Result (List ℕ) Refusal) (
     asked = asked_bytes command ended files files' result did asked;
   }
     where
-      whole : (held : Option Held) → IfSome held (λ h. ask h ≡ Ok bytes)
+      whole : (held : Option Held) → IfSome held (λ h. ask h ≡ Ok made)
           → IfSome held (λ h. IfSome old.input (λ b. IfOk result (λ s. DoesWhole (Reports command h b) s new.input old.output new.output)))
       whole None e = tt
-      whole (Some h) e = whole_as (Says bytes) (Reports command h) old.input result new.input old.output new.output (λ b r s. asks.reports h b r (rw e s)) y.whole
+      whole (Some h) e = whole_as (Says made) (Reports command h) old.input result new.input old.output new.output (λ b r s. asks.reports h b r (rw e s)) y.whole
 
-      part : (held : Option Held) → IfSome held (λ h. ask h ≡ Ok bytes) → IfSome held (λ h. IfSome old.input (λ b. DoesPart (Reports command h b) old.output new.output))
+      part : (held : Option Held) → IfSome held (λ h. ask h ≡ Ok made) → IfSome held (λ h. IfSome old.input (λ b. DoesPart (Reports command h b) old.output new.output))
       part None e = tt
-      part (Some h) e = part_as (Says bytes) (Reports command h) old.input old.output new.output (λ b r s. asks.reports h b r (rw e s)) y.part
+      part (Some h) e = part_as (Says made) (Reports command h) old.input old.output new.output (λ b r s. asks.reports h b r (rw e s)) y.part
 
   -- .. there are none, and the line says why
   pub does_fault : (reads : Reads command) (files files' : FileState) (input before now : Option (List ℕ)) (i f g : ℕ) (result : Result ℕ Stop) (refusal : Refusal)
@@ -148,18 +148,18 @@ module _ (command : Option Command) (ask : Held → Result (List ℕ) Refusal) (
       part (Some h) None e = tt
       part (Some h) (Some b) e = part_answer (Reports command h b) refusal.line refusal.status b result before now f g (unavailable_says h b refusal e) a
 
-  -- ---- commands that leave the input: the bytes are there
-  pub keeps_bytes : (leaves : LeavesInput command) (files files' : FileState) (input before now : Option (List ℕ)) (i f g : ℕ) (result : Result ℕ Stop) (bytes : List ℕ)
-      → IfSome files.held (λ held. ask held ≡ Ok bytes) → files'.faults ≡ files.faults
+  -- ---- commands that leave the input: what they ask for is there
+  pub keeps_bytes : (leaves : LeavesInput command) (files files' : FileState) (input before now : Option (List ℕ)) (i f g : ℕ) (result : Result ℕ Stop) (made : T)
+      → IfSome files.held (λ held. ask held ≡ Ok made) → files'.faults ≡ files.faults
       → (ended : Type 0) → ended → AsksFor (files_named command) ended ⊥ files files'
-      → ((input : Option (List ℕ)) (i : ℕ) → YieldsBy (Says bytes) (Refuses bytes) (streams input i before f) (streams input i now g) result)
+      → ((input : Option (List ℕ)) (i : ℕ) → YieldsBy (Says made) (Refuses made) (streams input i before f) (streams input i now g) result)
       → Does command files files' (streams input i before f) (streams input i now g) result
-  keeps_bytes leaves files files' input before now i f g result bytes found same ended did asked y =
+  keeps_bytes leaves files files' input before now i f g result made found same ended did asked y =
       let one = y input i in
       record {
         whole = leaves (λ held b left. IfOk result (λ s. DoesWhole (Reports command held b) s left before now)) files.held input (whole files.held found);
         part = leaves (λ held b left. DoesPart (Reports command held b) before now) files.held input (part files.held found);
-        why = why_all command files.held input (λ s. SaysWhyBy s ⊥ (Refuses bytes input s)) result (λ s w. why_found files.held input bytes found s w) one.why;
+        why = why_all command files.held input (λ s. SaysWhyBy s ⊥ (Refuses made input s)) result (λ s w. why_found files.held input made found s w) one.why;
         read = λ e. inr (one.read e);
         write = one.write;
         memory = λ e. (same, one.memory e);
@@ -168,14 +168,14 @@ module _ (command : Option Command) (ask : Held → Result (List ℕ) Refusal) (
         asked = asked_bytes command ended files files' result did asked;
       }
     where
-      whole : (held : Option Held) → IfSome held (λ h. ask h ≡ Ok bytes)
+      whole : (held : Option Held) → IfSome held (λ h. ask h ≡ Ok made)
           → IfSome held (λ h. (b : List ℕ) → IfOk result (λ s. DoesWhole (Reports command h b) s (Some b) before now))
       whole None e = tt
-      whole (Some h) e = λ b. whole_as (Says bytes) (Reports command h) (Some b) result (Some b) before now (λ c r s. asks.reports h c r (rw e s)) (y (Some b) i).whole
+      whole (Some h) e = λ b. whole_as (Says made) (Reports command h) (Some b) result (Some b) before now (λ c r s. asks.reports h c r (rw e s)) (y (Some b) i).whole
 
-      part : (held : Option Held) → IfSome held (λ h. ask h ≡ Ok bytes) → IfSome held (λ h. (b : List ℕ) → DoesPart (Reports command h b) before now)
+      part : (held : Option Held) → IfSome held (λ h. ask h ≡ Ok made) → IfSome held (λ h. (b : List ℕ) → DoesPart (Reports command h b) before now)
       part None e = tt
-      part (Some h) e = λ b. part_as (Says bytes) (Reports command h) (Some b) before now (λ c r s. asks.reports h c r (rw e s)) (y (Some b) i).part
+      part (Some h) e = λ b. part_as (Says made) (Reports command h) (Some b) before now (λ c r s. asks.reports h c r (rw e s)) (y (Some b) i).part
 
   -- .. there are none, and the line says why
   pub keeps_fault : (leaves : LeavesInput command) (files files' : FileState) (input before now : Option (List ℕ)) (i f g : ℕ) (result : Result ℕ Stop) (refusal : Refusal)
@@ -251,10 +251,10 @@ usage_does files input before now i f g result a = record {
 
 -- ---- what the files are found to hold
 
-pub finds_ok : {T : Type 0} (bytes_of : T → List ℕ) (ask : Held → Result (List ℕ) Refusal) (files files' : FileState) (answer : Result T FilesFault)
-    → IfSome files.held (λ held. MatchResult answer (λ found. ask held ≡ Ok (bytes_of found)) (λ fault. ask held ≡ Err (refusal_of fault))) → IfErr answer (λ fault. wants_memory fault ≡ false) → files'.faults ≡ files.faults
-    → Finds bytes_of ask files files' (Ok answer)
-finds_ok bytes_of ask files files' answer told fit kept = record {
+pub finds_ok : {T A : Type 0} (value_of : T → A) (ask : Held → Result A Refusal) (files files' : FileState) (answer : Result T FilesFault)
+    → IfSome files.held (λ held. MatchResult answer (λ found. ask held ≡ Ok (value_of found)) (λ fault. ask held ≡ Err (refusal_of fault))) → IfErr answer (λ fault. wants_memory fault ≡ false) → files'.faults ≡ files.faults
+    → Finds value_of ask files files' (Ok answer)
+finds_ok value_of ask files files' answer told fit kept = record {
   told = told;
   fit = fit;
   read = λ e. absurd (cc);

@@ -11,9 +11,12 @@ mod SameRuns
 mod RunReports
 mod WalkReports
 mod ForceReports
+mod ThreadReports
+mod Threading
 mod Judging
 mod Doing
 mod Runners
 mod Programs
 mod Asking
 mod Ended
+pub mod BytesCases

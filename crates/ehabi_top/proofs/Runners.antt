@@ -8,7 +8,7 @@ use Rattle.program_answers.specs.declared.status.TheConstants.{FILE_UNAVAILABLE}
 use Rattle.ehabi_top.specs.declared.words.Request.{Request}
 use Rattle.ehabi_top.specs.Accepting.{BytesReportsBy, IsUnaccepted}
 use Rattle.ehabi_top.specs.BuildReport.{IsUnwritten, build_report, plain_report}
-use Rattle.ehabi_top.specs.Building.{built, files_of, image_bytes, bytes_of_built, bytes_of_found}
+use Rattle.ehabi_top.specs.Building.{built, files_of, image_bytes, or_refused, made_of_found}
 use Rattle.ehabi_top.specs.CheckReport.{ChecksAccepted}
 use Rattle.ehabi_top.specs.Finding.{FoundReports, bytes_of_answer, file_bytes, found_report}
 use Rattle.ehabi_top.specs.FlatReport.{IsTooLarge, code_report, flat_report}
@@ -19,10 +19,11 @@ use Rattle.ehabi_top.specs.TaskReport.{RunBytesReports, RunBytesRefuse}
 use Rattle.ehabi_top.specs.Yields.{Only, RefusedOf}
 use Rattle.ehabi_top.specs.Sources.{NamedText, Refusal}
 use Rattle.ehabi_top.specs.Unfit.{RefusedHeld}
-use Rattle.ehabi_top.specs.Words.{FlatFile, BuildSources, CheckFile, CheckSources, RunFile, RunSources}
+use Rattle.ehabi_top.specs.Words.{FlatFile, BuildSources, CheckFile, CheckSources, RunFile, RunSources, RunThreads}
+use Rattle.ehabi_top.specs.ThreadsReport.{Threaded, RefusesThreaded, ThreadsBytesReports, threaded_last, threads_found}
 use Rattle.ehabi_top.proofs.Doing.{Held, Asks, Reads, LeavesInput}
 use Rattle.program_answers.proofs.Statuses.{says_unavailable}
-use Rattle.ehabi_top.proofs.Statuses.{built_fits, built_refused}
+use Rattle.ehabi_top.proofs.Statuses.{made_fits, made_refused}
 
 -- ---- one file
 
@@ -108,7 +109,7 @@ check_leaves name P files input h = (refl, h)
 
 -- ---- sources
 
-bytes_is : (names : List (List ℕ)) (held : Held) → image_bytes names held ≡ bytes_of_found (files_of held names)
+bytes_is : (names : List (List ℕ)) (held : Held) → image_bytes names held ≡ made_of_found built (files_of held names)
 unfolding image_bytes
 bytes_is names held = refl
 
@@ -116,12 +117,12 @@ bytes_is names held = refl
 pub bytes_unavailable : (names : List (List ℕ)) (line : List ℕ) (held : Option Held)
     → IfSome held (λ h. Err line ≡ files_of h names) → IfSome held (λ h. image_bytes names h ≡ Err (record { status = FILE_UNAVAILABLE; line = line }))
 bytes_unavailable names line None e = tt
-bytes_unavailable names line (Some h) e = bytes_is names h ∙ ap bytes_of_found (sym e)
+bytes_unavailable names line (Some h) e = bytes_is names h ∙ ap (made_of_found built) (sym e)
 
 pub bytes_built : (names : List (List ℕ)) (sources : List NamedText) (answer : Result (List ℕ) (List ℕ)) (held : Option Held)
-    → IfSome held (λ h. Ok sources ≡ files_of h names) → built sources ≡ answer → IfSome held (λ h. image_bytes names h ≡ bytes_of_built answer)
+    → IfSome held (λ h. Ok sources ≡ files_of h names) → built sources ≡ answer → IfSome held (λ h. image_bytes names h ≡ or_refused answer)
 bytes_built names sources answer None e b = tt
-bytes_built names sources answer (Some h) e b = bytes_is names h ∙ ap bytes_of_found (sym e) ∙ ap bytes_of_built b
+bytes_built names sources answer (Some h) e b = bytes_is names h ∙ ap (made_of_found built) (sym e) ∙ ap or_refused b
 
 build_at : (names : List (List ℕ)) (held : Held) (input : List ℕ) → build_report names held input ≡ found_report plain_report (image_bytes names held) input
 unfolding build_report
@@ -130,8 +131,8 @@ build_at names held input = refl
 pub build_asks : (names : List (List ℕ)) → Asks (Some (BuildSources names)) (image_bytes names) (λ bytes. Only (plain_report bytes)) (RefusedOf IsUnwritten)
 build_asks names = record {
   reports = λ held input r h. only_found plain_report (image_bytes names held) input r h ∙ sym (build_at names held input);
-  fits = λ held input bytes s e w. let v = built_fits (RefusedOf IsUnwritten) input (files_of held names) bytes s (sym (bytes_is names held) ∙ e) w in record { missing = v.missing; refused = v.refused };
-  lacks = λ held input refusal e. let v = built_refused (RefusedOf IsUnwritten) input (files_of held names) refusal (sym (bytes_is names held) ∙ e) in record { missing = v.missing; refused = v.refused };
+  fits = λ held input bytes s e w. let v = made_fits built (RefusedOf IsUnwritten) input (files_of held names) bytes s (sym (bytes_is names held) ∙ e) w in record { missing = v.missing; refused = v.refused };
+  lacks = λ held input refusal e. let v = made_refused built (RefusedOf IsUnwritten) input (files_of held names) refusal (sym (bytes_is names held) ∙ e) in record { missing = v.missing; refused = v.refused };
   some = λ e. cc;
 }
 
@@ -141,8 +142,8 @@ build_leaves names P files input h = (refl, h)
 pub sources_asks : (names : List (List ℕ)) (request : Request) → Asks (Some (RunSources names request)) (image_bytes names) (RunBytesReports request) (RunBytesRefuse request)
 sources_asks names request = record {
   reports = λ held input r h. h;
-  fits = λ held input bytes s e w. let v = built_fits (RunBytesRefuse request) input (files_of held names) bytes s (sym (bytes_is names held) ∙ e) w in record { missing = v.missing; refused = v.refused };
-  lacks = λ held input refusal e. let v = built_refused (RunBytesRefuse request) input (files_of held names) refusal (sym (bytes_is names held) ∙ e) in record { missing = v.missing; refused = v.refused };
+  fits = λ held input bytes s e w. let v = made_fits built (RunBytesRefuse request) input (files_of held names) bytes s (sym (bytes_is names held) ∙ e) w in record { missing = v.missing; refused = v.refused };
+  lacks = λ held input refusal e. let v = made_refused built (RunBytesRefuse request) input (files_of held names) refusal (sym (bytes_is names held) ∙ e) in record { missing = v.missing; refused = v.refused };
   some = λ e. cc;
 }
 
@@ -152,10 +153,38 @@ sources_reads names request P files input left h = h
 pub check_sources_asks : (names : List (List ℕ)) → Asks (Some (CheckSources names)) (image_bytes names) (BytesReportsBy ChecksAccepted) (RefusedOf IsUnaccepted)
 check_sources_asks names = record {
   reports = λ held input r h. h;
-  fits = λ held input bytes s e w. let v = built_fits (RefusedOf IsUnaccepted) input (files_of held names) bytes s (sym (bytes_is names held) ∙ e) w in record { missing = v.missing; refused = v.refused };
-  lacks = λ held input refusal e. let v = built_refused (RefusedOf IsUnaccepted) input (files_of held names) refusal (sym (bytes_is names held) ∙ e) in record { missing = v.missing; refused = v.refused };
+  fits = λ held input bytes s e w. let v = made_fits built (RefusedOf IsUnaccepted) input (files_of held names) bytes s (sym (bytes_is names held) ∙ e) w in record { missing = v.missing; refused = v.refused };
+  lacks = λ held input refusal e. let v = made_refused built (RefusedOf IsUnaccepted) input (files_of held names) refusal (sym (bytes_is names held) ∙ e) in record { missing = v.missing; refused = v.refused };
   some = λ e. cc;
 }
 
 pub check_sources_leaves : (names : List (List ℕ)) → LeavesInput (Some (CheckSources names))
 check_sources_leaves names P files input h = (refl, h)
+
+-- ---- threads
+
+threads_is : (names : List (List ℕ)) (held : Held) → threads_found names held ≡ made_of_found threaded_last (files_of held names)
+unfolding threads_found
+threads_is names held = refl
+
+-- a file that is missing or too long
+pub threads_unavailable : (names : List (List ℕ)) (line : List ℕ) (held : Option Held)
+    → IfSome held (λ h. Err line ≡ files_of h names) → IfSome held (λ h. threads_found names h ≡ Err (record { status = FILE_UNAVAILABLE; line = line }))
+threads_unavailable names line None e = tt
+threads_unavailable names line (Some h) e = threads_is names h ∙ ap (made_of_found threaded_last) (sym e)
+
+pub threads_made : (names : List (List ℕ)) (files : List NamedText) (answer : Result Threaded (List ℕ)) (held : Option Held)
+    → IfSome held (λ h. Ok files ≡ files_of h names) → threaded_last files ≡ answer → IfSome held (λ h. threads_found names h ≡ or_refused answer)
+threads_made names files answer None e b = tt
+threads_made names files answer (Some h) e b = threads_is names h ∙ ap (made_of_found threaded_last) (sym e) ∙ ap or_refused b
+
+pub threads_asks : (names : List (List ℕ)) (budget : ℕ) → Asks (Some (RunThreads names budget)) (threads_found names) (ThreadsBytesReports budget) RefusesThreaded
+threads_asks names budget = record {
+  reports = λ held input r h. h;
+  fits = λ held input made s e w. let v = made_fits threaded_last RefusesThreaded input (files_of held names) made s (sym (threads_is names held) ∙ e) w in record { missing = v.missing; refused = v.refused };
+  lacks = λ held input refusal e. let v = made_refused threaded_last RefusesThreaded input (files_of held names) refusal (sym (threads_is names held) ∙ e) in record { missing = v.missing; refused = v.refused };
+  some = λ e. cc;
+}
+
+pub threads_reads : (names : List (List ℕ)) (budget : ℕ) → Reads (Some (RunThreads names budget))
+threads_reads names budget P files input left h = h

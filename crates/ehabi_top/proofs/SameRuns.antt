@@ -1,7 +1,8 @@
 -- A run of an accepted image over bytes is its run with recorded activations.
-use Rattle.std.proofs.Common.{◌≡◌, ◌<◌, ◌^◌, ℕ, List, ap, subst}
-use Rattle.eh_bus.specs.Map.{IsMap}
+use Rattle.std.proofs.Common.{◌≡◌, ◌<◌, ◌^◌, ℕ, List, ap, subst, arith}
+use Rattle.eh_bus.specs.Map.{AreSegments, IsMap, flat_home}
 use Rattle.eh_bus.specs.Memory.{Memory}
+use Rattle.eh_bus.specs.Segment.{Segment}
 use Rattle.eh_gates.specs.State.{State}
 use Rattle.two_machines.specs.Checked.{program_of}
 use Rattle.two_machines.specs.Start.{start_of}
@@ -17,6 +18,8 @@ use Rattle.eh_walk.specs.Laws.{ReachesSame, ReachesLeaveBytes, WalksSame, Forcin
 use Rattle.ehabi_top.specs.BothRuns.{RunSame, SlotsStay}
 use Rattle.ehabi_top.specs.ForceReport.{ForcesSame, forced_type, bytes_forced, activations_forced}
 use Rattle.ehabi_top.specs.WalkReport.{WalkSame, bytes_to_site, recorded_to_site}
+use Rattle.ehabi_top.specs.ThreadsReport.{ThreadsSame}
+use Rattle.thread_laws.specs.Laws.{SchedulesSame}
 
 pub program_here : (a : Accepted) (m : Memory) → IsImage a.image → IsSound a → IsMap m → m ≡ (start_of (program_of a)).memory → IsProgram a
 program_here a m image sound map e = record { image = image; sound = sound; map = subst (λ (n : Memory). IsMap n) e map }
@@ -56,3 +59,14 @@ forces_same a is fits reaches leaves forces goes number budget input bytes =
           w.left
           (goes a n _ _ (bytes_to_site budget a input).left is f.stands (leaves a budget input is bytes));
     }
+
+-- .. by the segments of that memory alone: nothing is guarded there, and the running stack is the whole one
+pub program_by_segments : (a : Accepted) (ss : List Segment) → IsImage a.image → IsSound a → AreSegments ss → ss ≡ (start_of (program_of a)).memory.segments → IsProgram a
+program_by_segments a ss image sound are e = record {
+  image = image;
+  sound = sound;
+  map = record { segments = subst (λ (l : List Segment). AreSegments l) e are; guards = omega arith; home = flat_home };
+}
+
+pub threads_same : (a : Accepted) → IsProgram a → SchedulesSame → ThreadsSame a
+threads_same a is same digits budget input bytes = same a digits budget input is bytes

@@ -5,11 +5,11 @@ use Rattle.guest_gates.specs.Ends.{is_fault}
 use Rattle.thumb_core.specs.declared.ends.End.{End}
 use Rattle.thumb_core.specs.declared.ends.End.TheVariants.{Exit, Terminate, Trap, Budget, ReadFault, WriteFault}
 use Rattle.program_answers.specs.declared.status.TheConstants.{DONE, EXIT_NONZERO, REFUSED, FILE_UNAVAILABLE}
-use Rattle.ehabi_top.specs.Building.{built, bytes_of_built, bytes_of_found}
+use Rattle.ehabi_top.specs.Building.{or_refused, made_of_found}
 use Rattle.program_answers.specs.Statuses.{SaysWhy, SaysWhyBy, IsOfCommand, is_conclusive}
 use Rattle.ehabi_top.specs.Loading.{status_of}
 use Rattle.ehabi_top.specs.Sources.{NamedText, Refusal}
-use Rattle.ehabi_top.specs.Unfit.{RefusedBuilt, RefusedSources}
+use Rattle.ehabi_top.specs.Unfit.{RefusedMade, RefusedFiles}
 use Rattle.program_answers.proofs.Statuses.{says_unavailable, says_unfit, says_fine, done_reported}
 
 -- ---- the end of a run
@@ -49,31 +49,33 @@ end_of_run WriteFault fine = absurd (cc)
 pub says_end : (end : End) (unfit : Type 0) → is_fault end ≡ false → (unfit → ⊥) → SaysWhy (status_of end) ⊥ unfit
 says_end end unfit fine n = let s = end_of_run end fine in says_fine (status_of end) ⊥ unfit s.not_unavailable s.not_refused (λ l. l) n
 
--- ---- what the bytes of an image say of the files
+-- ---- what is made of files says of them
 
-module _ (refuses : List ℕ → Option (List ℕ) → ℕ → Type 0) (input : Option (List ℕ)) where
-  line_refused : (answer : Result (List ℕ) (List ℕ)) (refusal : Refusal) → bytes_of_built answer ≡ Err refusal → SaysWhyBy refusal.status ⊥ (RefusedBuilt refuses answer input refusal.status)
-  line_refused (Ok bytes) refusal e = absurd (cc)
+module _ {T : Type 0} (make : List NamedText → Result T (List ℕ)) (refuses : T → Option (List ℕ) → ℕ → Type 0) (input : Option (List ℕ)) where
+  line_refused : (answer : Result T (List ℕ)) (refusal : Refusal) → or_refused answer ≡ Err refusal → SaysWhyBy refusal.status ⊥ (RefusedMade refuses answer input refusal.status)
+  line_refused (Ok made) refusal e = absurd (cc)
   line_refused (Err line) refusal e =
       let is : refusal ≡ record { status = REFUSED; line = line } = cc in
       rw is (says_unfit ⊥ (Unit {0}) (λ l. l) tt)
 
-  bytes_fit : (answer : Result (List ℕ) (List ℕ)) (bytes : List ℕ) (s : ℕ) → bytes_of_built answer ≡ Ok bytes → SaysWhyBy s ⊥ (refuses bytes input s) → SaysWhyBy s ⊥ (RefusedBuilt refuses answer input s)
-  bytes_fit (Ok found) bytes s e w =
-      let is : found ≡ bytes = cc in
+  is_fit : (answer : Result T (List ℕ)) (made : T) (s : ℕ) → or_refused answer ≡ Ok made → SaysWhyBy s ⊥ (refuses made input s) → SaysWhyBy s ⊥ (RefusedMade refuses answer input s)
+  is_fit (Ok found) made s e w =
+      let is : found ≡ made = cc in
       rw is w
-  bytes_fit (Err line) bytes s e w = absurd (cc)
+  is_fit (Err line) made s e w = absurd (cc)
 
   -- the files are there
   all_there : (lacks : Type 0) (s : ℕ) (U : Type 0) → (lacks → ⊥) → SaysWhyBy s ⊥ U → SaysWhyBy s lacks U
   all_there lacks s U n w = record { missing = ((λ h. absurd (w.missing.0 h)), (λ l. absurd (n l))); refused = w.refused }
 
-  pub built_refused : (found : Result (List NamedText) (List ℕ)) (refusal : Refusal) → bytes_of_found found ≡ Err refusal → SaysWhyBy refusal.status (IsErr found) (RefusedSources refuses found input refusal.status)
-  built_refused (Ok sources) refusal e = all_there _ refusal.status _ (λ l. cc) (line_refused (built sources) refusal e)
-  built_refused (Err line) refusal e =
+  pub made_refused : (found : Result (List NamedText) (List ℕ)) (refusal : Refusal) → made_of_found make found ≡ Err refusal
+      → SaysWhyBy refusal.status (IsErr found) (RefusedFiles make refuses found input refusal.status)
+  made_refused (Ok files) refusal e = all_there _ refusal.status _ (λ l. cc) (line_refused (make files) refusal e)
+  made_refused (Err line) refusal e =
       let is : refusal ≡ record { status = FILE_UNAVAILABLE; line = line } = cc in
       rw is (says_unavailable _ ⊥ refl (λ u. u))
 
-  pub built_fits : (found : Result (List NamedText) (List ℕ)) (bytes : List ℕ) (s : ℕ) → bytes_of_found found ≡ Ok bytes → SaysWhyBy s ⊥ (refuses bytes input s) → SaysWhyBy s (IsErr found) (RefusedSources refuses found input s)
-  built_fits (Ok sources) bytes s e w = all_there _ s _ (λ l. cc) (bytes_fit (built sources) bytes s e w)
-  built_fits (Err line) bytes s e w = absurd (cc)
+  pub made_fits : (found : Result (List NamedText) (List ℕ)) (made : T) (s : ℕ) → made_of_found make found ≡ Ok made → SaysWhyBy s ⊥ (refuses made input s)
+      → SaysWhyBy s (IsErr found) (RefusedFiles make refuses found input s)
+  made_fits (Ok files) made s e w = all_there _ s _ (λ l. cc) (is_fit (make files) made s e w)
+  made_fits (Err line) made s e w = absurd (cc)

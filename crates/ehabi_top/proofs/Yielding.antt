@@ -1,10 +1,11 @@
 -- Reports of an input, from what the parts of a call have done. Nothing here knows a command.
-use Rattle.std.proofs.Common.{◌≡◌, ◌⊎◌, inl, inr, ℕ, ◌≤◌, List, ◌++◌, Option, Some, None, IfSome, Result, Ok, Err, Bool, true, false, refl, sym, ◌∙◌, arith}
+use Rattle.std.proofs.Common.{◌≡◌, ◌⊎◌, inl, inr, ℕ, ◌≤◌, List, ◌++◌, Option, Some, None, IfSome, Result, Ok, Err, Bool, true, false, refl, sym, subst, ◌∙◌, arith}
 use Rattle.std.specs.Bool.{OnFalse, OnTrue}
 use Rattle.std.specs.Prelude.{IfOk}
 use Rattle.std.proofs.KnownBytes.{Appends-trans, Keeps-refl}
 use Rattle.std.specs.Io.KnownBytes.{Appends}
 use Rattle.eh_port.specs.Causes.{Rose}
+use Rattle.eh_port.specs.Writing.{AppendsPart}
 use Rattle.eh_port.proofs.Parts.{part_first, part_then}
 use Rattle.event_runs.specs.Runs.{Machine, Ran, Runs, ran_of}
 use Rattle.guest_gates.specs.Ends.{is_fault}
@@ -200,97 +201,102 @@ not_fault_write end fine e = let no : is_fault end ≡ true = rw e refl in cc
 same_stop : (result : Result ℕ Stop) (a b : Stop) → result ≡ Err a → result ≡ Err b → a ≡ b
 same_stop result a b e f = let g : ◌≡◌ {A = Result ℕ Stop} (Err a) (Err b) = sym e ∙ f in cc
 
-module _ (S : Type 0) (machine : Machine S End) (fault : (end : End) → machine.is_fault end ≡ is_fault end) (says : S → End → Closing) (n : ℕ) (state : S)
-    (of : (s : S) (end : End) → is_fault end ≡ false → IsOfRun (says s end).status) where
-  says_run : (s : S) (end : End) (P : Type 0) → is_fault end ≡ false → (((says s end).status ≡ REFUSED → ⊥) → P) → SaysWhyBy (says s end).status ⊥ P
-  says_run s end P fine pins = let w = of s end fine in record { missing = ((λ e. absurd (w.not_unavailable e)), (λ l. absurd l)); refused = pins w.not_refused }
+-- What is known of a run from what it wrote and how it ended, and of what is said of it after that: all of the run, but where a fault stopped it.
+pub record Told {S : Type 0} (says : S → End → Closing) (ran : Ran S End) (end : End) (closing : Closing) (left before now : Option (List ℕ)) : Type 0 where
+  pub part : AppendsPart before now ran.text
+  pub ends : OnFalse (is_fault end) (end ≡ ran.end)
+  pub closes : OnFalse (is_fault end) (closing ≡ says ran.state ran.end)
+  pub leaves : OnFalse (is_fault end) (left ≡ Some ran.left)
+  pub wrote : OnFalse (is_fault end) (Appends before now ran.text)
 
+says_run : (closing : Closing) (P : Type 0) → IsOfRun closing.status → ((closing.status ≡ REFUSED → ⊥) → P) → SaysWhyBy closing.status ⊥ P
+says_run closing P w pins = record { missing = ((λ e. absurd (w.not_unavailable e)), (λ l. absurd l)); refused = pins w.not_refused }
+
+module _ (S : Type 0) (says : S → End → Closing) (run : List ℕ → Ran S End) where
   -- a run, and the text of its end
-  done_run : (Says : Report → Type 0) (input : List ℕ) (new : S) (unspent : ℕ) (end : End) (result : Result ℕ Stop) (left before mid now : Option (List ℕ)) (f g : ℕ)
-      → is_fault end ≡ false → Says (closed_report says (ran_of machine n state input))
-      → Runs machine n state input end new unspent left before mid → Answers (says new end).text (says new end).status result mid now f g
+  done_run : (Says : Report → Type 0) (input : List ℕ) (end : End) (closing : Closing) (result : Result ℕ Stop) (left before mid now : Option (List ℕ)) (f g : ℕ)
+      → is_fault end ≡ false → Says (closed_report says (run input))
+      → Told says (run input) end closing left before mid → Answers closing.text closing.status result mid now f g
       → IfOk result (λ s. DoesWhole Says s left before now) × DoesPart Says before now
-  done_run Says input new unspent end result left before mid now f g fine is r a =
-      let ran : Ran S End = ran_of machine n state input in
-      let ok = fault end ∙ fine in
-      let e : end ≡ ran.end = at_false _ _ ok r.ends in
-      let s : new ≡ ran.state = at_false _ _ ok r.state_is in
-      let wrote : Appends before mid ran.text = at_false _ _ ok r.wrote in
-      go result (rw (s, e) at a) (at_false _ _ ok r.leaves) wrote
+  done_run Says input end closing result left before mid now f g fine is r a =
+      let c : closing ≡ says (run input).state (run input).end = at_false _ _ fine r.closes in
+      let wrote : Appends before mid (run input).text = at_false _ _ fine r.wrote in
+      go result (rw c at a) (at_false _ _ fine r.leaves) wrote
     where
-      go : (result : Result ℕ Stop) → Answers (says (ran_of machine n state input).state (ran_of machine n state input).end).text (says (ran_of machine n state input).state (ran_of machine n state input).end).status result mid now f g
-          → left ≡ Some (ran_of machine n state input).left → Appends before mid (ran_of machine n state input).text
+      go : (result : Result ℕ Stop) → Answers (says (run input).state (run input).end).text (says (run input).state (run input).end).status result mid now f g
+          → left ≡ Some (run input).left → Appends before mid (run input).text
           → IfOk result (λ s. DoesWhole Says s left before now) × DoesPart Says before now
       go (Ok s) a leaves wrote = (
         record {
-          report = closed_report says (ran_of machine n state input);
+          report = closed_report says (run input);
           is = is;
           status_is = a.status_is;
           leaves = leaves;
-          wrote = Appends-trans before mid now (ran_of machine n state input).text _ wrote a.ok;
+          wrote = Appends-trans before mid now (run input).text _ wrote a.ok;
         },
-        inr (closed_report says (ran_of machine n state input), is, part_then before mid now (ran_of machine n state input).text _ wrote a.part),
+        inr (closed_report says (run input), is, part_then before mid now (run input).text _ wrote a.part),
       )
-      go (Err stop) a leaves wrote = (tt, inr (closed_report says (ran_of machine n state input), is, part_then before mid now (ran_of machine n state input).text _ wrote a.part))
+      go (Err stop) a leaves wrote = (tt, inr (closed_report says (run input), is, part_then before mid now (run input).text _ wrote a.part))
 
   -- a run that was stopped
-  part_run : (Says : Report → Type 0) (input : List ℕ) (new : S) (unspent : ℕ) (end : End) (left before now : Option (List ℕ))
-      → Begun Says (ran_of machine n state input).text → Runs machine n state input end new unspent left before now → DoesPart Says before now
-  part_run Says input new unspent end left before now begun r = inr (begun.report, begun.is, rw begun.begins (part_first before now (ran_of machine n state input).text begun.rest r.part))
+  part_run : (Says : Report → Type 0) (input : List ℕ) (end : End) (closing : Closing) (left before now : Option (List ℕ))
+      → Begun Says (run input).text → Told says (run input) end closing left before now → DoesPart Says before now
+  part_run Says input end closing left before now begun r = inr (begun.report, begun.is, rw begun.begins (part_first before now (run input).text begun.rest r.part))
 
   -- the whole call: a run from where nothing was done, and what is said of its last state, for which there may be no memory
-  pub yields_run_by : (Says : List ℕ → Report → Type 0) (Refuses : Option (List ℕ) → ℕ → Type 0) (new : S) (end : End) (result : Result ℕ Stop) (input left before mid now : Option (List ℕ)) (i j f g h : ℕ)
-      → ((b : List ℕ) → Begun (Says b) (ran_of machine n state b).text) → ((b : List ℕ) → end ≡ (ran_of machine n state b).end → Says b (closed_report says (ran_of machine n state b)))
-      → ((s : ℕ) → (s ≡ REFUSED → ⊥) → IfSome input (λ b. end ≡ (ran_of machine n state b).end) → Refuses input s)
-      → IfSome input (λ b. (unspent : ℕ) × Runs machine n state b end new unspent left before mid)
+  pub yields_told_by : (Says : List ℕ → Report → Type 0) (Refuses : Option (List ℕ) → ℕ → Type 0) (end : End) (closing : Closing) (result : Result ℕ Stop) (input left before mid now : Option (List ℕ)) (i j f g h : ℕ)
+      → (is_fault end ≡ false → IsOfRun closing.status)
+      → ((b : List ℕ) → Begun (Says b) (run b).text) → ((b : List ℕ) → end ≡ (run b).end → Says b (closed_report says (run b)))
+      → ((s : ℕ) → (s ≡ REFUSED → ⊥) → IfSome input (λ b. end ≡ (run b).end) → Refuses input s)
+      → IfSome input (λ b. Told says (run b) end closing left before mid)
       → (end ≡ ReadFault → Rose i j) → (end ≡ WriteFault → Rose f g) → f ≤ g
       → (is_fault end ≡ false → result ≡ Err Memory → (j ≡ i) × (g ≡ f))
-      → AnswersRun (says new end) end result mid now g h
+      → AnswersRun closing end result mid now g h
       → YieldsBy Says Refuses (streams input i before f) (streams left j now h) result
-  yields_run_by Says Refuses new end result input left before mid now i j f g h begun is pins runs read write later still answers = go (is_fault end) refl
+  yields_told_by Says Refuses end closing result input left before mid now i j f g h of begun is pins runs read write later still answers = go (is_fault end) refl
     where
-      ended : (b : List ℕ) → is_fault end ≡ false → (unspent : ℕ) × Runs machine n state b end new unspent left before mid → end ≡ (ran_of machine n state b).end
-      ended b fine r = at_false _ _ (fault end ∙ fine) (Runs.ends r.1)
+      ended : (b : List ℕ) → is_fault end ≡ false → Told says (run b) end closing left before mid → end ≡ (run b).end
+      ended b fine r = at_false _ _ fine r.ends
 
-      all_ended : (input : Option (List ℕ)) → is_fault end ≡ false → IfSome input (λ b. (unspent : ℕ) × Runs machine n state b end new unspent left before mid)
-          → IfSome input (λ b. end ≡ (ran_of machine n state b).end)
+      all_ended : (input : Option (List ℕ)) → is_fault end ≡ false → IfSome input (λ b. Told says (run b) end closing left before mid)
+          → IfSome input (λ b. end ≡ (run b).end)
       all_ended None fine r = tt
       all_ended (Some b) fine r = ended b fine r
 
-      fine_whole : (input : Option (List ℕ)) → is_fault end ≡ false → Answers (says new end).text (says new end).status result mid now g h
-          → IfSome input (λ b. (unspent : ℕ) × Runs machine n state b end new unspent left before mid)
+      fine_whole : (input : Option (List ℕ)) → is_fault end ≡ false → Answers closing.text closing.status result mid now g h
+          → IfSome input (λ b. Told says (run b) end closing left before mid)
           → IfSome input (λ b. IfOk result (λ s. DoesWhole (Says b) s left before now))
       fine_whole None fine a r = tt
-      fine_whole (Some b) fine a r = (done_run (Says b) b new r.0 end result left before mid now g h fine (is b (ended b fine r)) r.1 a).0
+      fine_whole (Some b) fine a r = (done_run (Says b) b end closing result left before mid now g h fine (is b (ended b fine r)) r a).0
 
-      fine_part : (input : Option (List ℕ)) → is_fault end ≡ false → Answers (says new end).text (says new end).status result mid now g h
-          → IfSome input (λ b. (unspent : ℕ) × Runs machine n state b end new unspent left before mid)
+      fine_part : (input : Option (List ℕ)) → is_fault end ≡ false → Answers closing.text closing.status result mid now g h
+          → IfSome input (λ b. Told says (run b) end closing left before mid)
           → IfSome input (λ b. DoesPart (Says b) before now)
       fine_part None fine a r = tt
-      fine_part (Some b) fine a r = (done_run (Says b) b new r.0 end result left before mid now g h fine (is b (ended b fine r)) r.1 a).1
+      fine_part (Some b) fine a r = (done_run (Says b) b end closing result left before mid now g h fine (is b (ended b fine r)) r a).1
 
       stopped_whole : (input : Option (List ℕ)) (stop : Stop) → result ≡ Err stop → IfSome input (λ b. IfOk result (λ s. DoesWhole (Says b) s left before now))
       stopped_whole input stop e = rw e (none_whole Says stop input left before now)
 
       stopped_part : (input : Option (List ℕ)) → now ≡ mid
-          → IfSome input (λ b. (unspent : ℕ) × Runs machine n state b end new unspent left before mid)
+          → IfSome input (λ b. Told says (run b) end closing left before mid)
           → IfSome input (λ b. DoesPart (Says b) before now)
       stopped_part None same r = tt
-      stopped_part (Some b) same r = rw same (part_run (Says b) b new r.0 end left before mid (begun b) r.1)
+      stopped_part (Some b) same r = rw same (part_run (Says b) b end closing left before mid (begun b) r)
 
-      fine_of : is_fault end ≡ false → Answers (says new end).text (says new end).status result mid now g h ⊎ Stopped Memory result mid now g h
+      fine_of : is_fault end ≡ false → Answers closing.text closing.status result mid now g h ⊎ Stopped Memory result mid now g h
           → YieldsBy Says Refuses (streams input i before f) (streams left j now h) result
       fine_of fine (inl a) =
-          let text = (says new end).text in
-          let status = (says new end).status in
+          let text = closing.text in
+          let status = closing.status in
           record {
             whole = fine_whole input fine a runs;
             part = fine_part input fine a runs;
-            why = of_status (λ s. SaysWhyBy s ⊥ (Refuses input s)) text status result mid now g h (says_run new end (Refuses input status) fine (λ other. pins status other (all_ended input fine runs))) a;
+            why = of_status (λ s. SaysWhyBy s ⊥ (Refuses input s)) text status result mid now g h (says_run closing (Refuses input status) (of fine) (λ other. pins status other (all_ended input fine runs))) a;
             read = λ e. absurd (not_read Read refl (only_write text status result Read mid now g h a e).0);
             write = λ e. let rose = (only_write text status result Write mid now g h a e).1 in omega arith;
             memory = λ e. absurd (not_memory Memory refl (only_write text status result Memory mid now g h a e).0);
-            status = of_status IsOfCommand text status result mid now g h (IsOfRun.reported (of new end fine)) a;
+            status = of_status IsOfCommand text status result mid now g h (IsOfRun.reported (of fine)) a;
           }
       fine_of fine (inr s) = record {
         whole = stopped_whole input Memory s.is;
@@ -317,6 +323,59 @@ module _ (S : Type 0) (machine : Machine S End) (fault : (end : End) → machine
           }
 
   -- .. whose report is that of its end alone
+  pub yields_told : (Says : List ℕ → Report → Type 0) (unfit : Type 0) (end : End) (closing : Closing) (result : Result ℕ Stop) (input left before mid now : Option (List ℕ)) (i j f g h : ℕ)
+      → (is_fault end ≡ false → IsOfRun closing.status) → ((b : List ℕ) → Says b (closed_report says (run b))) → (unfit → ⊥)
+      → IfSome input (λ b. Told says (run b) end closing left before mid)
+      → (end ≡ ReadFault → Rose i j) → (end ≡ WriteFault → Rose f g) → f ≤ g
+      → (is_fault end ≡ false → result ≡ Err Memory → (j ≡ i) × (g ≡ f))
+      → AnswersRun closing end result mid now g h
+      → Yields Says unfit (streams input i before f) (streams left j now h) result
+  yields_told Says unfit end closing result input left before mid now i j f g h of is fit runs read write later still answers =
+      yields_told_by Says (RefusedWhere unfit) end closing result input left before mid now i j f g h of
+      (λ b. record { report = closed_report says (run b); is = is b; rest = (says (run b).state (run b).end).text; begins = refl })
+      (λ b e. is b) (λ s other e. ((λ r. absurd (other r)), (λ u. absurd (fit u)))) runs read write later still answers
+
+-- ---- the run of a machine
+
+closes_by : {S : Type 0} (says : S → End → Closing) (b : Bool) (end end' : End) (new new' : S) → OnFalse b (end ≡ end') → OnFalse b (new ≡ new') → OnFalse b (says new end ≡ says new' end')
+closes_by says true end end' new new' e s = tt
+closes_by says false end end' new new' e s = rw (e, s) refl
+
+module _ (S : Type 0) (machine : Machine S End) (fault : (end : End) → machine.is_fault end ≡ is_fault end) (says : S → End → Closing) (n : ℕ) (state : S)
+    (of : (s : S) (end : End) → is_fault end ≡ false → IsOfRun (says s end).status) where
+  told_of : (new : S) (unspent : ℕ) (end : End) (input : List ℕ) (left before now : Option (List ℕ))
+      → Runs machine n state input end new unspent left before now → Told says (ran_of machine n state input) end (says new end) left before now
+  told_of new unspent end input left before now r =
+      let ran : Ran S End = ran_of machine n state input in
+      let ends : OnFalse (is_fault end) (end ≡ ran.end) = subst (λ (b : Bool). OnFalse b (end ≡ ran.end)) (fault end) r.ends in
+      let state_is : OnFalse (is_fault end) (new ≡ ran.state) = subst (λ (b : Bool). OnFalse b (new ≡ ran.state)) (fault end) r.state_is in
+      record {
+        part = r.part;
+        ends = ends;
+        closes = closes_by says (is_fault end) end ran.end new ran.state ends state_is;
+        leaves = subst (λ (b : Bool). OnFalse b (left ≡ Some ran.left)) (fault end) r.leaves;
+        wrote = subst (λ (b : Bool). OnFalse b (Appends before now ran.text)) (fault end) r.wrote;
+      }
+
+  told_of_runs : (new : S) (end : End) (input left before now : Option (List ℕ)) → IfSome input (λ b. (unspent : ℕ) × Runs machine n state b end new unspent left before now)
+      → IfSome input (λ b. Told says (ran_of machine n state b) end (says new end) left before now)
+  told_of_runs new end None left before now r = tt
+  told_of_runs new end (Some b) left before now r = told_of new r.0 end b left before now r.1
+
+  -- the whole call: a run from where nothing was done, and what is said of its last state, for which there may be no memory
+  pub yields_run_by : (Says : List ℕ → Report → Type 0) (Refuses : Option (List ℕ) → ℕ → Type 0) (new : S) (end : End) (result : Result ℕ Stop) (input left before mid now : Option (List ℕ)) (i j f g h : ℕ)
+      → ((b : List ℕ) → Begun (Says b) (ran_of machine n state b).text) → ((b : List ℕ) → end ≡ (ran_of machine n state b).end → Says b (closed_report says (ran_of machine n state b)))
+      → ((s : ℕ) → (s ≡ REFUSED → ⊥) → IfSome input (λ b. end ≡ (ran_of machine n state b).end) → Refuses input s)
+      → IfSome input (λ b. (unspent : ℕ) × Runs machine n state b end new unspent left before mid)
+      → (end ≡ ReadFault → Rose i j) → (end ≡ WriteFault → Rose f g) → f ≤ g
+      → (is_fault end ≡ false → result ≡ Err Memory → (j ≡ i) × (g ≡ f))
+      → AnswersRun (says new end) end result mid now g h
+      → YieldsBy Says Refuses (streams input i before f) (streams left j now h) result
+  yields_run_by Says Refuses new end result input left before mid now i j f g h begun is pins runs read write later still answers =
+      yields_told_by S says (λ b. ran_of machine n state b) Says Refuses end (says new end) result input left before mid now i j f g h (of new end) begun is pins
+      (told_of_runs new end input left before mid runs) read write later still answers
+
+  -- .. whose report is that of its end alone
   pub yields_run : (Says : List ℕ → Report → Type 0) (unfit : Type 0) (new : S) (end : End) (result : Result ℕ Stop) (input left before mid now : Option (List ℕ)) (i j f g h : ℕ)
       → ((b : List ℕ) → Says b (closed_report says (ran_of machine n state b))) → (unfit → ⊥)
       → IfSome input (λ b. (unspent : ℕ) × Runs machine n state b end new unspent left before mid)
@@ -325,9 +384,8 @@ module _ (S : Type 0) (machine : Machine S End) (fault : (end : End) → machine
       → AnswersRun (says new end) end result mid now g h
       → Yields Says unfit (streams input i before f) (streams left j now h) result
   yields_run Says unfit new end result input left before mid now i j f g h is fit runs read write later still answers =
-      yields_run_by Says (RefusedWhere unfit) new end result input left before mid now i j f g h
-      (λ b. record { report = closed_report says (ran_of machine n state b); is = is b; rest = (says (ran_of machine n state b).state (ran_of machine n state b).end).text; begins = refl })
-      (λ b e. is b) (λ s other e. ((λ r. absurd (other r)), (λ u. absurd (fit u)))) runs read write later still answers
+      yields_told S says (λ b. ran_of machine n state b) Says unfit end (says new end) result input left before mid now i j f g h (of new end) is fit
+      (told_of_runs new end input left before mid runs) read write later still answers
 
 -- where no fault ended a run, no count has changed
 pub both_kept : (end : End) (i j f g : ℕ) → ((end ≡ ReadFault → ⊥) → j ≡ i) → ((end ≡ WriteFault → ⊥) → g ≡ f) → is_fault end ≡ false → (j ≡ i) × (g ≡ f)

@@ -53,6 +53,13 @@ bytes_fault_line (NotAccepted fault) = check_fault_line fault
 abbrev pub refused_report : BytesFault → List ℕ → Report
 refused_report fault input = record { text = bytes_fault_line fault; status = REFUSED; left = input }
 
+-- .. of bytes that are no image, and of an image that isn't accepted
+abbrev pub no_image_report : ImageFault → List ℕ → Report
+no_image_report fault input = refused_report (NoImage fault) input
+
+abbrev pub rejected_report : CheckFault → List ℕ → Report
+rejected_report fault input = refused_report (NotAccepted fault) input
+
 -- `Says` of what was found of an accepted image, or a refusal that stands. In the first function that isn't accepted any address and cause that
 -- stand there may be named, and of types any that shows its fault: so several reports may be made of the same bytes.
 pub record BytesReportsBy (Says : Accepted → List ℕ → Report → Type 0) (bytes input : List ℕ) (r : Report) : Type 0 where

@@ -20,12 +20,12 @@ use Rattle.elf_write.specs.declared.parts.ImageParts.{ImageParts}
 use Rattle.eh_files.specs.FileList.{answer_of}
 use Rattle.eh_files.specs.declared.FileAnswer.{FileAnswer}
 use Rattle.eh_files.specs.declared.FileAnswer.TheVariants.{Found, Missing, TooLong}
-use Rattle.ehabi_top.specs.RefusalText.{source_line, asm_line, link_line}
+use Rattle.ehabi_top.specs.RefusalText.{source_line, asm_line, link_line, schedule_line}
 use Rattle.ehabi_top.specs.Sources.{NamedText, NamedStmts, Refusal, and_then, all_answers}
 use Rattle.program_answers.specs.Files.{missing_line, too_long_line}
 use Rattle.report_lines.specs.Text.{image_fault_line}
 use Rattle.ehabi_top.specs.declared.refusal.BuildFault.{BuildFault}
-use Rattle.ehabi_top.specs.declared.refusal.BuildFault.TheVariants.{InSource, InObject, InLink, InImage, OutOfMemory}
+use Rattle.ehabi_top.specs.declared.refusal.BuildFault.TheVariants.{InSource, InObject, InLink, InImage, InSchedule, OutOfMemory}
 use Rattle.ehabi_top.specs.declared.refusal.FilesFault.{FilesFault}
 use Rattle.ehabi_top.specs.declared.refusal.FilesFault.TheVariants as files
 use Rattle.ehabi_top.specs.declared.sources.TheConstants.{FILE_LIMIT}
@@ -83,18 +83,20 @@ built sources =
 
 -- ---- from files to the bytes of an image
 
-abbrev pub bytes_of_built : Result (List ℕ) (List ℕ) → Result (List ℕ) Refusal
-bytes_of_built (Ok bytes) = Ok bytes
-bytes_of_built (Err line) = Err (record { status = REFUSED; line = line })
+-- what is made of what files hold, or the line of why it is refused
+abbrev pub or_refused : {T : Type 0} → Result T (List ℕ) → Result T Refusal
+or_refused (Ok made) = Ok made
+or_refused (Err line) = Err (record { status = REFUSED; line = line })
 
-abbrev pub bytes_of_found : Result (List NamedText) (List ℕ) → Result (List ℕ) Refusal
-bytes_of_found (Ok sources) = bytes_of_built (built sources)
-bytes_of_found (Err line) = Err (record { status = FILE_UNAVAILABLE; line = line })
+-- what is made of files, where all of them are there
+abbrev pub made_of_found : {T : Type 0} → (List NamedText → Result T (List ℕ)) → Result (List NamedText) (List ℕ) → Result T Refusal
+made_of_found make (Ok files) = or_refused (make files)
+made_of_found make (Err line) = Err (record { status = FILE_UNAVAILABLE; line = line })
 
 -- the bytes of the image that the sources of these names are built to, or why there are none: a file that is missing or too
 -- long, or what is refused of the sources
 unfoldable pub image_bytes : List (List ℕ) → List (List ℕ × List ℕ) → Result (List ℕ) Refusal
-image_bytes names files = bytes_of_found (files_of files names)
+image_bytes names files = made_of_found built (files_of files names)
 
 -- ---- refusals as the program has them
 
@@ -120,6 +122,7 @@ is_memory (InSource name fault) = is_source_memory fault.what
 is_memory (InObject name fault) = is_asm_memory fault.what
 is_memory (InLink fault) = is_link_memory fault
 is_memory (InImage fault) = is_image_memory fault
+is_memory (InSchedule name at) = false
 is_memory OutOfMemory = true
 
 -- the line of a refusal; want of memory has none
@@ -128,6 +131,7 @@ fault_line (InSource name fault) = source_line name.now fault
 fault_line (InObject name fault) = asm_line name.now fault
 fault_line (InLink fault) = link_line fault
 fault_line (InImage fault) = image_fault_line fault
+fault_line (InSchedule name at) = schedule_line name.now at
 fault_line OutOfMemory = []
 
 -- want of memory, of files

@@ -28,14 +28,15 @@ abbrev pub found_report : (List ℕ → List ℕ → Report) → Result (List �
 found_report report (Ok bytes) input = report bytes input
 found_report report (Err refusal) input = record { text = refusal.line; status = refusal.status; left = input }
 
--- a report that may be made of bytes and of the input, or the line of why there are none
-abbrev pub FoundReports : (List ℕ → List ℕ → Report → Type 0) → Result (List ℕ) Refusal → List ℕ → Report → Type 0
-FoundReports Says (Ok bytes) input r = Says bytes input r
+-- a report that may be made of what files give and of the input, or the line of why they give nothing
+abbrev pub FoundReports : {T : Type 0} → (T → List ℕ → Report → Type 0) → Result T Refusal → List ℕ → Report → Type 0
+FoundReports Says (Ok found) input r = Says found input r
 FoundReports Says (Err refusal) input r = r ≡ record { text = refusal.line; status = refusal.status; left = input }
 
--- A call that asks the files for bytes: it answers those, or a fault that stands for the refusal. A stop is a failed read, or want of memory where none has failed.
-pub record Finds {T : Type 0} (bytes_of : T → List ℕ) (ask : List (List ℕ × List ℕ) → Result (List ℕ) Refusal) (files files' : FileState) (result : Result (Result T FilesFault) Stop) : Type 0 where
-  pub told : IfOk result (λ answer. IfSome files.held (λ held. MatchResult answer (λ found. ask held ≡ Ok (bytes_of found)) (λ fault. ask held ≡ Err (refusal_of fault))))
+-- A call that asks the files for something, bytes mostly: it answers what stands for that, or a fault that stands for the refusal. A stop is a failed read, or want of memory where
+-- none has failed.
+pub record Finds {T A : Type 0} (value_of : T → A) (ask : List (List ℕ × List ℕ) → Result A Refusal) (files files' : FileState) (result : Result (Result T FilesFault) Stop) : Type 0 where
+  pub told : IfOk result (λ answer. IfSome files.held (λ held. MatchResult answer (λ found. ask held ≡ Ok (value_of found)) (λ fault. ask held ≡ Err (refusal_of fault))))
   pub fit : IfOk result (λ answer. IfErr answer (λ fault. wants_memory fault ≡ false))
   pub read : IsErrOf result Read → Rose files.faults files'.faults
   pub write : IsErrOf result Write → ⊥

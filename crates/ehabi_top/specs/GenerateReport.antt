@@ -8,7 +8,7 @@ use Rattle.frame_check.specs.Accepts.{Accepted}
 use Rattle.thumb_core.specs.declared.ends.End.{End}
 use Rattle.ehabi_top.specs.Accepting.{BytesReportsBy, IsUnaccepted}
 use Rattle.ehabi_top.specs.BothRuns.{bytes_run, recorded_run, bytes_events, recorded_events}
-use Rattle.ehabi_top.specs.Building.{built, bytes_of_built}
+use Rattle.ehabi_top.specs.Building.{built, or_refused}
 use Rattle.ehabi_top.specs.Finding.{FoundReports}
 use Rattle.ehabi_top.specs.Loading.{Report, status_of}
 use Rattle.ehabi_top.specs.Sources.{NamedText, Refusal}
@@ -25,7 +25,7 @@ generated number functions = record { name = codes "generated"; text = generated
 
 -- the bytes of its image
 abbrev pub generated_bytes : ℕ → ℕ → Result (List ℕ) Refusal
-generated_bytes number functions = bytes_of_built (built (generated number functions ∷ []))
+generated_bytes number functions = or_refused (built (generated number functions ∷ []))
 
 -- ---- the report
 

@@ -11,6 +11,7 @@ pub mod RunReport
 pub mod GenerateReport
 pub mod Sources
 pub mod TaskReport
+pub mod ThreadsReport
 pub mod RefusalText
 pub mod Building
 pub mod AsksFor

@@ -28,6 +28,15 @@ asm_place fault = codes ":" ++ decimal fault.line ++ codes ": " ++ asm_name faul
 abbrev pub asm_line : List ℕ → AsmFault → List ℕ
 asm_line name fault = name ++ asm_place fault
 
+-- ---- a text that is no schedule
+
+-- after the file's name: the offset of the first byte that a schedule may not have, or of the text's end where it has no digit
+abbrev pub schedule_place : ℕ → List ℕ
+schedule_place at = codes ": BadSchedule " ++ decimal at ++ codes "\n"
+
+abbrev pub schedule_line : List ℕ → ℕ → List ℕ
+schedule_line name at = name ++ schedule_place at
+
 -- ---- objects that are not linked
 
 -- the name that is meant twice or not at all; the place of a relocation

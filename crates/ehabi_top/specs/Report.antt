@@ -20,8 +20,9 @@ use Rattle.ehabi_top.specs.FlatReport.{flat_report, IsTooLarge}
 use Rattle.ehabi_top.specs.GenerateReport.{GenerateReports, IsUnfitProgram}
 use Rattle.ehabi_top.specs.TaskReport.{RunReports, RunSourcesReports, RunBytesRefuse}
 use Rattle.ehabi_top.specs.Text.{usage}
+use Rattle.ehabi_top.specs.ThreadsReport.{ThreadsReports, RefusedThreads}
 use Rattle.ehabi_top.specs.Unfit.{RefusedHeld, RefusedSources}
-use Rattle.ehabi_top.specs.Words.{Command, FlatFile, BuildSources, CheckFile, CheckSources, RunFile, RunSources, GenerateProgram}
+use Rattle.ehabi_top.specs.Words.{Command, FlatFile, BuildSources, CheckFile, CheckSources, RunFile, RunSources, RunThreads, GenerateProgram}
 use Rattle.ehabi_top.specs.Yields.{Streams, NoFault, DoesWhole, DoesPart, RefusedWhere, RefusedOf}
 
 -- ---- by command
@@ -35,6 +36,7 @@ Reports (Some (CheckFile name)) files input r = CheckReports name files input r
 Reports (Some (CheckSources names)) files input r = CheckSourcesReports names files input r
 Reports (Some (RunFile name request)) files input r = RunReports name request files input r
 Reports (Some (RunSources names request)) files input r = RunSourcesReports names request files input r
+Reports (Some (RunThreads names budget)) files input r = ThreadsReports names budget files input r
 Reports (Some (GenerateProgram number functions)) files input r = GenerateReports number functions input r
 
 -- a file that the command names is missing or too long
@@ -46,6 +48,7 @@ LacksFile (Some (CheckFile name)) files = IsUnavailable (answer_of files name FI
 LacksFile (Some (CheckSources names)) files = IsErr (files_of files names)
 LacksFile (Some (RunFile name request)) files = IsUnavailable (answer_of files name FILE_LIMIT)
 LacksFile (Some (RunSources names request)) files = IsErr (files_of files names)
+LacksFile (Some (RunThreads names budget)) files = IsErr (files_of files names)
 LacksFile (Some (GenerateProgram number functions)) files = ⊥
 
 -- What pins the status of a refusal. Of commands with files it is the files: they are there, and what they hold is refused; of a generated program
@@ -58,6 +61,7 @@ Refuses (Some (CheckFile name)) files = RefusedHeld (RefusedOf IsUnaccepted) (an
 Refuses (Some (CheckSources names)) files = RefusedSources (RefusedOf IsUnaccepted) (files_of files names)
 Refuses (Some (RunFile name request)) files = RefusedHeld (RunBytesRefuse request) (answer_of files name FILE_LIMIT)
 Refuses (Some (RunSources names request)) files = RefusedSources (RunBytesRefuse request) (files_of files names)
+Refuses (Some (RunThreads names budget)) files = RefusedThreads (files_of files names)
 Refuses (Some (GenerateProgram number functions)) files = RefusedWhere (IsUnfitProgram number functions)
 
 -- Where what the command reads is told, with the files, the input, and what is left of the input. Words that are no command
@@ -71,6 +75,7 @@ IfTold (Some (CheckFile name)) files input left P = (left ≡ input) × IfSome f
 IfTold (Some (CheckSources names)) files input left P = (left ≡ input) × IfSome files (λ held. (bytes : List ℕ) → P held bytes (Some bytes))
 IfTold (Some (RunFile name request)) files input left P = IfSome files (λ held. IfSome input (λ bytes. P held bytes left))
 IfTold (Some (RunSources names request)) files input left P = IfSome files (λ held. IfSome input (λ bytes. P held bytes left))
+IfTold (Some (RunThreads names budget)) files input left P = IfSome files (λ held. IfSome input (λ bytes. P held bytes left))
 IfTold (Some (GenerateProgram number functions)) files input left P = (left ≡ input) × ((held : List (List ℕ × List ℕ)) (bytes : List ℕ) → P held bytes (Some bytes))
 
 -- ---- what a call does for a command

@@ -12,15 +12,19 @@ RefusedHeld Refuses (Found bytes) = Refuses bytes
 RefusedHeld Refuses Missing = RefusedWhere ⊥
 RefusedHeld Refuses TooLong = RefusedWhere ⊥
 
--- of the bytes of the image that is built; where none is, that is refused
-abbrev pub RefusedBuilt : (List ℕ → Option (List ℕ) → ℕ → Type 0) → Result (List ℕ) (List ℕ) → Option (List ℕ) → ℕ → Type 0
-RefusedBuilt Refuses (Ok bytes) = Refuses bytes
-RefusedBuilt Refuses (Err line) = RefusedWhere (Unit {0})
+-- of what is made; where nothing is, that is refused
+abbrev pub RefusedMade : {T : Type 0} → (T → Option (List ℕ) → ℕ → Type 0) → Result T (List ℕ) → Option (List ℕ) → ℕ → Type 0
+RefusedMade Refuses (Ok made) = Refuses made
+RefusedMade Refuses (Err line) = RefusedWhere (Unit {0})
 
--- .. of the sources, where they are there
+-- .. of what is made of the files, where they are there
+abbrev pub RefusedFiles : {T : Type 0} → (List NamedText → Result T (List ℕ)) → (T → Option (List ℕ) → ℕ → Type 0) → Result (List NamedText) (List ℕ) → Option (List ℕ) → ℕ → Type 0
+RefusedFiles make Refuses (Ok files) = RefusedMade Refuses (make files)
+RefusedFiles make Refuses (Err line) = RefusedWhere ⊥
+
+-- .. of the bytes of the image that sources are built to
 abbrev pub RefusedSources : (List ℕ → Option (List ℕ) → ℕ → Type 0) → Result (List NamedText) (List ℕ) → Option (List ℕ) → ℕ → Type 0
-RefusedSources Refuses (Ok sources) = RefusedBuilt Refuses (built sources)
-RefusedSources Refuses (Err line) = RefusedWhere ⊥
+RefusedSources = RefusedFiles built
 
 -- no image is built, or the bytes of the one that is are unfit
 abbrev pub IsUnfitImage : (List ℕ → Type 0) → Result (List ℕ) (List ℕ) → Type 0

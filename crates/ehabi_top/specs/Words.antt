@@ -1,5 +1,5 @@
 -- Which command the words ask for.
-use Rattle.std.specs.Prelude.{ℕ, ◌+◌, ◌-◌, ◌*◌, ◌&&◌, nat_eq, Bool, List, [], ◌∷◌, length, take, slice_index_or, codes, nat_le, if◌then◌else◌, Option, Some, None, option_map}
+use Rattle.std.specs.Prelude.{ℕ, ◌+◌, ◌-◌, ◌*◌, ◌&&◌, ◌||◌, nat_eq, Bool, List, [], ◌∷◌, length, take, slice_index_or, codes, nat_le, if◌then◌else◌, Option, Some, None, is_some, option_map}
 use Rattle.program_answers.specs.Words.{texts}
 use Rattle.std.specs.List.{ends_with, list_all}
 use Rattle.std.specs.Str.{bytes_eq}
@@ -10,7 +10,7 @@ use Rattle.ehabi_top.specs.declared.words.Form.{Form}
 use Rattle.ehabi_top.specs.declared.words.Task.{Task}
 use Rattle.ehabi_top.specs.declared.words.Task.TheVariants as task
 use Rattle.ehabi_top.specs.declared.words.Request.{Request}
-use Rattle.ehabi_top.specs.declared.words.Form.TheVariants.{Flat, Build, Check, CheckSources as CheckOfSources, Run, RunSources as RunOfSources, Generate}
+use Rattle.ehabi_top.specs.declared.words.Form.TheVariants.{Flat, Build, Check, CheckSources as CheckOfSources, Run, RunSources as RunOfSources, Threads, Generate}
 
 -- a command and what it is given
 pub data Command : Type 0 where
@@ -26,6 +26,8 @@ pub data Command : Type 0 where
   RunFile : (name : List ℕ) (request : Request) → Command
   -- `run FILE.. N`, `walk FILE.. N` and `force FILE.. N K` of sources
   RunSources : (names : List (List ℕ)) (request : Request) → Command
+  -- `threads FILE.. SCHED N`: the names of a program's files and, last, of a schedule
+  RunThreads : (names : List (List ℕ)) (budget : ℕ) → Command
   -- `gen K M`: the program of a number, and how many functions it is asked for
   GenerateProgram : (number functions : ℕ) → Command
 
@@ -37,6 +39,7 @@ command (Check name) = CheckFile name.now
 command (CheckOfSources names) = CheckSources (texts names.now)
 command (Run name request) = RunFile name.now request
 command (RunOfSources names request) = RunSources (texts names.now) request
+command (Threads names budget) = RunThreads (texts names.now) budget
 command (Generate number functions) = GenerateProgram number functions
 
 -- the number that n and these digits write
@@ -110,6 +113,27 @@ with_frame words (Some number) = run_command (task.Force number) words
 unfoldable pub force_command : List (List ℕ) → Option Command
 force_command words = if nat_le 1 (length words) then with_frame (take (length words - 1) words) (frame_number (slice_index_or words (length words - 1) [])) else None
 
+-- the name of a schedule ends in `.sched`
+abbrev pub is_schedule : List ℕ → Bool
+is_schedule name = ends_with nat_eq name (codes ".sched")
+
+-- names of a program's files: of sources, or of one image
+unfoldable pub are_program : List (List ℕ) → Bool
+are_program names = are_sources names || is_some (image_name names)
+
+-- names of a program's files, and the name of a schedule as the last one
+unfoldable pub thread_files : List (List ℕ) → ℕ → Option Command
+thread_files names budget =
+    if nat_le 1 (length names) && is_schedule (slice_index_or names (length names - 1) []) && are_program (take (length names - 1) names) then Some (RunThreads names budget) else None
+
+abbrev pub with_elements : List (List ℕ) → Option ℕ → Option Command
+with_elements names None = None
+with_elements names (Some budget) = thread_files names budget
+
+-- the words after `threads`: names, and how many elements may go as the last word
+unfoldable pub threads_command : List (List ℕ) → Option Command
+threads_command words = if nat_le 1 (length words) then with_elements (take (length words - 1) words) (budget_of (slice_index_or words (length words - 1) [])) else None
+
 -- the number of a program: at most 4,294,967,295
 unfoldable pub program_number : List ℕ → Option ℕ
 program_number bs = if_between 0 MOST_NUMBER (number_of MOST_DIGITS bs)
@@ -138,4 +162,5 @@ command_of (word ∷ rest) =
     else (if bytes_eq word (codes "run") then run_command task.Run rest
     else (if bytes_eq word (codes "gen") then gen_command rest
     else (if bytes_eq word (codes "walk") then run_command task.Walk rest
-    else (if bytes_eq word (codes "force") then force_command rest else None))))))
+    else (if bytes_eq word (codes "force") then force_command rest
+    else (if bytes_eq word (codes "threads") then threads_command rest else None)))))))

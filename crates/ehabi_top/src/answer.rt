@@ -1,11 +1,16 @@
 //! What the program says at the end of a run.
-ghost use Rattle.std.specs.Prelude.{◌≡◌, IfOk, IfErr, IsErrOf, true, false};
+ghost use Rattle.std.specs.Prelude.{◌≡◌, ◌<◌, ℕ, All, IfOk, IfErr, IsErrOf, MatchResult, true, false};
 ghost use Rattle.ehabi_top.specs.Loading.{closing_of, status_of, stop_of_fault};
 ghost use Rattle.ehabi_top.specs.Writes.{AnswersRun};
 ghost use Rattle.ehabi_top.specs.Text.{summary};
 ghost use Rattle.ehabi_top.specs.RunReport.{trace};
+ghost use Rattle.ehabi_top.specs.ThreadsReport.{threads_trace};
+ghost use Rattle.thread_schedule.specs.declared.tags.TheConstants.{TAGS};
 ghost use Rattle.program_answers.specs.declared.stop.Stop.TheVariants.{Memory};
 ghost use Rattle.guest_gates.specs.Ends.{is_fault};
+ghost use Rattle.thread_schedule.specs.Tags.{tagged};
+ghost use Rattle.eh_trace.specs.Text.{trace_text};
+ghost use Rattle.eh_types.specs.Graph.{name_of};
 
 use crate::summary::summary_lines;
 use eh_port::Sink;
@@ -16,6 +21,7 @@ use program_answers::answer::{answer_both, answer_three};
 use program_answers::status::{BUDGET_SPENT, DONE, EXIT_NONZERO, TERMINATED, TRAPPED};
 use report_lines::end_line;
 use std::alloc::Global;
+use thread_schedule::tag_lines;
 use thumb_core::ends::End;
 
 // The status of an end, or the stop of a fault of the input or of the output.
@@ -88,5 +94,54 @@ pub(crate) fn answer_summary<O: Sink>(
     match summary_lines(alloc, functions, events) {
         Ok(lines) => answer_both(out, lines.as_slice(), end_line(end).as_slice(), status),
         Err(_) => Err(Stop::Memory),
+    }
+}
+
+// The lines of the trace, each with its thread before it.
+fn tagged_trace(
+    alloc: Global,
+    accepted: &Accepted,
+    events: &Events,
+    tags: &[u8],
+) -> Result<Vec<u8>, Stop>
+    requires { All (λ (tag : ℕ). tag < TAGS) tags.now }
+    ensures { MatchResult result (λ lines. lines.items ≡ tagged tags.now (trace_text accepted.now.image (name_of accepted.now.types) events.now)) (λ stop. stop ≡ Memory) }
+{
+    let lines = match trace_lines(alloc, accepted.image(), accepted.types(), events) {
+        Ok(lines) => lines,
+        Err(_) => return Err(Stop::Memory),
+    };
+    match tag_lines(alloc, lines.as_slice(), tags) {
+        Ok(lines) => Ok(lines),
+        Err(_) => Err(Stop::Memory),
+    }
+}
+
+/// Ends a run of threads of an accepted image: with its trace after the guest's bytes, each line with its thread before it, and the line of its
+/// end; or with the stop of a fault.
+pub(crate) fn answer_threads<O: Sink>(
+    alloc: Global,
+    out: &mut O,
+    accepted: &Accepted,
+    events: &Events,
+    tags: &[u8],
+    end: End,
+) -> Result<u8, Stop>
+    requires { All (λ (tag : ℕ). tag < TAGS) tags.now }
+    ensures { AnswersRun (closing_of (threads_trace accepted.now events.now tags.now) end) end result (O.written out.old) (O.written out.new) (O.faults out.old) (O.faults out.new) }
+{
+    let status = match status_of(end) {
+        Ok(status) => status,
+        Err(stop) => return Err(stop),
+    };
+    match tagged_trace(alloc, accepted, events, tags) {
+        Ok(lines) => answer_three(
+            out,
+            b"\n-- trace\n",
+            lines.as_slice(),
+            end_line(end).as_slice(),
+            status,
+        ),
+        Err(stop) => Err(stop),
     }
 }

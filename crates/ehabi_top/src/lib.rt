@@ -22,6 +22,7 @@ mod refusal;
 mod run;
 mod sources;
 mod summary;
+mod threads;
 mod walk;
 mod words;
 
@@ -38,6 +39,7 @@ use program_answers::status::USAGE;
 use run::{run, run_sources};
 pub use sources::FILE_LIMIT;
 use std::alloc::Global;
+use threads::threads;
 pub use walk::MOST_FRAMES;
 pub use words::{
     Form, MOST_DIGITS, MOST_FRAME_DIGITS, MOST_FUNCTION_DIGITS, MOST_INSTRUCTIONS, MOST_NUMBER,
@@ -59,7 +61,7 @@ fn perform<F: Files, I: Source, O: Sink>(
     match form_of(words) {
         None => answer_text(
             out,
-            b"usage: ehabi_run flat FILE N | build FILE.. | check FILE.. | run FILE.. N | gen K M | walk FILE.. N | force FILE.. N K\n",
+            b"usage: ehabi_run flat FILE N | build FILE.. | check FILE.. | run FILE.. N | gen K M | walk FILE.. N | force FILE.. N K | threads FILE.. SCHED N\n",
             USAGE,
         ),
         Some(Form::Flat(name, budget)) => flat(alloc, name, budget, files, input, out),
@@ -70,6 +72,7 @@ fn perform<F: Files, I: Source, O: Sink>(
         Some(Form::RunSources(names, request)) => {
             run_sources(alloc, names, request, files, input, out)
         }
+        Some(Form::Threads(names, budget)) => threads(alloc, names, budget, files, input, out),
         Some(Form::Generate(number, functions)) => count_program(alloc, number, functions, out),
     }
 }

@@ -39,6 +39,13 @@ impl<'a> SourceText<'a> {
     {
         self.text.as_slice()
     }
+
+    /// Its bytes alone.
+    pub(crate) fn into_text(self) -> Bytes
+        ensures { result ≡ self.entry.text }
+    {
+        self.text
+    }
 }
 
 /// A source by its statements.

@@ -4,6 +4,7 @@ ghost use Rattle.two_machines.specs.Checked.{program_of};
 ghost use Rattle.two_machines.specs.Start.{start_of};
 ghost use Rattle.ehabi_top.specs.BothRuns.{RunSame, SlotsStay};
 ghost use Rattle.ehabi_top.specs.ForceReport.{ForcesSame};
+ghost use Rattle.ehabi_top.specs.ThreadsReport.{ThreadsSame};
 ghost use Rattle.ehabi_top.specs.WalkReport.{WalkSame};
 
 use crate::force::forced_type;
@@ -13,6 +14,7 @@ use eh_walk::laws::{
 };
 use frame_check::Accepted;
 use machines_agree::{runs_guard, runs_same as all_runs_same};
+use thread_laws::schedules_same;
 
 /// From the start of an accepted image, over any bus that has its memory, the machine over bytes does what the one with recorded activations
 /// does, and no store of it reaches a slot of a live activation.
@@ -55,4 +57,16 @@ pub(crate) fn forces_same<B: Bus>(accepted: &Accepted, bus: &B)
     reaches_leave_bytes();
     forcings_same();
     going_on_same();
+}
+
+/// From the start of an accepted image, over any bus that has its segments, a run of threads does the same over bytes and with recorded
+/// activations.
+pub(crate) fn threads_same<B: Bus>(accepted: &Accepted, bus: &B)
+    requires start { (B.memory bus.now).segments ≡ (start_of (program_of accepted.now)).memory.segments }
+    ensures { ThreadsSame accepted.now }
+{
+    accepted.holds();
+    let _ = accepted.image().functions();
+    let _ = bus;
+    schedules_same();
 }

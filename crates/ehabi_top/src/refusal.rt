@@ -1,7 +1,7 @@
 //! Why files give no image, and the lines that say so.
 ghost use Rattle.std.specs.Prelude.{◌≡◌, ◌≢◌, ◌≤◌, ◌++◌, length, codes, IfOk, true, false};
 ghost use Rattle.ehabi_top.specs.Building.{is_memory, is_link_memory, fault_line, wants_memory, refusal_of};
-ghost use Rattle.ehabi_top.specs.RefusalText.{source_place, asm_place, link_line};
+ghost use Rattle.ehabi_top.specs.RefusalText.{source_place, asm_place, link_line, schedule_place};
 ghost use Rattle.report_lines.specs.Text.{refusal_line, after_blank};
 ghost use Rattle.program_answers.specs.Statuses.{IsOfCommand};
 ghost use Rattle.program_answers.specs.Writes.{Answers};
@@ -22,7 +22,7 @@ use program_answers::status::REFUSED;
 use report_lines::{Line, append, image_fault_line, refusal_line, refusal_line_with};
 use std::alloc::AllocFailed;
 
-/// Why sources give no image.
+/// Why sources give no image, or a file no schedule.
 #[derive(Drop)]
 pub(crate) enum BuildFault<'a> {
     /// The source of this name is none.
@@ -33,6 +33,8 @@ pub(crate) enum BuildFault<'a> {
     InLink(LinkFault),
     /// The linked parts have no image.
     InImage(ImageFault),
+    /// The file of this name holds no schedule: the offset of the first byte that it may not have, or its length where it has no digit.
+    InSchedule(&'a str, usize),
     /// Want of memory.
     OutOfMemory,
 }
@@ -44,7 +46,7 @@ pub(crate) enum FilesFault<'a> {
     Missing(&'a str),
     /// The file of this name is too long.
     TooLong(&'a str),
-    /// The sources that they hold give none.
+    /// What they hold gives none.
     Sources(BuildFault<'a>),
 }
 
@@ -79,6 +81,7 @@ pub(crate) fn is_memory(fault: &BuildFault) -> bool
         BuildFault::InObject(_, fault) => matches!(fault.what, AsmWhat::OutOfMemory),
         BuildFault::InLink(fault) => matches!(fault, LinkFault::OutOfMemory),
         BuildFault::InImage(fault) => matches!(fault, ImageFault::OutOfMemory),
+        BuildFault::InSchedule(_, _) => false,
         BuildFault::OutOfMemory => true,
     }
 }
@@ -107,6 +110,17 @@ fn asm_place(fault: AsmFault) -> Line
     append(&mut line, Buffer::new().format(fault.line).as_bytes());
     append(&mut line, b": ");
     append(&mut line, fault.what.name());
+    append(&mut line, b"\n");
+    line
+}
+
+/// What stands after the name of a file that holds no schedule.
+fn schedule_place(at: usize) -> Line
+    ensures { result.items ≡ schedule_place at }
+{
+    let mut line = Line::new();
+    append(&mut line, b": BadSchedule ");
+    append(&mut line, Buffer::new().format(at).as_bytes());
     append(&mut line, b"\n");
     line
 }
@@ -157,7 +171,7 @@ fn answer_link<O: Sink>(out: &mut O, fault: &LinkFault) -> Result<u8, Stop>
     }
 }
 
-/// Ends with the line of sources that give no image.
+/// Ends with the line of sources that give no image, or of a file that holds no schedule.
 pub(crate) fn answer_build_fault<O: Sink>(out: &mut O, fault: &BuildFault) -> Result<u8, Stop>
     requires { is_memory fault.now ≡ false }
     ensures { Answers (fault_line fault.now) REFUSED result (O.written out.old) (O.written out.new) (O.faults out.old) (O.faults out.new) }
@@ -180,6 +194,14 @@ pub(crate) fn answer_build_fault<O: Sink>(out: &mut O, fault: &BuildFault) -> Re
             image_fault_line(*fault).as_slice(),
             REFUSED,
         ),
+        BuildFault::InSchedule(name, at) => {
+            answer_both(
+                out,
+                name.as_bytes(),
+                schedule_place(*at).as_slice(),
+                REFUSED,
+            )
+        }
         BuildFault::OutOfMemory => unreachable!(),
     }
 }

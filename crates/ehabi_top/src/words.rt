@@ -1,7 +1,7 @@
 //! The forms of the words that the program is given.
 ghost use Rattle.std.specs.Borrow.{Bor};
-ghost use Rattle.std.specs.Prelude.{◌≡◌, ◌≤◌, ℕ, List, option_map};
-ghost use Rattle.ehabi_top.specs.Words.{command, number_of, budget_of, program_number, program_functions, is_source, are_sources, flat_command, build_command, image_name, check_command, files_command, run_command, frame_number, force_command, gen_command, command_of};
+ghost use Rattle.std.specs.Prelude.{◌≡◌, ◌≤◌, ◌&&◌, ℕ, List, option_map};
+ghost use Rattle.ehabi_top.specs.Words.{command, number_of, budget_of, program_number, program_functions, is_source, are_sources, flat_command, build_command, image_name, check_command, files_command, run_command, frame_number, force_command, is_schedule, are_program, thread_files, threads_command, gen_command, command_of};
 ghost use Rattle.program_answers.specs.Words.{texts};
 
 use eh_kit::MAX_FUNCTIONS;
@@ -58,6 +58,8 @@ pub enum Form<'a> {
     Run(&'a str, Request),
     /// `run FILE.. N`, `walk FILE.. N` and `force FILE.. N K`: the names of sources, and what is asked of the image that they are built to.
     RunSources(&'a [&'a str], Request),
+    /// `threads FILE.. SCHED N`: the names of a program's files and, last, of a schedule, and how many elements of it may go.
+    Threads(&'a [&'a str], u64),
     /// `gen K M`: the number of a program, and how many functions it is asked for.
     Generate(u32, u32),
 }
@@ -109,8 +111,8 @@ fn flat_form<'a>(words: &[&'a str]) -> Option<Form<'a>>
     }
 }
 
-// The name of a source ends in `.s`.
-fn is_source(name: &str) -> bool
+/// The name of a source ends in `.s`.
+pub(crate) fn is_source(name: &str) -> bool
     ensures { result ≡ is_source name.now }
 {
     name.as_bytes().ends_with(b".s")
@@ -204,6 +206,51 @@ fn force_form<'a>(words: &'a [&'a str]) -> Option<Form<'a>>
     run_form(Task::Force(number), rest)
 }
 
+// The name of a schedule ends in `.sched`.
+fn is_schedule(name: &str) -> bool
+    ensures { result ≡ is_schedule name.now }
+{
+    name.as_bytes().ends_with(b".sched")
+}
+
+// The names of a program's files: of sources, or of one image.
+#[tactic(auto, unfolding(crate::specs::Words::are_program))]
+fn are_program(names: &[&str]) -> bool
+    ensures { result ≡ are_program (texts names.now) }
+{
+    are_sources(names) || image_name(names).is_some()
+}
+
+// Whether these are the name of a schedule and names of a program's files.
+fn are_thread_files(schedule: &str, program: &[&str]) -> bool
+    ensures { result ≡ (is_schedule schedule.now && are_program (texts program.now)) }
+{
+    is_schedule(schedule) && are_program(program)
+}
+
+// The files of `threads`: those of a program, and a schedule as the last one.
+#[tactic(auto, unfolding(crate::specs::Words::thread_files))]
+fn threads_files_form<'a>(names: &'a [&'a str], budget: u64) -> Option<Form<'a>>
+    ensures { option_map command result ≡ thread_files (texts names.now) budget }
+{
+    let (schedule, program) = names.split_last()?;
+    if are_thread_files(schedule, program) {
+        Some(Form::Threads(names, budget))
+    } else {
+        None
+    }
+}
+
+// `threads FILE.. SCHED N`, without the first word.
+#[tactic(auto, unfolding(crate::specs::Words::threads_command))]
+fn threads_form<'a>(words: &'a [&'a str]) -> Option<Form<'a>>
+    ensures { option_map command result ≡ threads_command (texts words.now) }
+{
+    let (number, names) = words.split_last()?;
+    let budget = budget_of(number)?;
+    threads_files_form(names, budget)
+}
+
 // The number of a program.
 #[tactic(auto, unfolding(crate::specs::Words::program_number))]
 fn program_number(word: &str) -> Option<u32>
@@ -256,6 +303,7 @@ pub fn form_of<'a>(words: &'a [&'a str]) -> Option<Form<'a>>
         "gen" => gen_form(rest),
         "walk" => run_form(Task::Walk, rest),
         "force" => force_form(rest),
+        "threads" => threads_form(rest),
         _ => None,
     }
 }

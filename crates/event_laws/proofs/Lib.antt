@@ -7,3 +7,4 @@ pub mod PlainGates
 pub mod Saves
 pub mod Budgets
 pub mod Heads
+mod Raises

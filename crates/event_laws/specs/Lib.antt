@@ -6,3 +6,4 @@ pub mod Refused
 pub mod Ends
 pub mod Heads
 pub mod Tests
+pub mod Raises

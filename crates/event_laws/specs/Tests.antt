@@ -1,19 +1,55 @@
--- The ends that the tests of an event give, each with its value (docs/machine.md, "An event").
-use Rattle.std.specs.Prelude.{◌≡◌, ◌≢◌, ℕ, ◌<◌, ◌≤◌, true, false, List, slice_index, None}
-use Rattle.event_runs.specs.Runs.{Ends}
+-- The ends that the tests of an event give, each with its value, and where no test ends it (docs/machine.md, "An event").
+use Rattle.std.specs.Prelude.{◌≡◌, ◌≢◌, ℕ, ◌<◌, ◌≤◌, Bool, true, false, List, [], slice_index, None}
+use Rattle.event_runs.specs.Runs.{Goes, Ends}
 use Rattle.eh_bus.specs.Memory.{Memory}
+use Rattle.eh_bus.specs.declared.fault.BusFault.TheVariants as bus
 use Rattle.eh_cxa.specs.Words.{block_slot}
+use Rattle.step_ahead.specs.Ahead.{branches_some}
+use Rattle.thumb_core.specs.Step.{step_of, instr_at}
 use Rattle.thumb_core.specs.declared.regs.Regs.{Regs}
+use Rattle.thumb_core.specs.declared.regs.CoreTrap.{CoreTrap}
+use Rattle.thumb_core.specs.declared.regs.CoreTrap.TheVariants as core
 use Rattle.thumb_core.specs.declared.regs.Stepped.{Stepped}
-use Rattle.thumb_core.specs.declared.regs.Stepped.TheVariants.{Call, Return}
+use Rattle.thumb_core.specs.declared.regs.Stepped.TheVariants.{Done, Call, Return, Trap}
 use Rattle.thumb_core.specs.declared.ends.TrapKind.TheVariants as kind
+use Rattle.thumb_core.specs.declared.ends.End.{End}
 use Rattle.thumb_core.specs.declared.ends.End.TheVariants as the_end
 use Rattle.eh_gates.specs.State.{State, reg}
 use Rattle.two_machines.specs.Program.{Program}
 use Rattle.two_machines.specs.Machine.{machine_event}
 use Rattle.event_laws.specs.Stack.{Does}
 
--- each leaves the state as it was
+-- sp (r13) doesn't rise, and stays on the running stack, down to its first address
+pub record StaysOnStack (s : State) (after : Regs) : Type 0 where
+  pub no_rise : slice_index after.r 13 ≤ reg s 13
+  pub above : s.memory.home.0 ≤ slice_index after.r 13
+
+-- whether the instruction at pc takes a branch of its own
+abbrev pub branches_at : State → Bool
+branches_at s = branches_some (instr_at s.memory s.regs.pc) s.regs
+
+-- the event goes on with these registers, writes nothing and takes nothing of the input; what is kept of exceptions and of events stays
+pub record GoesOnWith (p : Program) (s : State) (input : List ℕ) (after : Regs) : Type 0 where
+  pub state : State
+  pub event : machine_event p s input ≡ Goes state [] input
+  pub regs : state.regs ≡ after
+  pub globals : state.globals ≡ s.globals
+  pub events : state.events ≡ s.events
+
+-- a trap of the core by its name, its value and the pc of its instruction
+abbrev pub trap_of : CoreTrap → ℕ → End
+trap_of (core.Undefined first) pc = the_end.Trap kind.Undefined first pc
+trap_of (core.Unpredictable first) pc = the_end.Trap kind.Unpredictable first pc
+trap_of (core.NotInProfile first) pc = the_end.Trap kind.NotInProfile first pc
+trap_of (core.EvenTarget target) pc = the_end.Trap kind.EvenTarget target pc
+trap_of (core.Memory (bus.Unmapped a)) pc = the_end.Trap kind.Unmapped a pc
+trap_of (core.Memory (bus.Unaligned a)) pc = the_end.Trap kind.Unaligned a pc
+trap_of (core.Memory (bus.ReadOnly a)) pc = the_end.Trap kind.ReadOnly a pc
+trap_of (core.Memory (bus.SavedSlot a)) pc = the_end.Trap kind.SavedSlot a pc
+trap_of (core.Memory (bus.Protected a)) pc = the_end.Trap kind.Protected a pc
+trap_of (core.Memory (bus.NotExecutable a)) pc = the_end.Trap kind.NotExecutable a pc
+
+-- each end leaves the state as it was
 pub record EndsByTests (p : Program) (s : State) (input : List ℕ) : Type 0 where
   -- no instruction that the checker reached stands at pc
   pub unreached : (p.look s.regs.pc).is_instr ≡ false → machine_event p s input ≡ Ends (the_end.Trap kind.FellOff s.regs.pc s.regs.pc) s
@@ -33,6 +69,32 @@ pub record EndsByTests (p : Program) (s : State) (input : List ℕ) : Type 0 whe
   pub back :
       (to : ℕ) (after : Regs) (m : Memory) → Does p s (Return to) after m → to ≢ 0xFFFFFFFF → block_slot s.globals.cleanup ≡ None → s.memory.home.0 ≤ slice_index after.r 13
       → (p.look after.pc).is_function ≡ true → machine_event p s input ≡ Ends (the_end.Trap kind.FellOff after.pc s.regs.pc) s
+  -- an instruction that takes no branch, where a function begins at the next address
+  pub past :
+      (after : Regs) (m : Memory) → Does p s Done after m → StaysOnStack s after → branches_at s ≡ false → (p.look after.pc).is_function ≡ true
+      → machine_event p s input ≡ Ends (the_end.Trap kind.FellOff after.pc s.regs.pc) s
+  -- a trap of the core
+  pub traps :
+      (trap : CoreTrap) (after : Regs) (m : Memory) → (p.look s.regs.pc).is_instr ≡ true → step_of s.regs s.memory ≡ (Trap trap, after, m)
+      → machine_event p s input ≡ Ends (trap_of trap s.regs.pc) s
+
+-- and where it goes on
+pub record GoesOnByTests (p : Program) (s : State) (input : List ℕ) : Type 0 where
+  -- to the next address, where no function begins
+  pub next :
+      (after : Regs) (m : Memory) → Does p s Done after m → StaysOnStack s after → branches_at s ≡ false → (p.look after.pc).is_function ≡ false → GoesOnWith p s input after
+  -- by a branch of its own, wherever that leads
+  pub jumps : (after : Regs) (m : Memory) → Does p s Done after m → StaysOnStack s after → branches_at s ≡ true → GoesOnWith p s input after
+  -- by a call to where a function begins
+  pub calls :
+      (target ret : ℕ) (after : Regs) (m : Memory) → Does p s (Call target ret) after m → StaysOnStack s after → (p.look target).is_function ≡ true → GoesOnWith p s input after
+  -- by a return, with no cleanup in progress, to where no function begins
+  pub returns :
+      (to : ℕ) (after : Regs) (m : Memory) → Does p s (Return to) after m → to ≢ 0xFFFFFFFF → block_slot s.globals.cleanup ≡ None → s.memory.home.0 ≤ slice_index after.r 13
+      → (p.look after.pc).is_function ≡ false → GoesOnWith p s input after
+
+abbrev pub EventsGoOn : Type 0
+EventsGoOn = (p : Program) (s : State) (input : List ℕ) → GoesOnByTests p s input
 
 abbrev pub TestsEndSo : Type 0
 TestsEndSo = (p : Program) (s : State) (input : List ℕ) → EndsByTests p s input

@@ -2,13 +2,16 @@
 #![tactic(auto)]
 
 ghost use Rattle.event_laws.specs.Stack.{RisesAreRefused, OnlyRisesAreRefused};
-ghost use Rattle.event_laws.specs.Tests.{TestsEndSo};
+ghost use Rattle.event_laws.specs.Tests.{TestsEndSo, EventsGoOn};
 ghost use Rattle.event_laws.specs.GoingOn.{GatesGoOn, GatesFallOff};
 ghost use Rattle.event_laws.specs.PlainGates.{PlainGatesAreAsTold};
 ghost use Rattle.event_laws.specs.Saves.{PushesGuardTheirSaves};
+ghost use Rattle.event_laws.specs.Raises.{RaisesLetGo};
 ghost use Rattle.event_laws.specs.Refused.{RefusedStoresEnd};
 ghost use Rattle.event_laws.specs.Ends.{NoEventIsBudget};
 ghost use Rattle.event_laws.specs.Heads.{HeadsStayHeads};
+
+use two_machines::laws::guards_are_released;
 
 /// Where sp rises above the landing sp of the innermost cleanup in progress, the event is SpInCleanup with the new sp.
 pub fn rises_are_refused()
@@ -22,9 +25,16 @@ pub fn only_rises_are_refused()
 
 /// Where the checker reached no instruction the event is FellOff with pc; where sp falls below the running stack StackLimit with the new sp;
 /// a call to where no function begins BadCallTarget with the target; a return to FFFFFFFF, with no cleanup in progress, exits with r0, and any other
-/// one to where a function begins is FellOff with that address.
+/// one to where a function begins is FellOff with that address; so is an instruction that takes no branch, where a function begins behind it. A
+/// trap of the core ends the run by its name and value.
 pub fn tests_end_so()
     ensures { TestsEndSo }
+{}
+
+/// Else it goes on: to the next address, by a branch wherever that leads, by a call to where a function begins, and by a return to where none
+/// does; sp may stand at the first address of the stack. It writes nothing, and leaves what is kept of exceptions and events.
+pub fn events_go_on()
+    ensures { EventsGoOn }
 {}
 
 /// Gate 0 exits with r0; gate 1 writes the low byte of r0; gate 2 takes the next byte of the input into r0, and FFFFFFFF at its end; and those
@@ -48,6 +58,14 @@ pub fn gates_fall_off()
 pub fn pushes_guard_their_saves()
     ensures { PushesGuardTheirSaves }
 {}
+
+/// An instruction that raises sp lets go the guarded words of the running stack below the new sp, and no other; one that doesn't raise it, and pushes
+/// nothing, leaves the memory as it made it.
+pub fn raises_let_go()
+    ensures { RaisesLetGo }
+{
+    guards_are_released();
+}
 
 /// A PUSH or an STM that a guarded word refuses ends the run by SavedSlot with that word's address, and leaves the state as it was.
 pub fn refused_stores_end()

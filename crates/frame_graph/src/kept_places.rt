@@ -8,7 +8,7 @@ use eh_index::Index;
 use std::alloc::{AllocError, Global};
 
 /// What is kept of a place.
-#[derive(Clone, Copy, PartialEq, Eq, Debug)]
+#[derive(Clone, Copy, Debug)]
 pub struct KeptPlace {
     /// Whether it is code of the function.
     pub code: bool,

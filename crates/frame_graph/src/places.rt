@@ -13,7 +13,7 @@ use thumb_isa::instr::{Decoded, Instr};
 pub const UDF: u16 = 0b1101_1110;
 
 /// What stands at a place of a function.
-#[derive(Clone, Copy, PartialEq, Eq, Debug)]
+#[derive(Clone, Copy, Debug)]
 pub enum Standing {
     /// An instruction, and its size in bytes, 2 or 4.
     Instruction(Instr, u32),

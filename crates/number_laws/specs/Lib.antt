@@ -7,3 +7,5 @@ pub mod Gates
 pub mod Checker
 pub mod Sources
 pub mod Linked
+pub mod Gnu
+pub mod Threads

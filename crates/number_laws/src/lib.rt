@@ -11,6 +11,8 @@ ghost use Rattle.number_laws.specs.Gates.{PlainGateNumbers, GateNumbers, KeptNum
 ghost use Rattle.number_laws.specs.Checker.{FactNumbers, FlowGraphNumbers, ReachNumbers};
 ghost use Rattle.number_laws.specs.Sources.{ReaderNumbers, DirectiveNumbers, LayoutNumbers, ObjectNumbers};
 ghost use Rattle.number_laws.specs.Linked.{LinkNumbers, GeneratorNumbers};
+ghost use Rattle.number_laws.specs.Gnu.{GnuTableNumbers, DescriptorByteNumbers, GnuImageNumbers};
+ghost use Rattle.number_laws.specs.Threads.{ThreadNumbers, AuditNumbers};
 
 /// The memory map: stack, pool, slots, images and pages.
 pub fn bus_numbers()
@@ -135,4 +137,29 @@ pub fn link_numbers()
 /// The numbers of generated programs.
 pub fn generator_numbers()
     ensures { GeneratorNumbers }
+{}
+
+/// GNU's tables: their encodings, and how many actions and words are followed.
+pub fn gnu_table_numbers()
+    ensures { GnuTableNumbers }
+{}
+
+/// How many bytes of codes a table has, and how large a scope is.
+pub fn descriptor_byte_numbers()
+    ensures { DescriptorByteNumbers }
+{}
+
+/// How many bytes of call-site tables an image has.
+pub fn gnu_image_numbers()
+    ensures { GnuImageNumbers }
+{}
+
+/// The size of a thread's home, and how many tags there are.
+pub fn thread_numbers()
+    ensures { ThreadNumbers }
+{}
+
+/// The size of a halfword in an audit of code.
+pub fn audit_numbers()
+    ensures { AuditNumbers }
 {}

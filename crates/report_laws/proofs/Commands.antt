@@ -1,15 +1,25 @@
 -- What the report of each command is made of.
-use Rattle.std.specs.Prelude.{MatchResult}
-use Rattle.std.proofs.Common.{◌≡◌, ℕ, List, [], ◌∷◌, ◌++◌, codes, Result, Some, Ok, Err, refl, sym, ap, subst, ◌∙◌}
+use Rattle.std.specs.Prelude.{MatchResult, take, slice_index_or, not, ◌-◌, length, if◌then◌else◌}
+use Rattle.std.proofs.Math.Seq.{take-append_seam}
+use Rattle.std.proofs.lemmas.Bool.Decides.{Decides-eqb}
+use Rattle.std.proofs.lemmas.List.{get_or_push, length-append}
+use Rattle.std.proofs.lemmas.Slice.Eq.{ends_is}
+use Rattle.std.proofs.Common.{◌≡◌, ◌+◌, ℕ, Bool, true, false, List, [], ◌∷◌, ◌++◌, codes, decimal, Result, Some, Ok, Err, refl, sym, ap, subst, ◌∙◌, arith}
 use Rattle.eh_files.specs.FileList.{answer_of}
 use Rattle.eh_files.specs.declared.FileAnswer.{FileAnswer}
 use Rattle.eh_files.specs.declared.FileAnswer.TheVariants.{Found, Missing, TooLong}
-use Rattle.frame_check.specs.Accepts.{Accepted}
+use Rattle.elf_image.specs.Image.{Image, image_of}
+use Rattle.elf_image.specs.declared.fault.ImageFault.{ImageFault}
+use Rattle.frame_check.specs.Accepts.{Accepted, IsAccepted, Refuses}
+use Rattle.frame_check.specs.declared.fault.CheckFault.{CheckFault}
+use Rattle.frame_check.specs.declared.fault.CheckFault.TheVariants as check
 use Rattle.image_memory.specs.Start.{code_start}
 use Rattle.plain_run.specs.Machine.{flat_ran}
-use Rattle.ehabi_top.specs.Accepting.{refused_report, BytesReportsBy}
+use Rattle.ehabi_top.specs.Accepting.{IsFound, IsRejected, check_fault_line, no_image_report, rejected_report, BytesReportsBy}
+use Rattle.ehabi_top.proofs.BytesCases.{by_bytes}
+use Rattle.report_lines.specs.Text.{image_fault_line}
 use Rattle.ehabi_top.specs.BuildReport.{plain_report, build_report}
-use Rattle.ehabi_top.specs.Building.{found_text, file_of, files_of, built, bytes_of_built, bytes_of_found, image_bytes}
+use Rattle.ehabi_top.specs.Building.{found_text, file_of, files_of, built, or_refused, made_of_found, image_bytes}
 use Rattle.ehabi_top.specs.CheckReport.{ChecksAccepted}
 use Rattle.ehabi_top.specs.Finding.{bytes_of_answer, file_bytes, found_report, FoundReports}
 use Rattle.ehabi_top.specs.FlatReport.{code_report, flat_report}
@@ -17,31 +27,89 @@ use Rattle.ehabi_top.specs.GenerateReport.{CountsAccepted}
 use Rattle.ehabi_top.specs.Loading.{Report}
 use Rattle.ehabi_top.specs.Report.{Reports}
 use Rattle.ehabi_top.specs.Sources.{NamedText, Refusal, and_rest, all_answers}
+use Rattle.ehabi_top.specs.RefusalText.{schedule_line}
+use Rattle.ehabi_top.specs.ThreadsReport.{Threaded, ThreadsAccepted, ThreadsBytesReports, digits_of, is_image, last_file, no_file as empty_file, program_bytes, threaded_last, threaded_of, threads_found}
+use Rattle.thread_schedule.specs.Schedules.{schedule_of}
 use Rattle.ehabi_top.specs.TaskReport.{TaskReports, DoesTask, RunBytesReports}
-use Rattle.ehabi_top.specs.Words.{Command, FlatFile, BuildSources, CheckFile, CheckSources, RunFile, RunSources, GenerateProgram}
+use Rattle.ehabi_top.specs.Words.{Command, FlatFile, BuildSources, CheckFile, CheckSources, RunFile, RunSources, RunThreads, GenerateProgram, is_source}
 use Rattle.ehabi_top.specs.declared.words.Task.{Task}
 use Rattle.ehabi_top.specs.declared.words.Task.TheVariants.{Run, Walk, Force}
 use Rattle.report_laws.specs.Written.{ReportsAreWritten, RunEnds}
-use Rattle.report_laws.specs.Commands.{Told, SaysAccepted, SaysTask, SaysCounts, OfFile, AreThere, OfSources, IsFirst, program, CommandsAreTold}
+use Rattle.report_laws.specs.Commands.{line_of, Told, SaysAccepted, SaysTask, SaysCounts, SaysThreads, OfFile, AreThere, OfSources, IsFirst, IsSource, program, ThreadsAreTold, CommandsAreTold}
 
 -- ---- bytes
 
-either : {T E : Type 0} (result : Result T E) (P Q : T → Type 0) (R : E → Type 0) → ((x : T) → P x → Q x) → MatchResult result P R → MatchResult result Q R
-either (Ok x) P Q R so h = so x h
-either (Err e) P Q R so h = h
+-- what is read of bytes, or another image where they stand for none
+image_in : Image → Result Image ImageFault → Image
+image_in other (Ok image) = image
+image_in other (Err fault) = other
 
-told : (Before : Accepted → List ℕ → Report → Type 0) (Says : Accepted → Report → Type 0) (bytes input : List ℕ) (r : Report)
-    → ((a : Accepted) → Before a input r → Says a r) → BytesReportsBy Before bytes input r → Told Says bytes input r
-told Before Says bytes input r so h = record {
-  judged = h.judged;
-  stands = h.stands;
-  is = either h.judged (λ a. Before a input r) (λ a. Says a r) (λ fault. r ≡ refused_report fault input) so h.is;
-}
+fault_in : ImageFault → Result Image ImageFault → ImageFault
+fault_in other (Ok image) = other
+fault_in other (Err fault) = fault
+
+IsImage : Result Image ImageFault → Type 0
+IsImage (Ok image) = Unit {0}
+IsImage (Err fault) = ⊥
+
+-- bytes don't stand for an image and for none
+not_both : (bytes : List ℕ) (image : Image) (fault : ImageFault) → image_of bytes ≡ Ok image → image_of bytes ≡ Err fault → ⊥
+unfolding IsImage
+not_both bytes image fault e f = subst IsImage (sym e ∙ f) tt
+
+one_image : (bytes : List ℕ) (one other : Image) → image_of bytes ≡ Ok one → image_of bytes ≡ Ok other → one ≡ other
+unfolding image_in
+one_image bytes one other e f = ap (image_in one) (sym e ∙ f)
+
+one_fault : (bytes : List ℕ) (one other : ImageFault) → image_of bytes ≡ Err one → image_of bytes ≡ Err other → one ≡ other
+unfolding fault_in
+one_fault bytes one other e f = ap (fault_in one) (sym e ∙ f)
+
+refused_with : List ℕ → List ℕ → Report
+refused_with input line = record { text = line; status = 3; left = input }
+
+same_line : (fault : CheckFault) → check_fault_line fault ≡ line_of fault
+same_line (check.Index fault) = refl
+same_line (check.Function rejected) = refl
+same_line (check.Types fault) = refl
+same_line check.OutOfMemory = refl
+
+module _ (Before : Accepted → List ℕ → Report → Type 0) (Says : Accepted → Report → Type 0) (bytes input : List ℕ) (r : Report) (so : (a : Accepted) → Before a input r → Says a r) where
+  of_accepted : (a : Accepted) → IsFound bytes a → Before a input r → Told Says bytes input r
+  of_accepted a found h = record {
+    no_image = λ fault e. absurd (not_both bytes a.image fault found.image e);
+    accepted = λ image e _. record { found = a; of_it = one_image bytes a.image image found.image e; sound = found.sound; says = so a h };
+    unaccepted = λ image e never. absurd (never (subst IsAccepted (one_image bytes a.image image found.image e)
+        (record { index = found.sound.index; functions = found.sound.functions; types = a.types; graph = found.sound.graph })));
+  }
+
+  of_no_image : (fault : ImageFault) → image_of bytes ≡ Err fault → r ≡ no_image_report fault input → Told Says bytes input r
+  unfolding refused_with
+  of_no_image fault is h = record {
+    no_image = λ other e. h ∙ ap (λ (f : ImageFault). refused_with input (image_fault_line f)) (one_fault bytes fault other is e);
+    accepted = λ image e _. absurd (not_both bytes image fault e is);
+    unaccepted = λ image e _. absurd (not_both bytes image fault e is);
+  }
+
+  of_rejected : (fault : CheckFault) → IsRejected bytes fault → r ≡ rejected_report fault input → Told Says bytes input r
+  unfolding refused_with
+  of_rejected fault is h = record {
+    no_image = λ other e. absurd (not_both bytes is.image other is.is e);
+    accepted = λ image e accepted. absurd (is.unaccepted (subst IsAccepted (one_image bytes image is.image e is.is) accepted));
+    unaccepted = λ image e _. record {
+      fault = fault;
+      stands = subst (λ (i : Image). Refuses i fault) (one_image bytes is.image image is.is e) is.stands;
+      line = h ∙ ap (refused_with input) (same_line fault);
+    };
+  }
+
+  told : BytesReportsBy Before bytes input r → Told Says bytes input r
+  told h = by_bytes Before bytes input r (Told Says bytes input r) of_accepted of_no_image of_rejected h
 
 says_task : ReportsAreWritten → (t : Task) (budget : ℕ) (a : Accepted) (input : List ℕ) (r : Report) → TaskReports t budget a input r → SaysTask t budget input a r
-says_task w Run budget a input r h = w.run budget a input r h
-says_task w Walk budget a input r h = w.walk budget a input r h
-says_task w (Force number) budget a input r h = w.force number budget a input r h
+says_task w Run budget a input r h = (w.run budget a input r h, λ bytes. (w.run_recorded budget a input r h bytes, w.guarded budget a input r h bytes))
+says_task w Walk budget a input r h = (w.walk budget a input r h, w.walk_recorded budget a input r h)
+says_task w (Force number) budget a input r h = (w.force number budget a input r h, w.force_recorded number budget a input r h)
 
 checks : (bytes input : List ℕ) (r : Report) → BytesReportsBy ChecksAccepted bytes input r → Told (SaysAccepted input) bytes input r
 checks bytes input r h = told ChecksAccepted (SaysAccepted input) bytes input r (λ a e. e) h
@@ -50,13 +118,13 @@ runs : ReportsAreWritten → (t : Task) (budget : ℕ) (bytes input : List ℕ) 
 runs w t budget bytes input r h = told (DoesTask (record { task = t; budget = budget })) (SaysTask t budget input) bytes input r (λ a e. says_task w t budget a input r e) h
 
 counts : ReportsAreWritten → (bytes input : List ℕ) (r : Report) → BytesReportsBy CountsAccepted bytes input r → Told (SaysCounts input) bytes input r
-counts w bytes input r h = told CountsAccepted (SaysCounts input) bytes input r (λ a e. w.gen a input r e) h
+counts w bytes input r h = told CountsAccepted (SaysCounts input) bytes input r (λ a e. (w.gen a input r e, w.gen_recorded a input r e)) h
 
 -- ---- bytes that are there, or not
 
-module _ (Says : List ℕ → List ℕ → Report → Type 0) (answer : Result (List ℕ) Refusal) (input : List ℕ) (r : Report) where
-  there : (bytes : List ℕ) → answer ≡ Ok bytes → FoundReports Says answer input r → Says bytes input r
-  there bytes e h = subst (λ a. FoundReports Says a input r) e h
+module _ {T : Type 0} (Says : T → List ℕ → Report → Type 0) (answer : Result T Refusal) (input : List ℕ) (r : Report) where
+  there : (made : T) → answer ≡ Ok made → FoundReports Says answer input r → Says made input r
+  there made e h = subst (λ a. FoundReports Says a input r) e h
 
   lacking : (refusal : Refusal) → answer ≡ Err refusal → FoundReports Says answer input r → r ≡ record { text = refusal.line; status = refusal.status; left = input }
   lacking refusal e h = subst (λ a. FoundReports Says a input r) e h
@@ -82,6 +150,7 @@ no_file (CheckSources names) name files input r refusal of e h = absurd of
 no_file (RunFile file request) name files input r refusal of e h =
     lacking (RunBytesReports request) (file_bytes file files) input r refusal (ap (λ n. file_bytes n files) of ∙ e) h
 no_file (RunSources names request) name files input r refusal of e h = absurd of
+no_file (RunThreads names budget) name files input r refusal of e h = absurd of
 no_file (GenerateProgram number functions) name files input r refusal of e h = absurd of
 
 flat_code : (name : List ℕ) (budget : ℕ) (files : List (List ℕ × List ℕ)) (code input : List ℕ) (r : Report)
@@ -112,15 +181,15 @@ first_lacks files (one ∷ before) after (source ∷ sources) name answer line h
     ∙ ap (and_rest (found_text one (Found source.text))) (first_lacks files before after sources name answer line h.2 e f)
 
 -- the bytes of an image that is built of files
-image_there : (files : List (List ℕ × List ℕ)) (names : List (List ℕ)) (sources : List NamedText) → AreThere files names sources → image_bytes names files ≡ bytes_of_built (built sources)
+image_there : (files : List (List ℕ × List ℕ)) (names : List (List ℕ)) (sources : List NamedText) → AreThere files names sources → image_bytes names files ≡ or_refused (built sources)
 unfolding image_bytes
-image_there files names sources h = ap bytes_of_found (all_there files names sources h)
+image_there files names sources h = ap (made_of_found built) (all_there files names sources h)
 
 image_lacks : (files : List (List ℕ × List ℕ)) (names : List (List ℕ)) (name line : List ℕ) (answer : FileAnswer) → IsFirst files names name answer → found_text name answer ≡ Err line
     → image_bytes names files ≡ Err (record { status = 10; line = line })
 unfolding image_bytes
 image_lacks files names name line answer f e =
-    ap (λ l. bytes_of_found (files_of files l)) f.is ∙ ap bytes_of_found (first_lacks files f.before f.after f.sources name answer line f.there f.answer_is e)
+    ap (λ l. made_of_found built (files_of files l)) f.is ∙ ap (made_of_found built) (first_lacks files f.before f.after f.sources name answer line f.there f.answer_is e)
 
 build_is : (names : List (List ℕ)) (files : List (List ℕ × List ℕ)) (input : List ℕ) (answer : Result (List ℕ) Refusal) → image_bytes names files ≡ answer
     → build_report names files input ≡ found_report plain_report answer input
@@ -137,13 +206,101 @@ no_image_of (CheckSources sources) names files input r refusal of e h =
 no_image_of (RunFile name request) names files input r refusal of e h = absurd of
 no_image_of (RunSources sources request) names files input r refusal of e h =
     lacking (RunBytesReports request) (image_bytes sources files) input r refusal (ap (λ n. image_bytes n files) of ∙ e) h
+no_image_of (RunThreads sources budget) names files input r refusal of e h = absurd of
 no_image_of (GenerateProgram number functions) names files input r refusal of e h = absurd of
+
+-- ---- threads
+
+run_as_threads : ReportsAreWritten → (digits : List ℕ) (budget : ℕ) (bytes input : List ℕ) (r : Report) → BytesReportsBy (ThreadsAccepted digits budget) bytes input r
+    → Told (SaysThreads digits budget input) bytes input r
+run_as_threads w digits budget bytes input r h = told (ThreadsAccepted digits budget) (SaysThreads digits budget input) bytes input r (λ a e. (w.threads digits budget a input r e, w.threads_recorded digits budget a input r e)) h
+
+threads_there : (files : List (List ℕ × List ℕ)) (names : List (List ℕ)) (all : List NamedText) → AreThere files names all → threads_found names files ≡ or_refused (threaded_last all)
+unfolding threads_found
+threads_there files names all h = ap (made_of_found threaded_last) (all_there files names all h)
+
+threads_lack : (files : List (List ℕ × List ℕ)) (names : List (List ℕ)) (name line : List ℕ) (answer : FileAnswer) → IsFirst files names name answer → found_text name answer ≡ Err line
+    → threads_found names files ≡ Err (record { status = 10; line = line })
+unfolding threads_found
+threads_lack files names name line answer f e =
+    ap (λ l. made_of_found threaded_last (files_of files l)) f.is ∙ ap (made_of_found threaded_last) (first_lacks files f.before f.after f.sources name answer line f.there f.answer_is e)
+
+back : (program : List NamedText) (schedule : NamedText) → length (program ++ schedule ∷ []) - 1 ≡ length program
+back program schedule = let size : length (program ++ schedule ∷ []) ≡ length program + 1 = length-append program (schedule ∷ []) in omega (arith, size)
+
+last_is : (program : List NamedText) (schedule : NamedText) → last_file (program ++ schedule ∷ []) ≡ schedule
+unfolding last_file
+last_is program schedule = rw (back program schedule, get_or_push program schedule empty_file (length program) refl) refl
+
+last_of : (program : List NamedText) (schedule : NamedText) → threaded_last (program ++ schedule ∷ []) ≡ threaded_of program schedule
+unfolding threaded_last
+last_of program schedule = rw (back program schedule, take-append_seam program (schedule ∷ []), last_is program schedule) refl
+
+unread : (program : List NamedText) (schedule : NamedText) (offset : ℕ) → schedule_of schedule.text ≡ Err offset → threaded_of program schedule ≡ Err (schedule_line schedule.name offset)
+unfolding threaded_of digits_of
+unread program schedule offset e = rw e refl
+
+read_with : (program : List NamedText) (schedule : NamedText) (digits bytes : List ℕ) → schedule_of schedule.text ≡ Ok digits → program_bytes program ≡ Ok bytes
+    → threaded_of program schedule ≡ Ok (record { bytes = bytes; digits = digits })
+unfolding threaded_of digits_of
+read_with program schedule digits bytes e f = rw (e, f) refl
+
+read_without : (program : List NamedText) (schedule : NamedText) (digits line : List ℕ) → schedule_of schedule.text ≡ Ok digits → program_bytes program ≡ Err line
+    → threaded_of program schedule ≡ Err line
+unfolding threaded_of digits_of
+read_without program schedule digits line e f = rw (e, f) refl
+
+named_source : (name : List ℕ) (t : Bool) → is_source name ≡ t → IsSource name → t ≡ true
+named_source name t e s = sym e ∙ (let d = ends_is Decides-eqb name (codes ".s") (is_source name) refl in d.1 s.0 s.1)
+
+named_other : (name : List ℕ) → (IsSource name → ⊥) → is_source name ≡ false
+named_other name n = go (is_source name) refl
+  where
+    go : (t : Bool) → is_source name ≡ t → t ≡ false
+    go true e = absurd (n (let d = ends_is Decides-eqb name (codes ".s") (is_source name) refl in (take (length name - 2) name, d.0 e)))
+    go false e = refl
+
+no_image : (first : NamedText) (more : List NamedText) → IsSource first.name → is_image (first ∷ more) ≡ false
+no_image first [] s = ap not (named_source first.name (is_source first.name) refl s)
+no_image first (second ∷ more) s = refl
+
+of_sources : (first : NamedText) (more : List NamedText) → IsSource first.name → program_bytes (first ∷ more) ≡ built (first ∷ more)
+unfolding program_bytes
+of_sources first more s = rw (no_image first more s) refl
+
+of_image : (file : NamedText) → (IsSource file.name → ⊥) → program_bytes (file ∷ []) ≡ Ok file.text
+unfolding program_bytes
+of_image file n = rw (named_other file.name n) (ap (λ (f : NamedText). Ok f.text) (last_is [] file))
+
+threads_told : ReportsAreWritten → ThreadsAreTold
+threads_told w = record {
+  missing = λ names budget name files input r first h.
+      lacking (ThreadsBytesReports budget) (threads_found names files) input r (record { status = 10; line = name ++ codes ": missing\n" })
+      (threads_lack files names name (name ++ codes ": missing\n") Missing first refl) h;
+  too_long = λ names budget name files input r first h.
+      lacking (ThreadsBytesReports budget) (threads_found names files) input r (record { status = 10; line = name ++ codes ": too long\n" })
+      (threads_lack files names name (name ++ codes ": too long\n") TooLong first refl) h;
+  schedule = λ names budget program schedule offset files input r held e h.
+      lacking (ThreadsBytesReports budget) (threads_found names files) input r (record { status = 3; line = schedule_line schedule.name offset })
+      (threads_there files names (program ++ schedule ∷ []) held ∙ ap or_refused (last_of program schedule ∙ unread program schedule offset e)) h;
+  refused = λ names budget first more schedule digits line files input r held s e b h.
+      lacking (ThreadsBytesReports budget) (threads_found names files) input r (record { status = 3; line = line })
+      (threads_there files names ((first ∷ more) ++ schedule ∷ []) held
+      ∙ ap or_refused (last_of (first ∷ more) schedule ∙ read_without (first ∷ more) schedule digits line e (of_sources first more s ∙ b))) h;
+  sources = λ names budget first more schedule digits bytes files input r held s e b h.
+      run_as_threads w digits budget bytes input r (there (ThreadsBytesReports budget) (threads_found names files) input r (record { bytes = bytes; digits = digits })
+      (threads_there files names ((first ∷ more) ++ schedule ∷ []) held
+      ∙ ap or_refused (last_of (first ∷ more) schedule ∙ read_with (first ∷ more) schedule digits bytes e (of_sources first more s ∙ b))) h);
+  image = λ names budget file schedule digits files input r held n e h.
+      run_as_threads w digits budget file.text input r (there (ThreadsBytesReports budget) (threads_found names files) input r (record { bytes = file.text; digits = digits })
+      (threads_there files names (file ∷ schedule ∷ []) held
+      ∙ ap or_refused (last_of (file ∷ []) schedule ∙ read_with (file ∷ []) schedule digits file.text e (of_image file n))) h);
+}
 
 -- ---- all
 
 pub commands : ReportsAreWritten → CommandsAreTold
 commands w = record {
-  checks = record { index = λ fault. refl; function = λ rejected. refl; types = λ fault. refl; status = λ fault input. refl; left = λ fault input. refl };
   files = record {
     missing = λ command name files input r of e h. no_file command name files input r (record { status = 10; line = name ++ codes ": missing\n" }) of (file_is name files Missing e) h;
     too_long = λ command name files input r of e h. no_file command name files input r (record { status = 10; line = name ++ codes ": too long\n" }) of (file_is name files TooLong e) h;
@@ -160,18 +317,19 @@ commands w = record {
     too_long = λ command names name files input r of first h.
         no_image_of command names files input r (record { status = 10; line = name ++ codes ": too long\n" }) of (image_lacks files names name (name ++ codes ": too long\n") TooLong first refl) h;
     refused = λ command names sources line files input r of held e h.
-        no_image_of command names files input r (record { status = 3; line = line }) of (image_there files names sources held ∙ ap bytes_of_built e) h;
-    build = λ names sources bytes files input r held e h. h ∙ build_is names files input (Ok bytes) (image_there files names sources held ∙ ap bytes_of_built e);
+        no_image_of command names files input r (record { status = 3; line = line }) of (image_there files names sources held ∙ ap or_refused e) h;
+    build = λ names sources bytes files input r held e h. h ∙ build_is names files input (Ok bytes) (image_there files names sources held ∙ ap or_refused e);
     check = λ names sources bytes files input r held e h.
-        checks bytes input r (there (BytesReportsBy ChecksAccepted) (image_bytes names files) input r bytes (image_there files names sources held ∙ ap bytes_of_built e) h);
+        checks bytes input r (there (BytesReportsBy ChecksAccepted) (image_bytes names files) input r bytes (image_there files names sources held ∙ ap or_refused e) h);
     run = λ task names budget sources bytes files input r held e h.
         runs w task budget bytes input r
-        (there (RunBytesReports (record { task = task; budget = budget })) (image_bytes names files) input r bytes (image_there files names sources held ∙ ap bytes_of_built e) h);
+        (there (RunBytesReports (record { task = task; budget = budget })) (image_bytes names files) input r bytes (image_there files names sources held ∙ ap or_refused e) h);
   };
+  threads = threads_told w;
   programs = record {
     refused = λ number functions line files input r e h.
-        lacking (BytesReportsBy CountsAccepted) (bytes_of_built (built (program number functions))) input r (record { status = 3; line = line }) (ap bytes_of_built e) h;
+        lacking (BytesReportsBy CountsAccepted) (or_refused (built (program number functions))) input r (record { status = 3; line = line }) (ap or_refused e) h;
     counted = λ number functions bytes files input r e h.
-        counts w bytes input r (there (BytesReportsBy CountsAccepted) (bytes_of_built (built (program number functions))) input r bytes (ap bytes_of_built e) h);
+        counts w bytes input r (there (BytesReportsBy CountsAccepted) (or_refused (built (program number functions))) input r bytes (ap or_refused e) h);
   };
 }

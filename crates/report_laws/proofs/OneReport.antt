@@ -37,7 +37,11 @@ use Rattle.ehabi_top.specs.declared.walk.TheConstants.{MOST_FRAMES}
 use Rattle.ehabi_top.specs.declared.words.Task.{Task}
 use Rattle.ehabi_top.specs.declared.words.Task.TheVariants.{Run, Walk, Force}
 use Rattle.ehabi_top.specs.declared.words.TheConstants.{MOST_INSTRUCTIONS}
-use Rattle.report_laws.specs.OneReport.{ReportsAreOne, CountsAreOne, RefusalsAreOne}
+use Rattle.ehabi_top.specs.ThreadsReport.{accepted_threads}
+use Rattle.thread_run.specs.Elements.{joint_over}
+use Rattle.thread_run.specs.Schedules.{Scheduled, schedule_run}
+use Rattle.thread_schedule.specs.Tags.{tagged}
+use Rattle.report_laws.specs.OneReport.{ReportsAreOne, ThreadsAreOne, CountsAreOne, RefusalsAreOne}
 
 -- the report of a program's run
 by_program : ℕ → List ℕ → Program → Report
@@ -153,6 +157,20 @@ refusals one number budget x y input are u =
 
 pub reports : ProgramsAreOne → ReportsAreOne
 reports one request x y input r q are i j = by_task request.task request.budget input x y r q (one x y are.one are.other are.same) i j
+
+-- .. as threads
+threads_by_program : List ℕ → ℕ → List ℕ → Program → Report
+threads_by_program digits budget input p =
+    ran_report (λ (s : Scheduled). trace_head ++ tagged s.joint.tags (trace_text p.image (name_of p.types) s.joint.events)) (schedule_run p digits budget (joint_over (start_of p)) input)
+
+is_threads_by_program : (digits : List ℕ) (budget : ℕ) (a : Accepted) (input : List ℕ) → accepted_threads digits budget a input ≡ threads_by_program digits budget input (program_of a)
+unfolding accepted_threads threads_by_program
+is_threads_by_program digits budget a input = refl
+
+pub threads : ProgramsAreOne → ThreadsAreOne
+threads one digits budget x y input r q are i j =
+    i.is ∙ is_threads_by_program digits budget x input ∙ ap (threads_by_program digits budget input) (one x y are.one are.other are.same)
+    ∙ sym (is_threads_by_program digits budget y input) ∙ sym j.is
 
 -- .. of which the events are counted
 counted : List ℕ → Program → Report

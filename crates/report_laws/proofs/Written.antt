@@ -6,6 +6,8 @@ use Rattle.eh_files.specs.FileList.{answer_of}
 use Rattle.eh_files.specs.declared.FileAnswer.{FileAnswer}
 use Rattle.eh_files.specs.declared.FileAnswer.TheVariants.{Missing, TooLong}
 use Rattle.eh_gates.specs.State.{State}
+use Rattle.two_machines.specs.Activations.{Recorded}
+use Rattle.eh_trace.specs.Trace.{Trace}
 use Rattle.eh_phase.specs.Phases.{Frames}
 use Rattle.eh_walk.specs.Reaching.{Onward}
 use Rattle.eh_walk.specs.Walks.{frames_given, end_given}
@@ -17,25 +19,24 @@ use Rattle.eh_walk.specs.declared.walk.WalkFrame.{WalkFrame}
 use Rattle.elf_image.specs.declared.fault.ImageFault.TheVariants.{TooLarge}
 use Rattle.event_runs.specs.Runs.{Ran, ran_of}
 use Rattle.frame_check.specs.Accepts.{Accepted}
-use Rattle.two_machines.specs.Checked.{program_of}
-use Rattle.two_machines.specs.Machine.{machine_of}
 use Rattle.image_memory.specs.Start.{code_start}
 use Rattle.plain_run.specs.Machine.{flat_ran}
 use Rattle.thumb_core.specs.declared.ends.End.{End}
 use Rattle.thumb_core.specs.declared.ends.End.TheVariants.{Exit, Terminate, Trap, Budget, ReadFault, WriteFault}
-use Rattle.ehabi_top.specs.BothRuns.{bytes_run, bytes_events}
 use Rattle.ehabi_top.specs.Finding.{file_bytes, bytes_of_answer}
 use Rattle.ehabi_top.specs.FlatReport.{code_report, line_feed}
-use Rattle.ehabi_top.specs.ForceReport.{accepted_force, bytes_forced, by_site_end, from_forced, preceded}
-use Rattle.ehabi_top.specs.GenerateReport.{summary_report}
+use Rattle.ehabi_top.specs.ForceReport.{accepted_force, recorded_force_report, by_site_end, from_forced, preceded}
+use Rattle.ehabi_top.specs.GenerateReport.{summary_report, recorded_summary, counted_report}
 use Rattle.ehabi_top.specs.Loading.{Report, Closing, closing_of, ran_report, status_of}
-use Rattle.ehabi_top.specs.RunReport.{accepted_report, run_report}
+use Rattle.ehabi_top.specs.RunReport.{accepted_report, recorded_report, run_report}
+use Rattle.ehabi_top.specs.ThreadsReport.{accepted_threads, recorded_threads_report}
+use Rattle.thread_laws.specs.RecordedThreads.{RecordedPlace}
+use Rattle.thread_run.specs.Schedules.{Scheduled}
 use Rattle.report_lines.specs.Text.{end_line, image_fault_line}
-use Rattle.ehabi_top.specs.Text.{summary}
-use Rattle.ehabi_top.specs.WalkReport.{accepted_walk, walk_closing, walked_by, bytes_to_site, bytes_walk}
+use Rattle.ehabi_top.specs.WalkReport.{accepted_walk, recorded_walk_report, walk_closing, walked_by}
 use Rattle.program_answers.specs.declared.status.TheConstants.{DONE, EXIT_NONZERO, REFUSED}
 use Rattle.ehabi_top.specs.declared.walk.TheConstants.{MOST_FRAMES}
-use Rattle.report_laws.specs.Written.{EndsSo, RunEnds, WalkEnds, CountEnds, ForceEnds, ReportsAreWritten, trace_of, forced_at}
+use Rattle.report_laws.specs.Written.{OnImage, over_bytes, with_activations, EndsSo, RunEnds, trace_of, IsRun, WalkEnds, IsWalk, ForceEnds, IsForce, threads_of, threads_ran, IsThreads, recorded_threads_ran, IsRecordedThreads, IsCount, ReportsAreWritten}
 
 -- ---- ends
 
@@ -59,35 +60,70 @@ run_ends says ran = record { line = end_line ran.end; ends = ends_so ran.end; te
 
 -- ---- runs
 
-accepted_is : (budget : ℕ) (a : Accepted) (input : List ℕ) → accepted_report budget a input ≡ ran_report (trace_of a) (bytes_run budget a input)
-unfolding accepted_report
+runs : {S : Type 0} (a : Accepted) (x : OnImage S) (ran : Ran S End) (r : Report) → r ≡ run_report x.events a ran → RunEnds ran (trace_of a (x.events ran.state)) r
+runs {S} a x ran r e = subst (RunEnds ran (trace_of a (x.events ran.state))) (sym e) (run_ends (λ (s : S). trace_of a (x.events s)) ran)
+
+run_of : {S : Type 0} → Accepted → OnImage S → ℕ → List ℕ → Report
+run_of a x budget input = run_report x.events a (ran_of x.machine budget x.start input)
+
+is_run : {S : Type 0} (a : Accepted) (x : OnImage S) (budget : ℕ) (input : List ℕ) (r : Report) → r ≡ run_of a x budget input → IsRun a x budget input r
+unfolding run_of
+is_run a x budget input r e = runs a x (ran_of x.machine budget x.start input) r e
+
+accepted_is : (budget : ℕ) (a : Accepted) (input : List ℕ) → accepted_report budget a input ≡ run_of a (over_bytes a) budget input
+unfolding accepted_report run_of
 accepted_is budget a input = refl
 
-runs : (budget : ℕ) (a : Accepted) (input : List ℕ) (r : Report) → r ≡ accepted_report budget a input → RunEnds (bytes_run budget a input) (trace_of a (bytes_run budget a input).state) r
-runs budget a input r e =
-    subst (RunEnds (bytes_run budget a input) (trace_of a (bytes_run budget a input).state)) (sym (e ∙ accepted_is budget a input)) (run_ends (trace_of a) (bytes_run budget a input))
+recorded_is : (budget : ℕ) (a : Accepted) (input : List ℕ) → recorded_report budget a input ≡ run_of a (with_activations a) budget input
+unfolding recorded_report run_of
+recorded_is budget a input = refl
+
+-- ---- runs of threads
+
+abbrev scheduled : Accepted → Scheduled → List ℕ
+scheduled a s = threads_of a s.joint.events s.joint.tags
+
+abbrev recorded : Accepted → RecordedPlace → List ℕ
+recorded a s = threads_of a s.threads.events s.threads.tags
+
+threads_is : (digits : List ℕ) (budget : ℕ) (a : Accepted) (input : List ℕ) → accepted_threads digits budget a input ≡ ran_report (scheduled a) (threads_ran a digits budget input)
+unfolding accepted_threads
+threads_is digits budget a input = refl
+
+recorded_threads_is : (digits : List ℕ) (budget : ℕ) (a : Accepted) (input : List ℕ)
+    → recorded_threads_report digits budget a input ≡ ran_report (recorded a) (recorded_threads_ran a digits budget input)
+unfolding recorded_threads_report
+recorded_threads_is digits budget a input = refl
+
+is_threads : (digits : List ℕ) (budget : ℕ) (a : Accepted) (input : List ℕ) (r : Report) → r ≡ accepted_threads digits budget a input → IsThreads a digits budget input r
+is_threads digits budget a input r e =
+    subst (RunEnds (threads_ran a digits budget input) (scheduled a (threads_ran a digits budget input).state)) (sym (e ∙ threads_is digits budget a input))
+    (run_ends (scheduled a) (threads_ran a digits budget input))
+
+is_recorded_threads : (digits : List ℕ) (budget : ℕ) (a : Accepted) (input : List ℕ) (r : Report) → r ≡ recorded_threads_report digits budget a input
+    → IsRecordedThreads a digits budget input r
+is_recorded_threads digits budget a input r e =
+    subst (RunEnds (recorded_threads_ran a digits budget input) (recorded a (recorded_threads_ran a digits budget input).state)) (sym (e ∙ recorded_threads_is digits budget a input))
+    (run_ends (recorded a) (recorded_threads_ran a digits budget input))
 
 -- ---- walks
 
-closed : (a : Accepted) (ran : Ran (Onward State) End) → Closing → Report
-closed a ran c = record { text = ran.text ++ c.text; status = c.status; left = ran.left }
+closed : {T : Type 0} → Ran T End → Closing → Report
+closed ran c = record { text = ran.text ++ c.text; status = c.status; left = ran.left }
 
-walk_is : (budget : ℕ) (a : Accepted) (input : List ℕ)
-    → accepted_walk budget a input
-    ≡ closed a (bytes_to_site budget a input) (walk_closing a (bytes_to_site budget a input).state.state.events (bytes_walk a (bytes_to_site budget a input).state.state) (bytes_to_site budget a input).end)
-unfolding accepted_walk closed
-walk_is budget a input = refl
+module _ (S : Type 0) (a : Accepted) (x : OnImage S) (ran : Ran (Onward S) End) where
+  abbrev events_there : Trace
+  events_there = x.events ran.state.state
 
-module _ (a : Accepted) (ran : Ran (Onward State) End) where
-  abbrev s : State
-  s = ran.state.state
+  walk_at : Report
+  walk_at = closed ran (walk_closing a events_there (x.walk ran.state.state) ran.end)
 
-  as_run : (c : Closing) → c ≡ closing_of (trace_of a s) ran.end → RunEnds ran (trace_of a s) (closed a ran c)
+  as_run : (c : Closing) → c ≡ closing_of (trace_of a events_there) ran.end → RunEnds ran (trace_of a events_there) (closed ran c)
   unfolding closed
-  as_run c e = subst (λ (c : Closing). RunEnds ran (trace_of a s) (record { text = ran.text ++ c.text; status = c.status; left = ran.left })) (sym e)
+  as_run c e = subst (λ (c : Closing). RunEnds ran (trace_of a events_there) (record { text = ran.text ++ c.text; status = c.status; left = ran.left })) (sym e)
       (record { line = end_line ran.end; ends = ends_so ran.end; text = refl; left = refl })
 
-  before : (walk : Option Frames) (end : End) → end ≢ Budget → walk_closing a s.events walk end ≡ closing_of (trace_of a s) end
+  before : (walk : Option Frames) (end : End) → end ≢ Budget → walk_closing a events_there walk end ≡ closing_of (trace_of a events_there) end
   before walk Budget other = absurd (other refl)
   before walk (Exit number) other = refl
   before walk (Terminate cause) other = refl
@@ -95,45 +131,50 @@ module _ (a : Accepted) (ran : Ran (Onward State) End) where
   before walk ReadFault other = refl
   before walk WriteFault other = refl
 
-  at_no_site : (walk : Option Frames) (end : End) → end ≡ Budget → end_given 65536 walk ≡ NoSite → walk_closing a s.events walk end ≡ closing_of (trace_of a s) end
-  at_no_site walk end e n = rw e (ap (λ (w : WalkEnd). walked_by a s.events (frames_given MOST_FRAMES walk) w) n)
+  at_no_site : (walk : Option Frames) (end : End) → end ≡ Budget → end_given 65536 walk ≡ NoSite → walk_closing a events_there walk end ≡ closing_of (trace_of a events_there) end
+  at_no_site walk end e n = rw e (ap (λ (w : WalkEnd). walked_by a events_there (frames_given MOST_FRAMES walk) w) n)
 
-  at_site : (frames : List WalkFrame) (w : WalkEnd) → w ≢ NoSite → walked_by a s.events frames w ≡ walked_by a s.events frames Root
+  at_site : (frames : List WalkFrame) (w : WalkEnd) → w ≢ NoSite → walked_by a events_there frames w ≡ walked_by a events_there frames Root
   at_site frames NoSite other = absurd (other refl)
   at_site frames Root other = refl
   at_site frames NoUnwind other = refl
   at_site frames Most other = refl
 
-  with_frames : (walk : Option Frames) (end : End) → end ≡ Budget → end_given 65536 walk ≢ NoSite → walk_closing a s.events walk end ≡ walked_by a s.events (frames_given 65536 walk) Root
+  with_frames : (walk : Option Frames) (end : End) → end ≡ Budget → end_given 65536 walk ≢ NoSite → walk_closing a events_there walk end ≡ walked_by a events_there (frames_given 65536 walk) Root
   with_frames walk end e n = rw e (at_site (frames_given MOST_FRAMES walk) (end_given MOST_FRAMES walk) n)
 
-  walk_ends : WalkEnds a ran (closed a ran (walk_closing a s.events (bytes_walk a s) ran.end))
-  unfolding closed
+  walk_ends : WalkEnds a x ran walk_at
+  unfolding closed walk_at
   walk_ends = record {
-    before = λ other. as_run _ (before (bytes_walk a s) ran.end other);
-    nowhere = λ e n. as_run _ (at_no_site (bytes_walk a s) ran.end e n);
-    frames = λ e n. ap (closed a ran) (with_frames (bytes_walk a s) ran.end e n);
+    before = λ other. as_run _ (before (x.walk ran.state.state) ran.end other);
+    nowhere = λ e n. as_run _ (at_no_site (x.walk ran.state.state) ran.end e n);
+    frames = λ e n. ap (closed ran) (with_frames (x.walk ran.state.state) ran.end e n);
   }
 
-walks : (budget : ℕ) (a : Accepted) (input : List ℕ) (r : Report) → r ≡ accepted_walk budget a input → WalkEnds a (bytes_to_site budget a input) r
-walks budget a input r e = subst (WalkEnds a (bytes_to_site budget a input)) (sym (e ∙ walk_is budget a input)) (walk_ends a (bytes_to_site budget a input))
+is_walk : {S : Type 0} (a : Accepted) (x : OnImage S) (budget : ℕ) (input : List ℕ) (r : Report) → r ≡ walk_at S a x (x.to_site budget input) → IsWalk a x budget input r
+is_walk {S} a x budget input r e = subst (WalkEnds a x (x.to_site budget input)) (sym e) (walk_ends S a x (x.to_site budget input))
+
+walk_is : (budget : ℕ) (a : Accepted) (input : List ℕ) → accepted_walk budget a input ≡ walk_at State a (over_bytes a) ((over_bytes a).to_site budget input)
+unfolding accepted_walk walk_at closed
+walk_is budget a input = refl
+
+recorded_walk_is : (budget : ℕ) (a : Accepted) (input : List ℕ) → recorded_walk_report budget a input ≡ walk_at Recorded a (with_activations a) ((with_activations a).to_site budget input)
+unfolding recorded_walk_report walk_at closed
+recorded_walk_is budget a input = refl
 
 -- ---- forced unwinding
 
-force_is : (number budget : ℕ) (a : Accepted) (input : List ℕ)
-    → accepted_force number budget a input
-    ≡ by_site_end bytes_events (machine_of (program_of a)) (bytes_forced number a) a (bytes_to_site budget a input) (bytes_to_site budget a input).end
-unfolding accepted_force
-force_is number budget a input = refl
-
-module _ (number : ℕ) (a : Accepted) (ran : Ran (Onward State) End) where
+module _ (S : Type 0) (number : ℕ) (a : Accepted) (x : OnImage S) (ran : Ran (Onward S) End) where
   abbrev at : End → Report
-  at end = by_site_end bytes_events (machine_of (program_of a)) (bytes_forced number a) a ran end
+  at end = by_site_end x.events x.machine (x.unwound number) a ran end
+
+  force_at : Report
+  force_at = at ran.end
 
   abbrev from : Result (Unit {0}) ForceFault → Report
-  from answer = preceded ran.text (from_forced bytes_events (machine_of (program_of a)) a ran.state.done ran.left (answer, (forced_at number a ran).1))
+  from answer = preceded ran.text (from_forced x.events x.machine a ran.state.done ran.left (answer, (x.unwound number ran.state.state).1))
 
-  ended_before : (end : End) → end ≢ Budget → at end ≡ run_report (λ (o : Onward State). bytes_events o.state) a ran
+  ended_before : (end : End) → end ≢ Budget → at end ≡ run_report (λ (o : Onward S). x.events o.state) a ran
   ended_before Budget other = absurd (other refl)
   ended_before (Exit number) other = refl
   ended_before (Terminate cause) other = refl
@@ -141,21 +182,22 @@ module _ (number : ℕ) (a : Accepted) (ran : Ran (Onward State) End) where
   ended_before ReadFault other = refl
   ended_before WriteFault other = refl
 
-  at_a_site : ran.end ≡ Budget → (answer : Result (Unit {0}) ForceFault) → (forced_at number a ran).0 ≡ answer → at ran.end ≡ from answer
+  at_a_site : ran.end ≡ Budget → (answer : Result (Unit {0}) ForceFault) → (x.unwound number ran.state.state).0 ≡ answer → at ran.end ≡ from answer
   at_a_site e answer f = ap at e ∙ ap from f
 
-  went_on : ran.end ≡ Budget → (forced_at number a ran).0 ≡ Ok tt → (on : Ran State End)
-      → on ≡ ran_of (machine_of (program_of a)) (1000000000 - ran.state.done) (forced_at number a ran).1 ran.left
-      → RunEnds (record on { text = ran.text ++ on.text }) (trace_of a on.state) (at ran.end)
+  went_on : ran.end ≡ Budget → (x.unwound number ran.state.state).0 ≡ Ok tt → (on : Ran S End)
+      → on ≡ ran_of x.machine (1000000000 - ran.state.done) (x.unwound number ran.state.state).1 ran.left
+      → RunEnds (record on { text = ran.text ++ on.text }) (trace_of a (x.events on.state)) (at ran.end)
   went_on e f on is =
-      let same : at ran.end ≡ preceded ran.text (run_report bytes_events a on) =
-      at_a_site e (Ok tt) f ∙ ap (λ (o : Ran State End). preceded ran.text (run_report bytes_events a o)) (sym is) in
-      subst (RunEnds (record on { text = ran.text ++ on.text }) (trace_of a on.state)) (sym same)
-      (record { line = end_line on.end; ends = ends_so on.end; text = sym (append_assoc ran.text on.text (trace_of a on.state ++ end_line on.end)); left = refl })
+      let same : at ran.end ≡ preceded ran.text (run_report x.events a on) =
+      at_a_site e (Ok tt) f ∙ ap (λ (o : Ran S End). preceded ran.text (run_report x.events a o)) (sym is) in
+      subst (RunEnds (record on { text = ran.text ++ on.text }) (trace_of a (x.events on.state))) (sym same)
+      (record { line = end_line on.end; ends = ends_so on.end; text = sym (append_assoc ran.text on.text (trace_of a (x.events on.state) ++ end_line on.end)); left = refl })
 
-  force_ends : ForceEnds number a ran (at ran.end)
+  force_ends : ForceEnds number a x ran force_at
+  unfolding force_at
   force_ends = record {
-    before = λ other. subst (RunEnds ran (trace_of a ran.state.state)) (sym (ended_before ran.end other)) (run_ends (λ (o : Onward State). trace_of a o.state) ran);
+    before = λ other. subst (RunEnds ran (trace_of a (x.events ran.state.state))) (sym (ended_before ran.end other)) (run_ends (λ (o : Onward S). trace_of a (x.events o.state)) ran);
     nowhere = λ e f. at_a_site e (Err NotSite) f;
     no_frame = λ e f. at_a_site e (Err NoFrame) f;
     inside_cleanup = λ e f. at_a_site e (Err InsideCleanup) f;
@@ -166,9 +208,19 @@ module _ (number : ℕ) (a : Accepted) (ran : Ran (Onward State) End) where
     unwound = λ e f on is. went_on e f on is;
   }
 
-forces : (number budget : ℕ) (a : Accepted) (input : List ℕ) (r : Report) → r ≡ accepted_force number budget a input → ForceEnds number a (bytes_to_site budget a input) r
-forces number budget a input r e =
-    subst (ForceEnds number a (bytes_to_site budget a input)) (sym (e ∙ force_is number budget a input)) (force_ends number a (bytes_to_site budget a input))
+is_force : {S : Type 0} (number : ℕ) (a : Accepted) (x : OnImage S) (budget : ℕ) (input : List ℕ) (r : Report) → r ≡ force_at S number a x (x.to_site budget input)
+    → IsForce number a x budget input r
+is_force {S} number a x budget input r e =
+    subst (ForceEnds number a x (x.to_site budget input)) (sym e) (force_ends S number a x (x.to_site budget input))
+
+force_is : (number budget : ℕ) (a : Accepted) (input : List ℕ) → accepted_force number budget a input ≡ force_at State number a (over_bytes a) ((over_bytes a).to_site budget input)
+unfolding accepted_force force_at
+force_is number budget a input = refl
+
+recorded_force_is : (number budget : ℕ) (a : Accepted) (input : List ℕ)
+    → recorded_force_report number budget a input ≡ force_at Recorded number a (with_activations a) ((with_activations a).to_site budget input)
+unfolding recorded_force_report force_at
+recorded_force_is number budget a input = refl
 
 -- ---- raw code
 
@@ -190,16 +242,21 @@ exceeds budget code input h = code_is budget code input ∙ ap (by_size budget c
 
 -- ---- generated programs
 
-counted : ℕ → Ran State End → List ℕ → Report
-counted functions ran input = record { text = summary functions ran.state.events ++ end_line ran.end; status = status_of ran.end; left = input }
+count_of : {S : Type 0} → Accepted → OnImage S → List ℕ → Report
+count_of a x input = counted_report x.events a (ran_of x.machine 1000000000 x.start []) input
 
-summary_is : (a : Accepted) (input : List ℕ) → summary_report a input ≡ counted (length a.image.functions) (bytes_run 1000000000 a []) input
-unfolding summary_report counted
+is_count : {S : Type 0} (a : Accepted) (x : OnImage S) (input : List ℕ) → IsCount a x input (count_of a x input)
+unfolding count_of
+is_count a x input =
+    record { line = end_line (ran_of x.machine 1000000000 x.start []).end; ends = ends_so (ran_of x.machine 1000000000 x.start []).end; text = refl; left = refl }
+
+summary_is : (a : Accepted) (input : List ℕ) → summary_report a input ≡ count_of a (over_bytes a) input
+unfolding summary_report count_of
 summary_is a input = refl
 
-count_ends : (functions : ℕ) (ran : Ran State End) (input : List ℕ) → CountEnds functions ran input (counted functions ran input)
-unfolding counted
-count_ends functions ran input = record { line = end_line ran.end; ends = ends_so ran.end; text = refl; left = refl }
+recorded_summary_is : (a : Accepted) (input : List ℕ) → recorded_summary a input ≡ count_of a (with_activations a) input
+unfolding recorded_summary count_of
+recorded_summary_is a input = refl
 
 -- ---- files
 
@@ -211,14 +268,20 @@ file_is name files answer e = ap (bytes_of_answer name) e
 
 pub written : ReportsAreWritten
 written = record {
-  run = λ budget a input r h. runs budget a input r h.is;
-  walk = λ budget a input r h. walks budget a input r h.is;
-  force = λ number budget a input r h. forces number budget a input r h.is;
+  run = λ budget a input r h. is_run a (over_bytes a) budget input r (h.is ∙ accepted_is budget a input);
+  walk = λ budget a input r h. is_walk a (over_bytes a) budget input r (h.is ∙ walk_is budget a input);
+  force = λ number budget a input r h. is_force number a (over_bytes a) budget input r (h.is ∙ force_is number budget a input);
+  threads = λ digits budget a input r h. is_threads digits budget a input r h.is;
+  gen = λ a input r h. subst (IsCount a (over_bytes a) input) (sym (h.is ∙ summary_is a input)) (is_count a (over_bytes a) input);
+  run_recorded = λ budget a input r h bytes. is_run a (with_activations a) budget input r (h.recorded bytes ∙ recorded_is budget a input);
+  walk_recorded = λ budget a input r h bytes. is_walk a (with_activations a) budget input r (h.recorded bytes ∙ recorded_walk_is budget a input);
+  force_recorded = λ number budget a input r h bytes. is_force number a (with_activations a) budget input r (h.recorded bytes ∙ recorded_force_is number budget a input);
+  threads_recorded = λ digits budget a input r h bytes. is_recorded_threads digits budget a input r (h.recorded bytes);
+  gen_recorded = λ a input r h. subst (IsCount a (with_activations a) input) (sym (h.recorded ∙ recorded_summary_is a input)) (is_count a (with_activations a) input);
+  guarded = λ budget a input r h bytes count width at value slot w aligned has low high. h.guarded bytes count width at value slot w (ap (λ n. n == 0) aligned) has low high;
   flat = λ budget code input h.
       subst (RunEnds (flat_ran budget (code_start code) input) _) (sym (fits budget code input h)) (run_ends line_feed (flat_ran budget (code_start code) input));
   large = λ budget code input h. exceeds budget code input h;
-  gen = λ a input r h.
-      subst (CountEnds (length a.image.functions) (bytes_run 1000000000 a []) input) (sym (h.is ∙ summary_is a input)) (count_ends (length a.image.functions) (bytes_run 1000000000 a []) input);
   usage = λ files input r h. h;
   missing = λ name files e. file_is name files Missing e;
   too_long = λ name files e. file_is name files TooLong e;

@@ -1,29 +1,28 @@
 -- What the report of each command is made of (docs/command-line.md, "What is written", "Checks"): which bytes it works on, what it says of an accepted
 -- image, and what of files and sources that are refused.
 use Rattle.std.specs.Prelude.{◌≡◌, ℕ, ◌-◌, ◌<◌, ◌≤◌, List, [], ◌∷◌, ◌++◌, length, codes, decimal, Some, Ok, Err}
+use Rattle.elf_image.specs.Image.{Image, image_of}
+use Rattle.elf_image.specs.declared.fault.ImageFault.{ImageFault}
 use Rattle.eh_files.specs.FileList.{answer_of}
 use Rattle.eh_files.specs.declared.FileAnswer.{FileAnswer}
 use Rattle.eh_files.specs.declared.FileAnswer.TheVariants.{Found, Missing, TooLong}
-use Rattle.eh_index.specs.declared.fault.IndexFault.{IndexFault}
 use Rattle.eh_kit.specs.ProgramText.{generated_text}
-use Rattle.eh_types.specs.declared.fault.TypeFault.{TypeFault}
-use Rattle.frame_check.specs.Accepts.{Accepted}
+use Rattle.frame_check.specs.Accepts.{Accepted, IsAccepted, IsSound, Refuses}
+use Rattle.frame_check.specs.declared.fault.CheckFault.{CheckFault}
 use Rattle.frame_check.specs.declared.fault.CheckFault.TheVariants as check
-use Rattle.frame_check.specs.declared.fault.Rejected.{Rejected}
 use Rattle.image_memory.specs.Start.{code_start}
 use Rattle.plain_run.specs.Machine.{flat_ran}
-use Rattle.ehabi_top.specs.Accepting.{BytesReportsBy, check_fault_line, refused_report}
-use Rattle.ehabi_top.specs.BothRuns.{bytes_run}
 use Rattle.ehabi_top.specs.Building.{built}
 use Rattle.report_lines.specs.CheckText.{index_line, cause_line, type_line}
+use Rattle.report_lines.specs.Text.{image_fault_line}
 use Rattle.ehabi_top.specs.Loading.{Report}
 use Rattle.ehabi_top.specs.Report.{Reports}
 use Rattle.ehabi_top.specs.Sources.{NamedText}
-use Rattle.ehabi_top.specs.WalkReport.{bytes_to_site}
-use Rattle.ehabi_top.specs.Words.{Command, FlatFile, BuildSources, CheckFile, CheckSources, RunFile, RunSources, GenerateProgram}
+use Rattle.ehabi_top.specs.Words.{Command, FlatFile, BuildSources, CheckFile, CheckSources, RunFile, RunSources, RunThreads, GenerateProgram}
 use Rattle.ehabi_top.specs.declared.words.Task.{Task}
 use Rattle.ehabi_top.specs.declared.words.Task.TheVariants.{Run, Walk, Force}
-use Rattle.report_laws.specs.Written.{RunEnds, WalkEnds, ForceEnds, CountEnds, trace_of}
+use Rattle.thread_schedule.specs.Schedules.{schedule_of}
+use Rattle.report_laws.specs.Written.{over_bytes, with_activations, IsOfBytes, RunEnds, IsRun, IsWalk, IsForce, IsThreads, IsRecordedThreads, IsCount, RefusesToStore}
 
 -- ---- what is refused
 
@@ -37,18 +36,33 @@ IsUnavailableBy line input r = r ≡ record { text = line; status = 10; left = i
 
 -- ---- bytes
 
--- Of bytes that stand for an accepted image, or are refused: what a command says of such an image; else a refusal that stands, in `refused_report`.
-abbrev pub Told : (Accepted → Report → Type 0) → List ℕ → List ℕ → Report → Type 0
-Told Says bytes input r = BytesReportsBy (λ a left report. Says a report) bytes input r
+-- what the checker refuses has the line of its index, of its first function that isn't well, by the offset from that function's start, or of a type; want
+-- of memory has no report
+abbrev pub line_of : CheckFault → List ℕ
+line_of (check.Index fault) = index_line fault
+line_of (check.Function rejected) = cause_line rejected.function (rejected.at - rejected.start) rejected.cause
+line_of (check.Types fault) = type_line fault
+line_of check.OutOfMemory = []
 
--- what the checker refuses has the line of its index, of its first function that isn't well, by the offset from that function's start, or of a type
-pub record ChecksAreTold : Type 0 where
-  pub index : (fault : IndexFault) → check_fault_line (check.Index fault) ≡ index_line fault
-  pub function : (rejected : Rejected) → check_fault_line (check.Function rejected) ≡ cause_line rejected.function (rejected.at - rejected.start) rejected.cause
-  pub types : (fault : TypeFault) → check_fault_line (check.Types fault) ≡ type_line fault
-  -- .. and every refusal has status 3, and leaves the whole input
-  pub status : (fault : _) (input : List ℕ) → (refused_report fault input).status ≡ 3
-  pub left : (fault : _) (input : List ℕ) → (refused_report fault input).left ≡ input
+-- it is said of what the checker found of an image
+pub record IsSaid (Says : Accepted → Report → Type 0) (image : Image) (r : Report) : Type 0 where
+  pub found : Accepted
+  pub of_it : found.image ≡ image
+  pub sound : IsSound found
+  pub says : Says found r
+
+-- an image has the line of a refusal that stands in it
+pub record IsRejectedBy (image : Image) (input : List ℕ) (r : Report) : Type 0 where
+  pub fault : CheckFault
+  pub stands : Refuses image fault
+  pub line : IsRefusedBy (line_of fault) input r
+
+-- Bytes that stand for no image have the line of what is wrong with them. Of those that stand for one it is what a command says of an image that is
+-- accepted, or the line of why it isn't.
+pub record Told (Says : Accepted → Report → Type 0) (bytes input : List ℕ) (r : Report) : Type 0 where
+  pub no_image : (fault : ImageFault) → image_of bytes ≡ Err fault → IsRefusedBy (image_fault_line fault) input r
+  pub accepted : (image : Image) → image_of bytes ≡ Ok image → IsAccepted image → IsSaid Says image r
+  pub unaccepted : (image : Image) → image_of bytes ≡ Ok image → (IsAccepted image → ⊥) → IsRejectedBy image input r
 
 -- ---- what is said of an accepted image
 
@@ -56,15 +70,19 @@ pub record ChecksAreTold : Type 0 where
 abbrev pub SaysAccepted : List ℕ → Accepted → Report → Type 0
 SaysAccepted input a r = r ≡ record { text = codes "accepted " ++ decimal (length a.image.functions) ++ codes " functions\n"; status = 0; left = input }
 
--- `run` its run, `walk` and `force` what stands where its run comes to a site
+-- `run` its run, `walk` and `force` what stands where its run comes to a site; over bytes, and on an input of bytes with recorded activations too
 abbrev pub SaysTask : Task → ℕ → List ℕ → Accepted → Report → Type 0
-SaysTask Run budget input a r = RunEnds (bytes_run budget a input) (trace_of a (bytes_run budget a input).state) r
-SaysTask Walk budget input a r = WalkEnds a (bytes_to_site budget a input) r
-SaysTask (Force number) budget input a r = ForceEnds number a (bytes_to_site budget a input) r
+SaysTask Run budget input a r = IsRun a (over_bytes a) budget input r × (IsOfBytes input → IsRun a (with_activations a) budget input r × RefusesToStore a input)
+SaysTask Walk budget input a r = IsWalk a (over_bytes a) budget input r × (IsOfBytes input → IsWalk a (with_activations a) budget input r)
+SaysTask (Force number) budget input a r = IsForce number a (over_bytes a) budget input r × (IsOfBytes input → IsForce number a (with_activations a) budget input r)
+
+-- `threads` its run as threads, by the digits of a schedule, in the same two ways
+abbrev pub SaysThreads : List ℕ → ℕ → List ℕ → Accepted → Report → Type 0
+SaysThreads digits budget input a r = IsThreads a digits budget input r × (IsOfBytes input → IsRecordedThreads a digits budget input r)
 
 -- `gen` what its run counts, of 1,000,000,000 instructions and with nothing to read
 abbrev pub SaysCounts : List ℕ → Accepted → Report → Type 0
-SaysCounts input a r = CountEnds (length a.image.functions) (bytes_run 1000000000 a []) input r
+SaysCounts input a r = IsCount a (over_bytes a) input r × IsCount a (with_activations a) input r
 
 -- ---- one file
 
@@ -76,6 +94,7 @@ OfFile (CheckFile file) name = file ≡ name
 OfFile (CheckSources names) name = ⊥
 OfFile (RunFile file request) name = file ≡ name
 OfFile (RunSources names request) name = ⊥
+OfFile (RunThreads names budget) name = ⊥
 OfFile (GenerateProgram number functions) name = ⊥
 
 pub record FilesAreTold : Type 0 where
@@ -112,6 +131,7 @@ OfSources (CheckFile name) names = ⊥
 OfSources (CheckSources files) names = files ≡ names
 OfSources (RunFile name request) names = ⊥
 OfSources (RunSources files request) names = files ≡ names
+OfSources (RunThreads files budget) names = ⊥
 OfSources (GenerateProgram number functions) names = ⊥
 
 -- a file and those before it, which are there
@@ -138,6 +158,35 @@ pub record SourcesAreTold : Type 0 where
       → AreThere files names sources → built sources ≡ Ok bytes → Reports (Some (RunSources names (record { task = task; budget = budget }))) files input r
       → Told (SaysTask task budget input) bytes input r
 
+-- ---- threads: the last file holds the schedule
+
+-- the name of a source ends in `.s`
+abbrev pub IsSource : List ℕ → Type 0
+IsSource name = (stem : List ℕ) × (name ≡ stem ++ codes ".s")
+
+pub record ThreadsAreTold : Type 0 where
+  pub missing : (names : List (List ℕ)) (budget : ℕ) (name : List ℕ) (files : List (List ℕ × List ℕ)) (input : List ℕ) (r : Report)
+      → IsFirst files names name Missing → Reports (Some (RunThreads names budget)) files input r → IsUnavailableBy (name ++ codes ": missing\n") input r
+  pub too_long : (names : List (List ℕ)) (budget : ℕ) (name : List ℕ) (files : List (List ℕ × List ℕ)) (input : List ℕ) (r : Report)
+      → IsFirst files names name TooLong → Reports (Some (RunThreads names budget)) files input r → IsUnavailableBy (name ++ codes ": too long\n") input r
+  -- a schedule that isn't read, before anything is made of the program
+  pub schedule : (names : List (List ℕ)) (budget : ℕ) (program : List NamedText) (schedule : NamedText) (offset : ℕ) (files : List (List ℕ × List ℕ)) (input : List ℕ) (r : Report)
+      → AreThere files names (program ++ schedule ∷ []) → schedule_of schedule.text ≡ Err offset → Reports (Some (RunThreads names budget)) files input r
+      → IsRefusedBy (schedule.name ++ (codes ": BadSchedule " ++ decimal offset ++ codes "\n")) input r
+  -- sources
+  pub refused : (names : List (List ℕ)) (budget : ℕ) (first : NamedText) (more : List NamedText) (schedule : NamedText) (digits line : List ℕ) (files : List (List ℕ × List ℕ))
+      (input : List ℕ) (r : Report)
+      → AreThere files names ((first ∷ more) ++ schedule ∷ []) → IsSource first.name → schedule_of schedule.text ≡ Ok digits → built (first ∷ more) ≡ Err line
+      → Reports (Some (RunThreads names budget)) files input r → IsRefusedBy line input r
+  pub sources : (names : List (List ℕ)) (budget : ℕ) (first : NamedText) (more : List NamedText) (schedule : NamedText) (digits bytes : List ℕ) (files : List (List ℕ × List ℕ))
+      (input : List ℕ) (r : Report)
+      → AreThere files names ((first ∷ more) ++ schedule ∷ []) → IsSource first.name → schedule_of schedule.text ≡ Ok digits → built (first ∷ more) ≡ Ok bytes
+      → Reports (Some (RunThreads names budget)) files input r → Told (SaysThreads digits budget input) bytes input r
+  -- one image
+  pub image : (names : List (List ℕ)) (budget : ℕ) (file schedule : NamedText) (digits : List ℕ) (files : List (List ℕ × List ℕ)) (input : List ℕ) (r : Report)
+      → AreThere files names (file ∷ schedule ∷ []) → (IsSource file.name → ⊥) → schedule_of schedule.text ≡ Ok digits
+      → Reports (Some (RunThreads names budget)) files input r → Told (SaysThreads digits budget input) file.text input r
+
 -- ---- generated programs
 
 abbrev pub program : ℕ → ℕ → List NamedText
@@ -152,7 +201,7 @@ pub record ProgramsAreTold : Type 0 where
 -- ---- all
 
 pub record CommandsAreTold : Type 0 where
-  pub checks : ChecksAreTold
   pub files : FilesAreTold
   pub sources : SourcesAreTold
+  pub threads : ThreadsAreTold
   pub programs : ProgramsAreTold

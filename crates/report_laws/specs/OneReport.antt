@@ -5,6 +5,7 @@ use Rattle.ehabi_top.specs.ForceReport.{IsUnforced}
 use Rattle.ehabi_top.specs.GenerateReport.{CountsAccepted}
 use Rattle.ehabi_top.specs.Loading.{Report}
 use Rattle.ehabi_top.specs.TaskReport.{DoesTask}
+use Rattle.ehabi_top.specs.ThreadsReport.{ThreadsAccepted}
 use Rattle.ehabi_top.specs.declared.words.Request.{Request}
 
 -- two reports of the checker are of one image
@@ -16,6 +17,11 @@ pub record AreOfOne (x y : Accepted) : Type 0 where
 -- of one image, with one budget and one input, `run` has one report, and so have `walk` and `force`
 abbrev pub ReportsAreOne : Type 0
 ReportsAreOne = (request : Request) (x y : Accepted) (input : List ℕ) (r q : Report) → AreOfOne x y → DoesTask request x input r → DoesTask request y input q → r ≡ q
+
+-- and so has `threads`, with one schedule
+abbrev pub ThreadsAreOne : Type 0
+ThreadsAreOne = (digits : List ℕ) (budget : ℕ) (x y : Accepted) (input : List ℕ) (r q : Report)
+    → AreOfOne x y → ThreadsAccepted digits budget x input r → ThreadsAccepted digits budget y input q → r ≡ q
 
 -- and so has `gen`
 abbrev pub CountsAreOne : Type 0

@@ -1,30 +1,37 @@
--- What reports say last and their statuses, in letters and digits (docs/command-line.md, "Statuses", "What is written").
-use Rattle.std.specs.Prelude.{◌≡◌, ◌≢◌, ℕ, ◌+◌, ◌-◌, ◌<◌, ◌≤◌, List, [], ◌++◌, length, codes, decimal, flat_map, unwrap_or, None, Ok, Err}
+-- What reports say last and their statuses, in letters and digits, by what the machine over bytes does and by what the one with recorded activations does
+-- (docs/command-line.md, "Statuses", "What is written"; docs/machine.md, "The same with recorded activations").
+use Rattle.std.specs.Prelude.{◌≡◌, ◌≢◌, ◌⊎◌, ℕ, ◌+◌, ◌-◌, ◌%◌, ◌<◌, ◌≤◌, List, [], ◌∷◌, ◌++◌, All, length, codes, decimal, flat_map, unwrap_or, Option, None, Result, Ok, Err}
 use Rattle.eh_word.specs.Address.{address_text}
 use Rattle.image_memory.specs.Start.{code_start}
 use Rattle.plain_run.specs.Machine.{flat_ran}
+use Rattle.eh_bus.specs.Lists.{Has}
+use Rattle.eh_bus.specs.Memory.{store}
+use Rattle.eh_bus.specs.declared.fault.BusFault.TheVariants.{SavedSlot}
 use Rattle.eh_files.specs.FileList.{answer_of}
 use Rattle.eh_files.specs.declared.FileAnswer.TheVariants.{Missing, TooLong}
 use Rattle.eh_gates.specs.State.{State}
+use Rattle.eh_phase.specs.Phases.{Frames}
 use Rattle.eh_trace.specs.Text.{trace_text, place_text}
 use Rattle.eh_trace.specs.Trace.{Trace, total_of}
 use Rattle.eh_trace.specs.declared.event.EventKind.TheVariants.{Throw, Rethrow, Cleanup, Catch}
 use Rattle.eh_types.specs.Graph.{name_of}
-use Rattle.eh_walk.specs.Forced.{Forced, forced}
-use Rattle.eh_walk.specs.Reaching.{Onward}
-use Rattle.eh_walk.specs.Walks.{frames_given, end_given}
+use Rattle.eh_walk.specs.Forced.{forced, recorded_forced}
+use Rattle.eh_walk.specs.Reaching.{Onward, run_to_site, recorded_run_to_site}
+use Rattle.eh_walk.specs.Walks.{frames_given, end_given, walk_of, recorded_walk}
 use Rattle.eh_walk.specs.declared.walk.WalkEnd.TheVariants as walk_end
 use Rattle.eh_walk.specs.declared.stopping.ForceFault.{ForceFault}
 use Rattle.eh_walk.specs.declared.stopping.ForceFault.TheVariants.{NotSite, NoFrame, InsideCleanup, NoStop, BadTables, BadType, PoolFull}
-use Rattle.event_runs.specs.Runs.{Ran, ran_of}
+use Rattle.event_runs.specs.Runs.{Machine, Ran, ran_of}
 use Rattle.elf_image.specs.Image.{symbol_in}
 use Rattle.frame_check.specs.Accepts.{Accepted}
+use Rattle.two_machines.specs.ActivationMachine.{recorded_machine}
+use Rattle.two_machines.specs.Activations.{Recorded, recorded_start, slots_of}
 use Rattle.two_machines.specs.Checked.{program_of}
 use Rattle.two_machines.specs.Machine.{machine_of}
+use Rattle.two_machines.specs.Start.{start_of}
 use Rattle.thumb_core.specs.EndNames.{cause_name, kind_name}
 use Rattle.thumb_core.specs.declared.ends.End.{End}
 use Rattle.thumb_core.specs.declared.ends.End.TheVariants.{Exit, Terminate, Trap, Budget, ReadFault, WriteFault}
-use Rattle.ehabi_top.specs.BothRuns.{bytes_run}
 use Rattle.ehabi_top.specs.BuildReport.{plain_report}
 use Rattle.ehabi_top.specs.CheckReport.{ChecksAccepted}
 use Rattle.ehabi_top.specs.Finding.{file_bytes}
@@ -34,7 +41,54 @@ use Rattle.ehabi_top.specs.GenerateReport.{CountsAccepted}
 use Rattle.ehabi_top.specs.Loading.{Report}
 use Rattle.ehabi_top.specs.Report.{Reports}
 use Rattle.ehabi_top.specs.RunReport.{RunsAccepted}
-use Rattle.ehabi_top.specs.WalkReport.{WalksAccepted, bytes_to_site, bytes_walk}
+use Rattle.ehabi_top.specs.ThreadsReport.{ThreadsAccepted}
+use Rattle.ehabi_top.specs.WalkReport.{WalksAccepted}
+use Rattle.thread_laws.specs.RecordedThreads.{RecordedPlace, threads_at_start, recorded_schedule_run}
+use Rattle.thread_run.specs.Elements.{joint_over}
+use Rattle.thread_run.specs.Schedules.{Scheduled, schedule_run}
+use Rattle.thread_schedule.specs.Tags.{tagged}
+
+-- ---- the machines
+
+-- a machine on an accepted image: how it runs, from which state, and the events that a state has; where it comes to when it goes on to a site; what a
+-- walk gives there, and what a forced unwinding to the frame of a number answers and leaves
+pub record OnImage (S : Type 0) : Type 0 where
+  pub machine : Machine S End
+  pub start : S
+  pub events : S → Trace
+  pub to_site : ℕ → List ℕ → Ran (Onward S) End
+  pub walk : S → Option Frames
+  pub unwound : ℕ → S → Result (Unit {0}) ForceFault × S
+
+-- what a forced unwinding throws: int, by the name of its type, or type 0 where the image has none
+abbrev pub thrown_by_force : Accepted → ℕ
+thrown_by_force a = unwrap_or (symbol_in a.image (codes "_ZTIi")) 0
+
+-- the one over bytes
+abbrev pub over_bytes : Accepted → OnImage State
+over_bytes a = record {
+  machine = machine_of (program_of a);
+  start = start_of (program_of a);
+  events = λ s. s.events;
+  to_site = λ budget input. run_to_site (program_of a) budget (start_of (program_of a)) input;
+  walk = λ s. walk_of (program_of a) s.regs s.memory;
+  unwound = λ number s. forced (program_of a) number (thrown_by_force a) s;
+}
+
+-- the one with recorded activations
+abbrev pub with_activations : Accepted → OnImage Recorded
+with_activations a = record {
+  machine = recorded_machine (program_of a);
+  start = recorded_start (program_of a);
+  events = λ s. s.events;
+  to_site = λ budget input. recorded_run_to_site (program_of a) budget (recorded_start (program_of a)) input;
+  walk = λ s. recorded_walk (program_of a) s;
+  unwound = λ number s. recorded_forced (program_of a) number (thrown_by_force a) s;
+}
+
+-- each number of an input is a byte
+abbrev pub IsOfBytes : List ℕ → Type 0
+IsOfBytes input = All (λ (b : ℕ). b < 256) input
 
 -- ---- runs
 
@@ -55,26 +109,30 @@ pub record RunEnds {S : Type 0} (ran : Ran S End) (head : List ℕ) (r : Report)
   pub text : r.text ≡ ran.text ++ (head ++ line)
   pub left : r.left ≡ ran.left
 
--- the head of a run of an image: the trace
-abbrev pub trace_of : Accepted → State → List ℕ
-trace_of a s = codes "\n-- trace\n" ++ trace_text a.image (name_of a.types) s.events
+-- the head of a run of an image: the trace of its events
+abbrev pub trace_of : Accepted → Trace → List ℕ
+trace_of a events = codes "\n-- trace\n" ++ trace_text a.image (name_of a.types) events
+
+-- .. from the start
+abbrev pub IsRun : {S : Type 0} → Accepted → OnImage S → ℕ → List ℕ → Report → Type 0
+IsRun a x budget input r = RunEnds (ran_of x.machine budget x.start input) (trace_of a (x.events (ran_of x.machine budget x.start input).state)) r
 
 -- .. of a walk, from what stands where the run came to: the frames after the trace with status 0; at no site, and where the run ended
 -- before, as `run` has it
-pub record WalkEnds (a : Accepted) (ran : Ran (Onward State) End) (r : Report) : Type 0 where
-  pub before : ran.end ≢ Budget → RunEnds ran (trace_of a ran.state.state) r
-  pub nowhere : ran.end ≡ Budget → end_given 65536 (bytes_walk a ran.state.state) ≡ walk_end.NotSite → RunEnds ran (trace_of a ran.state.state) r
+pub record WalkEnds {S : Type 0} (a : Accepted) (x : OnImage S) (ran : Ran (Onward S) End) (r : Report) : Type 0 where
+  pub before : ran.end ≢ Budget → RunEnds ran (trace_of a (x.events ran.state.state)) r
+  pub nowhere : ran.end ≡ Budget → end_given 65536 (x.walk ran.state.state) ≡ walk_end.NotSite → RunEnds ran (trace_of a (x.events ran.state.state)) r
   pub frames :
-      ran.end ≡ Budget → end_given 65536 (bytes_walk a ran.state.state) ≢ walk_end.NotSite
+      ran.end ≡ Budget → end_given 65536 (x.walk ran.state.state) ≢ walk_end.NotSite
       → r
       ≡ record {
         text =
             ran.text
             ++ (
-            trace_of a ran.state.state
+            trace_of a (x.events ran.state.state)
             ++ (
             codes "-- frames\n"
-            ++ flat_map (λ f. codes "frame " ++ place_text a.image f.site ++ codes " sp " ++ address_text f.sp ++ codes "\n") (frames_given 65536 (bytes_walk a ran.state.state))
+            ++ flat_map (λ f. codes "frame " ++ place_text a.image f.site ++ codes " sp " ++ address_text f.sp ++ codes "\n") (frames_given 65536 (x.walk ran.state.state))
             ++ codes "-- walked\n"
             )
             );
@@ -82,30 +140,54 @@ pub record WalkEnds (a : Accepted) (ran : Ran (Onward State) End) (r : Report) :
         left = ran.left;
       }
 
--- .. of a forced unwinding, from what its run to a site came to. A run that ended before is told as `run` has it.
-abbrev pub forced_at : ℕ → Accepted → Ran (Onward State) End → Forced
-forced_at number a ran = forced (program_of a) number (unwrap_or (symbol_in a.image (codes "_ZTIi")) 0) ran.state.state
+abbrev pub IsWalk : {S : Type 0} → Accepted → OnImage S → ℕ → List ℕ → Report → Type 0
+IsWalk a x budget input r = WalkEnds a x (x.to_site budget input) r
 
--- at a site it is refused by a name, with status 3 ..
-abbrev pub IsRefusedAs : ℕ → Accepted → Ran (Onward State) End → Report → ForceFault → List ℕ → Type 0
-IsRefusedAs number a ran r fault line =
-    ran.end ≡ Budget → (forced_at number a ran).0 ≡ Err fault
-    → r ≡ record { text = ran.text ++ (trace_of a (forced_at number a ran).1 ++ line); status = 3; left = ran.left }
+-- .. of a forced unwinding, from what its run to a site came to. A run that ended before is told as `run` has it; at a site the unwinding is refused
+-- by a name, with status 3 ..
+abbrev pub IsRefusedAs : {S : Type 0} → ℕ → Accepted → OnImage S → Ran (Onward S) End → Report → ForceFault → List ℕ → Type 0
+IsRefusedAs number a x ran r fault line =
+    ran.end ≡ Budget → (x.unwound number ran.state.state).0 ≡ Err fault
+    → r ≡ record { text = ran.text ++ (trace_of a (x.events (x.unwound number ran.state.state).1) ++ line); status = 3; left = ran.left }
 
 -- .. or the run goes on from what that leaves until 1,000,000,000 events went in all, and ends as `run` has it, after the bytes that were written before
-pub record ForceEnds (number : ℕ) (a : Accepted) (ran : Ran (Onward State) End) (r : Report) : Type 0 where
-  pub before : ran.end ≢ Budget → RunEnds ran (trace_of a ran.state.state) r
-  pub nowhere : ran.end ≡ Budget → (forced_at number a ran).0 ≡ Err NotSite
-      → r ≡ record { text = ran.text ++ (trace_of a (forced_at number a ran).1 ++ codes "-- budget\n"); status = 6; left = ran.left }
-  pub no_frame : IsRefusedAs number a ran r NoFrame (codes "-- force NoFrame\n")
-  pub inside_cleanup : IsRefusedAs number a ran r InsideCleanup (codes "-- force InsideCleanup\n")
-  pub no_stop : IsRefusedAs number a ran r NoStop (codes "-- force NoStop\n")
-  pub bad_tables : IsRefusedAs number a ran r BadTables (codes "-- force BadTables\n")
-  pub bad_type : IsRefusedAs number a ran r BadType (codes "-- force BadType\n")
-  pub pool_full : IsRefusedAs number a ran r PoolFull (codes "-- force PoolFull\n")
-  pub unwound : ran.end ≡ Budget → (forced_at number a ran).0 ≡ Ok tt → (on : Ran State End)
-      → on ≡ ran_of (machine_of (program_of a)) (1000000000 - ran.state.done) (forced_at number a ran).1 ran.left
-      → RunEnds (record on { text = ran.text ++ on.text }) (trace_of a on.state) r
+pub record ForceEnds {S : Type 0} (number : ℕ) (a : Accepted) (x : OnImage S) (ran : Ran (Onward S) End) (r : Report) : Type 0 where
+  pub before : ran.end ≢ Budget → RunEnds ran (trace_of a (x.events ran.state.state)) r
+  pub nowhere : ran.end ≡ Budget → (x.unwound number ran.state.state).0 ≡ Err NotSite
+      → r ≡ record { text = ran.text ++ (trace_of a (x.events (x.unwound number ran.state.state).1) ++ codes "-- budget\n"); status = 6; left = ran.left }
+  pub no_frame : IsRefusedAs number a x ran r NoFrame (codes "-- force NoFrame\n")
+  pub inside_cleanup : IsRefusedAs number a x ran r InsideCleanup (codes "-- force InsideCleanup\n")
+  pub no_stop : IsRefusedAs number a x ran r NoStop (codes "-- force NoStop\n")
+  pub bad_tables : IsRefusedAs number a x ran r BadTables (codes "-- force BadTables\n")
+  pub bad_type : IsRefusedAs number a x ran r BadType (codes "-- force BadType\n")
+  pub pool_full : IsRefusedAs number a x ran r PoolFull (codes "-- force PoolFull\n")
+  pub unwound : ran.end ≡ Budget → (x.unwound number ran.state.state).0 ≡ Ok tt → (on : Ran S End)
+      → on ≡ ran_of x.machine (1000000000 - ran.state.done) (x.unwound number ran.state.state).1 ran.left
+      → RunEnds (record on { text = ran.text ++ on.text }) (trace_of a (x.events on.state)) r
+
+abbrev pub IsForce : {S : Type 0} → ℕ → Accepted → OnImage S → ℕ → List ℕ → Report → Type 0
+IsForce number a x budget input r = ForceEnds number a x (x.to_site budget input) r
+
+-- .. of a run of threads: the trace, with the number of an event's thread before its line
+abbrev pub threads_of : Accepted → Trace → List ℕ → List ℕ
+threads_of a events tags = codes "\n-- trace\n" ++ tagged tags (trace_text a.image (name_of a.types) events)
+
+-- from the start, over bytes ..
+abbrev pub threads_ran : Accepted → List ℕ → ℕ → List ℕ → Ran Scheduled End
+threads_ran a digits budget input = schedule_run (program_of a) digits budget (joint_over (start_of (program_of a))) input
+
+abbrev pub IsThreads : Accepted → List ℕ → ℕ → List ℕ → Report → Type 0
+IsThreads a digits budget input r =
+    RunEnds (threads_ran a digits budget input) (threads_of a (threads_ran a digits budget input).state.joint.events (threads_ran a digits budget input).state.joint.tags) r
+
+-- .. and with recorded activations
+abbrev pub recorded_threads_ran : Accepted → List ℕ → ℕ → List ℕ → Ran RecordedPlace End
+recorded_threads_ran a digits budget input = recorded_schedule_run (program_of a) digits budget (threads_at_start (program_of a)) input
+
+abbrev pub IsRecordedThreads : Accepted → List ℕ → ℕ → List ℕ → Report → Type 0
+IsRecordedThreads a digits budget input r =
+    RunEnds (recorded_threads_ran a digits budget input)
+    (threads_of a (recorded_threads_ran a digits budget input).state.threads.events (recorded_threads_ran a digits budget input).state.threads.tags) r
 
 -- .. of a generated program, a line each: how many functions, and of throws and rethrows together, of cleanups and of handlers
 abbrev pub counts_of : ℕ → Trace → List ℕ
@@ -113,28 +195,57 @@ counts_of functions t =
     (codes "functions " ++ decimal functions ++ codes "\n") ++ (codes "throws " ++ decimal (total_of Throw t + total_of Rethrow t) ++ codes "\n")
     ++ (codes "cleanups " ++ decimal (total_of Cleanup t) ++ codes "\n") ++ (codes "catches " ++ decimal (total_of Catch t) ++ codes "\n")
 
-pub record CountEnds (functions : ℕ) (ran : Ran State End) (input : List ℕ) (r : Report) : Type 0 where
+pub record CountEnds {S : Type 0} (a : Accepted) (x : OnImage S) (ran : Ran S End) (input : List ℕ) (r : Report) : Type 0 where
   pub line : List ℕ
   pub ends : EndsSo ran.end line r.status
-  pub text : r.text ≡ counts_of functions ran.state.events ++ line
+  pub text : r.text ≡ counts_of (length a.image.functions) (x.events ran.state) ++ line
   pub left : r.left ≡ input
+
+-- .. after 1,000,000,000 events at most, with nothing to read
+abbrev pub IsCount : {S : Type 0} → Accepted → OnImage S → List ℕ → Report → Type 0
+IsCount a x input r = CountEnds a x (ran_of x.machine 1000000000 x.start []) input r
+
+-- ---- stores
+
+abbrev pub bytes_at : Accepted → ℕ → List ℕ → State
+bytes_at a count input = (ran_of (machine_of (program_of a)) count (start_of (program_of a)) input).state
+
+abbrev pub recorded_at : Accepted → ℕ → List ℕ → Recorded
+recorded_at a count input = (ran_of (recorded_machine (program_of a)) count (recorded_start (program_of a)) input).state
+
+-- wherever a run has come to, an aligned store of 1, 2 or 4 bytes that reaches a word that a live activation keeps is refused with that word's address,
+-- and stores nothing
+abbrev pub RefusesToStore : Accepted → List ℕ → Type 0
+RefusesToStore a input =
+    (count width at value slot : ℕ) → ((width ≡ 1) ⊎ ((width ≡ 2) ⊎ (width ≡ 4))) → at % width ≡ 0
+    → Has (slots_of ((recorded_at a count input).first ∷ (recorded_at a count input).outer)) slot → slot ≤ at → at < slot + 4
+    → store width (bytes_at a count input).memory at value ≡ (Err (SavedSlot slot), (bytes_at a count input).memory)
 
 -- ---- all reports
 
 pub record ReportsAreWritten : Type 0 where
-  pub run : (budget : ℕ) (a : Accepted) (input : List ℕ) (r : Report) → RunsAccepted budget a input r
-      → RunEnds (bytes_run budget a input) (trace_of a (bytes_run budget a input).state) r
-  pub walk : (budget : ℕ) (a : Accepted) (input : List ℕ) (r : Report) → WalksAccepted budget a input r → WalkEnds a (bytes_to_site budget a input) r
-  pub force : (number budget : ℕ) (a : Accepted) (input : List ℕ) (r : Report) → ForcesAccepted number budget a input r → ForceEnds number a (bytes_to_site budget a input) r
+  pub run : (budget : ℕ) (a : Accepted) (input : List ℕ) (r : Report) → RunsAccepted budget a input r → IsRun a (over_bytes a) budget input r
+  pub walk : (budget : ℕ) (a : Accepted) (input : List ℕ) (r : Report) → WalksAccepted budget a input r → IsWalk a (over_bytes a) budget input r
+  pub force : (number budget : ℕ) (a : Accepted) (input : List ℕ) (r : Report) → ForcesAccepted number budget a input r → IsForce number a (over_bytes a) budget input r
+  pub threads : (digits : List ℕ) (budget : ℕ) (a : Accepted) (input : List ℕ) (r : Report) → ThreadsAccepted digits budget a input r → IsThreads a digits budget input r
+  pub gen : (a : Accepted) (input : List ℕ) (r : Report) → CountsAccepted a input r → IsCount a (over_bytes a) input r
+  -- .. and with recorded activations, on an input of bytes
+  pub run_recorded : (budget : ℕ) (a : Accepted) (input : List ℕ) (r : Report) → RunsAccepted budget a input r → IsOfBytes input → IsRun a (with_activations a) budget input r
+  pub walk_recorded : (budget : ℕ) (a : Accepted) (input : List ℕ) (r : Report) → WalksAccepted budget a input r → IsOfBytes input → IsWalk a (with_activations a) budget input r
+  pub force_recorded : (number budget : ℕ) (a : Accepted) (input : List ℕ) (r : Report)
+      → ForcesAccepted number budget a input r → IsOfBytes input → IsForce number a (with_activations a) budget input r
+  pub threads_recorded : (digits : List ℕ) (budget : ℕ) (a : Accepted) (input : List ℕ) (r : Report)
+      → ThreadsAccepted digits budget a input r → IsOfBytes input → IsRecordedThreads a digits budget input r
+  pub gen_recorded : (a : Accepted) (input : List ℕ) (r : Report) → CountsAccepted a input r → IsCount a (with_activations a) input r
+  pub guarded : (budget : ℕ) (a : Accepted) (input : List ℕ) (r : Report) → RunsAccepted budget a input r → IsOfBytes input → RefusesToStore a input
   pub flat : (budget : ℕ) (code input : List ℕ) → length code ≤ 1048576
       → RunEnds (flat_ran budget (code_start code) input) (codes "\n") (code_report budget code input)
   pub large : (budget : ℕ) (code input : List ℕ) → 1048576 < length code
       → code_report budget code input ≡ record { text = codes "image: TooLarge\n"; status = 3; left = input }
-  pub gen : (a : Accepted) (input : List ℕ) (r : Report) → CountsAccepted a input r → CountEnds (length a.image.functions) (bytes_run 1000000000 a []) input r
   pub usage : (files : List (List ℕ × List ℕ)) (input : List ℕ) (r : Report) → Reports None files input r
       → r
       ≡ record {
-        text = codes "usage: ehabi_run flat FILE N | build FILE.. | check FILE.. | run FILE.. N | gen K M | walk FILE.. N | force FILE.. N K\n";
+        text = codes "usage: ehabi_run flat FILE N | build FILE.. | check FILE.. | run FILE.. N | gen K M | walk FILE.. N | force FILE.. N K | threads FILE.. SCHED N\n";
         status = 2;
         left = input;
       }

@@ -3,7 +3,7 @@
 
 ghost use Rattle.report_laws.specs.Commands.{CommandsAreTold};
 ghost use Rattle.report_laws.specs.Numbers.{CommandNumbers};
-ghost use Rattle.report_laws.specs.OneReport.{ReportsAreOne, CountsAreOne, RefusalsAreOne};
+ghost use Rattle.report_laws.specs.OneReport.{ReportsAreOne, ThreadsAreOne, CountsAreOne, RefusalsAreOne};
 ghost use Rattle.report_laws.specs.Written.{ReportsAreWritten};
 
 use accepted_laws::programs_are_one;
@@ -11,6 +11,13 @@ use accepted_laws::programs_are_one;
 /// `run` has one report of an accepted image, a budget and an input, and so have `walk` and `force`.
 pub fn reports_are_one()
     ensures { ReportsAreOne }
+{
+    programs_are_one();
+}
+
+/// `threads` has one report of an accepted image, a schedule, a number of elements and an input.
+pub fn threads_are_one()
+    ensures { ThreadsAreOne }
 {
     programs_are_one();
 }
@@ -29,13 +36,15 @@ pub fn refusals_are_one()
     programs_are_one();
 }
 
-/// The last line and the status of each report, in letters and digits: of a run, a walk, a forced unwinding, raw code and a generated program by how it ended; of
-/// words of no form, of files that are missing or too long, of an image that is built and of one that is accepted.
+/// The last line and the status of each report, in letters and digits: of a run, a walk, a forced unwinding, a run of threads, raw code and a
+/// generated program by how it ended; of words of no form, of files that are missing or too long, of an image that is built and of one that is
+/// accepted. Those of an accepted image are by the machine over bytes and, on an input of bytes, by the one with recorded activations.
 pub fn reports_are_written()
     ensures { ReportsAreWritten }
 {}
 
-/// What the report of each command says, by its files and by the bytes that it works on.
+/// What the report of each command says, by its files and by the bytes that it works on: of bytes that stand for no image, of an image that isn't
+/// accepted, and of one that is.
 pub fn commands_are_told()
     ensures { CommandsAreTold }
 {

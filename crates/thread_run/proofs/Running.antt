@@ -52,7 +52,7 @@ elements_go_on p p' schedule n0 s0 left0 n w w' at then named left left' before 
 
 -- ---- the ends
 
-is_run : (p : Program) (schedule : List ℕ) (n : ℕ) (w : Joint) (input : List ℕ) → all_over w.threads ≡ None
+pub is_run : (p : Program) (schedule : List ℕ) (n : ℕ) (w : Joint) (input : List ℕ) → all_over w.threads ≡ None
     → schedule_run p schedule n w input ≡ run (next_element p schedule) Budget n (at_first w) input
 unfolding schedule_run
 is_run p schedule n w input not_over =

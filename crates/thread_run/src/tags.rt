@@ -1,5 +1,6 @@
 //! The thread of each event that is kept (docs/threads.md, "Tags").
-ghost use Rattle.std.specs.Prelude.{◌≡◌, ◌-◌, [], length, IfOk, All, ◌<◌};
+ghost use Rattle.std.specs.Prelude.{◌≡◌, ◌-◌, [], length, IfOk, All, ◌<◌, ℕ};
+ghost use Rattle.thread_schedule.specs.declared.tags.TheConstants.{TAGS};
 ghost use Rattle.thread_run.specs.Tags.{with_tag, with_tags, tags_up_to};
 
 use eh_trace::TraceMemory;
@@ -14,14 +15,15 @@ pub struct Tags {
 }
 
 impl Model for Tags {
-    ghost use Rattle.std.specs.Prelude.{◌≤◌, ℕ, List, vec_capacity};
+    ghost use Rattle.std.specs.Prelude.{◌≤◌, ◌<◌, ℕ, List, All, vec_capacity};
     ghost use Rattle.eh_trace.specs.declared.events.TheConstants.{MAX_KEPT};
+    ghost use Rattle.thread_schedule.specs.declared.tags.TheConstants.{TAGS};
 
     ghost Value = { List ℕ };
 
     ghost view = { λ t. t.kept.items };
 
-    ghost invariant = { λ t. MAX_KEPT ≤ vec_capacity t.kept };
+    ghost invariant = { λ t. (MAX_KEPT ≤ vec_capacity t.kept) × All (λ (tag : ℕ). tag < TAGS) t.kept.items };
 }
 
 impl Tags {
@@ -35,7 +37,9 @@ impl Tags {
     }
 
     /// One more, while fewer are kept than events may be. Takes no memory.
+    #[tactic(auto, using(crate::proofs::Tagging::tag_fits))]
     fn add(&mut self, thread: u8)
+        requires { thread < TAGS }
         ensures { self.new ≡ with_tag thread self.old }
     {
         if self.kept.len() < MAX_KEPT {
@@ -52,6 +56,7 @@ impl Tags {
 
     /// Of so many events those that have no tag yet are the thread's. Takes no memory.
     pub(crate) fn reach(&mut self, thread: u8, count: usize)
+        requires { thread < TAGS }
         ensures { self.new ≡ tags_up_to thread count self.old }
     {
         let mut missing = count.saturating_sub(self.len());
@@ -61,9 +66,10 @@ impl Tags {
         }
     }
 
-    /// The tags, in order.
+    /// The tags, in order. Each is one digit.
     pub fn as_slice(&self) -> &[u8]
-        ensures { result.now ≡ self.now }
+        ensures is { result.now ≡ self.now }
+        ensures digits { All (λ (tag : ℕ). tag < TAGS) result.now }
     {
         &self.kept
     }

@@ -1,0 +1,178 @@
+-- The gate that starts a thread does the same over bytes and with recorded activations.
+use Rattle.std.proofs.Common.{◌≡◌, ℕ, zero, suc, ◌+◌, ◌-◌, ◌/◌, ◌%◌, ◌^◌, ◌<◌, inl, inr, ◌==◌, ◌&&◌, nat_le, Bool, true, false, cond, List, [], set, slice_index, Option, Some, None, Ok, refl, sym, ap, subst, ◌∙◌, arith}
+use Rattle.std.specs.Prelude.{Contains}
+use Rattle.std.specs.List.{list_any}
+use Rattle.std.proofs.lemmas.Bool.{and_parts, cases_eq, eqb-true, lt-leb}
+use Rattle.std.proofs.lemmas.List.{get_or-set_other}
+use Rattle.std.proofs.lemmas.List.Elements.{Contains-append_left}
+use Rattle.std.proofs.lemmas.Option.{same_Some}
+use Rattle.event_runs.specs.Runs.{Ends}
+use Rattle.eh_bus.specs.Memory.{fetch}
+use Rattle.flow.proofs.Work.{contains_head}
+use Rattle.frame_check.specs.Accepts.{Accepted}
+use Rattle.frame_check.specs.Roles.{look}
+use Rattle.frame_check.specs.Roots.{flow_graph_of}
+use Rattle.frame_facts.specs.Branches.{gate_changes}
+use Rattle.frame_facts.specs.declared.cause.FrameCause.TheVariants.{Undecodable}
+use Rattle.frame_flow.specs.Causes.{shown, causes_at}
+use Rattle.frame_graph.specs.declared.places.Standing.{Standing}
+use Rattle.frame_graph.specs.declared.places.Standing.TheVariants.{Instruction, Udf, Nothing}
+use Rattle.frame_graph.specs.Edges.{is_undecodable, is_nothing}
+use Rattle.frame_graph.specs.Places.{is_udf, standing_at, standing_by, halfword_of, of_decoded, wide_of}
+use Rattle.guest_gates.specs.Gates.{with_r0}
+use Rattle.image_memory.specs.Start.{begins_function}
+use Rattle.thumb_isa.specs.declared.instr.Decoded.{Decoded}
+use Rattle.thumb_isa.specs.declared.instr.Decoded.TheVariants.{Is, Undefined, Unpredictable, NotInProfile}
+use Rattle.thumb_isa.specs.declared.instr.Instr.{Instr}
+use Rattle.thumb_isa.specs.declared.instr.Instr.TheVariants.{Svc}
+use Rattle.thumb_isa.specs.Rows.{decoded_of}
+use Rattle.thumb_core.specs.Laws.{Leaves}
+use Rattle.thumb_core.specs.Step.{step_of, instr_at, instr_of}
+use Rattle.thumb_core.specs.Words.{listed}
+use Rattle.thumb_core.specs.declared.regs.Regs.{Regs}
+use Rattle.thumb_core.specs.declared.regs.Stepped.{Stepped}
+use Rattle.thumb_core.specs.declared.ends.TrapKind.{TrapKind}
+use Rattle.thumb_core.specs.declared.ends.End.TheVariants.{Trap}
+use Rattle.thumb_core.proofs.Acts.{step_acts}
+use Rattle.eh_gates.specs.State.{at_next}
+use Rattle.two_machines.specs.Activations.{Recorded, memory_of}
+use Rattle.two_machines.specs.ActivationMachine.{recorded_event}
+use Rattle.two_machines.specs.Checked.{program_of}
+use Rattle.accepted_code.proofs.Fetch.{code_fetch}
+use Rattle.stands_for.specs.Chain.{StandsAt, code}
+use Rattle.stands_for.specs.Stands.{Keeps, IsProgram, DoesAt}
+use Rattle.stands_for.proofs.Flows.{none_stands}
+use Rattle.stands_for.proofs.Onward.{next_pc, next_even}
+use Rattle.stands_for.proofs.SimpleTurns.{fetch as fetched_at}
+use Rattle.steps_keep.proofs.Gated.{set_words}
+use Rattle.steps_keep.proofs.Jumps.{not_found}
+use Rattle.state_laws.specs.Free.{FreeAfterGates}
+use Rattle.thread_run.specs.declared.starting.TheConstants.{START_GATE}
+use Rattle.thread_run.specs.Ending.{asks_to_start}
+use Rattle.thread_laws.proofs.Asking.{asking, svc_size}
+
+-- ---- what stands at pc is an instruction
+
+abbrev undefined : Decoded → Bool
+undefined (Is i size) = false
+undefined Undefined = true
+undefined Unpredictable = false
+undefined NotInProfile = false
+
+all_undefined : ℕ → Bool
+all_undefined zero = true
+all_undefined (suc n) = undefined (decoded_of (0xde00 + n) 0) && all_undefined n
+
+all : all_undefined 256 ≡ true
+unfolding decoded_of all_undefined
+all = refl
+
+among : (n k : ℕ) → all_undefined n ≡ true → k < n → undefined (decoded_of (0xde00 + k) 0) ≡ true
+unfolding all_undefined
+among zero k e h = absurd (omega (arith, h))
+among (suc n) k e h =
+    let w = and_parts (undefined (decoded_of (0xde00 + n) 0)) (all_undefined n) e in
+    elim (cases_eq k n) [
+      | inl same ↦ subst (λ j. undefined (decoded_of (0xde00 + j) 0) ≡ true) (sym same) w.0
+      | inr other ↦ among n k w.1 (omega (arith, h, other))
+    ]
+
+is_none : (d : Decoded) → undefined d ≡ true → instr_of d ≡ None
+is_none (Is i size) e = absurd cc
+is_none Undefined e = refl
+is_none Unpredictable e = absurd cc
+is_none NotInProfile e = absurd cc
+
+-- a gate may change r0
+r0_alone : (regs : Regs) (a j : ℕ) → list_any (λ (i : ℕ). i == j) gate_changes ≡ false → slice_index (set regs.r 0 a) j ≡ slice_index regs.r j
+unfolding listed
+r0_alone regs a zero h = absurd cc
+r0_alone regs a (suc j) h = get_or-set_other regs.r 0 (suc j) a 0 (λ e. absurd (omega (arith, e)))
+
+module _ (x : Accepted) (is : IsProgram x) (s : Recorded) (k : Keeps x s) (number size : ℕ) (gate : instr_at (memory_of s) s.regs.pc ≡ Some (Svc number, size)) (reached : (look x.roles s.regs.pc).is_instr ≡ true) where
+  at : StandsAt x s.first s.segments s.regs s.regs.pc
+  at = k.first reached
+
+  not_nothing : standing_at (flow_graph_of x.image at.function) at.place ≡ Nothing → ⊥
+  unfolding causes_at
+  not_nothing e =
+      let c = code x at.function at.marks in
+      let yes : is_undecodable c.flow_graph at.place ≡ true = ap is_nothing e in
+      let first : Contains (shown (is_undecodable c.flow_graph at.place) Undecodable) Undecodable = rw yes (contains_head Undecodable []) in
+      not_found c at.place at.fact (none_stands x at.function at.marks is.sound at.of.among at.of.are) at.state Undecodable
+      (Contains-append_left (shown (is_undecodable c.flow_graph at.place) Undecodable) _ Undecodable first)
+
+  none_gate : ◌≡◌ {A = Option (Instr × ℕ)} None (Some (Svc number, size)) → ⊥
+  none_gate e = cc
+
+  not_udf : standing_at (flow_graph_of x.image at.function) at.place ≡ Udf → ⊥
+  unfolding standing_at
+  not_udf e = by_halves (halfword_of (flow_graph_of x.image at.function) at.place) (halfword_of (flow_graph_of x.image at.function) (at.place + 1)) refl e
+    where
+      none_at : (first : ℕ) → halfword_of (flow_graph_of x.image at.function) at.place ≡ Some first → is_udf first ≡ true → instr_at (memory_of s) s.regs.pc ≡ None
+      none_at first h udf =
+          let top : first / 256 ≡ 0xde = eqb-true (first / 256) 0xde udf in
+          let same : 0xde00 + (first - 0xde00) ≡ first = omega (arith, top) in
+          let fetches : fetch (memory_of s) s.regs.pc ≡ Ok first = rw at.address (code_fetch x.image at.function s.segments is.image at.of.among k.image at.place first h) in
+          let narrow : nat_le 0xe800 first ≡ false = lt-leb 0xe800 first (omega (arith, top)) in
+          let none : instr_of (decoded_of first 0) ≡ None =
+          subst (λ n. instr_of (decoded_of n 0) ≡ None) same (is_none (decoded_of (0xde00 + (first - 0xde00)) 0) (among 256 (first - 0xde00) all (omega (arith, top)))) in
+          rw (fetches, narrow) none
+
+      of_decoded_not : (d : Decoded) → of_decoded d ≡ Udf → ⊥
+      of_decoded_not (Is i size) h = absurd cc
+      of_decoded_not Undefined h = absurd cc
+      of_decoded_not Unpredictable h = absurd cc
+      of_decoded_not NotInProfile h = absurd cc
+
+      wide_not : (first : ℕ) (w : Option ℕ) → wide_of first w ≡ Udf → ⊥
+      wide_not first None h = absurd cc
+      wide_not first (Some second) h = of_decoded_not (decoded_of first second) h
+
+      by_udf : (u b : Bool) (first : ℕ) (w : Option ℕ) → halfword_of (flow_graph_of x.image at.function) at.place ≡ Some first → is_udf first ≡ u
+          → cond u Udf (cond b (of_decoded (decoded_of first 0)) (wide_of first w)) ≡ Udf → ⊥
+      by_udf true b first w h u g = none_gate (sym (none_at first h u) ∙ gate)
+      by_udf false true first w h u g = of_decoded_not (decoded_of first 0) g
+      by_udf false false first w h u g = wide_not first w g
+
+      by_halves : (o w : Option ℕ) → halfword_of (flow_graph_of x.image at.function) at.place ≡ o → standing_by o w ≡ Udf → ⊥
+      by_halves None w h g = absurd cc
+      by_halves (Some first) w h g = by_udf (is_udf first) _ first w h refl g
+
+  pub does : DoesAt x s (Svc number)
+  does = by (standing_at (flow_graph_of x.image at.function) at.place) refl
+    where
+      by : (t : Standing) → standing_at (flow_graph_of x.image at.function) at.place ≡ t → DoesAt x s (Svc number)
+      by (Instruction i n) e =
+          let stands = (fetched_at x is s k at i n e).stands in
+          let same : ◌≡◌ {A = Instr × ℕ} (i, n) (Svc number, size) = same_Some _ _ (sym stands ∙ gate) in
+          record { reached = reached; at = at; size = n; stands = e ∙ ap (λ (j : Instr). Instruction j n) (ap (λ (w : Instr × ℕ). w.0) same) }
+      by Udf e = absurd (not_udf e)
+      by Nothing e = absurd (not_nothing e)
+
+  pub size_is : does.size ≡ 2
+  size_is = svc_size (memory_of s) s.regs.pc number does.size (fetched_at x is s k does.at (Svc number) does.size does.stands).stands
+
+  pub next_is : (s.regs.pc + 2) % 2 ^ 32 ≡ s.regs.pc + does.size
+  next_is = let small = next_pc x is s k does.at (Svc number) does.size does.stands in omega (arith, small, size_is)
+
+  -- after the gate, with another value in r0
+  pub answered_keeps : FreeAfterGates → (a : ℕ) → a < 2 ^ 32 → begins_function x.image.functions ((s.regs.pc + 2) % 2 ^ 32) ≡ false
+      → Keeps x (record s { regs = at_next ((s.regs.pc + 2) % 2 ^ 32) (with_r0 a s.regs) })
+  answered_keeps after_gates a small none =
+      after_gates x s number (at_next ((s.regs.pc + 2) % 2 ^ 32) (with_r0 a s.regs)) is k does (subst (λ (n : ℕ). begins_function x.image.functions n ≡ false) next_is none) next_is
+      (record {
+        words = set_words s.regs.r 0 a (omega arith) small k.sound.words;
+        small = omega arith;
+        is_even = (let even = next_even x is s k does.at (Svc number) does.size does.stands in subst (λ (n : ℕ). n % 2 ≡ 0) (sym next_is) even);
+      })
+      (λ j h. r0_alone s.regs a j h)
+
+-- the gate at pc, from the end that asks for a start
+pub asked : (x : Accepted) (s t : Recorded) (input : List ℕ) (kind : TrapKind) (value pc : ℕ) → Keeps x s → recorded_event (program_of x) s input ≡ Ends (Trap kind value pc) t → asks_to_start kind value ≡ true
+    → (t ≡ s) × ((size : ℕ) × (instr_at (memory_of s) s.regs.pc ≡ Some (Svc START_GATE, size)))
+asked x s t input kind value pc k e h =
+    let a = asking (program_of x) s input (Trap kind value pc) t e h in
+    let acts = step_acts s.regs (memory_of s) (record { count = k.sound.words.count; words = k.sound.words.small }) in
+    let left = subst (λ (w : Stepped). Leaves (instr_at (memory_of s) s.regs.pc) w s.regs (memory_of s) (step_of s.regs (memory_of s)).1) a.step acts.leaves in
+    (a.same, (left.0, left.1))

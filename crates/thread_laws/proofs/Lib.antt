@@ -1,0 +1,17 @@
+pub mod PoolStates
+pub mod Owning
+pub mod GuardedSlots
+pub mod Lying
+pub mod Leaving
+pub mod Fits
+pub mod Turned
+pub mod Switched
+pub mod AfterEvent
+pub mod Alike
+pub mod Asking
+pub mod Gate
+pub mod Fresh
+pub mod Runs
+pub mod Starting
+pub mod States
+pub mod Whole

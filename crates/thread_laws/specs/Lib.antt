@@ -1,0 +1,4 @@
+pub mod RecordedThreads
+pub mod Standing
+pub mod Leaving
+pub mod Laws
