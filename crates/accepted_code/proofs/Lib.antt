@@ -1,3 +1,4 @@
+pub use Rattle.machine_parts.proofs.event_runs
 pub use Rattle.machine_parts.proofs.two_machines
 pub use Rattle.machine_parts.proofs.frame_check
 pub use Rattle.machine_parts.proofs.frame_flow

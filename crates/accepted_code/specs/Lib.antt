@@ -1,3 +1,4 @@
+pub use Rattle.machine_parts.specs.eh_list
 pub use Rattle.machine_parts.specs.two_machines
 pub use Rattle.machine_parts.specs.frame_check
 pub use Rattle.machine_parts.specs.frame_flow

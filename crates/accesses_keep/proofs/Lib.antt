@@ -1,3 +1,5 @@
+pub use Rattle.steps_keep.proofs.thumb_core
+pub use Rattle.steps_keep.proofs.event_runs
 pub mod steps_keep
 pub use Rattle.steps_keep.proofs.two_machines
 pub use Rattle.steps_keep.proofs.frame_check

@@ -1,3 +1,4 @@
+pub use Rattle.steps_keep.specs.eh_list
 pub use Rattle.steps_keep.specs.two_machines
 pub use Rattle.steps_keep.specs.frame_check
 pub use Rattle.steps_keep.specs.frame_flow

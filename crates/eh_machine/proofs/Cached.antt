@@ -6,7 +6,7 @@ use Rattle.eh_bus.specs.Memory.{Memory}
 use Rattle.code_halfwords.specs.declared.halfwords.Halfwords.{Halfwords}
 use Rattle.code_halfwords.specs.Standing.{HasHalfwords}
 use Rattle.code_halfwords.proofs.Standing.{is_pair, by_halfwords}
-use Rattle.two_machines.specs.Program.{Program}
+use Rattle.machines_agree.specs.two_machines.Program.{Program}
 use Rattle.eh_machine.specs.declared.pass.Fetched.{Fetched}
 use Rattle.eh_machine.specs.declared.decode_cache.TheConstants.{LINES}
 use Rattle.eh_machine.specs.declared.decode_cache.CacheLine.{CacheLine}

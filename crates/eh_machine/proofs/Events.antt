@@ -4,7 +4,7 @@ use Rattle.std.proofs.Common.{◌≡◌, ℕ, ◌<◌, nat_lt, List, [], Bool, t
 use Rattle.std.specs.Bool.{OnFalse, OnTrue}
 use Rattle.std.proofs.KnownBytes.{Appends-nil}
 use Rattle.std.proofs.lemmas.List.Elements.{All-nil}
-use Rattle.event_runs.specs.Runs.{Goes, GoesOn, Fails, EndsBy}
+use Rattle.machines_agree.specs.event_runs.Runs.{Goes, GoesOn, Fails, EndsBy}
 use Rattle.given_input.specs.Given.{OnGiven}
 use Rattle.guest_gates.specs.declared.gates.TheConstants.{INPUT_GATE}
 use Rattle.guest_gates.specs.Ends.{is_fault}
@@ -17,11 +17,11 @@ use Rattle.thumb_core.specs.declared.ends.End.TheVariants.{ReadFault, WriteFault
 use Rattle.eh_gates.specs.declared.state.Turned.{Turned}
 use Rattle.eh_gates.specs.declared.state.Turned.TheVariants.{Went, Ended}
 use Rattle.elf_image.specs.Image.{Image}
-use Rattle.eh_types.specs.Graph.{Row}
+use Rattle.machines_agree.specs.eh_types.Graph.{Row}
 use Rattle.eh_gates.specs.State.{State, Outcome, tables_of}
 use Rattle.eh_gates.specs.Gates.{gate_of}
-use Rattle.two_machines.specs.Program.{Program, program_tables}
-use Rattle.two_machines.specs.Machine.{Passed, passed, event_of, in_state, acted, onward, machine_event, passed_fails, may_fail, with_pc_of}
+use Rattle.machines_agree.specs.two_machines.Program.{Program, program_tables}
+use Rattle.machines_agree.specs.two_machines.Machine.{Passed, passed, event_of, in_state, acted, onward, machine_event, passed_fails, may_fail, with_pc_of}
 use Rattle.eh_machine.specs.Turns.{TurnedOnce, IsCounted, CountsFaults}
 
 event_is : (p : Program) (s : State) (r : Passed) (input : List ℕ) → r ≡ passed p s → machine_event p s input ≡ onward p s r input

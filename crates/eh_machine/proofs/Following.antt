@@ -3,7 +3,7 @@ use Rattle.std.proofs.Common.{◌≡◌, ℕ, Bool, true, false, List, slice_ind
 use Rattle.std.specs.Bool.{OnFalse, OnTrue}
 use Rattle.std.specs.Option.{option_or}
 use Rattle.std.specs.Io.KnownBytes.{Appends}
-use Rattle.event_runs.specs.Runs.{Event, Goes, Ends, GoesOn, Fails, EndsBy}
+use Rattle.machines_agree.specs.event_runs.Runs.{Event, Goes, Ends, GoesOn, Fails, EndsBy}
 use Rattle.guest_gates.specs.Ends.{is_fault}
 use Rattle.thumb_core.specs.Outcome.{Outcome as Stepping}
 use Rattle.thumb_core.specs.Step.{step_of, instr_at}
@@ -19,14 +19,14 @@ use Rattle.eh_gates.specs.declared.state.Turned.TheVariants.{Went, Ended}
 use Rattle.eh_gates.specs.State.{State}
 use Rattle.elf_image.specs.Image.{IsSound as IsImage}
 use Rattle.frame_check.specs.Accepts.{Accepted, IsSound}
-use Rattle.two_machines.specs.Program.{Program}
-use Rattle.two_machines.specs.Machine as bytes
-use Rattle.two_machines.specs.Activations.{Recorded, reg_in, memory_of, bytes_of}
-use Rattle.two_machines.specs.ActivationMachine as acts
-use Rattle.two_machines.specs.ActivationLaws.{Matches, KnowsLanding}
-use Rattle.two_machines.specs.Checked.{program_of}
-use Rattle.two_machines.proofs.CallEvents.{knows}
-use Rattle.stands_for.specs.Stands.{Keeps, IsProgram, OnEvent}
+use Rattle.machines_agree.specs.two_machines.Program.{Program}
+use Rattle.machines_agree.specs.two_machines.Machine as bytes
+use Rattle.machines_agree.specs.two_machines.Activations.{Recorded, reg_in, memory_of, bytes_of}
+use Rattle.machines_agree.specs.two_machines.ActivationMachine as acts
+use Rattle.machines_agree.specs.two_machines.ActivationLaws.{Matches, KnowsLanding}
+use Rattle.machines_agree.specs.two_machines.Checked.{program_of}
+use Rattle.machines_agree.proofs.two_machines.CallEvents.{knows}
+use Rattle.machines_agree.specs.stands_for.Stands.{Keeps, IsProgram, OnEvent}
 use Rattle.machines_agree.specs.Turned.{AreBytes}
 use Rattle.machines_agree.proofs.OneEvent.{turns}
 use Rattle.eh_machine.specs.Turns.{TurnedOnce}

@@ -1,7 +1,7 @@
 -- The start of a run and a flight to a barrier, of an accepted image: the same with recorded activations.
 use Rattle.std.proofs.Common.{◌≡◌, ℕ, List, sym, ap, subst, ◌∙◌}
 use Rattle.elf_image.specs.Image.{Image, IsSound as IsImage}
-use Rattle.eh_types.specs.Graph.{Row}
+use Rattle.machines_agree.specs.eh_types.Graph.{Row}
 use Rattle.eh_bus.specs.Memory.{Memory}
 use Rattle.eh_cxa.specs.Runs.{no_globals}
 use Rattle.eh_cxa.specs.declared.globals.Globals.{Globals}
@@ -17,16 +17,16 @@ use Rattle.eh_gates.specs.declared.state.Turned.TheVariants.{Went, Ended}
 use Rattle.eh_gates.specs.State.{State, Outcome, tables_of}
 use Rattle.eh_gates.specs.Throwing.{throw_to}
 use Rattle.frame_check.specs.Accepts.{Accepted, IsSound}
-use Rattle.two_machines.specs.Program.{program_tables}
-use Rattle.two_machines.specs.Start.{start_of}
-use Rattle.two_machines.specs.Checked.{program_of}
-use Rattle.two_machines.specs.Activations.{Recorded, bytes_of}
-use Rattle.two_machines.specs.ActivationMachine as acts
-use Rattle.two_machines.specs.Corresponds.{OutcomesMatch}
-use Rattle.stands_for.specs.Stands.{Keeps, IsProgram}
-use Rattle.resumes_keep.specs.Flying.{fly_from, CanFly}
-use Rattle.stands_for.proofs.First.{starts_stand}
-use Rattle.resumes_keep.proofs.FlyFrom.{gates_fly, flights_match}
+use Rattle.machines_agree.specs.two_machines.Program.{program_tables}
+use Rattle.machines_agree.specs.two_machines.Start.{start_of}
+use Rattle.machines_agree.specs.two_machines.Checked.{program_of}
+use Rattle.machines_agree.specs.two_machines.Activations.{Recorded, bytes_of}
+use Rattle.machines_agree.specs.two_machines.ActivationMachine as acts
+use Rattle.machines_agree.specs.two_machines.Corresponds.{OutcomesMatch}
+use Rattle.machines_agree.specs.stands_for.Stands.{Keeps, IsProgram}
+use Rattle.machines_agree.specs.resumes_keep.Flying.{fly_from, CanFly}
+use Rattle.machines_agree.proofs.stands_for.First.{starts_stand}
+use Rattle.machines_agree.proofs.resumes_keep.FlyFrom.{gates_fly, flights_match}
 use Rattle.eh_machine.specs.Follows.{StartsAlike, FlownAlike, FollowsFlight}
 use Rattle.eh_machine.proofs.Following.{accepted_is}
 

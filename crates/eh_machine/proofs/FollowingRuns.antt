@@ -3,20 +3,20 @@ use Rattle.std.specs.Prelude.{option_map}
 use Rattle.std.proofs.Common.{◌≡◌, ℕ, zero, suc, Bool, true, false, List, ◌++◌, Option, Some, None, IfSome, refl, sym, ap, subst, ◌∙◌}
 use Rattle.std.specs.Io.KnownBytes.{Appends}
 use Rattle.eh_port.specs.Writing.{AppendsPart}
-use Rattle.event_runs.specs.Runs.{Event, Goes, Ends, Reached, prepended, reached, reached_after, ran_of, StopsAt, Runs}
-use Rattle.event_runs.specs.Laws.{SameRan}
+use Rattle.machines_agree.specs.event_runs.Runs.{Event, Goes, Ends, Reached, prepended, reached, reached_after, ran_of, StopsAt, Runs}
+use Rattle.machines_agree.specs.event_runs.Laws.{SameRan}
 use Rattle.guest_gates.specs.Ends.{is_fault}
 use Rattle.thumb_core.specs.declared.ends.End.{End}
 use Rattle.thumb_core.specs.declared.ends.End.TheVariants.{Budget}
 use Rattle.eh_gates.specs.State.{State}
 use Rattle.elf_image.specs.Image.{IsSound as IsImage}
 use Rattle.frame_check.specs.Accepts.{Accepted, IsSound}
-use Rattle.two_machines.specs.Machine.{machine_event, machine_of, may_fail}
-use Rattle.two_machines.specs.Activations.{Recorded, bytes_of}
-use Rattle.two_machines.specs.ActivationMachine.{recorded_event, recorded_may_fail, recorded_machine}
-use Rattle.two_machines.specs.Checked.{program_of}
-use Rattle.two_machines.proofs.CallEvents.{knows}
-use Rattle.stands_for.specs.Stands.{Keeps, StandsFor, IsProgram}
+use Rattle.machines_agree.specs.two_machines.Machine.{machine_event, machine_of, may_fail}
+use Rattle.machines_agree.specs.two_machines.Activations.{Recorded, bytes_of}
+use Rattle.machines_agree.specs.two_machines.ActivationMachine.{recorded_event, recorded_may_fail, recorded_machine}
+use Rattle.machines_agree.specs.two_machines.Checked.{program_of}
+use Rattle.machines_agree.proofs.two_machines.CallEvents.{knows}
+use Rattle.machines_agree.specs.stands_for.Stands.{Keeps, StandsFor, IsProgram}
 use Rattle.machines_agree.specs.Turned.{AreBytes}
 use Rattle.machines_agree.proofs.RunsOn.{AlikeOn, same_on}
 use Rattle.machines_agree.proofs.WholeRuns.{alike}

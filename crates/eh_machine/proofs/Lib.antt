@@ -1,3 +1,13 @@
+pub use Rattle.machines_agree.proofs.flow
+pub use Rattle.machines_agree.proofs.accepted_code
+pub use Rattle.machines_agree.proofs.two_machines
+pub use Rattle.machines_agree.proofs.stands_for
+pub use Rattle.machines_agree.proofs.steps_keep
+pub use Rattle.machines_agree.proofs.frames_same
+pub use Rattle.machines_agree.proofs.throws_keep
+pub use Rattle.machines_agree.proofs.resumes_keep
+pub use Rattle.machines_agree.proofs.event_runs
+pub mod machines_agree
 pub mod Events
 pub mod Saved
 pub mod Passing

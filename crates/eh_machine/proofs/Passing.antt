@@ -36,10 +36,10 @@ use Rattle.step_ahead.proofs.Straight.{GoesOn, effect_goes}
 use Rattle.eh_trace.specs.Trace.{Trace}
 use Rattle.eh_gates.specs.declared.state.Core.{Core}
 use Rattle.eh_gates.specs.State.{State, state_of, reg}
-use Rattle.two_machines.specs.Program.{Program}
+use Rattle.machines_agree.specs.two_machines.Program.{Program}
 use Rattle.eh_machine.specs.Passes.{Passes, Tried, IsFetched}
 use Rattle.eh_machine.specs.declared.pass.Fetched.{Fetched}
-use Rattle.two_machines.specs.Machine.{Passed, leaves_cleanup, control_flow_trap, refusal, tests, reguarded, reguarded_at, saved_words, tested, stepped, passed, with_pc_of}
+use Rattle.machines_agree.specs.two_machines.Machine.{Passed, leaves_cleanup, control_flow_trap, refusal, tests, reguarded, reguarded_at, saved_words, tested, stepped, passed, with_pc_of}
 
 -- ---- what a call has done, by its end
 

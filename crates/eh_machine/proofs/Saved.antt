@@ -4,7 +4,7 @@ use Rattle.eh_bus.specs.Memory.{Memory, guarded, guard_all}
 use Rattle.std.specs.List.{range_with_len, filter}
 use Rattle.std.specs.Int.{bit_at}
 use Rattle.eh_machine.specs.Guarded.{saved_from}
-use Rattle.two_machines.specs.Machine.{saved_words}
+use Rattle.machines_agree.specs.two_machines.Machine.{saved_words}
 
 pub saved_all : (saves count sp : ℕ) → saved_words saves count sp ≡ saved_from saves 0 count sp
 unfolding saved_from

@@ -4,7 +4,7 @@ use Rattle.std.proofs.Common.{◌≡◌, ℕ, zero, suc, ◌+◌, ◌-◌, ◌<�
 use Rattle.std.proofs.lemmas.List.{length-append}
 use Rattle.std.proofs.lemmas.List.Elements.{All-append}
 use Rattle.eh_bus.specs.Built.{zeros_at}
-use Rattle.eh_list.specs.Bytes.{zeros, length-zeros}
+use Rattle.machines_agree.specs.eh_list.Bytes.{zeros, length-zeros}
 use Rattle.eh_bus.specs.Map.{IsMap, flat_home}
 use Rattle.eh_bus.specs.Segment.{Segment}
 use Rattle.eh_bus.specs.declared.map.TheConstants.{IMAGE_END, POOL_SIZE, POOL_START, STACK_SIZE, STACK_START}

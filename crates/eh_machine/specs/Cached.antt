@@ -3,7 +3,7 @@ use Rattle.std.specs.Prelude.{◌≡◌, ℕ, ◌<◌, Option, Some, None, slice
 use Rattle.thumb_isa.specs.Range.{InRange}
 use Rattle.thumb_isa.specs.Rows.{decoded_of}
 use Rattle.thumb_core.specs.Step.{instr_of}
-use Rattle.two_machines.specs.Program.{Program}
+use Rattle.machines_agree.specs.two_machines.Program.{Program}
 use Rattle.code_halfwords.specs.Standing.{IsPair}
 use Rattle.eh_machine.specs.Passes.{at_of, HasRoles}
 use Rattle.eh_machine.specs.declared.decode_cache.TheConstants.{LINES}

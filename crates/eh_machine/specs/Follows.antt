@@ -1,6 +1,6 @@
 -- What a call on an accepted image has done, told by the machine with recorded activations (docs/machine.md, "The same with recorded activations").
 use Rattle.std.specs.Prelude.{◌≡◌, ℕ, List, Option, Some}
-use Rattle.event_runs.specs.Runs.{GoesOn, EndsBy, Runs}
+use Rattle.machines_agree.specs.event_runs.Runs.{GoesOn, EndsBy, Runs}
 use Rattle.guest_gates.specs.Ends.{is_fault}
 use Rattle.thumb_core.specs.declared.ends.End.{End}
 use Rattle.eh_cxa.specs.Words.{block_slot}
@@ -9,13 +9,13 @@ use Rattle.eh_gates.specs.declared.state.Turned.{Turned}
 use Rattle.eh_gates.specs.declared.state.Turned.TheVariants.{Went, Ended}
 use Rattle.eh_gates.specs.State.{State}
 use Rattle.frame_check.specs.Accepts.{Accepted}
-use Rattle.two_machines.specs.Program.{program_tables}
-use Rattle.two_machines.specs.Checked.{program_of}
-use Rattle.two_machines.specs.Activations.{Recorded, recorded_start}
-use Rattle.two_machines.specs.ActivationMachine.{Outcome, recorded_event, recorded_may_fail, recorded_machine, throw_to}
-use Rattle.stands_for.specs.Stands.{StandsFor}
+use Rattle.machines_agree.specs.two_machines.Program.{program_tables}
+use Rattle.machines_agree.specs.two_machines.Checked.{program_of}
+use Rattle.machines_agree.specs.two_machines.Activations.{Recorded, recorded_start}
+use Rattle.machines_agree.specs.two_machines.ActivationMachine.{Outcome, recorded_event, recorded_may_fail, recorded_machine, throw_to}
+use Rattle.machines_agree.specs.stands_for.Stands.{StandsFor}
 use Rattle.machines_agree.specs.Turned.{AreBytes}
-use Rattle.resumes_keep.specs.Flying.{CanFly}
+use Rattle.machines_agree.specs.resumes_keep.Flying.{CanFly}
 
 -- from each state with recorded activations that this one stands for
 abbrev pub Follows : Accepted → State → (Recorded → Type 0) → Type 0

@@ -14,9 +14,9 @@ use Rattle.step_ahead.specs.Ahead.{branches, pushed}
 use Rattle.eh_trace.specs.Trace.{Trace}
 use Rattle.eh_gates.specs.declared.state.Core.{Core}
 use Rattle.eh_gates.specs.State.{state_of}
-use Rattle.two_machines.specs.Program.{Program}
+use Rattle.machines_agree.specs.two_machines.Program.{Program}
 use Rattle.eh_machine.specs.declared.pass.Fetched.{Fetched}
-use Rattle.two_machines.specs.Machine.{Passed, passed, with_pc_of}
+use Rattle.machines_agree.specs.two_machines.Machine.{Passed, passed, with_pc_of}
 
 -- ---- what is told of the instruction at an address before it is done
 

@@ -1,15 +1,15 @@
 -- What one call of the machine has done.
 use Rattle.std.specs.Prelude.{◌≡◌, ℕ, ◌≤◌, List, Option}
 use Rattle.eh_port.specs.Causes.{Rose}
-use Rattle.event_runs.specs.Runs.{GoesOn, EndsBy}
+use Rattle.machines_agree.specs.event_runs.Runs.{GoesOn, EndsBy}
 use Rattle.guest_gates.specs.Ends.{is_fault}
 use Rattle.thumb_core.specs.declared.ends.End.{End}
 use Rattle.thumb_core.specs.declared.ends.End.TheVariants.{ReadFault, WriteFault}
 use Rattle.eh_gates.specs.declared.state.Turned.{Turned}
 use Rattle.eh_gates.specs.declared.state.Turned.TheVariants.{Went, Ended}
 use Rattle.eh_gates.specs.State.{State}
-use Rattle.two_machines.specs.Program.{Program}
-use Rattle.two_machines.specs.Machine.{machine_event, may_fail}
+use Rattle.machines_agree.specs.two_machines.Program.{Program}
+use Rattle.machines_agree.specs.two_machines.Machine.{machine_event, may_fail}
 
 -- one event was done: it went on, or it ended the run, or a fault of the outside stopped it where one may
 abbrev pub TurnedOnce : Program → State → List ℕ → Turned → State → Option (List ℕ) → Option (List ℕ) → Option (List ℕ) → Type 0

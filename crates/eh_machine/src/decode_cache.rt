@@ -1,7 +1,7 @@
 //! The decode cache of a run: what was fetched at an address and what the checker says there, so that neither is looked for again
 //! (docs/machine.md, "An event").
 ghost use Rattle.std.specs.Prelude.{◌<◌, IfSome};
-ghost use Rattle.two_machines.specs.Program.{Program};
+ghost use Rattle.machines_agree.specs.two_machines.Program.{Program};
 ghost use Rattle.eh_machine.specs.Cached.{IsCache, IsOfLine};
 ghost use Rattle.eh_machine.specs.Passes.{IsFetched};
 

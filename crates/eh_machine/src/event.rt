@@ -2,7 +2,7 @@
 ghost use Rattle.std.specs.Prelude.{◌≡◌, IfSome};
 ghost use Rattle.eh_gates.specs.State.{State, state_of};
 ghost use Rattle.given_input.specs.Given.{OnGiven};
-ghost use Rattle.two_machines.specs.Checked.{program_of};
+ghost use Rattle.machines_agree.specs.two_machines.Checked.{program_of};
 ghost use Rattle.step_ahead.specs.Ahead.{IsAhead};
 ghost use Rattle.eh_machine.specs.Cached.{IsCache};
 ghost use Rattle.eh_machine.specs.Passes.{IsFetched};

@@ -2,7 +2,7 @@
 ghost use Rattle.std.specs.Prelude.{◌≡◌, ◌+◌, ◌*◌, ◌%◌, ◌<◌, ◌≤◌};
 ghost use Rattle.eh_bus.specs.Memory.{guard_all};
 ghost use Rattle.eh_bus.specs.declared.map.TheConstants.{STACK_START, STACK_END};
-ghost use Rattle.two_machines.specs.Machine.{saved_words, reguarded};
+ghost use Rattle.machines_agree.specs.two_machines.Machine.{saved_words, reguarded};
 
 use eh_bus::bus::Bus;
 

@@ -15,6 +15,7 @@ mod tests_of;
 pub use accepted::tables;
 pub use eh_gates::{Core, Turned};
 pub use event::{Shared, turn};
+pub use machines_agree::{beyond_stays, runs_guard, runs_same, turns_same};
 pub use memory::MachineMemory;
 pub use run::Machine;
 pub use start::{start_parts, throw_to};

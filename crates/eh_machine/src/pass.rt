@@ -8,8 +8,8 @@ ghost use Rattle.thumb_core.specs.Step.{instr_at};
 ghost use Rattle.thumb_core.specs.declared.regs.Regs.{Regs};
 ghost use Rattle.step_ahead.specs.Ahead.{IsAhead, IsFallThrough, IsJump};
 ghost use Rattle.step_ahead.specs.UndoRecord.{Restores};
-ghost use Rattle.two_machines.specs.Checked.{program_of};
-ghost use Rattle.two_machines.specs.Program.{Program};
+ghost use Rattle.machines_agree.specs.two_machines.Checked.{program_of};
+ghost use Rattle.machines_agree.specs.two_machines.Program.{Program};
 ghost use Rattle.eh_machine.specs.Passes.{at_of, HasRoles, IsFetched, Passes, Tells, Tried};
 
 use crate::guards::{guard_pushed, reguard};

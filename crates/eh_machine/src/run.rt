@@ -1,10 +1,10 @@
 //! The run of at most so many events (docs/machine.md).
 ghost use Rattle.std.specs.Prelude.{◌≡◌, IfSome};
-ghost use Rattle.event_runs.specs.Runs.{Runs};
+ghost use Rattle.machines_agree.specs.event_runs.Runs.{Runs};
 ghost use Rattle.eh_gates.specs.State.{State, state_of};
 ghost use Rattle.given_input.specs.Runs.{RunsGiven};
-ghost use Rattle.two_machines.specs.Checked.{program_of};
-ghost use Rattle.two_machines.specs.Machine.{machine_of};
+ghost use Rattle.machines_agree.specs.two_machines.Checked.{program_of};
+ghost use Rattle.machines_agree.specs.two_machines.Machine.{machine_of};
 ghost use Rattle.eh_machine.specs.Turns.{CountsFaults};
 ghost use Rattle.eh_machine.specs.Follows.{FollowsRun};
 

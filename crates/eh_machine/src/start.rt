@@ -5,9 +5,9 @@ ghost use Rattle.eh_cxa.specs.Words.{block_slot};
 ghost use Rattle.eh_gates.specs.State.{state_of};
 ghost use Rattle.eh_gates.specs.Throwing.{throw_to};
 ghost use Rattle.eh_trace.specs.Trace.{no_events};
-ghost use Rattle.two_machines.specs.Checked.{program_of};
-ghost use Rattle.two_machines.specs.Program.{program_tables};
-ghost use Rattle.two_machines.specs.Start.{start_of};
+ghost use Rattle.machines_agree.specs.two_machines.Checked.{program_of};
+ghost use Rattle.machines_agree.specs.two_machines.Program.{program_tables};
+ghost use Rattle.machines_agree.specs.two_machines.Start.{start_of};
 ghost use Rattle.eh_machine.specs.Follows.{StartsAlike, FollowsFlight};
 
 use crate::accepted::{holds, tables};

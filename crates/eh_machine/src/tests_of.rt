@@ -2,8 +2,8 @@
 ghost use Rattle.std.specs.Prelude.{◌≡◌, ◌≤◌, ◌*◌, true, false, IfSome};
 ghost use Rattle.guest_gates.specs.Ends.{is_fault};
 ghost use Rattle.step_ahead.specs.UndoRecord.{lowest};
-ghost use Rattle.two_machines.specs.Checked.{program_of};
-ghost use Rattle.two_machines.specs.Machine.{leaves_cleanup, sp_end, fell_off, goes_after, control_flow_trap, refusal};
+ghost use Rattle.machines_agree.specs.two_machines.Checked.{program_of};
+ghost use Rattle.machines_agree.specs.two_machines.Machine.{leaves_cleanup, sp_end, fell_off, goes_after, control_flow_trap, refusal};
 
 use eh_gates::gates::{ALLOCATE_GATE, BEGIN_CATCH_GATE, END_CATCH_GATE, FREE_GATE, UNCAUGHT_GATE};
 use frame_check::Accepted;

@@ -12,12 +12,12 @@ use Rattle.eh_gates.specs.declared.state.Core.{Core}
 use Rattle.eh_gates.specs.State.{State, state_of}
 use Rattle.elf_image.specs.Image.{IsSound as IsImage}
 use Rattle.frame_check.specs.Accepts.{Accepted, IsSound}
-use Rattle.two_machines.specs.Activations.{Recorded, memory_of, frames_at}
-use Rattle.two_machines.specs.Agreeing.{handed_on, Agree}
-use Rattle.two_machines.specs.Checked.{program_of}
-use Rattle.stands_for.specs.Stands.{Keeps, IsProgram}
+use Rattle.eh_machine.specs.two_machines.Activations.{Recorded, memory_of, frames_at}
+use Rattle.eh_machine.specs.two_machines.Agreeing.{handed_on, Agree}
+use Rattle.eh_machine.specs.two_machines.Checked.{program_of}
+use Rattle.eh_machine.specs.stands_for.Stands.{Keeps, IsProgram}
 use Rattle.eh_machine.proofs.Following.{accepted_is}
-use Rattle.frames_same.proofs.FramesSame.{frames_are_same}
+use Rattle.eh_machine.proofs.frames_same.FramesSame.{frames_are_same}
 use Rattle.eh_walk.specs.declared.walk.Backtrace.{Backtrace}
 use Rattle.eh_walk.specs.Laws.{WalksActivations, SameWalks, WalksSame}
 use Rattle.eh_walk.specs.Sites.{site_state}

@@ -1,20 +1,20 @@
 -- A run to a site is the same over bytes and with recorded activations.
 use Rattle.std.proofs.Common.{◌≡◌, ℕ, ◌+◌, Bool, true, false, cond, List, refl, ap, ◌∙◌}
-use Rattle.event_runs.specs.Runs.{Event, Goes, Ends, run}
+use Rattle.eh_machine.specs.event_runs.Runs.{Event, Goes, Ends, run}
 use Rattle.thumb_core.specs.declared.ends.End.{End}
 use Rattle.thumb_core.specs.declared.ends.End.TheVariants.{Budget}
 use Rattle.eh_gates.specs.State.{State}
 use Rattle.frame_check.specs.Accepts.{Accepted}
-use Rattle.two_machines.specs.Activations.{Recorded, recorded_start}
-use Rattle.two_machines.specs.ActivationMachine.{recorded_event}
-use Rattle.two_machines.specs.Checked.{program_of}
-use Rattle.two_machines.specs.Machine.{machine_event}
-use Rattle.two_machines.specs.Start.{start_of}
-use Rattle.stands_for.specs.Stands.{IsProgram, StandsFor}
-use Rattle.stands_for.proofs.First.{starts_stand}
-use Rattle.machines_agree.specs.Turned.{AreBytes}
-use Rattle.machines_agree.proofs.RunsOn.{AlikeOn, SameOn, same_on}
-use Rattle.machines_agree.proofs.WholeRuns.{alike}
+use Rattle.eh_machine.specs.two_machines.Activations.{Recorded, recorded_start}
+use Rattle.eh_machine.specs.two_machines.ActivationMachine.{recorded_event}
+use Rattle.eh_machine.specs.two_machines.Checked.{program_of}
+use Rattle.eh_machine.specs.two_machines.Machine.{machine_event}
+use Rattle.eh_machine.specs.two_machines.Start.{start_of}
+use Rattle.eh_machine.specs.stands_for.Stands.{IsProgram, StandsFor}
+use Rattle.eh_machine.proofs.stands_for.First.{starts_stand}
+use Rattle.eh_machine.specs.machines_agree.Turned.{AreBytes}
+use Rattle.eh_machine.proofs.machines_agree.RunsOn.{AlikeOn, SameOn, same_on}
+use Rattle.eh_machine.proofs.machines_agree.WholeRuns.{alike}
 use Rattle.eh_walk.specs.Laws.{OnwardFor, ReachesSame, ReachesLeaveBytes, GoingOnSame}
 use Rattle.eh_walk.specs.Reaching.{Onward, after, counted, stops, is_at_site, is_recorded_at_site, site_machine, recorded_site_machine, most_events}
 

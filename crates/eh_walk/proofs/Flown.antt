@@ -2,7 +2,7 @@
 use Rattle.std.proofs.Common.{◌≡◌, ℕ, ◌==◌, nat_lt, Bool, true, false, cond, List, [], Option, Some, None, Result, Ok, Err, refl, sym, ap, ◌∙◌}
 use Rattle.eh_bus.specs.Memory.{Memory}
 use Rattle.elf_image.specs.Image.{Image}
-use Rattle.eh_types.specs.Graph.{Row}
+use Rattle.eh_machine.specs.eh_types.Graph.{Row}
 use Rattle.eh_cxa.specs.Allocate.{first_slot, allocate_at, allocate_of}
 use Rattle.eh_cxa.specs.Throw.{start_throw_of}
 use Rattle.eh_cxa.specs.Words.{Pool, Write, word, put_all, wrote, made, object_slot}
@@ -17,7 +17,7 @@ use Rattle.eh_gates.specs.declared.state.Turned.{Turned}
 use Rattle.eh_gates.specs.State.{State, Outcome, state_of, tables_of}
 use Rattle.eh_gates.specs.Throwing.{throw_to}
 use Rattle.eh_phase.specs.declared.phase1.Barrier.{Barrier}
-use Rattle.two_machines.specs.Program.{Program, program_tables}
+use Rattle.eh_machine.specs.two_machines.Program.{Program, program_tables}
 use Rattle.eh_walk.specs.declared.forcing.Forcing.{Forcing}
 use Rattle.eh_walk.specs.declared.stopping.ForceFault.TheVariants.{PoolFull}
 use Rattle.eh_walk.specs.Forced.{Forced, forced_throw, forced_event, stop_barrier, flies, thrown, flown_by, flown}

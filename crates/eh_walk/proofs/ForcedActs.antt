@@ -4,7 +4,7 @@ use Rattle.std.specs.Prelude.{All, is_some}
 use Rattle.eh_bus.specs.Lists.{Has}
 use Rattle.eh_bus.specs.Memory.{Memory}
 use Rattle.elf_image.specs.Image.{Image, IsSound as IsImage}
-use Rattle.eh_types.specs.Graph.{Row, row_of}
+use Rattle.eh_machine.specs.eh_types.Graph.{Row, row_of}
 use Rattle.eh_cxa.specs.Allocate.{first_slot, allocate_of}
 use Rattle.eh_cxa.specs.Cleanup.{innermost_of}
 use Rattle.eh_cxa.specs.ListCalls.{with_entry, is_free, fresh_record, allocate_in, allocate_list, thrown_record, throw_entry, throw_list, innermost_in}
@@ -32,28 +32,28 @@ use Rattle.thumb_core.specs.declared.regs.TheConstants.{SP}
 use Rattle.eh_gates.specs.declared.state.Turned.TheVariants.{Went, Ended}
 use Rattle.eh_gates.specs.State.{State, Outcome, logged}
 use Rattle.frame_check.specs.Accepts.{Accepted, IsSound}
-use Rattle.two_machines.specs.Activations.{Recorded, reg_in, memory_of, bytes_of, heads, lists_of, words_in, cleanups_in, frames_at, outside, with_lists}
-use Rattle.two_machines.specs.ActivationMachine.{with_new, flight_of, in_flight}
-use Rattle.two_machines.specs.ActivationMachine as acts
-use Rattle.two_machines.specs.Checked.{program_of}
-use Rattle.two_machines.specs.Corresponds.{Corresponds, OutcomesMatch}
-use Rattle.two_machines.specs.Program.{Program, program_tables}
-use Rattle.two_machines.proofs.CallEvents.{knows}
-use Rattle.two_machines.proofs.CallGates.{InStep, same_heads}
-use Rattle.two_machines.proofs.FirstEvent.{segments_alone}
-use Rattle.two_machines.proofs.WithLists.{lists_are, heads_same, allocate_keeps}
-use Rattle.stands_for.specs.Cleanups.{IsWithin}
-use Rattle.stands_for.specs.Stands.{Keeps, IsProgram, DoesAt, StandsFor}
-use Rattle.stands_for.proofs.Goes.{chain_top}
-use Rattle.frames_same.specs.Frames.{ThrowsAt}
-use Rattle.frames_same.specs.Landings.{Fit}
-use Rattle.frames_same.proofs.FramesSame.{frames_are_same, site_is}
-use Rattle.frames_same.proofs.Landing.{fit_top, fit_frames, rise_outside}
-use Rattle.throws_keep.proofs.Landable.{AreSmall, AllGood, Good, good_at, good_framed, good_outside, small_next}
-use Rattle.throws_keep.proofs.ThrowLands.{sp_is}
-use Rattle.throws_keep.proofs.ThrowReached.{throw_in_order}
-use Rattle.resumes_keep.specs.Flying.{fly_from, CanFly}
-use Rattle.resumes_keep.proofs.FlyFrom.{flights_match, gates_fly}
+use Rattle.eh_machine.specs.two_machines.Activations.{Recorded, reg_in, memory_of, bytes_of, heads, lists_of, words_in, cleanups_in, frames_at, outside, with_lists}
+use Rattle.eh_machine.specs.two_machines.ActivationMachine.{with_new, flight_of, in_flight}
+use Rattle.eh_machine.specs.two_machines.ActivationMachine as acts
+use Rattle.eh_machine.specs.two_machines.Checked.{program_of}
+use Rattle.eh_machine.specs.two_machines.Corresponds.{Corresponds, OutcomesMatch}
+use Rattle.eh_machine.specs.two_machines.Program.{Program, program_tables}
+use Rattle.eh_machine.proofs.two_machines.CallEvents.{knows}
+use Rattle.eh_machine.proofs.two_machines.CallGates.{InStep, same_heads}
+use Rattle.eh_machine.proofs.two_machines.FirstEvent.{segments_alone}
+use Rattle.eh_machine.proofs.two_machines.WithLists.{lists_are, heads_same, allocate_keeps}
+use Rattle.eh_machine.specs.stands_for.Cleanups.{IsWithin}
+use Rattle.eh_machine.specs.stands_for.Stands.{Keeps, IsProgram, DoesAt, StandsFor}
+use Rattle.eh_machine.proofs.stands_for.Goes.{chain_top}
+use Rattle.eh_machine.specs.frames_same.Frames.{ThrowsAt}
+use Rattle.eh_machine.specs.frames_same.Landings.{Fit}
+use Rattle.eh_machine.proofs.frames_same.FramesSame.{frames_are_same, site_is}
+use Rattle.eh_machine.proofs.frames_same.Landing.{fit_top, fit_frames, rise_outside}
+use Rattle.eh_machine.proofs.throws_keep.Landable.{AreSmall, AllGood, Good, good_at, good_framed, good_outside, small_next}
+use Rattle.eh_machine.proofs.throws_keep.ThrowLands.{sp_is}
+use Rattle.eh_machine.proofs.throws_keep.ThrowReached.{throw_in_order}
+use Rattle.eh_machine.specs.resumes_keep.Flying.{fly_from, CanFly}
+use Rattle.eh_machine.proofs.resumes_keep.FlyFrom.{flights_match, gates_fly}
 use Rattle.state_laws.proofs.Forced.{allocate_in_step, throw_in_step, allocate_keeps_all, throw_keeps_all, allocate_does, throw_does}
 use Rattle.eh_machine.proofs.Following.{accepted_is}
 use Rattle.eh_walk.specs.declared.forcing.Forcing.{Forcing}

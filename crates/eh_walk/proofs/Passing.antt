@@ -7,7 +7,7 @@ use Rattle.std.proofs.Math.Seq.{drop-nil}
 use Rattle.std.proofs.lemmas.Option.{same_Some, none-some}
 use Rattle.eh_bus.specs.declared.map.TheConstants.{STACK_END}
 use Rattle.elf_image.specs.Image.{Image}
-use Rattle.unwind_codes.specs.declared.row.Entry.{Entry}
+use Rattle.eh_machine.specs.unwind_codes.declared.row.Entry.{Entry}
 use Rattle.eh_index.specs.Covering.{covering}
 use Rattle.eh_index.specs.Places.{table_of}
 use Rattle.eh_index.specs.Rows.{entries_of}

@@ -3,15 +3,15 @@ use Rattle.std.proofs.Common.{◌≡◌, ℕ, ◌+◌, ◌-◌, ◌<◌, ◌≤�
 use Rattle.std.specs.Prelude.{not}
 use Rattle.std.specs.Bool.{OnFalse, OnTrue}
 use Rattle.std.proofs.KnownBytes.{Appends-nil}
-use Rattle.event_runs.specs.Runs.{Event, Ends, GoesOn, Fails, EndsBy, Runs}
-use Rattle.event_runs.proofs.Progress.{Progress, starts, goes_on, ends, spent}
+use Rattle.eh_machine.specs.event_runs.Runs.{Event, Ends, GoesOn, Fails, EndsBy, Runs}
+use Rattle.eh_machine.proofs.event_runs.Progress.{Progress, starts, goes_on, ends, spent}
 use Rattle.guest_gates.specs.Ends.{is_fault}
 use Rattle.thumb_core.specs.declared.ends.End.{End}
 use Rattle.thumb_core.specs.declared.ends.End.TheVariants.{Budget}
 use Rattle.eh_gates.specs.declared.state.Turned.TheVariants.{Went, Ended}
 use Rattle.eh_gates.specs.State.{State}
-use Rattle.two_machines.specs.Program.{Program}
-use Rattle.two_machines.specs.Machine.{machine_event, may_fail}
+use Rattle.eh_machine.specs.two_machines.Program.{Program}
+use Rattle.eh_machine.specs.two_machines.Machine.{machine_event, may_fail}
 use Rattle.eh_machine.specs.Turns.{TurnedOnce}
 use Rattle.eh_walk.specs.Reaching.{Onward, after, counted, stands_there, site_machine, most_events, RunsToSite}
 

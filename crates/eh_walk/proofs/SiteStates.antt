@@ -4,36 +4,36 @@ use Rattle.std.specs.Prelude.{Contains}
 use Rattle.std.proofs.lemmas.Bool.{and_parts, cases_eq, eqb-true, lt-leb}
 use Rattle.std.proofs.lemmas.List.Elements.{Contains-append_left}
 use Rattle.std.proofs.lemmas.Option.{same_Some, none-some}
-use Rattle.stands_for.specs.eh_bus.Memory.{fetch}
-use Rattle.stands_for.specs.thumb_isa.declared.instr.Instr.{Instr}
-use Rattle.stands_for.specs.thumb_isa.declared.instr.Instr.TheVariants.{Bl, Blx, Svc}
-use Rattle.stands_for.specs.thumb_isa.declared.instr.Decoded.{Decoded}
-use Rattle.stands_for.specs.thumb_isa.declared.instr.Decoded.TheVariants.{Is, Undefined, Unpredictable, NotInProfile}
-use Rattle.stands_for.specs.thumb_isa.Rows.{decoded_of}
-use Rattle.stands_for.specs.thumb_core.Step.{instr_at, instr_of}
-use Rattle.stands_for.specs.frame_facts.declared.cause.FrameCause.TheVariants.{Undecodable}
-use Rattle.stands_for.specs.frame_graph.declared.places.Standing.{Standing}
-use Rattle.stands_for.specs.frame_graph.declared.places.Standing.TheVariants.{Instruction, Udf, Nothing}
-use Rattle.stands_for.specs.frame_graph.Places.{is_udf, standing_at, standing_by, halfword_of, of_decoded, wide_of}
-use Rattle.stands_for.specs.frame_graph.FlowGraph.{FlowGraph}
-use Rattle.stands_for.specs.frame_graph.Edges.{is_undecodable, is_nothing}
-use Rattle.stands_for.specs.frame_flow.Causes.{shown, causes_at}
-use Rattle.stands_for.specs.frame_check.Accepts.{Accepted}
-use Rattle.stands_for.specs.frame_check.Judged.{IsPlaced}
-use Rattle.stands_for.specs.frame_check.Roots.{flow_graph_of}
-use Rattle.stands_for.specs.frame_check.Roles.{look}
-use Rattle.stands_for.proofs.frame_check.Wells.{placed_at}
-use Rattle.stands_for.proofs.frame_reach.Stands.{stands_inside, stands_size}
-use Rattle.stands_for.specs.two_machines.Activations.{Recorded, memory_of}
-use Rattle.stands_for.specs.two_machines.Checked.{program_of}
-use Rattle.stands_for.proofs.flow.Work.{contains_head}
-use Rattle.stands_for.proofs.accepted_code.Fetch.{code_fetch}
-use Rattle.stands_for.specs.Chain.{code, StandsAt}
-use Rattle.stands_for.specs.Stands.{Keeps, IsProgram, DoesAt}
-use Rattle.stands_for.proofs.Flows.{none_stands}
-use Rattle.stands_for.proofs.SimpleTurns as simple
-use Rattle.steps_keep.proofs.Jumps.{not_found}
-use Rattle.frames_same.specs.Frames.{ThrowsAt}
+use Rattle.eh_machine.specs.stands_for.eh_bus.Memory.{fetch}
+use Rattle.eh_machine.specs.stands_for.thumb_isa.declared.instr.Instr.{Instr}
+use Rattle.eh_machine.specs.stands_for.thumb_isa.declared.instr.Instr.TheVariants.{Bl, Blx, Svc}
+use Rattle.eh_machine.specs.stands_for.thumb_isa.declared.instr.Decoded.{Decoded}
+use Rattle.eh_machine.specs.stands_for.thumb_isa.declared.instr.Decoded.TheVariants.{Is, Undefined, Unpredictable, NotInProfile}
+use Rattle.eh_machine.specs.stands_for.thumb_isa.Rows.{decoded_of}
+use Rattle.eh_machine.specs.stands_for.thumb_core.Step.{instr_at, instr_of}
+use Rattle.eh_machine.specs.stands_for.frame_facts.declared.cause.FrameCause.TheVariants.{Undecodable}
+use Rattle.eh_machine.specs.stands_for.frame_graph.declared.places.Standing.{Standing}
+use Rattle.eh_machine.specs.stands_for.frame_graph.declared.places.Standing.TheVariants.{Instruction, Udf, Nothing}
+use Rattle.eh_machine.specs.stands_for.frame_graph.Places.{is_udf, standing_at, standing_by, halfword_of, of_decoded, wide_of}
+use Rattle.eh_machine.specs.stands_for.frame_graph.FlowGraph.{FlowGraph}
+use Rattle.eh_machine.specs.stands_for.frame_graph.Edges.{is_undecodable, is_nothing}
+use Rattle.eh_machine.specs.stands_for.frame_flow.Causes.{shown, causes_at}
+use Rattle.eh_machine.specs.stands_for.frame_check.Accepts.{Accepted}
+use Rattle.eh_machine.specs.stands_for.frame_check.Judged.{IsPlaced}
+use Rattle.eh_machine.specs.stands_for.frame_check.Roots.{flow_graph_of}
+use Rattle.eh_machine.specs.stands_for.frame_check.Roles.{look}
+use Rattle.eh_machine.proofs.stands_for.frame_check.Wells.{placed_at}
+use Rattle.eh_machine.proofs.stands_for.frame_reach.Stands.{stands_inside, stands_size}
+use Rattle.eh_machine.specs.stands_for.two_machines.Activations.{Recorded, memory_of}
+use Rattle.eh_machine.specs.stands_for.two_machines.Checked.{program_of}
+use Rattle.eh_machine.proofs.stands_for.flow.Work.{contains_head}
+use Rattle.eh_machine.proofs.stands_for.accepted_code.Fetch.{code_fetch}
+use Rattle.eh_machine.specs.stands_for.Chain.{code, StandsAt}
+use Rattle.eh_machine.specs.stands_for.Stands.{Keeps, IsProgram, DoesAt}
+use Rattle.eh_machine.proofs.stands_for.Flows.{none_stands}
+use Rattle.eh_machine.proofs.stands_for.SimpleTurns as simple
+use Rattle.eh_machine.proofs.steps_keep.Jumps.{not_found}
+use Rattle.eh_machine.specs.frames_same.Frames.{ThrowsAt}
 use Rattle.eh_walk.specs.Sites.{site_by, site_at, site_state}
 
 -- ---- UDF is no instruction

@@ -23,8 +23,8 @@ use Rattle.eh_phase.specs.Verdict.{in_scope}
 use Rattle.eh_phase.specs.declared.phase2.Goal.{Goal}
 use Rattle.eh_phase.proofs.Due.{reached_past, reached_stop}
 use Rattle.eh_phase.proofs.Reached.{reached_append, places-append, places-cons}
-use Rattle.two_machines.specs.Agreeing.{handed_on}
-use Rattle.stands_for.specs.Cleanups.{IsWithin}
+use Rattle.eh_machine.specs.two_machines.Agreeing.{handed_on}
+use Rattle.eh_machine.specs.stands_for.Cleanups.{IsWithin}
 use Rattle.eh_walk.specs.declared.stopping.ForceFault.TheVariants.{InsideCleanup, BadTables, BadType}
 use Rattle.eh_walk.specs.declared.stopping.Stop.{Stop}
 use Rattle.eh_walk.specs.Forced.{stop_barrier}

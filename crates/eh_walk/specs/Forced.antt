@@ -13,14 +13,14 @@ use Rattle.eh_phase.specs.declared.phase1.Barrier.{Barrier}
 use Rattle.eh_trace.specs.declared.event.Event.{Event}
 use Rattle.eh_trace.specs.declared.event.EventKind.TheVariants as event
 use Rattle.eh_trace.specs.declared.event.TheConstants.{MAX_BYTES}
-use Rattle.eh_types.specs.Graph.{row_of}
+use Rattle.eh_machine.specs.eh_types.Graph.{row_of}
 use Rattle.eh_gates.specs.State.{State, Tables, logged}
 use Rattle.eh_gates.specs.Throwing.{throw_to}
 use Rattle.thumb_core.specs.Registers.{all_of}
-use Rattle.two_machines.specs.Activations.{Recorded, memory_of, lists_of, cleanups_in, frames_at}
-use Rattle.two_machines.specs.ActivationMachine.{with_new, flight_of, in_flight}
-use Rattle.two_machines.specs.ActivationMachine as acts
-use Rattle.two_machines.specs.Program.{Program, program_tables}
+use Rattle.eh_machine.specs.two_machines.Activations.{Recorded, memory_of, lists_of, cleanups_in, frames_at}
+use Rattle.eh_machine.specs.two_machines.ActivationMachine.{with_new, flight_of, in_flight}
+use Rattle.eh_machine.specs.two_machines.ActivationMachine as acts
+use Rattle.eh_machine.specs.two_machines.Program.{Program, program_tables}
 use Rattle.eh_walk.specs.Sites.{site_state}
 use Rattle.eh_walk.specs.Stops.{stop_at}
 use Rattle.eh_walk.specs.declared.forcing.Forcing.{Forcing}

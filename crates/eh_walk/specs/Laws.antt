@@ -2,19 +2,19 @@
 use Rattle.std.specs.Prelude.{ℕ, ◌≡◌, ◌<◌, ◌^◌, List, Option, Result}
 use Rattle.eh_bus.specs.Memory.{Memory}
 use Rattle.eh_trace.specs.Trace.{Trace}
-use Rattle.event_runs.specs.Laws.{SameRan}
-use Rattle.event_runs.specs.Runs.{ran_of}
+use Rattle.eh_machine.specs.event_runs.Laws.{SameRan}
+use Rattle.eh_machine.specs.event_runs.Runs.{ran_of}
 use Rattle.eh_phase.specs.Phases.{Frames}
 use Rattle.eh_gates.specs.declared.state.Core.{Core}
 use Rattle.eh_gates.specs.State.{State, state_of}
 use Rattle.frame_check.specs.Accepts.{Accepted}
-use Rattle.two_machines.specs.ActivationMachine.{recorded_machine}
-use Rattle.two_machines.specs.Activations.{Recorded, recorded_start}
-use Rattle.two_machines.specs.Checked.{program_of}
-use Rattle.two_machines.specs.Machine.{machine_of}
-use Rattle.two_machines.specs.Start.{start_of}
-use Rattle.stands_for.specs.Stands.{IsProgram, StandsFor}
-use Rattle.machines_agree.specs.Turned.{AreBytes}
+use Rattle.eh_machine.specs.two_machines.ActivationMachine.{recorded_machine}
+use Rattle.eh_machine.specs.two_machines.Activations.{Recorded, recorded_start}
+use Rattle.eh_machine.specs.two_machines.Checked.{program_of}
+use Rattle.eh_machine.specs.two_machines.Machine.{machine_of}
+use Rattle.eh_machine.specs.two_machines.Start.{start_of}
+use Rattle.eh_machine.specs.stands_for.Stands.{IsProgram, StandsFor}
+use Rattle.eh_machine.specs.machines_agree.Turned.{AreBytes}
 use Rattle.eh_machine.specs.Follows.{Follows}
 use Rattle.eh_walk.specs.declared.walk.Backtrace.{Backtrace}
 use Rattle.eh_walk.specs.declared.stopping.ForceFault.{ForceFault}

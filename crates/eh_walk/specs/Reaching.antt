@@ -1,13 +1,13 @@
 -- A run that goes on to a site: a budget of events whatever the states are, and then further ones until the state stands at a site
 -- (docs/walks.md, "How far a run goes").
 use Rattle.std.specs.Prelude.{ℕ, ◌+◌, ◌&&◌, nat_le, not, Bool, List, is_some, if◌then◌else◌, Option}
-use Rattle.event_runs.specs.Runs.{Event, Goes, Ends, Machine, Ran, Runs, ran_of}
+use Rattle.eh_machine.specs.event_runs.Runs.{Event, Goes, Ends, Machine, Ran, Runs, ran_of}
 use Rattle.thumb_core.specs.declared.ends.End.{End}
 use Rattle.eh_gates.specs.State.{State}
-use Rattle.two_machines.specs.Program.{Program}
-use Rattle.two_machines.specs.Machine.{machine_of}
-use Rattle.two_machines.specs.Activations.{Recorded, memory_of}
-use Rattle.two_machines.specs.ActivationMachine.{recorded_machine}
+use Rattle.eh_machine.specs.two_machines.Program.{Program}
+use Rattle.eh_machine.specs.two_machines.Machine.{machine_of}
+use Rattle.eh_machine.specs.two_machines.Activations.{Recorded, memory_of}
+use Rattle.eh_machine.specs.two_machines.ActivationMachine.{recorded_machine}
 use Rattle.eh_walk.specs.Sites.{site_state}
 use Rattle.eh_walk.specs.declared.reach.TheConstants.{MOST_FURTHER}
 

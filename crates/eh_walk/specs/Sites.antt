@@ -5,7 +5,7 @@ use Rattle.thumb_isa.specs.declared.instr.Instr.{Instr}
 use Rattle.thumb_isa.specs.declared.instr.Instr.TheVariants.{Bl, Blx, Svc}
 use Rattle.thumb_core.specs.Step.{instr_at}
 use Rattle.thumb_core.specs.declared.regs.Regs.{Regs}
-use Rattle.two_machines.specs.Program.{Program}
+use Rattle.eh_machine.specs.two_machines.Program.{Program}
 
 -- a gate and BLX stand at their own address, and BL at that of its second halfword: two bytes below where the call returns to
 abbrev pub site_by : ℕ → Instr → Option ℕ

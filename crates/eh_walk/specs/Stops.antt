@@ -2,7 +2,7 @@
 use Rattle.std.specs.Prelude.{ℕ, ◌&&◌, Bool, true, false, if◌then◌else◌, List, [], ◌∷◌, take, drop, slice_index, Option, Some, None, is_some, Result, Ok, Err}
 use Rattle.std.specs.List.{list_any}
 use Rattle.elf_image.specs.Image.{Image}
-use Rattle.unwind_codes.specs.declared.row.Entry.{Entry}
+use Rattle.eh_machine.specs.unwind_codes.declared.row.Entry.{Entry}
 use Rattle.eh_index.specs.Covering.{covering}
 use Rattle.eh_index.specs.Places.{table_of}
 use Rattle.eh_index.specs.Rows.{entries_of}

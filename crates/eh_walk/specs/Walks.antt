@@ -12,8 +12,8 @@ use Rattle.eh_phase.specs.Frames.{Stack, frames_of, covered_at, outer, site_of}
 use Rattle.eh_phase.specs.Phases.{Frame, Frames}
 use Rattle.eh_phase.specs.declared.walk.Covered.{Covered}
 use Rattle.eh_phase.specs.declared.walk.Cursor.{Cursor}
-use Rattle.two_machines.specs.Activations.{Recorded, memory_of, frames_at}
-use Rattle.two_machines.specs.Program.{Program}
+use Rattle.eh_machine.specs.two_machines.Activations.{Recorded, memory_of, frames_at}
+use Rattle.eh_machine.specs.two_machines.Program.{Program}
 use Rattle.eh_walk.specs.Sites.{site_state}
 use Rattle.eh_walk.specs.declared.walk.Backtrace.{Backtrace}
 use Rattle.eh_walk.specs.declared.walk.WalkEnd.{WalkEnd}

@@ -1,7 +1,7 @@
 //! Forced unwinding: an exception is thrown to the frame of a number, past all handlers inside it (docs/walks.md, "Forced unwinding").
 ghost use Rattle.std.specs.Prelude.{◌≡◌, ◌≤◌};
 ghost use Rattle.eh_gates.specs.State.{state_of};
-ghost use Rattle.two_machines.specs.Checked.{program_of};
+ghost use Rattle.eh_machine.specs.two_machines.Checked.{program_of};
 ghost use Rattle.eh_walk.specs.Forced.{forced, flown, forced_event, stop_barrier};
 ghost use Rattle.eh_walk.specs.Laws.{ForcesActivations};
 

@@ -1,7 +1,7 @@
 //! A run that goes on to a site (docs/walks.md, "How far a run goes").
 ghost use Rattle.std.specs.Prelude.{◌≡◌, ◌-◌, ◌&&◌, nat_le, is_some, IfSome};
 ghost use Rattle.eh_gates.specs.State.{State, state_of};
-ghost use Rattle.two_machines.specs.Checked.{program_of};
+ghost use Rattle.eh_machine.specs.two_machines.Checked.{program_of};
 ghost use Rattle.eh_machine.specs.Turns.{CountsFaults};
 ghost use Rattle.eh_walk.specs.Reaching.{RunsToSite, most_events};
 ghost use Rattle.eh_walk.specs.Sites.{site_state};

@@ -1,6 +1,6 @@
 //! Where the innermost frame of a state stands in its function (docs/walks.md, "Sites").
 ghost use Rattle.std.specs.Prelude.{◌≡◌};
-ghost use Rattle.two_machines.specs.Checked.{program_of};
+ghost use Rattle.eh_machine.specs.two_machines.Checked.{program_of};
 ghost use Rattle.eh_walk.specs.Sites.{site_by, site_state};
 
 use eh_bus::bus::Bus;

@@ -1,6 +1,6 @@
 //! The frames of a running program, the innermost first (docs/walks.md).
 ghost use Rattle.std.specs.Prelude.{◌≡◌, IfOk};
-ghost use Rattle.two_machines.specs.Checked.{program_of};
+ghost use Rattle.eh_machine.specs.two_machines.Checked.{program_of};
 ghost use Rattle.eh_walk.specs.Walks.{IsWalk, walk_of};
 ghost use Rattle.eh_walk.specs.Laws.{WalksActivations};
 

@@ -3,7 +3,7 @@ use Rattle.std.proofs.Common.{◌≡◌, ◌⊎◌, inl, ℕ, List, ◌++◌, Bo
 use Rattle.std.specs.Bool.{OnFalse, OnTrue}
 use Rattle.program_answers.specs.declared.stop.Stop.{Stop}
 use Rattle.program_answers.specs.declared.stop.Stop.TheVariants.{Write, Memory}
-use Rattle.guest_gates.specs.Ends.{is_fault}
+use Rattle.eh_walk.specs.guest_gates.Ends.{is_fault}
 use Rattle.thumb_core.specs.declared.ends.End.{End}
 use Rattle.thumb_core.specs.declared.ends.End.TheVariants.{Exit, Terminate, Trap, Budget, ReadFault, WriteFault}
 use Rattle.ehabi_top.specs.Loading.{closing_of, status_of, stop_of_fault}

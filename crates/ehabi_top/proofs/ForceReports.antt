@@ -6,19 +6,19 @@ use Rattle.std.specs.Io.KnownBytes.{Appends, Keeps}
 use Rattle.eh_port.specs.Causes.{Rose}
 use Rattle.eh_port.specs.Writing.{AppendsPart}
 use Rattle.eh_port.proofs.Parts.{part_first, part_then, part_whole}
-use Rattle.eh_gates.specs.State.{State}
-use Rattle.event_runs.specs.Laws.{SameRan}
-use Rattle.event_runs.specs.Runs.{Machine, Ran, Runs, ran_of}
+use Rattle.eh_walk.specs.eh_gates.State.{State}
+use Rattle.eh_walk.specs.event_runs.Laws.{SameRan}
+use Rattle.eh_walk.specs.event_runs.Runs.{Machine, Ran, Runs, ran_of}
 use Rattle.frame_check.specs.Accepts.{Accepted}
-use Rattle.guest_gates.specs.Ends.{is_fault}
-use Rattle.stands_for.specs.Stands.{StandsFor}
+use Rattle.eh_walk.specs.guest_gates.Ends.{is_fault}
+use Rattle.eh_walk.specs.stands_for.Stands.{StandsFor}
 use Rattle.thumb_core.specs.declared.ends.End.{End}
 use Rattle.thumb_core.specs.declared.ends.End.TheVariants.{Exit, Terminate, Trap, Budget, ReadFault, WriteFault}
-use Rattle.two_machines.specs.ActivationMachine.{recorded_machine}
-use Rattle.two_machines.specs.Activations.{Recorded}
-use Rattle.two_machines.specs.Checked.{program_of}
-use Rattle.two_machines.specs.Machine.{machine_of}
-use Rattle.two_machines.specs.Start.{start_of}
+use Rattle.eh_walk.specs.two_machines.ActivationMachine.{recorded_machine}
+use Rattle.eh_walk.specs.two_machines.Activations.{Recorded}
+use Rattle.eh_walk.specs.two_machines.Checked.{program_of}
+use Rattle.eh_walk.specs.two_machines.Machine.{machine_of}
+use Rattle.eh_walk.specs.two_machines.Start.{start_of}
 use Rattle.eh_walk.specs.Forced.{Forced, RecordedForced}
 use Rattle.eh_walk.specs.Laws.{OnwardFor}
 use Rattle.eh_walk.specs.Reaching.{Onward, RunsToSite}

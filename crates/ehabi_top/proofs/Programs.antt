@@ -1,16 +1,16 @@
 -- The reports of a generated program, from what the parts of a call have done.
 use Rattle.std.proofs.Common.{◌≡◌, ◌⊎◌, ℕ, ◌<◌, List, [], ◌∷◌, ◌++◌, length, Option, Result, Ok, Err, false, refl, inl, inr, arith}
 use Rattle.std.proofs.lemmas.List.Elements.{All-nil}
-use Rattle.eh_gates.specs.State.{State}
-use Rattle.two_machines.specs.Activations.{Recorded}
-use Rattle.two_machines.specs.Checked.{program_of}
-use Rattle.two_machines.specs.Machine.{machine_of}
-use Rattle.two_machines.specs.Start.{start_of}
+use Rattle.eh_walk.specs.eh_gates.State.{State}
+use Rattle.eh_walk.specs.two_machines.Activations.{Recorded}
+use Rattle.eh_walk.specs.two_machines.Checked.{program_of}
+use Rattle.eh_walk.specs.two_machines.Machine.{machine_of}
+use Rattle.eh_walk.specs.two_machines.Start.{start_of}
 use Rattle.eh_port.specs.Causes.{Rose}
-use Rattle.event_runs.specs.Laws.{SameRan}
-use Rattle.event_runs.specs.Runs.{Ran, Runs, ran_of}
+use Rattle.eh_walk.specs.event_runs.Laws.{SameRan}
+use Rattle.eh_walk.specs.event_runs.Runs.{Ran, Runs, ran_of}
 use Rattle.frame_check.specs.Accepts.{Accepted}
-use Rattle.guest_gates.specs.Ends.{is_fault}
+use Rattle.eh_walk.specs.guest_gates.Ends.{is_fault}
 use Rattle.thumb_core.specs.declared.ends.End.{End}
 use Rattle.thumb_core.specs.declared.ends.End.TheVariants.{Exit, Terminate, Trap, Budget, ReadFault, WriteFault}
 use Rattle.ehabi_top.specs.Accepting.{BytesReportsBy, IsUnaccepted}

@@ -1,9 +1,9 @@
 -- The reports of a run of an accepted image, from what the machine does.
 use Rattle.std.proofs.Common.{◌≡◌, ℕ, List, Result, refl, sym, subst}
-use Rattle.eh_gates.specs.State.{State}
-use Rattle.two_machines.specs.Activations.{Recorded}
-use Rattle.event_runs.specs.Laws.{SameRan}
-use Rattle.event_runs.specs.Runs.{Ran}
+use Rattle.eh_walk.specs.eh_gates.State.{State}
+use Rattle.eh_walk.specs.two_machines.Activations.{Recorded}
+use Rattle.eh_walk.specs.event_runs.Laws.{SameRan}
+use Rattle.eh_walk.specs.event_runs.Runs.{Ran}
 use Rattle.frame_check.specs.Accepts.{Accepted}
 use Rattle.thumb_core.specs.declared.ends.End.{End}
 use Rattle.ehabi_top.specs.BothRuns.{bytes_run, recorded_run, bytes_events, recorded_events, HaveSameEvents, RunSame, SlotsStay}

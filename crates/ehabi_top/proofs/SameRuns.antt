@@ -3,17 +3,17 @@ use Rattle.std.proofs.Common.{◌≡◌, ◌<◌, ◌^◌, ℕ, List, ap, subst,
 use Rattle.eh_bus.specs.Map.{AreSegments, IsMap, flat_home}
 use Rattle.eh_bus.specs.Memory.{Memory}
 use Rattle.eh_bus.specs.Segment.{Segment}
-use Rattle.eh_gates.specs.State.{State}
-use Rattle.two_machines.specs.Checked.{program_of}
-use Rattle.two_machines.specs.Start.{start_of}
-use Rattle.two_machines.specs.Machine.{machine_of}
-use Rattle.two_machines.specs.ActivationMachine.{recorded_machine}
-use Rattle.event_runs.specs.Laws.{SameRan}
-use Rattle.event_runs.specs.Runs.{ran_of}
+use Rattle.eh_walk.specs.eh_gates.State.{State}
+use Rattle.eh_walk.specs.two_machines.Checked.{program_of}
+use Rattle.eh_walk.specs.two_machines.Start.{start_of}
+use Rattle.eh_walk.specs.two_machines.Machine.{machine_of}
+use Rattle.eh_walk.specs.two_machines.ActivationMachine.{recorded_machine}
+use Rattle.eh_walk.specs.event_runs.Laws.{SameRan}
+use Rattle.eh_walk.specs.event_runs.Runs.{ran_of}
 use Rattle.elf_image.specs.Image.{IsSound as IsImage}
 use Rattle.frame_check.specs.Accepts.{Accepted, IsSound}
-use Rattle.stands_for.specs.Stands.{IsProgram, StandsFor}
-use Rattle.machines_agree.specs.Turned.{RunsSame, RunsGuard}
+use Rattle.eh_walk.specs.stands_for.Stands.{IsProgram, StandsFor}
+use Rattle.eh_walk.specs.machines_agree.Turned.{RunsSame, RunsGuard}
 use Rattle.eh_walk.specs.Laws.{ReachesSame, ReachesLeaveBytes, WalksSame, ForcingsSame, GoingOnSame}
 use Rattle.ehabi_top.specs.BothRuns.{RunSame, SlotsStay}
 use Rattle.ehabi_top.specs.ForceReport.{ForcesSame, forced_type, bytes_forced, activations_forced}

@@ -1,7 +1,7 @@
 -- What the status of a command says.
 use Rattle.std.specs.Prelude.{◌==◌, if◌then◌else◌, IsErr}
 use Rattle.std.proofs.Common.{◌≡◌, ℕ, ◌<◌, List, Option, Result, Ok, Err, Bool, true, false, refl, arith}
-use Rattle.guest_gates.specs.Ends.{is_fault}
+use Rattle.eh_walk.specs.guest_gates.Ends.{is_fault}
 use Rattle.thumb_core.specs.declared.ends.End.{End}
 use Rattle.thumb_core.specs.declared.ends.End.TheVariants.{Exit, Terminate, Trap, Budget, ReadFault, WriteFault}
 use Rattle.program_answers.specs.declared.status.TheConstants.{DONE, EXIT_NONZERO, REFUSED, FILE_UNAVAILABLE}

@@ -5,19 +5,19 @@ use Rattle.std.specs.Bool.{OnFalse}
 use Rattle.eh_machine.specs.Turns.{CountsFaults}
 use Rattle.eh_port.specs.Writing.{AppendsPart}
 use Rattle.eh_port.proofs.Parts.{part_first, part_whole}
-use Rattle.event_runs.specs.Runs.{Ran, Reached, reached, run, prepend}
-use Rattle.event_runs.proofs.RunLaws.{splits}
+use Rattle.eh_walk.specs.event_runs.Runs.{Ran, Reached, reached, run, prepend}
+use Rattle.eh_walk.proofs.event_runs.RunLaws.{splits}
 use Rattle.frame_check.specs.Accepts.{Accepted}
-use Rattle.guest_gates.specs.Ends.{is_fault}
+use Rattle.eh_walk.specs.guest_gates.Ends.{is_fault}
 use Rattle.thread_run.specs.Done.{RanUpTo, RanWhole, RunsSchedule}
 use Rattle.thread_run.specs.Elements.{Joint, joint_over}
 use Rattle.thread_run.specs.Schedules.{Scheduled, at_first, next_element, schedule_run}
 use Rattle.thread_run.proofs.Running.{is_run}
 use Rattle.thumb_core.specs.declared.ends.End.{End}
 use Rattle.thumb_core.specs.declared.ends.End.TheVariants.{Budget}
-use Rattle.two_machines.specs.Checked.{program_of}
-use Rattle.two_machines.specs.Program.{Program}
-use Rattle.two_machines.specs.Start.{start_of}
+use Rattle.eh_walk.specs.two_machines.Checked.{program_of}
+use Rattle.eh_walk.specs.two_machines.Program.{Program}
+use Rattle.eh_walk.specs.two_machines.Start.{start_of}
 use Rattle.program_answers.specs.declared.stop.Stop.{Stop}
 use Rattle.ehabi_top.specs.Loading.{Closing, Report, closing_of}
 use Rattle.thread_laws.specs.RecordedThreads as recorded

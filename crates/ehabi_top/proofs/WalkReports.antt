@@ -1,18 +1,18 @@
 -- The report of a walk, from what the run to a site does and what is walked from there.
 use Rattle.std.proofs.Common.{◌≡◌, ℕ, List, ◌++◌, Option, Result, false, inl, refl, sym, ap, subst, ◌∙◌, append_assoc}
 use Rattle.elf_image.specs.Image.{Image}
-use Rattle.eh_gates.specs.State.{State}
-use Rattle.eh_phase.specs.Phases.{Frames}
+use Rattle.eh_walk.specs.eh_gates.State.{State}
+use Rattle.eh_walk.specs.eh_phase.Phases.{Frames}
 use Rattle.eh_trace.specs.Text.{trace_text}
 use Rattle.eh_trace.specs.Trace.{Trace}
-use Rattle.eh_types.specs.Graph.{name_of}
-use Rattle.event_runs.specs.Laws.{SameRan}
-use Rattle.event_runs.specs.Runs.{Ran}
+use Rattle.eh_walk.specs.eh_types.Graph.{name_of}
+use Rattle.eh_walk.specs.event_runs.Laws.{SameRan}
+use Rattle.eh_walk.specs.event_runs.Runs.{Ran}
 use Rattle.frame_check.specs.Accepts.{Accepted}
-use Rattle.guest_gates.specs.Ends.{is_fault}
+use Rattle.eh_walk.specs.guest_gates.Ends.{is_fault}
 use Rattle.thumb_core.specs.declared.ends.End.{End}
 use Rattle.thumb_core.specs.declared.ends.End.TheVariants.{Exit, Terminate, Trap, Budget, ReadFault, WriteFault}
-use Rattle.two_machines.specs.Activations.{Recorded}
+use Rattle.eh_walk.specs.two_machines.Activations.{Recorded}
 use Rattle.eh_walk.specs.Laws.{SameWalks}
 use Rattle.eh_walk.specs.Reaching.{Onward}
 use Rattle.eh_walk.specs.Text.{walk_text}

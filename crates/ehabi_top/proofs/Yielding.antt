@@ -7,14 +7,14 @@ use Rattle.std.specs.Io.KnownBytes.{Appends}
 use Rattle.eh_port.specs.Causes.{Rose}
 use Rattle.eh_port.specs.Writing.{AppendsPart}
 use Rattle.eh_port.proofs.Parts.{part_first, part_then}
-use Rattle.event_runs.specs.Runs.{Machine, Ran, Runs, ran_of}
-use Rattle.guest_gates.specs.Ends.{is_fault}
+use Rattle.eh_walk.specs.event_runs.Runs.{Machine, Ran, Runs, ran_of}
+use Rattle.eh_walk.specs.guest_gates.Ends.{is_fault}
 use Rattle.thumb_core.specs.declared.ends.End.{End}
 use Rattle.thumb_core.specs.declared.ends.End.TheVariants.{Exit, Terminate, Trap, Budget, ReadFault, WriteFault}
-use Rattle.eh_gates.specs.State.{State}
+use Rattle.eh_walk.specs.eh_gates.State.{State}
 use Rattle.eh_walk.specs.Reaching.{RunsToSite, after, most_events, site_machine}
-use Rattle.two_machines.specs.Machine.{machine_of}
-use Rattle.two_machines.specs.Program.{Program}
+use Rattle.eh_walk.specs.two_machines.Machine.{machine_of}
+use Rattle.eh_walk.specs.two_machines.Program.{Program}
 use Rattle.program_answers.specs.declared.stop.Stop.{Stop}
 use Rattle.program_answers.specs.declared.stop.Stop.TheVariants.{Read, Write, Memory}
 use Rattle.ehabi_top.specs.Loading.{Report, Closing, closed_report, stop_of_fault}

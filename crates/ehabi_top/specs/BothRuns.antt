@@ -6,15 +6,15 @@ use Rattle.eh_bus.specs.Memory.{store}
 use Rattle.eh_bus.specs.Place.{IsWidth}
 use Rattle.eh_bus.specs.Segment.{AreBytes}
 use Rattle.eh_bus.specs.declared.fault.BusFault.TheVariants.{SavedSlot}
-use Rattle.eh_gates.specs.State.{State}
-use Rattle.two_machines.specs.ActivationMachine.{recorded_machine}
-use Rattle.two_machines.specs.Activations.{Recorded, recorded_start, slots_of}
-use Rattle.two_machines.specs.Checked.{program_of}
-use Rattle.two_machines.specs.Machine.{machine_of}
-use Rattle.two_machines.specs.Start.{start_of}
+use Rattle.eh_walk.specs.eh_gates.State.{State}
+use Rattle.eh_walk.specs.two_machines.ActivationMachine.{recorded_machine}
+use Rattle.eh_walk.specs.two_machines.Activations.{Recorded, recorded_start, slots_of}
+use Rattle.eh_walk.specs.two_machines.Checked.{program_of}
+use Rattle.eh_walk.specs.two_machines.Machine.{machine_of}
+use Rattle.eh_walk.specs.two_machines.Start.{start_of}
 use Rattle.eh_trace.specs.Trace.{Trace}
-use Rattle.event_runs.specs.Laws.{SameRan}
-use Rattle.event_runs.specs.Runs.{Ran, ran_of}
+use Rattle.eh_walk.specs.event_runs.Laws.{SameRan}
+use Rattle.eh_walk.specs.event_runs.Runs.{Ran, ran_of}
 use Rattle.frame_check.specs.Accepts.{Accepted}
 use Rattle.thumb_core.specs.declared.ends.End.{End}
 

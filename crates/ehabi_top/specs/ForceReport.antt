@@ -3,18 +3,18 @@
 use Rattle.std.specs.Prelude.{ℕ, ◌≡◌, ◌++◌, ◌-◌, List, codes, unwrap_or, Result, Ok, Err}
 use Rattle.elf_image.specs.Image.{Image, symbol_in}
 use Rattle.eh_bus.specs.Segment.{AreBytes}
-use Rattle.eh_gates.specs.State.{State}
+use Rattle.eh_walk.specs.eh_gates.State.{State}
 use Rattle.eh_trace.specs.Trace.{Trace}
-use Rattle.event_runs.specs.Runs.{Machine, Ran, ran_of}
+use Rattle.eh_walk.specs.event_runs.Runs.{Machine, Ran, ran_of}
 use Rattle.frame_check.specs.Accepts.{Accepted}
 use Rattle.thumb_core.specs.declared.ends.End.{End}
 use Rattle.thumb_core.specs.declared.ends.End.TheVariants.{Exit, Terminate, Trap, Budget, ReadFault, WriteFault}
-use Rattle.two_machines.specs.ActivationMachine.{recorded_machine}
-use Rattle.two_machines.specs.Activations.{Recorded}
-use Rattle.two_machines.specs.Checked.{program_of}
-use Rattle.two_machines.specs.Machine.{machine_of}
-use Rattle.stands_for.specs.Stands.{StandsFor}
-use Rattle.event_runs.specs.Laws.{SameRan}
+use Rattle.eh_walk.specs.two_machines.ActivationMachine.{recorded_machine}
+use Rattle.eh_walk.specs.two_machines.Activations.{Recorded}
+use Rattle.eh_walk.specs.two_machines.Checked.{program_of}
+use Rattle.eh_walk.specs.two_machines.Machine.{machine_of}
+use Rattle.eh_walk.specs.stands_for.Stands.{StandsFor}
+use Rattle.eh_walk.specs.event_runs.Laws.{SameRan}
 use Rattle.eh_walk.specs.Forced.{Forced, RecordedForced, forced, recorded_forced}
 use Rattle.eh_walk.specs.Laws.{OnwardFor}
 use Rattle.eh_walk.specs.Reaching.{Onward}

@@ -1,7 +1,7 @@
 -- The report of `gen K M`: the program of a number is built, checked, and run with nothing to read. What it writes is dropped, and its
 -- events are counted. The input is left.
 use Rattle.std.specs.Prelude.{ℕ, ◌≡◌, ◌++◌, List, [], ◌∷◌, length, codes, Result}
-use Rattle.event_runs.specs.Runs.{Ran}
+use Rattle.eh_walk.specs.event_runs.Runs.{Ran}
 use Rattle.eh_kit.specs.ProgramText.{generated_text}
 use Rattle.eh_trace.specs.Trace.{Trace}
 use Rattle.frame_check.specs.Accepts.{Accepted}

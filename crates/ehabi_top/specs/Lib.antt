@@ -1,3 +1,10 @@
+pub use Rattle.eh_walk.specs.event_runs
+pub use Rattle.eh_walk.specs.eh_phase
+pub use Rattle.eh_walk.specs.eh_gates
+pub use Rattle.eh_walk.specs.two_machines
+pub mod thread_run
+pub mod thread_laws
+pub mod eh_walk
 pub mod WalkReport
 pub mod ForceReport
 pub mod Words

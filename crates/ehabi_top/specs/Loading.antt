@@ -1,6 +1,6 @@
 -- What a report is, and the parts that the reports of several commands share (docs/command-line.md).
 use Rattle.std.specs.Prelude.{ℕ, ◌==◌, List, ◌++◌, if◌then◌else◌}
-use Rattle.event_runs.specs.Runs.{Ran}
+use Rattle.eh_walk.specs.event_runs.Runs.{Ran}
 use Rattle.thumb_core.specs.declared.ends.End.{End}
 use Rattle.thumb_core.specs.declared.ends.End.TheVariants.{Exit, Terminate, Trap, Budget, ReadFault, WriteFault}
 use Rattle.report_lines.specs.Text.{end_line}

@@ -3,8 +3,8 @@ use Rattle.std.specs.Prelude.{ℕ, ◌≡◌, ◌++◌, List}
 use Rattle.eh_bus.specs.Segment.{AreBytes}
 use Rattle.eh_trace.specs.Text.{trace_text}
 use Rattle.eh_trace.specs.Trace.{Trace}
-use Rattle.eh_types.specs.Graph.{name_of}
-use Rattle.event_runs.specs.Runs.{Ran}
+use Rattle.eh_walk.specs.eh_types.Graph.{name_of}
+use Rattle.eh_walk.specs.event_runs.Runs.{Ran}
 use Rattle.frame_check.specs.Accepts.{Accepted}
 use Rattle.thumb_core.specs.declared.ends.End.{End}
 use Rattle.ehabi_top.specs.BothRuns.{bytes_run, recorded_run, bytes_events, recorded_events, RefusesStores}

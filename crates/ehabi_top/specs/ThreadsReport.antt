@@ -5,8 +5,8 @@ use Rattle.std.specs.Result.{result_map_both}
 use Rattle.eh_bus.specs.Segment.{AreBytes}
 use Rattle.eh_trace.specs.Text.{trace_text}
 use Rattle.eh_trace.specs.Trace.{Trace}
-use Rattle.eh_types.specs.Graph.{name_of}
-use Rattle.event_runs.specs.Runs.{Ran}
+use Rattle.eh_walk.specs.eh_types.Graph.{name_of}
+use Rattle.eh_walk.specs.event_runs.Runs.{Ran}
 use Rattle.frame_check.specs.Accepts.{Accepted}
 use Rattle.thread_run.specs.Elements.{joint_over}
 use Rattle.thread_laws.specs.RecordedThreads.{RecordedPlace, threads_at_start, recorded_schedule_run, bytes_told, recorded_told}
@@ -14,8 +14,8 @@ use Rattle.thread_run.specs.Schedules.{Scheduled, schedule_run}
 use Rattle.thread_schedule.specs.Schedules.{schedule_of}
 use Rattle.thread_schedule.specs.Tags.{tagged}
 use Rattle.thumb_core.specs.declared.ends.End.{End}
-use Rattle.two_machines.specs.Checked.{program_of}
-use Rattle.two_machines.specs.Start.{start_of}
+use Rattle.eh_walk.specs.two_machines.Checked.{program_of}
+use Rattle.eh_walk.specs.two_machines.Start.{start_of}
 use Rattle.ehabi_top.specs.Accepting.{BytesReportsBy, IsUnaccepted}
 use Rattle.ehabi_top.specs.Building.{built, files_of, made_of_found}
 use Rattle.ehabi_top.specs.Finding.{FoundReports}

@@ -2,17 +2,17 @@
 -- there.
 use Rattle.std.specs.Prelude.{ℕ, ◌≡◌, ◌++◌, List, Option}
 use Rattle.eh_bus.specs.Segment.{AreBytes}
-use Rattle.eh_gates.specs.State.{State}
-use Rattle.eh_phase.specs.Phases.{Frames}
+use Rattle.eh_walk.specs.eh_gates.State.{State}
+use Rattle.eh_walk.specs.eh_phase.Phases.{Frames}
 use Rattle.eh_trace.specs.Trace.{Trace}
-use Rattle.event_runs.specs.Laws.{SameRan}
-use Rattle.event_runs.specs.Runs.{Ran}
+use Rattle.eh_walk.specs.event_runs.Laws.{SameRan}
+use Rattle.eh_walk.specs.event_runs.Runs.{Ran}
 use Rattle.frame_check.specs.Accepts.{Accepted}
 use Rattle.thumb_core.specs.declared.ends.End.{End}
 use Rattle.thumb_core.specs.declared.ends.End.TheVariants.{Exit, Terminate, Trap, Budget, ReadFault, WriteFault}
-use Rattle.two_machines.specs.Activations.{Recorded, recorded_start}
-use Rattle.two_machines.specs.Checked.{program_of}
-use Rattle.two_machines.specs.Start.{start_of}
+use Rattle.eh_walk.specs.two_machines.Activations.{Recorded, recorded_start}
+use Rattle.eh_walk.specs.two_machines.Checked.{program_of}
+use Rattle.eh_walk.specs.two_machines.Start.{start_of}
 use Rattle.eh_walk.specs.Laws.{SameWalks}
 use Rattle.eh_walk.specs.Reaching.{Onward, run_to_site, recorded_run_to_site}
 use Rattle.eh_walk.specs.Text.{walk_text}

@@ -5,7 +5,7 @@ use Rattle.ehabi_top.specs.Loading.{Closing, stop_of_fault}
 use Rattle.program_answers.specs.Writes.{Answers, Stopped}
 use Rattle.program_answers.specs.declared.stop.Stop.{Stop}
 use Rattle.program_answers.specs.declared.stop.Stop.TheVariants.{Memory}
-use Rattle.guest_gates.specs.Ends.{is_fault}
+use Rattle.eh_walk.specs.guest_gates.Ends.{is_fault}
 use Rattle.thumb_core.specs.declared.ends.End.{End}
 
 -- a call that ends a run with what stands after the guest's bytes, or found no memory for it; at a fault it writes nothing

@@ -7,10 +7,10 @@ ghost use Rattle.ehabi_top.specs.RunReport.{trace};
 ghost use Rattle.ehabi_top.specs.ThreadsReport.{threads_trace};
 ghost use Rattle.thread_schedule.specs.declared.tags.TheConstants.{TAGS};
 ghost use Rattle.program_answers.specs.declared.stop.Stop.TheVariants.{Memory};
-ghost use Rattle.guest_gates.specs.Ends.{is_fault};
+ghost use Rattle.eh_walk.specs.guest_gates.Ends.{is_fault};
 ghost use Rattle.thread_schedule.specs.Tags.{tagged};
 ghost use Rattle.eh_trace.specs.Text.{trace_text};
-ghost use Rattle.eh_types.specs.Graph.{name_of};
+ghost use Rattle.eh_walk.specs.eh_types.Graph.{name_of};
 
 use crate::summary::summary_lines;
 use eh_port::Sink;

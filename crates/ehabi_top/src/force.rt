@@ -1,7 +1,7 @@
 //! `force FILE N K` and `force FILE.. N K`: a run of an accepted image goes on to a site, is unwound by force to a frame there, and goes on
 //! (docs/walks.md, "Forced unwinding by a command").
 ghost use Rattle.std.specs.Prelude.{◌≡◌, ◌++◌, ◌-◌, ◌^◌, ◌<◌};
-ghost use Rattle.eh_gates.specs.State.{State, state_of};
+ghost use Rattle.eh_walk.specs.eh_gates.State.{State, state_of};
 ghost use Rattle.thumb_core.specs.declared.ends.End.TheVariants.{Budget};
 ghost use Rattle.ehabi_top.specs.ForceReport.{ForcesAccepted, IsUnforced, IsRefusedForcing, bytes_forced, bytes_from_site, forced_type, unforced};
 ghost use Rattle.ehabi_top.specs.RunReport.{trace};

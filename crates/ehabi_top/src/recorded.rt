@@ -1,7 +1,7 @@
 //! The run of an accepted image is the one with recorded activations (docs/machine.md, "The same with recorded activations").
 ghost use Rattle.std.specs.Prelude.{◌≡◌};
-ghost use Rattle.two_machines.specs.Checked.{program_of};
-ghost use Rattle.two_machines.specs.Start.{start_of};
+ghost use Rattle.eh_walk.specs.two_machines.Checked.{program_of};
+ghost use Rattle.eh_walk.specs.two_machines.Start.{start_of};
 ghost use Rattle.ehabi_top.specs.BothRuns.{RunSame, SlotsStay};
 ghost use Rattle.ehabi_top.specs.ForceReport.{ForcesSame};
 ghost use Rattle.ehabi_top.specs.ThreadsReport.{ThreadsSame};
@@ -13,7 +13,7 @@ use eh_walk::laws::{
     forcings_same, going_on_same, reaches_leave_bytes, reaches_same, walks_same as all_walks_same,
 };
 use frame_check::Accepted;
-use machines_agree::{runs_guard, runs_same as all_runs_same};
+use eh_machine::{runs_guard, runs_same as all_runs_same};
 use thread_laws::schedules_same;
 
 /// From the start of an accepted image, over any bus that has its memory, the machine over bytes does what the one with recorded activations

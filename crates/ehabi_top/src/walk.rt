@@ -3,7 +3,7 @@
 ghost use Rattle.ehabi_top.specs.WalkReport.{WalksAccepted, bytes_walk, walk_closing, walked_by};
 ghost use Rattle.ehabi_top.specs.Writes.{AnswersRun};
 ghost use Rattle.ehabi_top.specs.Yields.{Yields, streams};
-ghost use Rattle.eh_gates.specs.State.{state_of};
+ghost use Rattle.eh_walk.specs.eh_gates.State.{state_of};
 ghost use Rattle.thumb_core.specs.declared.ends.End.TheVariants.{Budget};
 
 use crate::answer::answer_run;

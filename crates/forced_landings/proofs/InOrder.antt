@@ -1,28 +1,28 @@
 -- A forced unwinding that isn't refused is a flight to a barrier within reach.
 use Rattle.std.proofs.Common.{◌≡◌, ℕ, ◌<◌, ◌^◌, ◌⊎◌, inl, inr, List, ◌∷◌, refl, sym, ap, subst, ◌∙◌, Option, Some, None, Result, Ok, Err}
 use Rattle.std.specs.Prelude.{drop, is_some}
-use Rattle.eh_cxa.specs.Allocate.{first_slot}
-use Rattle.eh_cxa.specs.ListCalls.{is_free, allocate_in, allocate_list, innermost_in}
-use Rattle.eh_cxa.specs.Lists.{entry}
-use Rattle.eh_cxa.specs.Throw.{set_barrier_of}
-use Rattle.eh_cxa.specs.Words.{block, block_slot, object}
-use Rattle.eh_gates.specs.Throwing.{handed, barrier_words}
-use Rattle.eh_gates.specs.declared.state.Turned.TheVariants.{Went}
-use Rattle.eh_phase.specs.Laws.{goal_of, Lands}
-use Rattle.eh_phase.specs.Phases.{phase2}
-use Rattle.eh_phase.specs.declared.phase1.Barrier.{Barrier}
-use Rattle.eh_phase.specs.declared.phase2.Entered.{Entered}
-use Rattle.eh_phase.specs.declared.phase2.Entered.TheVariants as enters
-use Rattle.eh_types.specs.Graph.{row_of}
-use Rattle.frame_check.specs.Accepts.{Accepted}
-use Rattle.two_machines.specs.Activations.{Activation, Recorded, memory_of, lists_of, cleanups_in, with_words}
-use Rattle.two_machines.specs.ActivationMachine as acts
-use Rattle.two_machines.specs.Checked.{program_of}
-use Rattle.two_machines.specs.Program.{program_tables}
-use Rattle.stands_for.specs.Stands.{Keeps, IsProgram}
-use Rattle.machines_agree.specs.Turned.{AreBytes}
-use Rattle.resumes_keep.specs.Flying.{fly_from}
-use Rattle.resumes_keep.proofs.FlyFrom.{flights_match, gates_fly}
+use Rattle.eh_walk.specs.eh_cxa.Allocate.{first_slot}
+use Rattle.eh_walk.specs.eh_cxa.ListCalls.{is_free, allocate_in, allocate_list, innermost_in}
+use Rattle.eh_walk.specs.eh_cxa.Lists.{entry}
+use Rattle.eh_walk.specs.eh_cxa.Throw.{set_barrier_of}
+use Rattle.eh_walk.specs.eh_cxa.Words.{block, block_slot, object}
+use Rattle.eh_walk.specs.eh_gates.Throwing.{handed, barrier_words}
+use Rattle.eh_walk.specs.eh_gates.declared.state.Turned.TheVariants.{Went}
+use Rattle.eh_walk.specs.eh_phase.Laws.{goal_of, Lands}
+use Rattle.eh_walk.specs.eh_phase.Phases.{phase2}
+use Rattle.eh_walk.specs.eh_phase.declared.phase1.Barrier.{Barrier}
+use Rattle.eh_walk.specs.eh_phase.declared.phase2.Entered.{Entered}
+use Rattle.eh_walk.specs.eh_phase.declared.phase2.Entered.TheVariants as enters
+use Rattle.eh_walk.specs.eh_types.Graph.{row_of}
+use Rattle.eh_walk.specs.frame_check.Accepts.{Accepted}
+use Rattle.eh_walk.specs.two_machines.Activations.{Activation, Recorded, memory_of, lists_of, cleanups_in, with_words}
+use Rattle.eh_walk.specs.two_machines.ActivationMachine as acts
+use Rattle.eh_walk.specs.two_machines.Checked.{program_of}
+use Rattle.eh_walk.specs.two_machines.Program.{program_tables}
+use Rattle.eh_walk.specs.stands_for.Stands.{Keeps, IsProgram}
+use Rattle.eh_walk.specs.machines_agree.Turned.{AreBytes}
+use Rattle.eh_walk.specs.resumes_keep.Flying.{fly_from}
+use Rattle.eh_walk.proofs.resumes_keep.FlyFrom.{flights_match, gates_fly}
 use Rattle.landing_laws.specs.LandingLaws.{FlightsLandInOrder}
 use Rattle.eh_walk.specs.declared.stopping.ForceFault.{ForceFault}
 use Rattle.eh_walk.specs.declared.stopping.ForceFault.TheVariants.{NotSite, PoolFull}

@@ -1,18 +1,18 @@
 -- The landing pads of a forced unwinding are the cleanups on the way to its stop, in order, and then the stop's (docs/walks.md, "Laws").
 use Rattle.std.specs.Prelude.{ℕ, ◌≡◌, ◌<◌, ◌^◌, ◌⊎◌, List, ◌∷◌, Some, None, is_some, Ok}
-use Rattle.eh_cxa.specs.ListCalls.{allocate_list, innermost_in}
-use Rattle.eh_cxa.specs.Words.{object}
-use Rattle.eh_phase.specs.Cleanups.{due}
-use Rattle.eh_phase.specs.Laws.{goal_of}
-use Rattle.eh_phase.specs.Phases.{Frames, phase2}
-use Rattle.eh_phase.specs.declared.phase2.Entered.TheVariants as enters
-use Rattle.eh_types.specs.Graph.{row_of}
-use Rattle.frame_check.specs.Accepts.{Accepted}
-use Rattle.thumb_core.specs.Registers.{all_of}
-use Rattle.two_machines.specs.Activations.{Recorded, memory_of, lists_of, cleanups_in, frames_at}
-use Rattle.two_machines.specs.Checked.{program_of}
-use Rattle.stands_for.specs.Stands.{Keeps, IsProgram}
-use Rattle.machines_agree.specs.Turned.{AreBytes}
+use Rattle.eh_walk.specs.eh_cxa.ListCalls.{allocate_list, innermost_in}
+use Rattle.eh_walk.specs.eh_cxa.Words.{object}
+use Rattle.eh_walk.specs.eh_phase.Cleanups.{due}
+use Rattle.eh_walk.specs.eh_phase.Laws.{goal_of}
+use Rattle.eh_walk.specs.eh_phase.Phases.{Frames, phase2}
+use Rattle.eh_walk.specs.eh_phase.declared.phase2.Entered.TheVariants as enters
+use Rattle.eh_walk.specs.eh_types.Graph.{row_of}
+use Rattle.eh_walk.specs.frame_check.Accepts.{Accepted}
+use Rattle.eh_walk.specs.thumb_core.Registers.{all_of}
+use Rattle.eh_walk.specs.two_machines.Activations.{Recorded, memory_of, lists_of, cleanups_in, frames_at}
+use Rattle.eh_walk.specs.two_machines.Checked.{program_of}
+use Rattle.eh_walk.specs.stands_for.Stands.{Keeps, IsProgram}
+use Rattle.eh_walk.specs.machines_agree.Turned.{AreBytes}
 use Rattle.landing_laws.specs.Landings.{stands_at, landings, resumes_of, pads, AreFirst}
 use Rattle.eh_walk.specs.Forced.{recorded_forced, stop_barrier}
 use Rattle.eh_walk.specs.Sites.{site_state}

@@ -1,3 +1,8 @@
+pub mod flow
+pub mod frame_facts
+pub mod frame_graph
+pub mod frame_reach
+pub mod frame_flow
 pub mod Tables
 pub mod Counting
 pub mod Marked

@@ -1,3 +1,6 @@
+pub use Rattle.accesses_keep.proofs.flow
+pub use Rattle.accesses_keep.proofs.thumb_core
+pub use Rattle.accesses_keep.proofs.event_runs
 pub mod accesses_keep
 pub use Rattle.accesses_keep.proofs.two_machines
 pub use Rattle.accesses_keep.proofs.frame_check

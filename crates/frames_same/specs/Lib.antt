@@ -1,3 +1,4 @@
+pub use Rattle.accesses_keep.specs.eh_list
 pub use Rattle.accesses_keep.specs.two_machines
 pub use Rattle.accesses_keep.specs.frame_check
 pub use Rattle.accesses_keep.specs.frame_flow

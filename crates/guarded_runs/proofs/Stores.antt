@@ -1,10 +1,10 @@
 -- A PUSH or an STM that would store to a slot, along runs.
 use Rattle.std.proofs.Common.{◌≡◌, ℕ, subst, Err}
-use Rattle.resumes_keep.specs.eh_bus.Memory.{store_run}
-use Rattle.resumes_keep.specs.eh_bus.declared.fault.BusFault.TheVariants.{SavedSlot}
-use Rattle.resumes_keep.specs.thumb_core.Lists.{words_of}
-use Rattle.resumes_keep.specs.eh_gates.State.{reg}
-use Rattle.resumes_keep.specs.two_machines.Checked.{program_of}
+use Rattle.machines_agree.specs.resumes_keep.eh_bus.Memory.{store_run}
+use Rattle.machines_agree.specs.resumes_keep.eh_bus.declared.fault.BusFault.TheVariants.{SavedSlot}
+use Rattle.machines_agree.specs.resumes_keep.thumb_core.Lists.{words_of}
+use Rattle.machines_agree.specs.resumes_keep.eh_gates.State.{reg}
+use Rattle.machines_agree.specs.resumes_keep.two_machines.Checked.{program_of}
 use Rattle.memory_laws.specs.Runs.{word_address}
 use Rattle.event_laws.proofs.Saves.{refused_end}
 use Rattle.guarded_runs.specs.Words.{bytes_at}

@@ -1,9 +1,9 @@
 -- A run over bytes stands where the run with recorded activations does, and there the slots are guarded.
 use Rattle.std.proofs.Common.{◌≡◌, inl, sym, subst, Err}
-use Rattle.resumes_keep.specs.eh_bus.Memory.{store_run}
-use Rattle.resumes_keep.specs.eh_bus.declared.fault.BusFault.TheVariants.{SavedSlot}
-use Rattle.resumes_keep.specs.eh_gates.State.{State}
-use Rattle.resumes_keep.proofs.two_machines.Saving.{are_guarded}
+use Rattle.machines_agree.specs.resumes_keep.eh_bus.Memory.{store_run}
+use Rattle.machines_agree.specs.resumes_keep.eh_bus.declared.fault.BusFault.TheVariants.{SavedSlot}
+use Rattle.machines_agree.specs.resumes_keep.eh_gates.State.{State}
+use Rattle.machines_agree.proofs.resumes_keep.two_machines.Saving.{are_guarded}
 use Rattle.machines_agree.proofs.WholeRuns.{runs_same}
 use Rattle.memory_laws.specs.Runs.{word_address, CanStore}
 use Rattle.memory_laws.proofs.Guarded.{runs_refused}

@@ -1,17 +1,17 @@
 -- PUSH and STM along runs of accepted images (docs/machine.md, "An event"; docs/standing-for.md, "What is proved").
 use Rattle.std.specs.Prelude.{◌≡◌, ℕ, ◌+◌, ◌-◌, ◌*◌, ◌%◌, ◌^◌, ◌<◌, true, List, length, Some}
-use Rattle.resumes_keep.specs.event_runs.Runs.{Ends}
-use Rattle.resumes_keep.specs.frame_check.Accepts.{Accepted}
-use Rattle.resumes_keep.specs.thumb_isa.declared.instr.Instr.TheVariants.{Push, Stm}
-use Rattle.resumes_keep.specs.thumb_core.Step.{instr_at}
-use Rattle.resumes_keep.specs.thumb_core.Lists.{words_of}
-use Rattle.resumes_keep.specs.thumb_core.Words.{listed}
-use Rattle.resumes_keep.specs.thumb_core.declared.ends.TrapKind.TheVariants as kind
-use Rattle.resumes_keep.specs.thumb_core.declared.ends.End.TheVariants as the_end
-use Rattle.resumes_keep.specs.eh_gates.State.{reg}
-use Rattle.resumes_keep.specs.two_machines.Checked.{program_of}
-use Rattle.resumes_keep.specs.two_machines.Machine.{machine_event}
-use Rattle.resumes_keep.specs.stands_for.Stands.{IsProgram}
+use Rattle.machines_agree.specs.resumes_keep.event_runs.Runs.{Ends}
+use Rattle.machines_agree.specs.resumes_keep.frame_check.Accepts.{Accepted}
+use Rattle.machines_agree.specs.resumes_keep.thumb_isa.declared.instr.Instr.TheVariants.{Push, Stm}
+use Rattle.machines_agree.specs.resumes_keep.thumb_core.Step.{instr_at}
+use Rattle.machines_agree.specs.resumes_keep.thumb_core.Lists.{words_of}
+use Rattle.machines_agree.specs.resumes_keep.thumb_core.Words.{listed}
+use Rattle.machines_agree.specs.resumes_keep.thumb_core.declared.ends.TrapKind.TheVariants as kind
+use Rattle.machines_agree.specs.resumes_keep.thumb_core.declared.ends.End.TheVariants as the_end
+use Rattle.machines_agree.specs.resumes_keep.eh_gates.State.{reg}
+use Rattle.machines_agree.specs.resumes_keep.two_machines.Checked.{program_of}
+use Rattle.machines_agree.specs.resumes_keep.two_machines.Machine.{machine_event}
+use Rattle.machines_agree.specs.resumes_keep.stands_for.Stands.{IsProgram}
 use Rattle.machines_agree.specs.Turned.{AreBytes}
 use Rattle.memory_laws.specs.Runs.{word_address, CanStore}
 use Rattle.guarded_runs.specs.Words.{bytes_at, IsSlot}

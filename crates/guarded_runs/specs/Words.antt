@@ -1,12 +1,12 @@
 -- Stores of several words along runs of accepted images (docs/standing-for.md, "What is proved").
 use Rattle.std.specs.Prelude.{◌≡◌, ℕ, ◌^◌, ◌<◌, List, ◌∷◌, length, Err}
-use Rattle.resumes_keep.specs.frame_check.Accepts.{Accepted}
-use Rattle.resumes_keep.specs.eh_bus.Lists.{Has}
-use Rattle.resumes_keep.specs.eh_bus.Memory.{store_run}
-use Rattle.resumes_keep.specs.eh_bus.declared.fault.BusFault.TheVariants.{SavedSlot}
-use Rattle.resumes_keep.specs.eh_gates.State.{State}
-use Rattle.resumes_keep.specs.two_machines.Activations.{Recorded, slots_of}
-use Rattle.resumes_keep.specs.stands_for.Stands.{IsProgram}
+use Rattle.machines_agree.specs.resumes_keep.frame_check.Accepts.{Accepted}
+use Rattle.machines_agree.specs.resumes_keep.eh_bus.Lists.{Has}
+use Rattle.machines_agree.specs.resumes_keep.eh_bus.Memory.{store_run}
+use Rattle.machines_agree.specs.resumes_keep.eh_bus.declared.fault.BusFault.TheVariants.{SavedSlot}
+use Rattle.machines_agree.specs.resumes_keep.eh_gates.State.{State}
+use Rattle.machines_agree.specs.resumes_keep.two_machines.Activations.{Recorded, slots_of}
+use Rattle.machines_agree.specs.resumes_keep.stands_for.Stands.{IsProgram}
 use Rattle.machines_agree.specs.Turned.{AreBytes, byte_run, recorded_run}
 use Rattle.memory_laws.specs.Runs.{word_address, CanStore}
 

@@ -1,15 +1,15 @@
 -- Writes into the pool beside the words of barriers, and the goal that these words are.
 use Rattle.std.proofs.Common.{◌≡◌, ℕ, ◌+◌, ◌*◌, ◌<◌, ◌≤◌, ◌⊎◌, inl, inr, List, [], ◌∷◌, refl, ◌∙◌, ap, arith}
 use Rattle.std.proofs.lemmas.Bool.{cases_eq, cases_lt}
-use Rattle.eh_bus.specs.Memory.{Memory}
-use Rattle.eh_bus.specs.Segment.{Apart}
-use Rattle.eh_bus.specs.declared.map.TheConstants.{POOL_START, SLOT_SIZE}
-use Rattle.eh_bus.proofs.PartLaws.{host_other}
-use Rattle.eh_cxa.specs.Words.{Write, word, put, put_all}
-use Rattle.eh_cxa.specs.declared.layout.TheConstants.{SLOT_WORDS, BARRIER_SP, BARRIER_DESCRIPTOR, BARRIER_WORD_4}
-use Rattle.eh_phase.specs.declared.phase2.Goal.{Goal}
-use Rattle.two_machines.specs.Activations.{Recorded, memory_of}
-use Rattle.stands_for.specs.Cleanups.{goal_at}
+use Rattle.machines_agree.specs.eh_bus.Memory.{Memory}
+use Rattle.machines_agree.specs.eh_bus.Segment.{Apart}
+use Rattle.machines_agree.specs.eh_bus.declared.map.TheConstants.{POOL_START, SLOT_SIZE}
+use Rattle.machines_agree.proofs.eh_bus.PartLaws.{host_other}
+use Rattle.machines_agree.specs.eh_cxa.Words.{Write, word, put, put_all}
+use Rattle.machines_agree.specs.eh_cxa.declared.layout.TheConstants.{SLOT_WORDS, BARRIER_SP, BARRIER_DESCRIPTOR, BARRIER_WORD_4}
+use Rattle.machines_agree.specs.eh_phase.declared.phase2.Goal.{Goal}
+use Rattle.machines_agree.specs.two_machines.Activations.{Recorded, memory_of}
+use Rattle.machines_agree.specs.stands_for.Cleanups.{goal_at}
 
 abbrev pub AreBeside : List Write → Type 0
 AreBeside [] = Unit {0}

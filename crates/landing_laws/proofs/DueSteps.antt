@@ -1,19 +1,19 @@
 -- After a cleanup that phase 2 enters, what is due goes on at its frame; and a frame of which nothing is entered leaves it.
 use Rattle.std.proofs.Common.{◌≡◌, ℕ, List, [], ◌∷◌, ◌++◌, Some, None, Result, Ok, sym, ◌∙◌, ap, subst}
 use Rattle.std.specs.List.{cons_option}
-use Rattle.eh_bytecode.specs.declared.frame.Vrs.{Vrs}
-use Rattle.eh_desc.specs.declared.descriptor.Desc.{Desc}
-use Rattle.eh_desc.specs.declared.descriptor.DescFault.{DescFault}
-use Rattle.eh_phase.specs.declared.phase2.Goal.{Goal}
-use Rattle.eh_phase.specs.declared.phase2.Entered.{Entered}
-use Rattle.eh_phase.specs.declared.phase2.Entered.TheVariants as enters
-use Rattle.eh_phase.specs.Cleanups.{due, due_in}
-use Rattle.eh_phase.specs.Firsts.{first_some}
-use Rattle.eh_phase.specs.Laws.{IsInOrder}
-use Rattle.eh_phase.specs.Phases.{Frame, Place, placed, places, from_address, vrs_of, entered_item}
-use Rattle.eh_phase.proofs.First.{first_past, first_gives, first_none}
-use Rattle.eh_phase.proofs.Due.{Stops, Sort, Unread, Quiet, Clean, Stop, sort, due_past}
-use Rattle.frames_same.proofs.GoesHere.{passes, places-from, left_after}
+use Rattle.machines_agree.specs.eh_bytecode.declared.frame.Vrs.{Vrs}
+use Rattle.machines_agree.specs.eh_desc.declared.descriptor.Desc.{Desc}
+use Rattle.machines_agree.specs.eh_desc.declared.descriptor.DescFault.{DescFault}
+use Rattle.machines_agree.specs.eh_phase.declared.phase2.Goal.{Goal}
+use Rattle.machines_agree.specs.eh_phase.declared.phase2.Entered.{Entered}
+use Rattle.machines_agree.specs.eh_phase.declared.phase2.Entered.TheVariants as enters
+use Rattle.machines_agree.specs.eh_phase.Cleanups.{due, due_in}
+use Rattle.machines_agree.specs.eh_phase.Firsts.{first_some}
+use Rattle.machines_agree.specs.eh_phase.Laws.{IsInOrder}
+use Rattle.machines_agree.specs.eh_phase.Phases.{Frame, Place, placed, places, from_address, vrs_of, entered_item}
+use Rattle.machines_agree.proofs.eh_phase.First.{first_past, first_gives, first_none}
+use Rattle.machines_agree.proofs.eh_phase.Due.{Stops, Sort, Unread, Quiet, Clean, Stop, sort, due_past}
+use Rattle.machines_agree.proofs.frames_same.GoesHere.{passes, places-from, left_after}
 
 abbrev Cleanup : Vrs → ℕ → ℕ → ℕ → Entered
 Cleanup vrs pad next site = enters.Cleanup vrs pad next site

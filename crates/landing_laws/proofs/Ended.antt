@@ -3,37 +3,37 @@ use Rattle.std.proofs.Common.{◌≡◌, ℕ, ◌<◌, ◌==◌, ◌&&◌, ◌�
 use Rattle.std.specs.Prelude.{slice_index, drop}
 use Rattle.std.proofs.lemmas.Bool.{eqb-true}
 use Rattle.std.proofs.lemmas.Bool.Decides.{nat_tests}
-use Rattle.eh_bus.specs.Lists.{Has}
-use Rattle.eh_cxa.specs.Lists.{Cleanup, Once, slots}
-use Rattle.eh_cxa.specs.Stands as cxa
-use Rattle.eh_cxa.specs.Throw.{barrier_of}
-use Rattle.eh_cxa.specs.Words.{word, block}
-use Rattle.eh_cxa.specs.declared.layout.TheConstants.{SLOTS, NEXT_CLEANUP}
-use Rattle.eh_cxa.proofs.Pools.{slot_small}
-use Rattle.eh_gates.specs.State.{Tables}
-use Rattle.eh_gates.specs.declared.state.Turned.TheVariants.{Went, Ended}
-use Rattle.eh_phase.specs.Cleanups.{due, is_reached}
-use Rattle.eh_phase.specs.Frames.{covered_at}
-use Rattle.eh_phase.specs.Laws.{Lands}
-use Rattle.eh_phase.specs.Phases.{Frame, Frames, phase2}
-use Rattle.eh_phase.specs.declared.phase2.Entered.{Entered}
-use Rattle.eh_phase.specs.declared.phase2.Entered.TheVariants as enters
-use Rattle.thumb_core.specs.declared.ends.Cause.{Cause}
-use Rattle.thumb_core.specs.declared.ends.Cause.TheVariants as cause
-use Rattle.thumb_core.specs.declared.ends.End.{End}
-use Rattle.thumb_core.specs.declared.ends.End.TheVariants as the_end
-use Rattle.thumb_core.specs.declared.ends.TrapKind.TheVariants as kind
-use Rattle.thumb_core.specs.declared.regs.TheConstants.{SP}
-use Rattle.frame_check.specs.Accepts.{Accepted}
-use Rattle.two_machines.specs.Activations.{Activation, Recorded, reg_in, memory_of, heads, registers_of, frames_at, lists_of, cleanups_in, InProgress}
-use Rattle.two_machines.specs.ActivationMachine as machine
-use Rattle.stands_for.specs.Chain.{StandsAtCall, Chain}
-use Rattle.stands_for.specs.Cleanups.{goal_at, by_sp, IsHeld, IsEntered, AreInProgress}
-use Rattle.stands_for.specs.Stands.{Keeps, IsProgram}
-use Rattle.frames_same.specs.Landings.{Fit}
-use Rattle.frames_same.proofs.Landing.{fit_frames}
-use Rattle.frames_same.proofs.Outwards.{at_sp}
-use Rattle.frames_same.proofs.ReachBySp.{reached_by_sp}
+use Rattle.machines_agree.specs.eh_bus.Lists.{Has}
+use Rattle.machines_agree.specs.eh_cxa.Lists.{Cleanup, Once, slots}
+use Rattle.machines_agree.specs.eh_cxa.Stands as cxa
+use Rattle.machines_agree.specs.eh_cxa.Throw.{barrier_of}
+use Rattle.machines_agree.specs.eh_cxa.Words.{word, block}
+use Rattle.machines_agree.specs.eh_cxa.declared.layout.TheConstants.{SLOTS, NEXT_CLEANUP}
+use Rattle.machines_agree.proofs.eh_cxa.Pools.{slot_small}
+use Rattle.machines_agree.specs.eh_gates.State.{Tables}
+use Rattle.machines_agree.specs.eh_gates.declared.state.Turned.TheVariants.{Went, Ended}
+use Rattle.machines_agree.specs.eh_phase.Cleanups.{due, is_reached}
+use Rattle.machines_agree.specs.eh_phase.Frames.{covered_at}
+use Rattle.machines_agree.specs.eh_phase.Laws.{Lands}
+use Rattle.machines_agree.specs.eh_phase.Phases.{Frame, Frames, phase2}
+use Rattle.machines_agree.specs.eh_phase.declared.phase2.Entered.{Entered}
+use Rattle.machines_agree.specs.eh_phase.declared.phase2.Entered.TheVariants as enters
+use Rattle.machines_agree.specs.thumb_core.declared.ends.Cause.{Cause}
+use Rattle.machines_agree.specs.thumb_core.declared.ends.Cause.TheVariants as cause
+use Rattle.machines_agree.specs.thumb_core.declared.ends.End.{End}
+use Rattle.machines_agree.specs.thumb_core.declared.ends.End.TheVariants as the_end
+use Rattle.machines_agree.specs.thumb_core.declared.ends.TrapKind.TheVariants as kind
+use Rattle.machines_agree.specs.thumb_core.declared.regs.TheConstants.{SP}
+use Rattle.machines_agree.specs.frame_check.Accepts.{Accepted}
+use Rattle.machines_agree.specs.two_machines.Activations.{Activation, Recorded, reg_in, memory_of, heads, registers_of, frames_at, lists_of, cleanups_in, InProgress}
+use Rattle.machines_agree.specs.two_machines.ActivationMachine as machine
+use Rattle.machines_agree.specs.stands_for.Chain.{StandsAtCall, Chain}
+use Rattle.machines_agree.specs.stands_for.Cleanups.{goal_at, by_sp, IsHeld, IsEntered, AreInProgress}
+use Rattle.machines_agree.specs.stands_for.Stands.{Keeps, IsProgram}
+use Rattle.machines_agree.specs.frames_same.Landings.{Fit}
+use Rattle.machines_agree.proofs.frames_same.Landing.{fit_frames}
+use Rattle.machines_agree.proofs.frames_same.Outwards.{at_sp}
+use Rattle.machines_agree.proofs.frames_same.ReachBySp.{reached_by_sp}
 use Rattle.landing_laws.specs.Landings.{stands_at, pads, AreFirst}
 use Rattle.landing_laws.specs.Due.{kept_frames, due_of, due_among, left_due}
 use Rattle.landing_laws.proofs.Beside.{same_goal}

@@ -1,31 +1,31 @@
 -- A throw and a rethrow that go on: the exception flies, its barrier is written, and phase 2 goes to it.
 use Rattle.std.proofs.Common.{◌≡◌, ℕ, Bool, true, false, cond, List, [], ◌∷◌, inl, Option, Some, None, Result, Ok, Err, refl, sym, ap, subst, ◌∙◌, arith}
 use Rattle.std.specs.Prelude.{is_some}
-use Rattle.eh_cxa.specs.Catch.{rethrow_by, rethrow_at, rethrow_of}
-use Rattle.eh_cxa.specs.ListCalls.{throw_by_list, throw_entry, throw_list, rethrow_by_list, rethrow_entry, rethrow_from, rethrow_list}
-use Rattle.eh_cxa.specs.Lists.{Lists, Record, Entry, Free, OutOfUse, Live, entry, state_in}
-use Rattle.eh_cxa.specs.States.{named, is_fresh, is_caught}
-use Rattle.eh_cxa.specs.Throw.{Throw, throw_by, start_throw_of}
-use Rattle.eh_cxa.specs.Words.{Write, Pool, block, block_slot, object_slot}
-use Rattle.eh_cxa.specs.declared.globals.CxaFault.{CxaFault}
-use Rattle.eh_cxa.specs.declared.globals.Globals.{Globals}
-use Rattle.eh_cxa.specs.declared.layout.TheConstants.{STATE}
-use Rattle.eh_cxa.specs.declared.state.State.TheVariants.{Flying}
-use Rattle.eh_gates.specs.State.{Tables}
-use Rattle.eh_gates.specs.Throwing.{barrier_in, throw_event}
-use Rattle.eh_gates.specs.declared.state.Turned.TheVariants.{Went}
-use Rattle.eh_phase.specs.declared.phase1.Barrier.{Barrier}
-use Rattle.eh_phase.specs.declared.phase1.Found.{Found}
-use Rattle.eh_phase.specs.declared.phase1.Found.TheVariants as found
-use Rattle.eh_phase.specs.declared.verdict.Thrown.{Thrown}
-use Rattle.eh_trace.specs.declared.event.Event.{Event}
-use Rattle.eh_trace.specs.declared.event.EventKind.{EventKind}
-use Rattle.eh_trace.specs.declared.event.EventKind.TheVariants as event
-use Rattle.eh_types.specs.Graph.{row_of}
-use Rattle.thumb_core.specs.declared.ends.End.TheVariants as the_end
-use Rattle.thumb_core.specs.declared.ends.TrapKind.TheVariants as trap
-use Rattle.two_machines.specs.Activations.{Recorded, reg_in, memory_of, words_in, heads, with_lists, lists_of}
-use Rattle.two_machines.specs.ActivationMachine as machine
+use Rattle.machines_agree.specs.eh_cxa.Catch.{rethrow_by, rethrow_at, rethrow_of}
+use Rattle.machines_agree.specs.eh_cxa.ListCalls.{throw_by_list, throw_entry, throw_list, rethrow_by_list, rethrow_entry, rethrow_from, rethrow_list}
+use Rattle.machines_agree.specs.eh_cxa.Lists.{Lists, Record, Entry, Free, OutOfUse, Live, entry, state_in}
+use Rattle.machines_agree.specs.eh_cxa.States.{named, is_fresh, is_caught}
+use Rattle.machines_agree.specs.eh_cxa.Throw.{Throw, throw_by, start_throw_of}
+use Rattle.machines_agree.specs.eh_cxa.Words.{Write, Pool, block, block_slot, object_slot}
+use Rattle.machines_agree.specs.eh_cxa.declared.globals.CxaFault.{CxaFault}
+use Rattle.machines_agree.specs.eh_cxa.declared.globals.Globals.{Globals}
+use Rattle.machines_agree.specs.eh_cxa.declared.layout.TheConstants.{STATE}
+use Rattle.machines_agree.specs.eh_cxa.declared.state.State.TheVariants.{Flying}
+use Rattle.machines_agree.specs.eh_gates.State.{Tables}
+use Rattle.machines_agree.specs.eh_gates.Throwing.{barrier_in, throw_event}
+use Rattle.machines_agree.specs.eh_gates.declared.state.Turned.TheVariants.{Went}
+use Rattle.machines_agree.specs.eh_phase.declared.phase1.Barrier.{Barrier}
+use Rattle.machines_agree.specs.eh_phase.declared.phase1.Found.{Found}
+use Rattle.machines_agree.specs.eh_phase.declared.phase1.Found.TheVariants as found
+use Rattle.machines_agree.specs.eh_phase.declared.verdict.Thrown.{Thrown}
+use Rattle.machines_agree.specs.eh_trace.declared.event.Event.{Event}
+use Rattle.machines_agree.specs.eh_trace.declared.event.EventKind.{EventKind}
+use Rattle.machines_agree.specs.eh_trace.declared.event.EventKind.TheVariants as event
+use Rattle.machines_agree.specs.eh_types.Graph.{row_of}
+use Rattle.machines_agree.specs.thumb_core.declared.ends.End.TheVariants as the_end
+use Rattle.machines_agree.specs.thumb_core.declared.ends.TrapKind.TheVariants as trap
+use Rattle.machines_agree.specs.two_machines.Activations.{Recorded, reg_in, memory_of, words_in, heads, with_lists, lists_of}
+use Rattle.machines_agree.specs.two_machines.ActivationMachine as machine
 use Rattle.landing_laws.specs.Landings.{top_of}
 use Rattle.landing_laws.proofs.Beside.{AreBeside}
 use Rattle.landing_laws.proofs.FlightDue.{not_went}

@@ -3,28 +3,28 @@ use Rattle.std.proofs.Common.{◌≡◌, ℕ, zero, suc, ◌<◌, ◌==◌, Bool
 use Rattle.std.specs.Prelude.{slice_index, unwrap_or}
 use Rattle.std.specs.List.{cons_option}
 use Rattle.std.proofs.lemmas.Bool.Decides.{nat_tests}
-use Rattle.eh_bus.specs.Lists.{Has}
-use Rattle.elf_image.specs.Image.{Image, IsSound}
-use Rattle.eh_cxa.specs.Lists.{Cleanup, slots}
-use Rattle.eh_cxa.specs.Words.{block}
-use Rattle.eh_cxa.specs.declared.layout.TheConstants.{SLOTS}
-use Rattle.eh_bytecode.specs.declared.frame.Vrs.{Vrs}
-use Rattle.eh_phase.specs.declared.phase2.Goal.{Goal}
-use Rattle.eh_phase.specs.declared.phase2.Entered.{Entered}
-use Rattle.eh_phase.specs.declared.phase2.Entered.TheVariants as enters
-use Rattle.eh_phase.specs.Cleanups.{due, is_reached}
-use Rattle.eh_phase.specs.Firsts.{first_some}
-use Rattle.eh_phase.specs.Laws.{Lands}
-use Rattle.eh_phase.specs.Phases.{Frame, Frames, entered_at, places, phase2}
-use Rattle.eh_phase.proofs.Reached.{Heads, heads}
-use Rattle.eh_gates.specs.declared.state.Turned.{Turned}
-use Rattle.eh_gates.specs.declared.state.Turned.TheVariants.{Went, Ended}
-use Rattle.thumb_core.specs.declared.regs.TheConstants.{SP}
-use Rattle.two_machines.specs.Activations.{Activation, Recorded, frames_at, cleanups_in, InProgress}
-use Rattle.two_machines.specs.ActivationMachine as machine
-use Rattle.stands_for.specs.Cleanups.{goal_at, by_sp}
-use Rattle.frames_same.specs.Landings.{Fit}
-use Rattle.throws_keep.proofs.FramesAfter.{frames_after}
+use Rattle.machines_agree.specs.eh_bus.Lists.{Has}
+use Rattle.machines_agree.specs.elf_image.Image.{Image, IsSound}
+use Rattle.machines_agree.specs.eh_cxa.Lists.{Cleanup, slots}
+use Rattle.machines_agree.specs.eh_cxa.Words.{block}
+use Rattle.machines_agree.specs.eh_cxa.declared.layout.TheConstants.{SLOTS}
+use Rattle.machines_agree.specs.eh_bytecode.declared.frame.Vrs.{Vrs}
+use Rattle.machines_agree.specs.eh_phase.declared.phase2.Goal.{Goal}
+use Rattle.machines_agree.specs.eh_phase.declared.phase2.Entered.{Entered}
+use Rattle.machines_agree.specs.eh_phase.declared.phase2.Entered.TheVariants as enters
+use Rattle.machines_agree.specs.eh_phase.Cleanups.{due, is_reached}
+use Rattle.machines_agree.specs.eh_phase.Firsts.{first_some}
+use Rattle.machines_agree.specs.eh_phase.Laws.{Lands}
+use Rattle.machines_agree.specs.eh_phase.Phases.{Frame, Frames, entered_at, places, phase2}
+use Rattle.machines_agree.proofs.eh_phase.Reached.{Heads, heads}
+use Rattle.machines_agree.specs.eh_gates.declared.state.Turned.{Turned}
+use Rattle.machines_agree.specs.eh_gates.declared.state.Turned.TheVariants.{Went, Ended}
+use Rattle.machines_agree.specs.thumb_core.declared.regs.TheConstants.{SP}
+use Rattle.machines_agree.specs.two_machines.Activations.{Activation, Recorded, frames_at, cleanups_in, InProgress}
+use Rattle.machines_agree.specs.two_machines.ActivationMachine as machine
+use Rattle.machines_agree.specs.stands_for.Cleanups.{goal_at, by_sp}
+use Rattle.machines_agree.specs.frames_same.Landings.{Fit}
+use Rattle.machines_agree.proofs.throws_keep.FramesAfter.{frames_after}
 use Rattle.landing_laws.specs.Landings.{Pad, stands_at, pad_in, pads, AreFirst}
 use Rattle.landing_laws.specs.Due.{kept_frames, due_of, due_among, left_due}
 use Rattle.landing_laws.proofs.Beside.{same_goal}

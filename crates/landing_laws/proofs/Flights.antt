@@ -1,17 +1,17 @@
 -- The landings of any exception that flies to a barrier within reach, and of its resumes along a run.
 use Rattle.std.proofs.Common.{ℕ, ◌∷◌, Option, refl, sym, ap, subst, ◌∙◌}
-use Rattle.eh_cxa.specs.Throw.{set_barrier_of}
-use Rattle.eh_cxa.specs.Words.{block}
-use Rattle.eh_cxa.proofs.Pools.{slot_of_block_is}
-use Rattle.eh_gates.specs.Throwing.{handed, barrier_words}
-use Rattle.eh_phase.specs.Cleanups.{due}
-use Rattle.eh_phase.specs.Laws.{goal_of}
-use Rattle.two_machines.specs.Activations.{with_words}
-use Rattle.two_machines.specs.ActivationMachine as machine
-use Rattle.two_machines.specs.Checked.{program_of}
-use Rattle.stands_for.specs.Stands.{Keeps}
-use Rattle.resumes_keep.specs.Flying.{all_frames}
-use Rattle.resumes_keep.proofs.FlyFrom.{flights_match}
+use Rattle.machines_agree.specs.eh_cxa.Throw.{set_barrier_of}
+use Rattle.machines_agree.specs.eh_cxa.Words.{block}
+use Rattle.machines_agree.proofs.eh_cxa.Pools.{slot_of_block_is}
+use Rattle.machines_agree.specs.eh_gates.Throwing.{handed, barrier_words}
+use Rattle.machines_agree.specs.eh_phase.Cleanups.{due}
+use Rattle.machines_agree.specs.eh_phase.Laws.{goal_of}
+use Rattle.machines_agree.specs.two_machines.Activations.{with_words}
+use Rattle.machines_agree.specs.two_machines.ActivationMachine as machine
+use Rattle.machines_agree.specs.two_machines.Checked.{program_of}
+use Rattle.machines_agree.specs.stands_for.Stands.{Keeps}
+use Rattle.machines_agree.specs.resumes_keep.Flying.{all_frames}
+use Rattle.machines_agree.proofs.resumes_keep.FlyFrom.{flights_match}
 use Rattle.landing_laws.specs.Landings.{stands_at, landings, resumes_of, pads}
 use Rattle.landing_laws.specs.Due.{left_due}
 use Rattle.landing_laws.specs.LandingLaws.{FlightsLandInOrder}

@@ -3,18 +3,18 @@ use Rattle.std.proofs.Common.{◌≡◌, ℕ, ◌-◌, zero, suc, ◌<◌, ◌==
 use Rattle.std.proofs.lemmas.Bool.{eqb-true}
 use Rattle.std.proofs.lemmas.Bool.Decides.{nat_tests}
 use Rattle.std.proofs.lemmas.List.{drop-map}
-use Rattle.eh_bus.specs.Lists.{Has}
-use Rattle.eh_bus.specs.Segment.{Segment}
-use Rattle.eh_cxa.specs.Lists.{Cleanup, slots}
-use Rattle.elf_image.specs.Image.{Image}
-use Rattle.eh_phase.specs.Cleanups.{due}
-use Rattle.eh_phase.specs.Frames.{covered_at, site_of}
-use Rattle.eh_phase.specs.Phases.{Frame, Frames}
-use Rattle.eh_phase.specs.declared.phase2.Goal.{Goal}
-use Rattle.frame_check.specs.Accepts.{Accepted}
-use Rattle.two_machines.specs.Activations.{Activation, Caller, Recorded, registers_of, framed_at, outside, frames_at, InProgress, cleanups_in}
-use Rattle.two_machines.specs.ActivationLaws.{callers}
-use Rattle.stands_for.specs.Cleanups.{goal_at, by_sp, IsHeld, AreInProgress}
+use Rattle.machines_agree.specs.eh_bus.Lists.{Has}
+use Rattle.machines_agree.specs.eh_bus.Segment.{Segment}
+use Rattle.machines_agree.specs.eh_cxa.Lists.{Cleanup, slots}
+use Rattle.machines_agree.specs.elf_image.Image.{Image}
+use Rattle.machines_agree.specs.eh_phase.Cleanups.{due}
+use Rattle.machines_agree.specs.eh_phase.Frames.{covered_at, site_of}
+use Rattle.machines_agree.specs.eh_phase.Phases.{Frame, Frames}
+use Rattle.machines_agree.specs.eh_phase.declared.phase2.Goal.{Goal}
+use Rattle.machines_agree.specs.frame_check.Accepts.{Accepted}
+use Rattle.machines_agree.specs.two_machines.Activations.{Activation, Caller, Recorded, registers_of, framed_at, outside, frames_at, InProgress, cleanups_in}
+use Rattle.machines_agree.specs.two_machines.ActivationLaws.{callers}
+use Rattle.machines_agree.specs.stands_for.Cleanups.{goal_at, by_sp, IsHeld, AreInProgress}
 use Rattle.landing_laws.specs.Landings.{pads}
 use Rattle.landing_laws.specs.Due.{kept_frames, due_of, due_among}
 

@@ -2,26 +2,26 @@
 use Rattle.std.proofs.Common.{◌≡◌, ℕ, ◌<◌, Bool, true, false, List, [], ◌∷◌, drop, inl, inr, Option, Some, None, refl, sym, ◌∙◌, ap, subst, arith}
 use Rattle.std.specs.Prelude.{slice_index}
 use Rattle.std.proofs.lemmas.List.{drop-map}
-use Rattle.eh_cxa.specs.Cleanup.{cleanup_at, begin_cleanup_of}
-use Rattle.eh_cxa.specs.Lists.{Cleanup}
-use Rattle.eh_cxa.specs.States.{named, is_flying}
-use Rattle.eh_cxa.specs.Throw.{land_by, land_of}
-use Rattle.eh_cxa.specs.Words.{block, block_slot, Pool}
-use Rattle.eh_cxa.specs.declared.globals.CleanupWords.{CleanupWords}
-use Rattle.eh_cxa.specs.declared.globals.Globals.{Globals}
-use Rattle.eh_cxa.specs.declared.layout.TheConstants.{SLOTS, STATE}
-use Rattle.eh_cxa.proofs.Pools.{slot_of_block_is}
-use Rattle.eh_gates.specs.Landing.{pad_event, words_of}
-use Rattle.eh_gates.specs.declared.state.Turned.TheVariants.{Went, Ended}
-use Rattle.eh_phase.specs.declared.phase2.Entered.{Entered}
-use Rattle.eh_phase.specs.declared.phase2.Entered.TheVariants as enters
-use Rattle.eh_trace.specs.declared.event.Event.{Event}
-use Rattle.eh_trace.specs.declared.event.EventKind.TheVariants as event
-use Rattle.thumb_core.specs.declared.regs.TheConstants.{SP}
-use Rattle.two_machines.specs.Activations.{Activation, Caller, Recorded, words_in, heads, lists_of, InProgress}
-use Rattle.two_machines.specs.ActivationLaws.{callers}
-use Rattle.two_machines.specs.ActivationMachine as machine
-use Rattle.two_machines.proofs.RecordedGates.{callers_left}
+use Rattle.machines_agree.specs.eh_cxa.Cleanup.{cleanup_at, begin_cleanup_of}
+use Rattle.machines_agree.specs.eh_cxa.Lists.{Cleanup}
+use Rattle.machines_agree.specs.eh_cxa.States.{named, is_flying}
+use Rattle.machines_agree.specs.eh_cxa.Throw.{land_by, land_of}
+use Rattle.machines_agree.specs.eh_cxa.Words.{block, block_slot, Pool}
+use Rattle.machines_agree.specs.eh_cxa.declared.globals.CleanupWords.{CleanupWords}
+use Rattle.machines_agree.specs.eh_cxa.declared.globals.Globals.{Globals}
+use Rattle.machines_agree.specs.eh_cxa.declared.layout.TheConstants.{SLOTS, STATE}
+use Rattle.machines_agree.proofs.eh_cxa.Pools.{slot_of_block_is}
+use Rattle.machines_agree.specs.eh_gates.Landing.{pad_event, words_of}
+use Rattle.machines_agree.specs.eh_gates.declared.state.Turned.TheVariants.{Went, Ended}
+use Rattle.machines_agree.specs.eh_phase.declared.phase2.Entered.{Entered}
+use Rattle.machines_agree.specs.eh_phase.declared.phase2.Entered.TheVariants as enters
+use Rattle.machines_agree.specs.eh_trace.declared.event.Event.{Event}
+use Rattle.machines_agree.specs.eh_trace.declared.event.EventKind.TheVariants as event
+use Rattle.machines_agree.specs.thumb_core.declared.regs.TheConstants.{SP}
+use Rattle.machines_agree.specs.two_machines.Activations.{Activation, Caller, Recorded, words_in, heads, lists_of, InProgress}
+use Rattle.machines_agree.specs.two_machines.ActivationLaws.{callers}
+use Rattle.machines_agree.specs.two_machines.ActivationMachine as machine
+use Rattle.machines_agree.proofs.two_machines.RecordedGates.{callers_left}
 use Rattle.landing_laws.specs.Landings.{Pad, stands_at, pad_in}
 use Rattle.landing_laws.proofs.Beside.{AreBeside, SameBarrier, beside_same}
 use Rattle.landing_laws.proofs.Kept.{Moved}

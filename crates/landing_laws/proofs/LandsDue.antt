@@ -3,22 +3,22 @@ use Rattle.std.proofs.Common.{◌≡◌, ℕ, suc, Bool, cond, List, [], ◌∷�
 use Rattle.std.specs.Prelude.{All, is_some}
 use Rattle.std.proofs.lemmas.List.Elements.{All-head, All-tail}
 use Rattle.std.proofs.lemmas.Option.{none-some}
-use Rattle.eh_bytecode.specs.declared.frame.Vrs.{Vrs}
-use Rattle.eh_desc.specs.declared.descriptor.Desc.{Desc}
-use Rattle.eh_desc.specs.declared.descriptor.DescFault.{DescFault}
+use Rattle.machines_agree.specs.eh_bytecode.declared.frame.Vrs.{Vrs}
+use Rattle.machines_agree.specs.eh_desc.declared.descriptor.Desc.{Desc}
+use Rattle.machines_agree.specs.eh_desc.declared.descriptor.DescFault.{DescFault}
 use Rattle.std.specs.Prelude.{Result}
-use Rattle.eh_phase.specs.declared.phase2.Goal.{Goal}
-use Rattle.eh_phase.specs.declared.phase2.Entered.{Entered}
-use Rattle.eh_phase.specs.declared.phase2.Entered.TheVariants as enters
-use Rattle.eh_phase.specs.Cleanups.{due}
-use Rattle.eh_phase.specs.Firsts.{first_some, or_next}
-use Rattle.eh_phase.specs.Laws.{IsInOrder}
-use Rattle.eh_phase.specs.Phases.{Frame, placed, places, from_address, vrs_of, entered_item, entered_at}
-use Rattle.eh_phase.proofs.First.{first-map}
-use Rattle.eh_phase.proofs.Steps.{parted}
-use Rattle.two_machines.specs.Activations.{Activation}
-use Rattle.two_machines.specs.ActivationMachine.{is_entered, passed_by}
-use Rattle.frames_same.specs.Landings.{Fit}
+use Rattle.machines_agree.specs.eh_phase.declared.phase2.Goal.{Goal}
+use Rattle.machines_agree.specs.eh_phase.declared.phase2.Entered.{Entered}
+use Rattle.machines_agree.specs.eh_phase.declared.phase2.Entered.TheVariants as enters
+use Rattle.machines_agree.specs.eh_phase.Cleanups.{due}
+use Rattle.machines_agree.specs.eh_phase.Firsts.{first_some, or_next}
+use Rattle.machines_agree.specs.eh_phase.Laws.{IsInOrder}
+use Rattle.machines_agree.specs.eh_phase.Phases.{Frame, placed, places, from_address, vrs_of, entered_item, entered_at}
+use Rattle.machines_agree.proofs.eh_phase.First.{first-map}
+use Rattle.machines_agree.proofs.eh_phase.Steps.{parted}
+use Rattle.machines_agree.specs.two_machines.Activations.{Activation}
+use Rattle.machines_agree.specs.two_machines.ActivationMachine.{is_entered, passed_by}
+use Rattle.machines_agree.specs.frames_same.Landings.{Fit}
 use Rattle.landing_laws.proofs.DueSteps.{here_due, passed_due}
 
 pub record IsDueFrom (g : Goal) (from : ℕ) (fs : List Frame) (acts : List Activation) (vrs : Vrs) (pad next site : ℕ) : Type 0 where

@@ -2,36 +2,36 @@
 use Rattle.std.proofs.Common.{◌≡◌, ℕ, Result, Ok, Err, ◌<◌, ◌≤◌, ◌==◌, inl, inr, nat_lt, Bool, true, false, cond, List, [], ◌∷◌, Option, Some, None, refl, sym, ap, subst, ◌∙◌, arith}
 use Rattle.std.proofs.lemmas.Bool.{eqb-true}
 use Rattle.std.proofs.lemmas.Bool.Decides.{nat_tests}
-use Rattle.event_runs.specs.Runs.{Event, Goes, Ends}
-use Rattle.eh_bus.specs.Lists.{Has}
-use Rattle.eh_bus.specs.Memory.{Memory}
-use Rattle.eh_cxa.specs.Lists.{slots}
-use Rattle.eh_cxa.specs.ListCalls.{throw_list, rethrow_from, rethrow_list}
-use Rattle.eh_cxa.specs.declared.globals.CxaFault.{CxaFault}
-use Rattle.eh_cxa.specs.declared.globals.CxaFault.TheVariants.{BadObject, NoCaught}
-use Rattle.eh_cxa.specs.Stands as cxa
-use Rattle.eh_cxa.specs.Words.{word, object_slot}
-use Rattle.eh_cxa.specs.declared.layout.TheConstants.{SLOTS, NEXT_CAUGHT, NEXT_CLEANUP}
-use Rattle.eh_cxa.proofs.Pools.{slot_small, object_small, slot_of_block_is}
-use Rattle.eh_gates.specs.declared.gates.TheConstants.{THROW_GATE, RETHROW_GATE, END_CLEANUP_GATE}
-use Rattle.eh_gates.specs.declared.state.Turned.TheVariants.{Went}
-use Rattle.guest_gates.specs.declared.gates.TheConstants.{INPUT_GATE}
-use Rattle.thumb_core.specs.Outcome.{Outcome as Stepping}
-use Rattle.thumb_core.specs.Step.{step_of}
-use Rattle.thumb_core.specs.declared.regs.TheConstants.{SP}
-use Rattle.thumb_core.specs.declared.regs.Regs.{Regs}
-use Rattle.thumb_core.specs.declared.regs.Stepped.{Stepped}
-use Rattle.thumb_core.specs.declared.regs.Stepped.TheVariants.{Done, Call, Return, Gate, Trap}
-use Rattle.thumb_core.specs.declared.ends.End.{End}
-use Rattle.frame_check.specs.Accepts.{Accepted}
-use Rattle.two_machines.specs.Checked.{program_of}
-use Rattle.two_machines.specs.Program.{program_tables}
-use Rattle.two_machines.specs.Activations.{Activation, Recorded, reg_in, memory_of, heads, lists_of, cleanups_in, InProgress}
-use Rattle.two_machines.specs.ActivationLaws.{callers}
-use Rattle.two_machines.specs.ActivationMachine as machine
-use Rattle.two_machines.specs.Corresponds.{IsNoCall, WalksNone}
-use Rattle.stands_for.specs.Cleanups.{goal_at, AreInProgress}
-use Rattle.stands_for.specs.Stands.{Keeps, IsProgram, OnEvent}
+use Rattle.machines_agree.specs.event_runs.Runs.{Event, Goes, Ends}
+use Rattle.machines_agree.specs.eh_bus.Lists.{Has}
+use Rattle.machines_agree.specs.eh_bus.Memory.{Memory}
+use Rattle.machines_agree.specs.eh_cxa.Lists.{slots}
+use Rattle.machines_agree.specs.eh_cxa.ListCalls.{throw_list, rethrow_from, rethrow_list}
+use Rattle.machines_agree.specs.eh_cxa.declared.globals.CxaFault.{CxaFault}
+use Rattle.machines_agree.specs.eh_cxa.declared.globals.CxaFault.TheVariants.{BadObject, NoCaught}
+use Rattle.machines_agree.specs.eh_cxa.Stands as cxa
+use Rattle.machines_agree.specs.eh_cxa.Words.{word, object_slot}
+use Rattle.machines_agree.specs.eh_cxa.declared.layout.TheConstants.{SLOTS, NEXT_CAUGHT, NEXT_CLEANUP}
+use Rattle.machines_agree.proofs.eh_cxa.Pools.{slot_small, object_small, slot_of_block_is}
+use Rattle.machines_agree.specs.eh_gates.declared.gates.TheConstants.{THROW_GATE, RETHROW_GATE, END_CLEANUP_GATE}
+use Rattle.machines_agree.specs.eh_gates.declared.state.Turned.TheVariants.{Went}
+use Rattle.machines_agree.specs.guest_gates.declared.gates.TheConstants.{INPUT_GATE}
+use Rattle.machines_agree.specs.thumb_core.Outcome.{Outcome as Stepping}
+use Rattle.machines_agree.specs.thumb_core.Step.{step_of}
+use Rattle.machines_agree.specs.thumb_core.declared.regs.TheConstants.{SP}
+use Rattle.machines_agree.specs.thumb_core.declared.regs.Regs.{Regs}
+use Rattle.machines_agree.specs.thumb_core.declared.regs.Stepped.{Stepped}
+use Rattle.machines_agree.specs.thumb_core.declared.regs.Stepped.TheVariants.{Done, Call, Return, Gate, Trap}
+use Rattle.machines_agree.specs.thumb_core.declared.ends.End.{End}
+use Rattle.machines_agree.specs.frame_check.Accepts.{Accepted}
+use Rattle.machines_agree.specs.two_machines.Checked.{program_of}
+use Rattle.machines_agree.specs.two_machines.Program.{program_tables}
+use Rattle.machines_agree.specs.two_machines.Activations.{Activation, Recorded, reg_in, memory_of, heads, lists_of, cleanups_in, InProgress}
+use Rattle.machines_agree.specs.two_machines.ActivationLaws.{callers}
+use Rattle.machines_agree.specs.two_machines.ActivationMachine as machine
+use Rattle.machines_agree.specs.two_machines.Corresponds.{IsNoCall, WalksNone}
+use Rattle.machines_agree.specs.stands_for.Cleanups.{goal_at, AreInProgress}
+use Rattle.machines_agree.specs.stands_for.Stands.{Keeps, IsProgram, OnEvent}
 use Rattle.machines_agree.specs.Turned.{AreBytes}
 use Rattle.machines_agree.proofs.OneEvent.{turns}
 use Rattle.landing_laws.specs.Landings.{gate_at, gate_in, thrown_by, thrown_at, innermost, resumed_by, resumed_at, Pad, landed_by, stands_at, AreFirst, top_of}

@@ -2,16 +2,16 @@
 use Rattle.std.proofs.Common.{◌≡◌, ℕ, ◌==◌, Bool, true, false, cond, List, ◌∷◌, refl, sym, ◌∙◌, ap, subst}
 use Rattle.std.specs.Prelude.{slice_index}
 use Rattle.std.proofs.lemmas.Bool.{eqb-true}
-use Rattle.eh_bus.specs.Lists.{Has}
-use Rattle.elf_image.specs.Image.{Image}
-use Rattle.eh_cxa.specs.Lists.{Cleanup, slots}
-use Rattle.eh_phase.specs.declared.phase2.Entered.{Entered}
-use Rattle.eh_phase.specs.declared.phase2.Entered.TheVariants as enters
-use Rattle.frame_check.specs.Accepts.{Accepted}
-use Rattle.thumb_core.specs.declared.regs.TheConstants.{SP}
-use Rattle.two_machines.specs.Activations.{Activation, Recorded, cleanups_in, InProgress}
-use Rattle.two_machines.specs.ActivationMachine as machine
-use Rattle.stands_for.specs.Cleanups.{goal_at, AreInProgress}
+use Rattle.machines_agree.specs.eh_bus.Lists.{Has}
+use Rattle.machines_agree.specs.elf_image.Image.{Image}
+use Rattle.machines_agree.specs.eh_cxa.Lists.{Cleanup, slots}
+use Rattle.machines_agree.specs.eh_phase.declared.phase2.Entered.{Entered}
+use Rattle.machines_agree.specs.eh_phase.declared.phase2.Entered.TheVariants as enters
+use Rattle.machines_agree.specs.frame_check.Accepts.{Accepted}
+use Rattle.machines_agree.specs.thumb_core.declared.regs.TheConstants.{SP}
+use Rattle.machines_agree.specs.two_machines.Activations.{Activation, Recorded, cleanups_in, InProgress}
+use Rattle.machines_agree.specs.two_machines.ActivationMachine as machine
+use Rattle.machines_agree.specs.stands_for.Cleanups.{goal_at, AreInProgress}
 use Rattle.landing_laws.specs.Due.{due_of, due_among, left_due}
 use Rattle.landing_laws.proofs.Kept.{Moved, among_kept}
 use Rattle.landing_laws.proofs.Landed.{Listed}

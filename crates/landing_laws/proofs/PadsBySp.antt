@@ -3,26 +3,26 @@ use Rattle.std.proofs.Common.{◌≡◌, ℕ, Bool, true, false, cond, List, [],
 use Rattle.std.specs.Prelude.{slice_index, ◌==◌, ◌&&◌}
 use Rattle.std.specs.List.{cons_option, flat_map}
 use Rattle.std.specs.Option.{option_to_list}
-use Rattle.elf_image.specs.Image.{Image}
-use Rattle.eh_bytecode.specs.Recipe.{recipe}
-use Rattle.eh_desc.specs.declared.descriptor.Desc.{Desc}
-use Rattle.eh_desc.specs.declared.descriptor.DescKind.{DescKind}
-use Rattle.eh_desc.specs.declared.descriptor.DescKind.TheVariants as kind
-use Rattle.eh_desc.specs.declared.descriptor.DescFault.{DescFault}
-use Rattle.eh_phase.specs.declared.phase2.Goal.{Goal}
-use Rattle.eh_phase.specs.declared.phase2.Entered.{Entered}
-use Rattle.eh_phase.specs.declared.phase2.Entered.TheVariants as enters
-use Rattle.eh_phase.specs.Cleanups.{due, due_in, cleanup_item, cleanup_by, is_barrier_item, can_stop}
-use Rattle.eh_phase.specs.Frames.{covered_at, frame_of}
-use Rattle.eh_phase.specs.Phases.{Frame, Place, placed, places, places_in, from_address, vrs_of, is_goal, spec_entered, entered_by, entered_item}
-use Rattle.eh_phase.specs.Verdict.{in_scope}
-use Rattle.eh_phase.specs.declared.walk.Covered.{Covered}
-use Rattle.eh_phase.proofs.Due.{due_past, due_stop}
-use Rattle.unwind_codes.specs.Cut.{cut}
-use Rattle.thumb_core.specs.Registers.{even}
-use Rattle.thumb_core.specs.declared.regs.TheConstants.{SP}
-use Rattle.two_machines.specs.Activations.{Activation, where_unwound, framed_at, outside, frames_at}
-use Rattle.stands_for.specs.Cleanups.{by_sp}
+use Rattle.machines_agree.specs.elf_image.Image.{Image}
+use Rattle.machines_agree.specs.eh_bytecode.Recipe.{recipe}
+use Rattle.machines_agree.specs.eh_desc.declared.descriptor.Desc.{Desc}
+use Rattle.machines_agree.specs.eh_desc.declared.descriptor.DescKind.{DescKind}
+use Rattle.machines_agree.specs.eh_desc.declared.descriptor.DescKind.TheVariants as kind
+use Rattle.machines_agree.specs.eh_desc.declared.descriptor.DescFault.{DescFault}
+use Rattle.machines_agree.specs.eh_phase.declared.phase2.Goal.{Goal}
+use Rattle.machines_agree.specs.eh_phase.declared.phase2.Entered.{Entered}
+use Rattle.machines_agree.specs.eh_phase.declared.phase2.Entered.TheVariants as enters
+use Rattle.machines_agree.specs.eh_phase.Cleanups.{due, due_in, cleanup_item, cleanup_by, is_barrier_item, can_stop}
+use Rattle.machines_agree.specs.eh_phase.Frames.{covered_at, frame_of}
+use Rattle.machines_agree.specs.eh_phase.Phases.{Frame, Place, placed, places, places_in, from_address, vrs_of, is_goal, spec_entered, entered_by, entered_item}
+use Rattle.machines_agree.specs.eh_phase.Verdict.{in_scope}
+use Rattle.machines_agree.specs.eh_phase.declared.walk.Covered.{Covered}
+use Rattle.machines_agree.proofs.eh_phase.Due.{due_past, due_stop}
+use Rattle.machines_agree.specs.unwind_codes.Cut.{cut}
+use Rattle.machines_agree.specs.thumb_core.Registers.{even}
+use Rattle.machines_agree.specs.thumb_core.declared.regs.TheConstants.{SP}
+use Rattle.machines_agree.specs.two_machines.Activations.{Activation, where_unwound, framed_at, outside, frames_at}
+use Rattle.machines_agree.specs.stands_for.Cleanups.{by_sp}
 use Rattle.landing_laws.specs.Landings.{Pad, pad_in, pads}
 
 abbrev at_sp : ℕ → ℕ → List Pad

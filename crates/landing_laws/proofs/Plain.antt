@@ -2,27 +2,27 @@
 -- in front, or leaves them but for slots.
 use Rattle.std.proofs.Common.{◌≡◌, ℕ, ◌+◌, ◌*◌, ◌%◌, ◌<◌, ◌≤◌, nat_lt, Bool, true, false, cond, List, [], ◌∷◌, drop, map, inl, inr, Option, Some, None, refl, sym, ap, subst, ◌∙◌, arith}
 use Rattle.std.proofs.lemmas.Bool.{le-leb, lt-ltb, le-ltb}
-use Rattle.event_runs.specs.Runs.{Event, Goes, Ends}
-use Rattle.eh_bus.specs.Memory.{Memory, is_closed, host_load}
-use Rattle.eh_bus.proofs.MapLaws.{map_refl}
-use Rattle.eh_bus.specs.declared.map.TheConstants.{CLOSED_SIZE, POOL_END, POOL_START, SLOT_SIZE}
-use Rattle.guest_gates.specs.declared.gates.TheConstants.{INPUT_GATE}
-use Rattle.guest_gates.specs.Gates.{gate_event}
-use Rattle.eh_cxa.specs.Words.{word}
-use Rattle.eh_cxa.specs.declared.layout.TheConstants.{SLOTS, CLOSED_WORDS}
-use Rattle.thumb_core.specs.Laws.{KeepsMap}
-use Rattle.thumb_core.specs.Outcome.{Outcome as Stepping}
-use Rattle.thumb_core.specs.Step.{step_of}
-use Rattle.thumb_core.proofs.Follows.{step_follows}
-use Rattle.thumb_core.specs.declared.regs.Regs.{Regs}
-use Rattle.thumb_core.specs.declared.regs.Stepped.{Stepped}
-use Rattle.thumb_core.specs.declared.regs.Stepped.TheVariants.{Done, Call, Return, Gate, Trap}
-use Rattle.thumb_core.specs.declared.ends.End.{End}
-use Rattle.two_machines.specs.Program.{Program, program_tables}
-use Rattle.two_machines.specs.Activations.{Activation, Caller, Recorded, memory_of, freed_in}
-use Rattle.two_machines.specs.ActivationLaws.{callers}
-use Rattle.two_machines.specs.ActivationMachine.{left_by, reguarded_at, recorded_after, tested, tests, stepped, checked, passed, onward, gated, in_state, event_of, gate_of, registers_after, returned, pops_back, trapped_by, recorded_event}
-use Rattle.two_machines.specs.Corresponds.{IsNoCall}
+use Rattle.machines_agree.specs.event_runs.Runs.{Event, Goes, Ends}
+use Rattle.machines_agree.specs.eh_bus.Memory.{Memory, is_closed, host_load}
+use Rattle.machines_agree.proofs.eh_bus.MapLaws.{map_refl}
+use Rattle.machines_agree.specs.eh_bus.declared.map.TheConstants.{CLOSED_SIZE, POOL_END, POOL_START, SLOT_SIZE}
+use Rattle.machines_agree.specs.guest_gates.declared.gates.TheConstants.{INPUT_GATE}
+use Rattle.machines_agree.specs.guest_gates.Gates.{gate_event}
+use Rattle.machines_agree.specs.eh_cxa.Words.{word}
+use Rattle.machines_agree.specs.eh_cxa.declared.layout.TheConstants.{SLOTS, CLOSED_WORDS}
+use Rattle.machines_agree.specs.thumb_core.Laws.{KeepsMap}
+use Rattle.machines_agree.specs.thumb_core.Outcome.{Outcome as Stepping}
+use Rattle.machines_agree.specs.thumb_core.Step.{step_of}
+use Rattle.machines_agree.proofs.thumb_core.Follows.{step_follows}
+use Rattle.machines_agree.specs.thumb_core.declared.regs.Regs.{Regs}
+use Rattle.machines_agree.specs.thumb_core.declared.regs.Stepped.{Stepped}
+use Rattle.machines_agree.specs.thumb_core.declared.regs.Stepped.TheVariants.{Done, Call, Return, Gate, Trap}
+use Rattle.machines_agree.specs.thumb_core.declared.ends.End.{End}
+use Rattle.machines_agree.specs.two_machines.Program.{Program, program_tables}
+use Rattle.machines_agree.specs.two_machines.Activations.{Activation, Caller, Recorded, memory_of, freed_in}
+use Rattle.machines_agree.specs.two_machines.ActivationLaws.{callers}
+use Rattle.machines_agree.specs.two_machines.ActivationMachine.{left_by, reguarded_at, recorded_after, tested, tests, stepped, checked, passed, onward, gated, in_state, event_of, gate_of, registers_after, returned, pops_back, trapped_by, recorded_event}
+use Rattle.machines_agree.specs.two_machines.Corresponds.{IsNoCall}
 use Rattle.landing_laws.proofs.Beside.{SameBarrier, same_segments}
 use Rattle.landing_laws.proofs.Kept.{Moved}
 

@@ -4,35 +4,35 @@ use Rattle.std.proofs.Common.{◌≡◌, ℕ, ◌<◌, ◌≤◌, ◌^◌, ◌==
 use Rattle.std.specs.Prelude.{All}
 use Rattle.std.proofs.lemmas.Bool.{and_parts, eqb-true}
 use Rattle.std.proofs.lemmas.List.Elements.{All-head, All-cons, All-nil}
-use Rattle.elf_image.specs.Image.{Image, IsSound}
-use Rattle.unwind_codes.specs.Cut.{cut}
-use Rattle.eh_bytecode.specs.Recipe.{recipe}
-use Rattle.eh_bytecode.specs.declared.recipe.Recipe.{Recipe}
-use Rattle.eh_bytecode.specs.declared.recipe.RecipeFault.{RecipeFault}
-use Rattle.eh_desc.specs.declared.descriptor.Desc.{Desc}
-use Rattle.eh_desc.specs.declared.descriptor.DescFault.{DescFault}
-use Rattle.eh_phase.specs.declared.phase1.Barrier.{Barrier}
-use Rattle.eh_phase.specs.declared.phase1.Found.TheVariants as found
-use Rattle.eh_phase.specs.declared.phase2.Goal.{Goal}
-use Rattle.eh_phase.specs.declared.verdict.Verdict.{Verdict}
-use Rattle.eh_phase.specs.declared.walk.Covered.{Covered}
-use Rattle.eh_phase.specs.Cleanups.{is_reached, is_reached_in, is_barrier_item, can_stop}
-use Rattle.eh_phase.specs.Firsts.{first_some}
-use Rattle.eh_phase.specs.Frames.{Stack, covered_at, site_of, ended, framed, frame_of, frames_in, walked}
-use Rattle.eh_phase.specs.Laws.{IsInOrder, goal_of}
-use Rattle.eh_phase.specs.Phases.{Frame, Frames, Place, phase1, placed, places, from_descriptor, from_address, stands_at, is_goal}
-use Rattle.eh_phase.specs.Verdict.{Meeting, verdict_of, in_scope}
-use Rattle.eh_phase.proofs.Due.{reached_none}
-use Rattle.eh_phase.proofs.Reached.{up_to_barrier, whole_reached}
-use Rattle.eh_phase.proofs.Steps.{said_here, silent_here}
-use Rattle.eh_phase.proofs.Whole.{all_in_order}
-use Rattle.thumb_core.specs.declared.ends.Cause.{Cause}
-use Rattle.thumb_core.specs.declared.ends.Cause.TheVariants.{NoHandler, LeavesCleanup}
-use Rattle.two_machines.specs.Activations.{Activation, Caller, registers_of, ends_at, where_unwound, framed_at, outside, frames_at}
-use Rattle.frames_same.specs.Landings.{Fit, Rise}
-use Rattle.frames_same.proofs.GoesHere.{places-from}
-use Rattle.frames_same.proofs.ReachBySp.{reached_read, reached_unread}
-use Rattle.throws_keep.proofs.Landable.{AreSmall, AllGood}
+use Rattle.machines_agree.specs.elf_image.Image.{Image, IsSound}
+use Rattle.machines_agree.specs.unwind_codes.Cut.{cut}
+use Rattle.machines_agree.specs.eh_bytecode.Recipe.{recipe}
+use Rattle.machines_agree.specs.eh_bytecode.declared.recipe.Recipe.{Recipe}
+use Rattle.machines_agree.specs.eh_bytecode.declared.recipe.RecipeFault.{RecipeFault}
+use Rattle.machines_agree.specs.eh_desc.declared.descriptor.Desc.{Desc}
+use Rattle.machines_agree.specs.eh_desc.declared.descriptor.DescFault.{DescFault}
+use Rattle.machines_agree.specs.eh_phase.declared.phase1.Barrier.{Barrier}
+use Rattle.machines_agree.specs.eh_phase.declared.phase1.Found.TheVariants as found
+use Rattle.machines_agree.specs.eh_phase.declared.phase2.Goal.{Goal}
+use Rattle.machines_agree.specs.eh_phase.declared.verdict.Verdict.{Verdict}
+use Rattle.machines_agree.specs.eh_phase.declared.walk.Covered.{Covered}
+use Rattle.machines_agree.specs.eh_phase.Cleanups.{is_reached, is_reached_in, is_barrier_item, can_stop}
+use Rattle.machines_agree.specs.eh_phase.Firsts.{first_some}
+use Rattle.machines_agree.specs.eh_phase.Frames.{Stack, covered_at, site_of, ended, framed, frame_of, frames_in, walked}
+use Rattle.machines_agree.specs.eh_phase.Laws.{IsInOrder, goal_of}
+use Rattle.machines_agree.specs.eh_phase.Phases.{Frame, Frames, Place, phase1, placed, places, from_descriptor, from_address, stands_at, is_goal}
+use Rattle.machines_agree.specs.eh_phase.Verdict.{Meeting, verdict_of, in_scope}
+use Rattle.machines_agree.proofs.eh_phase.Due.{reached_none}
+use Rattle.machines_agree.proofs.eh_phase.Reached.{up_to_barrier, whole_reached}
+use Rattle.machines_agree.proofs.eh_phase.Steps.{said_here, silent_here}
+use Rattle.machines_agree.proofs.eh_phase.Whole.{all_in_order}
+use Rattle.machines_agree.specs.thumb_core.declared.ends.Cause.{Cause}
+use Rattle.machines_agree.specs.thumb_core.declared.ends.Cause.TheVariants.{NoHandler, LeavesCleanup}
+use Rattle.machines_agree.specs.two_machines.Activations.{Activation, Caller, registers_of, ends_at, where_unwound, framed_at, outside, frames_at}
+use Rattle.machines_agree.specs.frames_same.Landings.{Fit, Rise}
+use Rattle.machines_agree.proofs.frames_same.GoesHere.{places-from}
+use Rattle.machines_agree.proofs.frames_same.ReachBySp.{reached_read, reached_unread}
+use Rattle.machines_agree.proofs.throws_keep.Landable.{AreSmall, AllGood}
 
 -- ---- descriptors in order
 

@@ -2,41 +2,41 @@
 use Rattle.std.proofs.Common.{◌≡◌, ℕ, zero, suc, ◌<◌, ◌==◌, inl, inr, nat_lt, Bool, true, false, ◌⊎◌, List, [], ◌∷◌, ◌++◌, Option, Some, None, refl, sym, ap, subst, ◌∙◌, append_assoc}
 use Rattle.std.specs.List.{cons_option}
 use Rattle.std.specs.Prelude.{option_map}
-use Rattle.event_runs.specs.Runs.{Event, Goes, Ends, Reached, reached, reached_after, prepended}
-use Rattle.eh_cxa.specs.declared.layout.TheConstants.{SLOTS}
-use Rattle.eh_cxa.proofs.Pools.{object_small, slot_of_block_is}
-use Rattle.eh_gates.specs.declared.gates.TheConstants.{THROW_GATE, RETHROW_GATE, END_CLEANUP_GATE}
-use Rattle.eh_gates.specs.State.{State}
-use Rattle.eh_gates.specs.declared.state.Turned.{Turned}
-use Rattle.eh_gates.specs.declared.state.Turned.TheVariants.{Went, Ended}
-use Rattle.eh_phase.specs.Calls.{meeting}
-use Rattle.eh_bus.specs.Memory.{Memory}
-use Rattle.eh_phase.specs.Cleanups.{due}
-use Rattle.eh_phase.specs.Laws.{goal_of, Lands}
-use Rattle.eh_phase.specs.Phases.{phase2}
-use Rattle.eh_phase.specs.declared.phase1.Barrier.{Barrier}
-use Rattle.eh_phase.specs.declared.phase1.Found.{Found}
-use Rattle.eh_phase.specs.declared.phase1.Found.TheVariants as found
-use Rattle.eh_phase.specs.declared.verdict.Thrown.{Thrown}
-use Rattle.guest_gates.specs.declared.gates.TheConstants.{INPUT_GATE}
-use Rattle.thumb_core.specs.Outcome.{Outcome as Stepping}
-use Rattle.thumb_core.specs.Step.{step_of}
-use Rattle.thumb_core.specs.declared.regs.Regs.{Regs}
-use Rattle.thumb_core.specs.declared.regs.Stepped.{Stepped}
-use Rattle.thumb_core.specs.declared.regs.Stepped.TheVariants.{Done, Call, Return, Gate, Trap}
-use Rattle.thumb_core.specs.declared.ends.Cause.{Cause}
-use Rattle.thumb_core.specs.declared.ends.Cause.TheVariants as cause
-use Rattle.thumb_core.specs.declared.ends.End.{End}
-use Rattle.thumb_core.specs.declared.ends.End.TheVariants as the_end
-use Rattle.frame_check.specs.Accepts.{Accepted}
-use Rattle.two_machines.specs.Checked.{program_of}
-use Rattle.two_machines.specs.Program.{program_tables}
-use Rattle.two_machines.specs.Activations.{Recorded, reg_in, memory_of, recorded_start, bytes_of, first_place}
-use Rattle.two_machines.specs.Machine.{machine_event}
-use Rattle.thumb_core.specs.Registers.{all_of}
-use Rattle.two_machines.specs.ActivationMachine as machine
-use Rattle.stands_for.specs.Stands.{Keeps, IsProgram, StandsFor}
-use Rattle.stands_for.proofs.First.{starts_stand}
+use Rattle.machines_agree.specs.event_runs.Runs.{Event, Goes, Ends, Reached, reached, reached_after, prepended}
+use Rattle.machines_agree.specs.eh_cxa.declared.layout.TheConstants.{SLOTS}
+use Rattle.machines_agree.proofs.eh_cxa.Pools.{object_small, slot_of_block_is}
+use Rattle.machines_agree.specs.eh_gates.declared.gates.TheConstants.{THROW_GATE, RETHROW_GATE, END_CLEANUP_GATE}
+use Rattle.machines_agree.specs.eh_gates.State.{State}
+use Rattle.machines_agree.specs.eh_gates.declared.state.Turned.{Turned}
+use Rattle.machines_agree.specs.eh_gates.declared.state.Turned.TheVariants.{Went, Ended}
+use Rattle.machines_agree.specs.eh_phase.Calls.{meeting}
+use Rattle.machines_agree.specs.eh_bus.Memory.{Memory}
+use Rattle.machines_agree.specs.eh_phase.Cleanups.{due}
+use Rattle.machines_agree.specs.eh_phase.Laws.{goal_of, Lands}
+use Rattle.machines_agree.specs.eh_phase.Phases.{phase2}
+use Rattle.machines_agree.specs.eh_phase.declared.phase1.Barrier.{Barrier}
+use Rattle.machines_agree.specs.eh_phase.declared.phase1.Found.{Found}
+use Rattle.machines_agree.specs.eh_phase.declared.phase1.Found.TheVariants as found
+use Rattle.machines_agree.specs.eh_phase.declared.verdict.Thrown.{Thrown}
+use Rattle.machines_agree.specs.guest_gates.declared.gates.TheConstants.{INPUT_GATE}
+use Rattle.machines_agree.specs.thumb_core.Outcome.{Outcome as Stepping}
+use Rattle.machines_agree.specs.thumb_core.Step.{step_of}
+use Rattle.machines_agree.specs.thumb_core.declared.regs.Regs.{Regs}
+use Rattle.machines_agree.specs.thumb_core.declared.regs.Stepped.{Stepped}
+use Rattle.machines_agree.specs.thumb_core.declared.regs.Stepped.TheVariants.{Done, Call, Return, Gate, Trap}
+use Rattle.machines_agree.specs.thumb_core.declared.ends.Cause.{Cause}
+use Rattle.machines_agree.specs.thumb_core.declared.ends.Cause.TheVariants as cause
+use Rattle.machines_agree.specs.thumb_core.declared.ends.End.{End}
+use Rattle.machines_agree.specs.thumb_core.declared.ends.End.TheVariants as the_end
+use Rattle.machines_agree.specs.frame_check.Accepts.{Accepted}
+use Rattle.machines_agree.specs.two_machines.Checked.{program_of}
+use Rattle.machines_agree.specs.two_machines.Program.{program_tables}
+use Rattle.machines_agree.specs.two_machines.Activations.{Recorded, reg_in, memory_of, recorded_start, bytes_of, first_place}
+use Rattle.machines_agree.specs.two_machines.Machine.{machine_event}
+use Rattle.machines_agree.specs.thumb_core.Registers.{all_of}
+use Rattle.machines_agree.specs.two_machines.ActivationMachine as machine
+use Rattle.machines_agree.specs.stands_for.Stands.{Keeps, IsProgram, StandsFor}
+use Rattle.machines_agree.proofs.stands_for.First.{starts_stand}
 use Rattle.machines_agree.specs.Turned.{AreBytes}
 use Rattle.machines_agree.proofs.RunsOn.{AlikeOn}
 use Rattle.machines_agree.proofs.WholeRuns.{alike}

@@ -1,20 +1,20 @@
 -- Over bytes exceptions land where they do with recorded activations.
 use Rattle.std.proofs.Common.{◌≡◌, ℕ, zero, suc, ◌==◌, cond, List, [], ◌∷◌, Option, Some, None, refl, ap, subst, ◌∙◌}
 use Rattle.std.specs.List.{cons_option}
-use Rattle.event_runs.specs.Runs.{Event, Goes, Ends}
-use Rattle.eh_cxa.specs.Lists.{slots}
-use Rattle.eh_cxa.specs.Stands as cxa
-use Rattle.eh_cxa.specs.Words.{word, block_slot, object_slot}
-use Rattle.eh_cxa.specs.declared.layout.TheConstants.{NEXT_CAUGHT, NEXT_CLEANUP}
-use Rattle.eh_gates.specs.State.{State}
-use Rattle.eh_gates.specs.declared.gates.TheConstants.{THROW_GATE, RETHROW_GATE, END_CLEANUP_GATE}
-use Rattle.thumb_core.specs.declared.ends.End.{End}
-use Rattle.frame_check.specs.Accepts.{Accepted}
-use Rattle.two_machines.specs.Checked.{program_of}
-use Rattle.two_machines.specs.Machine.{machine_event}
-use Rattle.two_machines.specs.Activations.{Recorded, reg_in, memory_of, heads, head_of, bytes_of, lists_of, cleanups_in, InProgress}
-use Rattle.two_machines.specs.ActivationMachine.{recorded_event}
-use Rattle.stands_for.specs.Stands.{Keeps, StandsFor}
+use Rattle.machines_agree.specs.event_runs.Runs.{Event, Goes, Ends}
+use Rattle.machines_agree.specs.eh_cxa.Lists.{slots}
+use Rattle.machines_agree.specs.eh_cxa.Stands as cxa
+use Rattle.machines_agree.specs.eh_cxa.Words.{word, block_slot, object_slot}
+use Rattle.machines_agree.specs.eh_cxa.declared.layout.TheConstants.{NEXT_CAUGHT, NEXT_CLEANUP}
+use Rattle.machines_agree.specs.eh_gates.State.{State}
+use Rattle.machines_agree.specs.eh_gates.declared.gates.TheConstants.{THROW_GATE, RETHROW_GATE, END_CLEANUP_GATE}
+use Rattle.machines_agree.specs.thumb_core.declared.ends.End.{End}
+use Rattle.machines_agree.specs.frame_check.Accepts.{Accepted}
+use Rattle.machines_agree.specs.two_machines.Checked.{program_of}
+use Rattle.machines_agree.specs.two_machines.Machine.{machine_event}
+use Rattle.machines_agree.specs.two_machines.Activations.{Recorded, reg_in, memory_of, heads, head_of, bytes_of, lists_of, cleanups_in, InProgress}
+use Rattle.machines_agree.specs.two_machines.ActivationMachine.{recorded_event}
+use Rattle.machines_agree.specs.stands_for.Stands.{Keeps, StandsFor}
 use Rattle.machines_agree.specs.Turned.{AreBytes}
 use Rattle.machines_agree.proofs.RunsOn.{AlikeOn}
 use Rattle.machines_agree.proofs.WholeRuns.{alike}

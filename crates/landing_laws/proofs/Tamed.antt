@@ -1,25 +1,25 @@
 -- A gate that walks no frames leaves the cleanups in progress, their barriers and the activations.
 use Rattle.std.proofs.Common.{◌≡◌, ℕ, ◌==◌, Bool, true, false, cond, List, Ok, Err, Result, refl, ap, subst}
 use Rattle.std.proofs.lemmas.Bool.{eqb-true}
-use Rattle.eh_bus.specs.Lists.{Has}
-use Rattle.eh_cxa.specs.declared.globals.CxaFault.{CxaFault}
-use Rattle.eh_cxa.specs.Allocate.{allocate_of, free_of}
-use Rattle.eh_cxa.specs.Catch.{begin_catch_of, end_catch_of}
-use Rattle.eh_cxa.specs.ListCalls.{allocate_list, free_list, end_list}
-use Rattle.eh_cxa.specs.Lists.{Lists, slots}
-use Rattle.eh_cxa.specs.Words.{Write, block_slot, object_slot, put_all}
-use Rattle.eh_cxa.proofs.Pools.{slot_small, object_small}
-use Rattle.eh_gates.specs.declared.gates.TheConstants.{ALLOCATE_GATE, FREE_GATE, THROW_GATE, BEGIN_CATCH_GATE, END_CATCH_GATE, RETHROW_GATE, END_CLEANUP_GATE, UNEXPECTED_GATE, TERMINATE_GATE, UNCAUGHT_GATE}
-use Rattle.eh_gates.specs.Resuming.{goal_in}
-use Rattle.eh_gates.specs.State.{Tables}
-use Rattle.thumb_core.specs.declared.regs.Regs.{Regs}
-use Rattle.two_machines.specs.Activations.{Recorded, reg_in, memory_of, words_in, heads, with_lists, lists_of, cleanups_in}
-use Rattle.two_machines.specs.Corresponds.{Corresponds, WalksNone}
-use Rattle.two_machines.specs.ActivationMachine as machine
-use Rattle.two_machines.proofs.FirstEvent.{segments_alone}
-use Rattle.stands_for.specs.Cleanups.{goal_at}
-use Rattle.stands_for.proofs.Tame.{AreTame, IsKeptByWrites, tame_keeps}
-use Rattle.steps_keep.proofs.Gated.{allocate_tame, free_tame, catch_tame, end_tame}
+use Rattle.machines_agree.specs.eh_bus.Lists.{Has}
+use Rattle.machines_agree.specs.eh_cxa.declared.globals.CxaFault.{CxaFault}
+use Rattle.machines_agree.specs.eh_cxa.Allocate.{allocate_of, free_of}
+use Rattle.machines_agree.specs.eh_cxa.Catch.{begin_catch_of, end_catch_of}
+use Rattle.machines_agree.specs.eh_cxa.ListCalls.{allocate_list, free_list, end_list}
+use Rattle.machines_agree.specs.eh_cxa.Lists.{Lists, slots}
+use Rattle.machines_agree.specs.eh_cxa.Words.{Write, block_slot, object_slot, put_all}
+use Rattle.machines_agree.proofs.eh_cxa.Pools.{slot_small, object_small}
+use Rattle.machines_agree.specs.eh_gates.declared.gates.TheConstants.{ALLOCATE_GATE, FREE_GATE, THROW_GATE, BEGIN_CATCH_GATE, END_CATCH_GATE, RETHROW_GATE, END_CLEANUP_GATE, UNEXPECTED_GATE, TERMINATE_GATE, UNCAUGHT_GATE}
+use Rattle.machines_agree.specs.eh_gates.Resuming.{goal_in}
+use Rattle.machines_agree.specs.eh_gates.State.{Tables}
+use Rattle.machines_agree.specs.thumb_core.declared.regs.Regs.{Regs}
+use Rattle.machines_agree.specs.two_machines.Activations.{Recorded, reg_in, memory_of, words_in, heads, with_lists, lists_of, cleanups_in}
+use Rattle.machines_agree.specs.two_machines.Corresponds.{Corresponds, WalksNone}
+use Rattle.machines_agree.specs.two_machines.ActivationMachine as machine
+use Rattle.machines_agree.proofs.two_machines.FirstEvent.{segments_alone}
+use Rattle.machines_agree.specs.stands_for.Cleanups.{goal_at}
+use Rattle.machines_agree.proofs.stands_for.Tame.{AreTame, IsKeptByWrites, tame_keeps}
+use Rattle.machines_agree.proofs.steps_keep.Gated.{allocate_tame, free_tame, catch_tame, end_tame}
 use Rattle.landing_laws.proofs.Landed.{OnWent}
 
 pub record IsTamed (s t : Recorded) : Type 0 where

@@ -3,41 +3,41 @@
 use Rattle.std.proofs.Common.{◌≡◌, ℕ, ◌<◌, ◌^◌, List, [], ◌∷◌, Option, Some, None, refl, sym, ap, subst, ◌∙◌, true, arith}
 use Rattle.std.proofs.lemmas.List.{get_or_append_left}
 use Rattle.std.specs.Prelude.{slice_index, drop}
-use Rattle.eh_bus.specs.Lists.{Has}
-use Rattle.eh_bus.specs.Map.{IsMap}
-use Rattle.eh_bus.specs.Memory.{Memory}
-use Rattle.eh_cxa.specs.Lists.{slots}
-use Rattle.eh_cxa.specs.Throw.{set_barrier_of}
-use Rattle.eh_cxa.specs.Words.{word, block, put_all}
-use Rattle.eh_cxa.specs.declared.globals.BarrierWords.{BarrierWords}
-use Rattle.eh_cxa.specs.declared.layout.TheConstants.{SLOTS, BARRIER_SP, BARRIER_DESCRIPTOR}
-use Rattle.eh_cxa.proofs.Pools.{slot_of_block_is}
-use Rattle.eh_gates.specs.Throwing.{handed, barrier_words}
-use Rattle.eh_gates.specs.declared.state.Turned.TheVariants.{Went}
-use Rattle.eh_phase.specs.Calls.{meeting}
-use Rattle.eh_phase.specs.Cleanups.{due, is_reached}
-use Rattle.eh_phase.specs.Laws.{goal_of}
-use Rattle.eh_phase.specs.Phases.{Frames, phase2}
-use Rattle.eh_phase.specs.declared.phase1.Barrier.{Barrier}
-use Rattle.eh_phase.specs.declared.phase2.Goal.{Goal}
-use Rattle.eh_phase.specs.declared.verdict.Thrown.{Thrown}
-use Rattle.thumb_core.specs.Registers.{all_of}
-use Rattle.thumb_core.specs.declared.regs.TheConstants.{SP}
-use Rattle.frame_check.specs.Accepts.{Accepted}
-use Rattle.two_machines.specs.Checked.{program_of}
-use Rattle.two_machines.specs.Program.{program_tables}
-use Rattle.two_machines.specs.Activations.{Activation, Recorded, reg_in, memory_of, with_words, with_lists, first_place, outside, frames_at, cleanups_in, InProgress}
-use Rattle.two_machines.specs.ActivationMachine as machine
-use Rattle.stands_for.specs.Cleanups.{goal_at, AreInProgress}
-use Rattle.stands_for.specs.Stands.{Keeps, IsProgram}
-use Rattle.stands_for.proofs.Goes.{chain_top}
-use Rattle.frames_same.specs.Landings.{Fit, Rise}
-use Rattle.frames_same.proofs.Landing.{fit_frames, rise_outside}
-use Rattle.throws_keep.proofs.Bounds.{puts_other}
-use Rattle.throws_keep.proofs.CleanupEntered.{barrier_sp, barrier_desc}
-use Rattle.throws_keep.proofs.CleanupKeeps.{word_same}
-use Rattle.throws_keep.proofs.Handler.{barred_of, map_with}
-use Rattle.throws_keep.proofs.Landable.{AllGood, good_framed, good_outside}
+use Rattle.machines_agree.specs.eh_bus.Lists.{Has}
+use Rattle.machines_agree.specs.eh_bus.Map.{IsMap}
+use Rattle.machines_agree.specs.eh_bus.Memory.{Memory}
+use Rattle.machines_agree.specs.eh_cxa.Lists.{slots}
+use Rattle.machines_agree.specs.eh_cxa.Throw.{set_barrier_of}
+use Rattle.machines_agree.specs.eh_cxa.Words.{word, block, put_all}
+use Rattle.machines_agree.specs.eh_cxa.declared.globals.BarrierWords.{BarrierWords}
+use Rattle.machines_agree.specs.eh_cxa.declared.layout.TheConstants.{SLOTS, BARRIER_SP, BARRIER_DESCRIPTOR}
+use Rattle.machines_agree.proofs.eh_cxa.Pools.{slot_of_block_is}
+use Rattle.machines_agree.specs.eh_gates.Throwing.{handed, barrier_words}
+use Rattle.machines_agree.specs.eh_gates.declared.state.Turned.TheVariants.{Went}
+use Rattle.machines_agree.specs.eh_phase.Calls.{meeting}
+use Rattle.machines_agree.specs.eh_phase.Cleanups.{due, is_reached}
+use Rattle.machines_agree.specs.eh_phase.Laws.{goal_of}
+use Rattle.machines_agree.specs.eh_phase.Phases.{Frames, phase2}
+use Rattle.machines_agree.specs.eh_phase.declared.phase1.Barrier.{Barrier}
+use Rattle.machines_agree.specs.eh_phase.declared.phase2.Goal.{Goal}
+use Rattle.machines_agree.specs.eh_phase.declared.verdict.Thrown.{Thrown}
+use Rattle.machines_agree.specs.thumb_core.Registers.{all_of}
+use Rattle.machines_agree.specs.thumb_core.declared.regs.TheConstants.{SP}
+use Rattle.machines_agree.specs.frame_check.Accepts.{Accepted}
+use Rattle.machines_agree.specs.two_machines.Checked.{program_of}
+use Rattle.machines_agree.specs.two_machines.Program.{program_tables}
+use Rattle.machines_agree.specs.two_machines.Activations.{Activation, Recorded, reg_in, memory_of, with_words, with_lists, first_place, outside, frames_at, cleanups_in, InProgress}
+use Rattle.machines_agree.specs.two_machines.ActivationMachine as machine
+use Rattle.machines_agree.specs.stands_for.Cleanups.{goal_at, AreInProgress}
+use Rattle.machines_agree.specs.stands_for.Stands.{Keeps, IsProgram}
+use Rattle.machines_agree.proofs.stands_for.Goes.{chain_top}
+use Rattle.machines_agree.specs.frames_same.Landings.{Fit, Rise}
+use Rattle.machines_agree.proofs.frames_same.Landing.{fit_frames, rise_outside}
+use Rattle.machines_agree.proofs.throws_keep.Bounds.{puts_other}
+use Rattle.machines_agree.proofs.throws_keep.CleanupEntered.{barrier_sp, barrier_desc}
+use Rattle.machines_agree.proofs.throws_keep.CleanupKeeps.{word_same}
+use Rattle.machines_agree.proofs.throws_keep.Handler.{barred_of, map_with}
+use Rattle.machines_agree.proofs.throws_keep.Landable.{AllGood, good_framed, good_outside}
 use Rattle.landing_laws.specs.Landings.{stands_at, pads, AreFirst}
 use Rattle.landing_laws.specs.Due.{due_among, left_due}
 use Rattle.landing_laws.proofs.Beside.{SameBarrier, same_goal, beside_same, barrier_then, same_segments}

@@ -2,26 +2,26 @@
 use Rattle.std.proofs.Common.{◌≡◌, ℕ, ◌⊎◌, inl, inr, nat_lt, Bool, true, false, cond, List, Option, Some, None, refl, sym, subst}
 use Rattle.std.specs.Prelude.{slice_index}
 use Rattle.std.specs.Option.{option_or}
-use Rattle.event_runs.specs.Runs.{Event, Goes, Ends}
-use Rattle.eh_bus.specs.Memory.{Memory}
-use Rattle.eh_cxa.specs.ListCalls.{innermost_in}
-use Rattle.eh_gates.specs.declared.state.Turned.TheVariants.{Went, Ended}
-use Rattle.guest_gates.specs.declared.gates.TheConstants.{INPUT_GATE}
-use Rattle.guest_gates.specs.Gates.{gate_event}
-use Rattle.thumb_core.specs.Outcome.{Outcome as Stepping}
-use Rattle.thumb_core.specs.Step.{step_of}
-use Rattle.thumb_core.specs.declared.regs.TheConstants.{SP}
-use Rattle.thumb_core.specs.declared.regs.Regs.{Regs}
-use Rattle.thumb_core.specs.declared.regs.Stepped.TheVariants.{Gate}
-use Rattle.thumb_core.specs.declared.ends.Cause.{Cause}
-use Rattle.thumb_core.specs.declared.ends.TrapKind.{TrapKind}
-use Rattle.thumb_core.specs.declared.ends.TrapKind.TheVariants as kind
-use Rattle.thumb_core.specs.declared.ends.End.{End}
-use Rattle.thumb_core.specs.declared.ends.End.TheVariants as the_end
-use Rattle.two_machines.specs.Machine.{leaves_cleanup, goes_after}
-use Rattle.two_machines.specs.Program.{Program, program_tables}
-use Rattle.two_machines.specs.Activations.{Recorded, reg_in, memory_of, cleanups_in}
-use Rattle.two_machines.specs.ActivationMachine as machine
+use Rattle.machines_agree.specs.event_runs.Runs.{Event, Goes, Ends}
+use Rattle.machines_agree.specs.eh_bus.Memory.{Memory}
+use Rattle.machines_agree.specs.eh_cxa.ListCalls.{innermost_in}
+use Rattle.machines_agree.specs.eh_gates.declared.state.Turned.TheVariants.{Went, Ended}
+use Rattle.machines_agree.specs.guest_gates.declared.gates.TheConstants.{INPUT_GATE}
+use Rattle.machines_agree.specs.guest_gates.Gates.{gate_event}
+use Rattle.machines_agree.specs.thumb_core.Outcome.{Outcome as Stepping}
+use Rattle.machines_agree.specs.thumb_core.Step.{step_of}
+use Rattle.machines_agree.specs.thumb_core.declared.regs.TheConstants.{SP}
+use Rattle.machines_agree.specs.thumb_core.declared.regs.Regs.{Regs}
+use Rattle.machines_agree.specs.thumb_core.declared.regs.Stepped.TheVariants.{Gate}
+use Rattle.machines_agree.specs.thumb_core.declared.ends.Cause.{Cause}
+use Rattle.machines_agree.specs.thumb_core.declared.ends.TrapKind.{TrapKind}
+use Rattle.machines_agree.specs.thumb_core.declared.ends.TrapKind.TheVariants as kind
+use Rattle.machines_agree.specs.thumb_core.declared.ends.End.{End}
+use Rattle.machines_agree.specs.thumb_core.declared.ends.End.TheVariants as the_end
+use Rattle.machines_agree.specs.two_machines.Machine.{leaves_cleanup, goes_after}
+use Rattle.machines_agree.specs.two_machines.Program.{Program, program_tables}
+use Rattle.machines_agree.specs.two_machines.Activations.{Recorded, reg_in, memory_of, cleanups_in}
+use Rattle.machines_agree.specs.two_machines.ActivationMachine as machine
 
 -- an end that terminates nothing
 abbrev pub IsTrap : End → Type 0

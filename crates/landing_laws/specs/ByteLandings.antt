@@ -1,15 +1,15 @@
 -- Where exceptions land along a run of the machine that unwinds, by its registers, its memory and the heads of its chains.
 use Rattle.std.specs.Prelude.{ℕ, zero, suc, ◌==◌, if◌then◌else◌, List, [], Option, Some, None}
 use Rattle.std.specs.List.{cons_option}
-use Rattle.event_runs.specs.Runs.{Event, Goes, Ends}
-use Rattle.eh_cxa.specs.Words.{block_slot, object_slot}
-use Rattle.eh_gates.specs.State.{State, reg}
-use Rattle.eh_gates.specs.declared.gates.TheConstants.{THROW_GATE, RETHROW_GATE, END_CLEANUP_GATE}
-use Rattle.thumb_core.specs.Step.{step_of}
-use Rattle.thumb_core.specs.declared.regs.TheConstants.{SP}
-use Rattle.thumb_core.specs.declared.ends.End.{End}
-use Rattle.two_machines.specs.Machine.{machine_event}
-use Rattle.two_machines.specs.Program.{Program}
+use Rattle.machines_agree.specs.event_runs.Runs.{Event, Goes, Ends}
+use Rattle.machines_agree.specs.eh_cxa.Words.{block_slot, object_slot}
+use Rattle.machines_agree.specs.eh_gates.State.{State, reg}
+use Rattle.machines_agree.specs.eh_gates.declared.gates.TheConstants.{THROW_GATE, RETHROW_GATE, END_CLEANUP_GATE}
+use Rattle.machines_agree.specs.thumb_core.Step.{step_of}
+use Rattle.machines_agree.specs.thumb_core.declared.regs.TheConstants.{SP}
+use Rattle.machines_agree.specs.thumb_core.declared.ends.End.{End}
+use Rattle.machines_agree.specs.two_machines.Machine.{machine_event}
+use Rattle.machines_agree.specs.two_machines.Program.{Program}
 use Rattle.landing_laws.specs.Landings.{Landing, gate_in, landed_by}
 
 abbrev pub byte_gate_at : State → Option ℕ

@@ -1,13 +1,13 @@
 -- What is still to be entered of an exception whose cleanup is in progress.
 use Rattle.std.specs.Prelude.{ℕ, ◌==◌, Bool, true, false, if◌then◌else◌, List, [], ◌∷◌, ◌≡◌, length, Option, Some, None}
-use Rattle.event_runs.specs.Runs.{Event, Goes, Ends}
-use Rattle.elf_image.specs.Image.{Image}
-use Rattle.eh_cxa.specs.Lists.{Cleanup}
-use Rattle.eh_phase.specs.Cleanups.{due}
-use Rattle.eh_phase.specs.Phases.{Frame}
-use Rattle.thumb_core.specs.declared.ends.End.{End}
-use Rattle.two_machines.specs.Activations.{Activation, Recorded, frames_at, InProgress}
-use Rattle.stands_for.specs.Cleanups.{goal_at, by_sp}
+use Rattle.machines_agree.specs.event_runs.Runs.{Event, Goes, Ends}
+use Rattle.machines_agree.specs.elf_image.Image.{Image}
+use Rattle.machines_agree.specs.eh_cxa.Lists.{Cleanup}
+use Rattle.machines_agree.specs.eh_phase.Cleanups.{due}
+use Rattle.machines_agree.specs.eh_phase.Phases.{Frame}
+use Rattle.machines_agree.specs.thumb_core.declared.ends.End.{End}
+use Rattle.machines_agree.specs.two_machines.Activations.{Activation, Recorded, frames_at, InProgress}
+use Rattle.machines_agree.specs.stands_for.Cleanups.{goal_at, by_sp}
 use Rattle.landing_laws.specs.Landings.{Pad, Landing, landing_by, pads, AreFirst}
 
 -- the frames from a cleanup's activation on, the one with so many outside it, at the kept site

@@ -1,26 +1,26 @@
 -- The landing pads of one throw are the cleanups that are due, in order, and then its barrier (docs/standing-for.md).
 use Rattle.std.specs.Prelude.{ℕ, None, Some, List, ◌∷◌, ◌≡◌}
-use Rattle.event_runs.specs.Runs.{Reached, reached, Ends}
-use Rattle.eh_phase.specs.Cleanups.{due}
-use Rattle.eh_phase.specs.Laws.{goal_of, Lands}
-use Rattle.eh_phase.specs.Phases.{Frames, phase2}
-use Rattle.eh_phase.specs.declared.phase1.Barrier.{Barrier}
-use Rattle.eh_phase.specs.declared.phase1.Found.TheVariants as found
-use Rattle.eh_phase.specs.declared.verdict.Thrown.{Thrown}
-use Rattle.eh_cxa.specs.Words.{block}
-use Rattle.eh_gates.specs.declared.gates.TheConstants.{END_CLEANUP_GATE}
-use Rattle.eh_gates.specs.declared.state.Turned.TheVariants.{Went}
-use Rattle.thumb_core.specs.declared.ends.Cause.{Cause}
-use Rattle.thumb_core.specs.declared.ends.Cause.TheVariants as cause
-use Rattle.thumb_core.specs.declared.ends.End.TheVariants as the_end
-use Rattle.frame_check.specs.Accepts.{Accepted}
-use Rattle.two_machines.specs.Activations.{Recorded, recorded_start, bytes_of}
-use Rattle.two_machines.specs.ActivationMachine.{recorded_event, searched, frames_from}
-use Rattle.two_machines.specs.Checked.{program_of}
-use Rattle.two_machines.specs.Program.{program_tables}
-use Rattle.stands_for.specs.Stands.{Keeps, IsProgram}
+use Rattle.machines_agree.specs.event_runs.Runs.{Reached, reached, Ends}
+use Rattle.machines_agree.specs.eh_phase.Cleanups.{due}
+use Rattle.machines_agree.specs.eh_phase.Laws.{goal_of, Lands}
+use Rattle.machines_agree.specs.eh_phase.Phases.{Frames, phase2}
+use Rattle.machines_agree.specs.eh_phase.declared.phase1.Barrier.{Barrier}
+use Rattle.machines_agree.specs.eh_phase.declared.phase1.Found.TheVariants as found
+use Rattle.machines_agree.specs.eh_phase.declared.verdict.Thrown.{Thrown}
+use Rattle.machines_agree.specs.eh_cxa.Words.{block}
+use Rattle.machines_agree.specs.eh_gates.declared.gates.TheConstants.{END_CLEANUP_GATE}
+use Rattle.machines_agree.specs.eh_gates.declared.state.Turned.TheVariants.{Went}
+use Rattle.machines_agree.specs.thumb_core.declared.ends.Cause.{Cause}
+use Rattle.machines_agree.specs.thumb_core.declared.ends.Cause.TheVariants as cause
+use Rattle.machines_agree.specs.thumb_core.declared.ends.End.TheVariants as the_end
+use Rattle.machines_agree.specs.frame_check.Accepts.{Accepted}
+use Rattle.machines_agree.specs.two_machines.Activations.{Recorded, recorded_start, bytes_of}
+use Rattle.machines_agree.specs.two_machines.ActivationMachine.{recorded_event, searched, frames_from}
+use Rattle.machines_agree.specs.two_machines.Checked.{program_of}
+use Rattle.machines_agree.specs.two_machines.Program.{program_tables}
+use Rattle.machines_agree.specs.stands_for.Stands.{Keeps, IsProgram}
 use Rattle.machines_agree.specs.Turned.{AreBytes}
-use Rattle.resumes_keep.specs.Flying.{all_frames, fly_from, CanFly}
+use Rattle.machines_agree.specs.resumes_keep.Flying.{all_frames, fly_from, CanFly}
 use Rattle.landing_laws.specs.Landings.{gate_at, ThrowsWhat, stands_at, landings, resumes_of, flight_of, pads, AreFirst}
 use Rattle.landing_laws.specs.ByteLandings.{byte_landings}
 use Rattle.landing_laws.specs.Due.{DueAfter}

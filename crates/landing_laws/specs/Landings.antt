@@ -1,23 +1,23 @@
 -- Where exceptions land along a run of the machine with recorded activations, and the landings of one throw (docs/standing-for.md).
 use Rattle.std.specs.Prelude.{ℕ, zero, suc, ◌==◌, Bool, true, false, if◌then◌else◌, List, [], ◌∷◌, ◌++◌, ◌≡◌, Option, Some, None, ◌⊎◌}
 use Rattle.std.specs.List.{filter_map, cons_option}
-use Rattle.event_runs.specs.Runs.{Event, Goes, Ends}
-use Rattle.eh_cxa.specs.Lists.{Cleanup}
-use Rattle.eh_cxa.specs.Words.{object_slot}
-use Rattle.eh_phase.specs.declared.phase2.Entered.{Entered}
-use Rattle.eh_phase.specs.declared.phase2.Entered.TheVariants as enters
-use Rattle.eh_phase.specs.declared.verdict.Thrown.{Thrown}
+use Rattle.machines_agree.specs.event_runs.Runs.{Event, Goes, Ends}
+use Rattle.machines_agree.specs.eh_cxa.Lists.{Cleanup}
+use Rattle.machines_agree.specs.eh_cxa.Words.{object_slot}
+use Rattle.machines_agree.specs.eh_phase.declared.phase2.Entered.{Entered}
+use Rattle.machines_agree.specs.eh_phase.declared.phase2.Entered.TheVariants as enters
+use Rattle.machines_agree.specs.eh_phase.declared.verdict.Thrown.{Thrown}
 use Rattle.std.specs.Prelude.{slice_index}
-use Rattle.thumb_core.specs.Registers.{even}
-use Rattle.thumb_core.specs.Step.{step_of}
-use Rattle.thumb_core.specs.declared.regs.TheConstants.{SP}
-use Rattle.thumb_core.specs.declared.regs.Stepped.{Stepped}
-use Rattle.thumb_core.specs.declared.regs.Stepped.TheVariants.{Done, Call, Return, Gate, Trap}
-use Rattle.thumb_core.specs.declared.ends.End.{End}
-use Rattle.eh_gates.specs.declared.gates.TheConstants.{THROW_GATE, RETHROW_GATE, END_CLEANUP_GATE}
-use Rattle.two_machines.specs.Program.{Program}
-use Rattle.two_machines.specs.Activations.{Recorded, reg_in, memory_of, lists_of, InProgress}
-use Rattle.two_machines.specs.ActivationMachine.{recorded_event, thrown_first, thrown_of_slot}
+use Rattle.machines_agree.specs.thumb_core.Registers.{even}
+use Rattle.machines_agree.specs.thumb_core.Step.{step_of}
+use Rattle.machines_agree.specs.thumb_core.declared.regs.TheConstants.{SP}
+use Rattle.machines_agree.specs.thumb_core.declared.regs.Stepped.{Stepped}
+use Rattle.machines_agree.specs.thumb_core.declared.regs.Stepped.TheVariants.{Done, Call, Return, Gate, Trap}
+use Rattle.machines_agree.specs.thumb_core.declared.ends.End.{End}
+use Rattle.machines_agree.specs.eh_gates.declared.gates.TheConstants.{THROW_GATE, RETHROW_GATE, END_CLEANUP_GATE}
+use Rattle.machines_agree.specs.two_machines.Program.{Program}
+use Rattle.machines_agree.specs.two_machines.Activations.{Recorded, reg_in, memory_of, lists_of, InProgress}
+use Rattle.machines_agree.specs.two_machines.ActivationMachine.{recorded_event, thrown_first, thrown_of_slot}
 
 -- ---- what an event throws, and what it resumes
 

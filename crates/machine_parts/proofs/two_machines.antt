@@ -8,6 +8,7 @@ pub use Rattle.two_machines.proofs.Flying
 pub use Rattle.two_machines.proofs.InStep
 pub use Rattle.two_machines.proofs.Landed
 pub use Rattle.two_machines.proofs.Matching
+pub use Rattle.two_machines.proofs.RecordedGates
 pub use Rattle.two_machines.proofs.Released
 pub use Rattle.two_machines.proofs.Rethrowing
 pub use Rattle.two_machines.proofs.Returning

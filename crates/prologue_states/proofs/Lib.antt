@@ -1,3 +1,4 @@
+pub use Rattle.accepted_code.proofs.event_runs
 pub mod accepted_code
 pub use Rattle.accepted_code.proofs.two_machines
 pub use Rattle.accepted_code.proofs.frame_check

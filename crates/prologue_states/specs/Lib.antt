@@ -1,3 +1,4 @@
+pub use Rattle.accepted_code.specs.eh_list
 pub mod accepted_code
 pub use Rattle.accepted_code.specs.two_machines
 pub use Rattle.accepted_code.specs.frame_check

@@ -1,27 +1,27 @@
 -- A report of a run speaks of the program alone.
 use Rattle.std.proofs.Common.{◌≡◌, ℕ, ◌-◌, List, [], ◌++◌, length, Option, Result, Ok, Err, refl, sym, ap, subst, ◌∙◌}
 use Rattle.elf_image.specs.Image.{Image}
-use Rattle.eh_phase.specs.Phases.{Frames}
+use Rattle.ehabi_top.specs.eh_phase.Phases.{Frames}
 use Rattle.eh_trace.specs.Text.{trace_text}
 use Rattle.eh_trace.specs.Trace.{Trace}
 use Rattle.eh_types.specs.Graph.{Row, name_of}
-use Rattle.eh_walk.specs.Forced.{Forced, forced}
-use Rattle.eh_walk.specs.Reaching.{Onward, run_to_site}
-use Rattle.eh_walk.specs.Text.{walk_text}
-use Rattle.eh_walk.specs.Walks.{frames_given, end_given, walk_of}
-use Rattle.eh_walk.specs.declared.stopping.ForceFault.{ForceFault}
-use Rattle.eh_walk.specs.declared.walk.WalkEnd.{WalkEnd}
-use Rattle.eh_walk.specs.declared.walk.WalkEnd.TheVariants.{Root, NoUnwind, Most, NotSite}
-use Rattle.eh_walk.specs.declared.walk.WalkFrame.{WalkFrame}
-use Rattle.event_runs.specs.Runs.{Machine, Ran, ran_of}
+use Rattle.ehabi_top.specs.eh_walk.Forced.{Forced, forced}
+use Rattle.ehabi_top.specs.eh_walk.Reaching.{Onward, run_to_site}
+use Rattle.ehabi_top.specs.eh_walk.Text.{walk_text}
+use Rattle.ehabi_top.specs.eh_walk.Walks.{frames_given, end_given, walk_of}
+use Rattle.ehabi_top.specs.eh_walk.declared.stopping.ForceFault.{ForceFault}
+use Rattle.ehabi_top.specs.eh_walk.declared.walk.WalkEnd.{WalkEnd}
+use Rattle.ehabi_top.specs.eh_walk.declared.walk.WalkEnd.TheVariants.{Root, NoUnwind, Most, NotSite}
+use Rattle.ehabi_top.specs.eh_walk.declared.walk.WalkFrame.{WalkFrame}
+use Rattle.ehabi_top.specs.event_runs.Runs.{Machine, Ran, ran_of}
 use Rattle.frame_check.specs.Accepts.{Accepted}
-use Rattle.eh_gates.specs.State.{State}
+use Rattle.ehabi_top.specs.eh_gates.State.{State}
 use Rattle.thumb_core.specs.declared.ends.End.{End}
 use Rattle.thumb_core.specs.declared.ends.End.TheVariants.{Exit, Terminate, Trap, Budget, ReadFault, WriteFault}
-use Rattle.two_machines.specs.Checked.{program_of}
-use Rattle.two_machines.specs.Machine.{machine_of}
-use Rattle.two_machines.specs.Program.{Program}
-use Rattle.two_machines.specs.Start.{start_of}
+use Rattle.ehabi_top.specs.two_machines.Checked.{program_of}
+use Rattle.ehabi_top.specs.two_machines.Machine.{machine_of}
+use Rattle.ehabi_top.specs.two_machines.Program.{Program}
+use Rattle.ehabi_top.specs.two_machines.Start.{start_of}
 use Rattle.accepted_laws.specs.OneReport.{ProgramsAreOne}
 use Rattle.ehabi_top.specs.BothRuns.{bytes_events}
 use Rattle.ehabi_top.specs.ForceReport.{accepted_force, by_site_end, force_report, forced_type, from_forced, preceded, unforced, IsRefusedForcing, IsUnforced}
@@ -38,8 +38,8 @@ use Rattle.ehabi_top.specs.declared.words.Task.{Task}
 use Rattle.ehabi_top.specs.declared.words.Task.TheVariants.{Run, Walk, Force}
 use Rattle.ehabi_top.specs.declared.words.TheConstants.{MOST_INSTRUCTIONS}
 use Rattle.ehabi_top.specs.ThreadsReport.{accepted_threads}
-use Rattle.thread_run.specs.Elements.{joint_over}
-use Rattle.thread_run.specs.Schedules.{Scheduled, schedule_run}
+use Rattle.ehabi_top.specs.thread_run.Elements.{joint_over}
+use Rattle.ehabi_top.specs.thread_run.Schedules.{Scheduled, schedule_run}
 use Rattle.thread_schedule.specs.Tags.{tagged}
 use Rattle.report_laws.specs.OneReport.{ReportsAreOne, ThreadsAreOne, CountsAreOne, RefusalsAreOne}
 

@@ -5,19 +5,19 @@ use Rattle.eh_bus.specs.declared.map.TheConstants.{MAX_IMAGE_SIZE}
 use Rattle.eh_files.specs.FileList.{answer_of}
 use Rattle.eh_files.specs.declared.FileAnswer.{FileAnswer}
 use Rattle.eh_files.specs.declared.FileAnswer.TheVariants.{Missing, TooLong}
-use Rattle.eh_gates.specs.State.{State}
-use Rattle.two_machines.specs.Activations.{Recorded}
+use Rattle.ehabi_top.specs.eh_gates.State.{State}
+use Rattle.ehabi_top.specs.two_machines.Activations.{Recorded}
 use Rattle.eh_trace.specs.Trace.{Trace}
-use Rattle.eh_phase.specs.Phases.{Frames}
-use Rattle.eh_walk.specs.Reaching.{Onward}
-use Rattle.eh_walk.specs.Walks.{frames_given, end_given}
-use Rattle.eh_walk.specs.declared.walk.WalkEnd.{WalkEnd}
-use Rattle.eh_walk.specs.declared.walk.WalkEnd.TheVariants.{Root, NoUnwind, Most, NotSite as NoSite}
-use Rattle.eh_walk.specs.declared.stopping.ForceFault.{ForceFault}
-use Rattle.eh_walk.specs.declared.stopping.ForceFault.TheVariants.{NotSite, NoFrame, InsideCleanup, NoStop, BadTables, BadType, PoolFull}
-use Rattle.eh_walk.specs.declared.walk.WalkFrame.{WalkFrame}
+use Rattle.ehabi_top.specs.eh_phase.Phases.{Frames}
+use Rattle.ehabi_top.specs.eh_walk.Reaching.{Onward}
+use Rattle.ehabi_top.specs.eh_walk.Walks.{frames_given, end_given}
+use Rattle.ehabi_top.specs.eh_walk.declared.walk.WalkEnd.{WalkEnd}
+use Rattle.ehabi_top.specs.eh_walk.declared.walk.WalkEnd.TheVariants.{Root, NoUnwind, Most, NotSite as NoSite}
+use Rattle.ehabi_top.specs.eh_walk.declared.stopping.ForceFault.{ForceFault}
+use Rattle.ehabi_top.specs.eh_walk.declared.stopping.ForceFault.TheVariants.{NotSite, NoFrame, InsideCleanup, NoStop, BadTables, BadType, PoolFull}
+use Rattle.ehabi_top.specs.eh_walk.declared.walk.WalkFrame.{WalkFrame}
 use Rattle.elf_image.specs.declared.fault.ImageFault.TheVariants.{TooLarge}
-use Rattle.event_runs.specs.Runs.{Ran, ran_of}
+use Rattle.ehabi_top.specs.event_runs.Runs.{Ran, ran_of}
 use Rattle.frame_check.specs.Accepts.{Accepted}
 use Rattle.image_memory.specs.Start.{code_start}
 use Rattle.plain_run.specs.Machine.{flat_ran}
@@ -30,8 +30,8 @@ use Rattle.ehabi_top.specs.GenerateReport.{summary_report, recorded_summary, cou
 use Rattle.ehabi_top.specs.Loading.{Report, Closing, closing_of, ran_report, status_of}
 use Rattle.ehabi_top.specs.RunReport.{accepted_report, recorded_report, run_report}
 use Rattle.ehabi_top.specs.ThreadsReport.{accepted_threads, recorded_threads_report}
-use Rattle.thread_laws.specs.RecordedThreads.{RecordedPlace}
-use Rattle.thread_run.specs.Schedules.{Scheduled}
+use Rattle.ehabi_top.specs.thread_laws.RecordedThreads.{RecordedPlace}
+use Rattle.ehabi_top.specs.thread_run.Schedules.{Scheduled}
 use Rattle.report_lines.specs.Text.{end_line, image_fault_line}
 use Rattle.ehabi_top.specs.WalkReport.{accepted_walk, recorded_walk_report, walk_closing, walked_by}
 use Rattle.program_answers.specs.declared.status.TheConstants.{DONE, EXIT_NONZERO, REFUSED}

@@ -4,7 +4,7 @@ use Rattle.ehabi_top.specs.declared.sources.TheConstants as ehabi_top-sources
 use Rattle.ehabi_top.specs.declared.words.TheConstants as ehabi_top-words
 use Rattle.program_answers.specs.declared.status.TheConstants as program_answers-status
 use Rattle.ehabi_top.specs.declared.walk.TheConstants as ehabi_top-walk
-use Rattle.eh_walk.specs.declared.reach.TheConstants as eh_walk-reach
+use Rattle.ehabi_top.specs.eh_walk.declared.reach.TheConstants as eh_walk-reach
 
 -- the numbers that the definitions of program_answers, ehabi_top and eh_walk cite
 pub record CommandNumbers : Type 0 where

@@ -1,3 +1,10 @@
+pub use Rattle.throws_keep.proofs.flow
+pub use Rattle.throws_keep.proofs.eh_bus
+pub use Rattle.throws_keep.proofs.eh_cxa
+pub use Rattle.throws_keep.proofs.thumb_core
+pub use Rattle.throws_keep.proofs.eh_phase
+pub use Rattle.throws_keep.proofs.frames_same
+pub use Rattle.throws_keep.proofs.event_runs
 pub mod throws_keep
 pub use Rattle.throws_keep.proofs.two_machines
 pub use Rattle.throws_keep.proofs.accepted_code

@@ -1,3 +1,13 @@
+pub use Rattle.throws_keep.specs.frame_flow
+pub use Rattle.throws_keep.specs.elf_image
+pub use Rattle.throws_keep.specs.eh_cxa
+pub use Rattle.throws_keep.specs.eh_bytecode
+pub use Rattle.throws_keep.specs.eh_desc
+pub use Rattle.throws_keep.specs.eh_phase
+pub use Rattle.throws_keep.specs.unwind_codes
+pub use Rattle.throws_keep.specs.frames_same
+pub use Rattle.throws_keep.specs.eh_list
+pub use Rattle.throws_keep.specs.eh_types
 pub use Rattle.throws_keep.specs.two_machines
 pub use Rattle.throws_keep.specs.frame_check
 pub use Rattle.throws_keep.specs.frame_graph

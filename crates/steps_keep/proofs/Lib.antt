@@ -1,3 +1,4 @@
+pub use Rattle.stands_for.proofs.event_runs
 pub mod stands_for
 pub use Rattle.stands_for.proofs.two_machines
 pub use Rattle.stands_for.proofs.frame_check

@@ -1,3 +1,4 @@
+pub use Rattle.stands_for.specs.eh_list
 pub mod stands_for
 pub use Rattle.stands_for.specs.two_machines
 pub use Rattle.stands_for.specs.frame_check

@@ -3,13 +3,13 @@ use Rattle.std.proofs.Common.{◌≡◌, ℕ, ◌<◌, inl, inr, List, [], lengt
 use Rattle.std.proofs.lemmas.Bool.{cases_eq}
 use Rattle.std.proofs.lemmas.List.{map-set}
 use Rattle.std.proofs.lemmas.Option.{same_Some}
-use Rattle.eh_bus.specs.Guards.{insert_all, AreGuards}
-use Rattle.eh_bus.specs.Memory.{Memory}
-use Rattle.frame_check.specs.Accepts.{Accepted}
-use Rattle.two_machines.specs.Activations.{Recorded, memory_of, bytes_of}
-use Rattle.stands_for.specs.Stands.{Keeps}
-use Rattle.thread_memory.specs.Homes.{home_of}
-use Rattle.thread_memory.specs.declared.homes.TheConstants.{THREADS}
+use Rattle.thread_run.specs.eh_bus.Guards.{insert_all, AreGuards}
+use Rattle.thread_run.specs.eh_bus.Memory.{Memory}
+use Rattle.thread_run.specs.frame_check.Accepts.{Accepted}
+use Rattle.thread_run.specs.two_machines.Activations.{Recorded, memory_of, bytes_of}
+use Rattle.thread_run.specs.stands_for.Stands.{Keeps}
+use Rattle.thread_run.specs.thread_memory.Homes.{home_of}
+use Rattle.thread_run.specs.thread_memory.declared.homes.TheConstants.{THREADS}
 use Rattle.thread_run.specs.declared.thread.Thread.{Thread}
 use Rattle.thread_run.specs.Threads.{put_thread}
 use Rattle.thread_run.specs.Elements.{Joint, as_entered, core_in, with_event}

@@ -1,23 +1,23 @@
 -- One element, over bytes and with recorded activations.
 use Rattle.std.proofs.Common.{◌≡◌, ℕ, zero, suc, Bool, true, false, cond, List, [], ◌∷◌, get_or, Option, Some, None, refl, sym, ap, subst, ◌∙◌}
-use Rattle.event_runs.specs.Runs.{Event, Goes, Ends}
-use Rattle.frame_check.specs.Accepts.{Accepted}
-use Rattle.thumb_core.specs.declared.ends.TrapKind.{TrapKind}
-use Rattle.thumb_core.specs.declared.ends.End.{End}
-use Rattle.thumb_core.specs.declared.ends.End.TheVariants.{Exit, Terminate, Trap, Budget, ReadFault, WriteFault}
-use Rattle.eh_gates.specs.State.{State}
-use Rattle.two_machines.specs.Machine.{machine_event}
-use Rattle.two_machines.specs.Checked.{program_of}
-use Rattle.two_machines.specs.Activations.{Recorded, bytes_of}
-use Rattle.two_machines.specs.ActivationMachine.{recorded_event}
-use Rattle.two_machines.specs.ActivationLaws.{Matches}
-use Rattle.two_machines.specs.RecordedSlots.{LeavesBeyond}
-use Rattle.two_machines.proofs.Beyond.{words_beyond_stay}
-use Rattle.stands_for.specs.Stands.{Keeps, IsProgram, OnEvent}
-use Rattle.machines_agree.specs.Beyond.{SameBeyond}
-use Rattle.machines_agree.specs.Turned.{AreBytes, TurnsSame}
-use Rattle.machines_agree.specs.Beyond.{BeyondStays}
-use Rattle.machines_agree.proofs.RunsOn.{AlikeOn}
+use Rattle.thread_run.specs.event_runs.Runs.{Event, Goes, Ends}
+use Rattle.thread_run.specs.frame_check.Accepts.{Accepted}
+use Rattle.thread_run.specs.thumb_core.declared.ends.TrapKind.{TrapKind}
+use Rattle.thread_run.specs.thumb_core.declared.ends.End.{End}
+use Rattle.thread_run.specs.thumb_core.declared.ends.End.TheVariants.{Exit, Terminate, Trap, Budget, ReadFault, WriteFault}
+use Rattle.thread_run.specs.eh_gates.State.{State}
+use Rattle.thread_run.specs.two_machines.Machine.{machine_event}
+use Rattle.thread_run.specs.two_machines.Checked.{program_of}
+use Rattle.thread_run.specs.two_machines.Activations.{Recorded, bytes_of}
+use Rattle.thread_run.specs.two_machines.ActivationMachine.{recorded_event}
+use Rattle.thread_run.specs.two_machines.ActivationLaws.{Matches}
+use Rattle.thread_run.specs.two_machines.RecordedSlots.{LeavesBeyond}
+use Rattle.thread_run.proofs.two_machines.Beyond.{words_beyond_stay}
+use Rattle.thread_run.specs.stands_for.Stands.{Keeps, IsProgram, OnEvent}
+use Rattle.thread_run.specs.machines_agree.Beyond.{SameBeyond}
+use Rattle.thread_run.specs.machines_agree.Turned.{AreBytes, TurnsSame}
+use Rattle.thread_run.specs.machines_agree.Beyond.{BeyondStays}
+use Rattle.thread_run.proofs.machines_agree.RunsOn.{AlikeOn}
 use Rattle.thread_run.specs.declared.thread.Thread.{Thread}
 use Rattle.thread_run.specs.Threads as bytes_threads
 use Rattle.thread_run.specs.Threads.{all_over, core_of, put_thread}

@@ -5,59 +5,59 @@ use Rattle.std.specs.List.{list_all}
 use Rattle.std.specs.Option.{option_or}
 use Rattle.std.proofs.lemmas.Bool.{eqb-true}
 use Rattle.std.proofs.lemmas.Option.{same_Some}
-use Rattle.event_runs.specs.Runs.{Event, Goes, Ends}
-use Rattle.eh_bus.specs.Memory.{Memory, fetch}
-use Rattle.eh_bus.specs.declared.fault.BusFault.{BusFault}
-use Rattle.eh_bus.specs.declared.fault.BusFault.TheVariants as bus
-use Rattle.guest_gates.specs.declared.gates.TheConstants.{EXIT_GATE, OUTPUT_GATE, INPUT_GATE}
-use Rattle.guest_gates.specs.Ends.{trap_end}
-use Rattle.guest_gates.specs.Gates.{gate_event}
-use Rattle.eh_cxa.specs.Allocate.{free_of}
-use Rattle.eh_cxa.specs.Catch.{begin_catch_of, end_catch_of}
-use Rattle.eh_cxa.specs.ListCalls.{allocate_list, free_list, end_list, rethrow_list, innermost_in}
-use Rattle.eh_cxa.specs.Lists.{Cleanup}
-use Rattle.eh_cxa.specs.Throw.{barrier_of}
-use Rattle.eh_cxa.specs.Words.{word, block, block_slot, object_slot}
-use Rattle.eh_cxa.specs.declared.globals.BarrierWords.{BarrierWords}
-use Rattle.eh_cxa.specs.declared.globals.CxaFault.{CxaFault}
-use Rattle.eh_cxa.specs.declared.globals.CxaFault.TheVariants as fault
-use Rattle.eh_phase.specs.Frames.{covered_at}
-use Rattle.eh_phase.specs.declared.phase1.Barrier.{Barrier}
-use Rattle.eh_phase.specs.declared.phase1.Found.{Found}
-use Rattle.eh_phase.specs.declared.phase1.Found.TheVariants as found
-use Rattle.eh_phase.specs.declared.phase2.Entered.{Entered}
-use Rattle.eh_phase.specs.declared.phase2.Entered.TheVariants as enters
-use Rattle.eh_phase.specs.declared.verdict.Thrown.{Thrown}
-use Rattle.eh_trace.specs.declared.event.EventKind.{EventKind}
-use Rattle.eh_trace.specs.declared.event.EventKind.TheVariants as event
-use Rattle.eh_types.specs.Graph.{row_of}
-use Rattle.thumb_isa.specs.declared.instr.Instr.{Instr}
-use Rattle.thumb_isa.specs.declared.instr.Instr.TheVariants.{Svc}
-use Rattle.thumb_isa.specs.declared.instr.Decoded.{Decoded}
-use Rattle.thumb_isa.specs.declared.instr.Decoded.TheVariants.{Is, Undefined, Unpredictable, NotInProfile}
-use Rattle.thumb_isa.specs.Rows.{Row, fits, rows, first_fit, decoded_of}
-use Rattle.step_ahead.specs.Ahead.{branches_some}
-use Rattle.thumb_core.specs.Outcome.{Outcome as Stepping}
-use Rattle.thumb_core.specs.Step.{step_of, instr_at, instr_of, instr_of_first, instr_of_second}
-use Rattle.thumb_core.specs.declared.regs.TheConstants.{SP}
-use Rattle.thumb_core.specs.declared.regs.CoreTrap.{CoreTrap}
-use Rattle.thumb_core.specs.declared.regs.CoreTrap.TheVariants as core
-use Rattle.thumb_core.specs.declared.regs.Regs.{Regs}
-use Rattle.thumb_core.specs.declared.regs.Stepped.{Stepped}
-use Rattle.thumb_core.specs.declared.regs.Stepped.TheVariants.{Done, Call, Return, Gate, Trap}
-use Rattle.thumb_core.specs.declared.ends.TrapKind.{TrapKind}
-use Rattle.thumb_core.specs.declared.ends.TrapKind.TheVariants as kind
-use Rattle.thumb_core.specs.declared.ends.End.{End}
-use Rattle.thumb_core.specs.declared.ends.End.TheVariants as the_end
-use Rattle.eh_gates.specs.declared.gates.TheConstants.{ALLOCATE_GATE, FREE_GATE, THROW_GATE, BEGIN_CATCH_GATE, END_CATCH_GATE, RETHROW_GATE, END_CLEANUP_GATE, UNEXPECTED_GATE, TERMINATE_GATE, UNCAUGHT_GATE}
-use Rattle.eh_gates.specs.declared.state.Turned.TheVariants.{Went, Ended}
-use Rattle.eh_gates.specs.CallGates.{fault_end}
-use Rattle.eh_gates.specs.State.{Tables}
-use Rattle.eh_gates.specs.Throwing.{barrier_in, rethrow_end, throw_event}
-use Rattle.two_machines.specs.Machine.{sp_end, fell_off, goes_after, leaves_cleanup}
-use Rattle.two_machines.specs.Program.{Program, program_tables}
-use Rattle.two_machines.specs.Activations.{Caller, Activation, InProgress, Recorded, reg_in, memory_of, lists_of, cleanups_in, heads, words_in, with_lists}
-use Rattle.two_machines.specs.ActivationMachine as acts
+use Rattle.thread_run.specs.event_runs.Runs.{Event, Goes, Ends}
+use Rattle.thread_run.specs.eh_bus.Memory.{Memory, fetch}
+use Rattle.thread_run.specs.eh_bus.declared.fault.BusFault.{BusFault}
+use Rattle.thread_run.specs.eh_bus.declared.fault.BusFault.TheVariants as bus
+use Rattle.thread_run.specs.guest_gates.declared.gates.TheConstants.{EXIT_GATE, OUTPUT_GATE, INPUT_GATE}
+use Rattle.thread_run.specs.guest_gates.Ends.{trap_end}
+use Rattle.thread_run.specs.guest_gates.Gates.{gate_event}
+use Rattle.thread_run.specs.eh_cxa.Allocate.{free_of}
+use Rattle.thread_run.specs.eh_cxa.Catch.{begin_catch_of, end_catch_of}
+use Rattle.thread_run.specs.eh_cxa.ListCalls.{allocate_list, free_list, end_list, rethrow_list, innermost_in}
+use Rattle.thread_run.specs.eh_cxa.Lists.{Cleanup}
+use Rattle.thread_run.specs.eh_cxa.Throw.{barrier_of}
+use Rattle.thread_run.specs.eh_cxa.Words.{word, block, block_slot, object_slot}
+use Rattle.thread_run.specs.eh_cxa.declared.globals.BarrierWords.{BarrierWords}
+use Rattle.thread_run.specs.eh_cxa.declared.globals.CxaFault.{CxaFault}
+use Rattle.thread_run.specs.eh_cxa.declared.globals.CxaFault.TheVariants as fault
+use Rattle.thread_run.specs.eh_phase.Frames.{covered_at}
+use Rattle.thread_run.specs.eh_phase.declared.phase1.Barrier.{Barrier}
+use Rattle.thread_run.specs.eh_phase.declared.phase1.Found.{Found}
+use Rattle.thread_run.specs.eh_phase.declared.phase1.Found.TheVariants as found
+use Rattle.thread_run.specs.eh_phase.declared.phase2.Entered.{Entered}
+use Rattle.thread_run.specs.eh_phase.declared.phase2.Entered.TheVariants as enters
+use Rattle.thread_run.specs.eh_phase.declared.verdict.Thrown.{Thrown}
+use Rattle.thread_run.specs.eh_trace.declared.event.EventKind.{EventKind}
+use Rattle.thread_run.specs.eh_trace.declared.event.EventKind.TheVariants as event
+use Rattle.thread_run.specs.eh_types.Graph.{row_of}
+use Rattle.thread_run.specs.thumb_isa.declared.instr.Instr.{Instr}
+use Rattle.thread_run.specs.thumb_isa.declared.instr.Instr.TheVariants.{Svc}
+use Rattle.thread_run.specs.thumb_isa.declared.instr.Decoded.{Decoded}
+use Rattle.thread_run.specs.thumb_isa.declared.instr.Decoded.TheVariants.{Is, Undefined, Unpredictable, NotInProfile}
+use Rattle.thread_run.specs.thumb_isa.Rows.{Row, fits, rows, first_fit, decoded_of}
+use Rattle.thread_run.specs.step_ahead.Ahead.{branches_some}
+use Rattle.thread_run.specs.thumb_core.Outcome.{Outcome as Stepping}
+use Rattle.thread_run.specs.thumb_core.Step.{step_of, instr_at, instr_of, instr_of_first, instr_of_second}
+use Rattle.thread_run.specs.thumb_core.declared.regs.TheConstants.{SP}
+use Rattle.thread_run.specs.thumb_core.declared.regs.CoreTrap.{CoreTrap}
+use Rattle.thread_run.specs.thumb_core.declared.regs.CoreTrap.TheVariants as core
+use Rattle.thread_run.specs.thumb_core.declared.regs.Regs.{Regs}
+use Rattle.thread_run.specs.thumb_core.declared.regs.Stepped.{Stepped}
+use Rattle.thread_run.specs.thumb_core.declared.regs.Stepped.TheVariants.{Done, Call, Return, Gate, Trap}
+use Rattle.thread_run.specs.thumb_core.declared.ends.TrapKind.{TrapKind}
+use Rattle.thread_run.specs.thumb_core.declared.ends.TrapKind.TheVariants as kind
+use Rattle.thread_run.specs.thumb_core.declared.ends.End.{End}
+use Rattle.thread_run.specs.thumb_core.declared.ends.End.TheVariants as the_end
+use Rattle.thread_run.specs.eh_gates.declared.gates.TheConstants.{ALLOCATE_GATE, FREE_GATE, THROW_GATE, BEGIN_CATCH_GATE, END_CATCH_GATE, RETHROW_GATE, END_CLEANUP_GATE, UNEXPECTED_GATE, TERMINATE_GATE, UNCAUGHT_GATE}
+use Rattle.thread_run.specs.eh_gates.declared.state.Turned.TheVariants.{Went, Ended}
+use Rattle.thread_run.specs.eh_gates.CallGates.{fault_end}
+use Rattle.thread_run.specs.eh_gates.State.{Tables}
+use Rattle.thread_run.specs.eh_gates.Throwing.{barrier_in, rethrow_end, throw_event}
+use Rattle.thread_run.specs.two_machines.Machine.{sp_end, fell_off, goes_after, leaves_cleanup}
+use Rattle.thread_run.specs.two_machines.Program.{Program, program_tables}
+use Rattle.thread_run.specs.two_machines.Activations.{Caller, Activation, InProgress, Recorded, reg_in, memory_of, lists_of, cleanups_in, heads, words_in, with_lists}
+use Rattle.thread_run.specs.two_machines.ActivationMachine as acts
 use Rattle.thread_run.specs.declared.starting.TheConstants.{START_GATE}
 use Rattle.thread_run.specs.Ending.{asks_to_start}
 

@@ -2,20 +2,20 @@
 use Rattle.std.proofs.Common.{ℕ, ◌<◌, List, [], ◌∷◌, ◌==◌, nat_lt, Bool, true, false, cond, drop}
 use Rattle.std.specs.Prelude.{slice_get, ◌%◌, Ok, Err}
 use Rattle.std.proofs.lemmas.List.Elements.{All-drop}
-use Rattle.event_runs.specs.Runs.{Event, Goes, Ends}
-use Rattle.thumb_core.specs.declared.ends.End.{End}
-use Rattle.two_machines.specs.Activations.{Recorded}
-use Rattle.guest_gates.specs.Gates.{byte_or_end, r0, with_r0, gate_event}
-use Rattle.guest_gates.specs.declared.gates.TheConstants.{EXIT_GATE, OUTPUT_GATE, INPUT_GATE}
-use Rattle.thumb_core.specs.declared.regs.Regs.{Regs}
-use Rattle.thumb_core.specs.declared.regs.Stepped.{Stepped}
-use Rattle.thumb_core.specs.declared.regs.Stepped.TheVariants.{Done, Call, Return, Gate, Trap}
-use Rattle.eh_gates.specs.declared.state.Turned.TheVariants.{Went, Ended}
-use Rattle.two_machines.specs.Program.{Program, program_tables}
-use Rattle.thumb_core.specs.declared.ends.End.TheVariants as the_end
-use Rattle.thumb_core.specs.declared.ends.TrapKind.TheVariants as kind
-use Rattle.two_machines.specs.ActivationMachine as acts
-use Rattle.machines_agree.specs.Turned.{AreBytes}
+use Rattle.thread_run.specs.event_runs.Runs.{Event, Goes, Ends}
+use Rattle.thread_run.specs.thumb_core.declared.ends.End.{End}
+use Rattle.thread_run.specs.two_machines.Activations.{Recorded}
+use Rattle.thread_run.specs.guest_gates.Gates.{byte_or_end, r0, with_r0, gate_event}
+use Rattle.thread_run.specs.guest_gates.declared.gates.TheConstants.{EXIT_GATE, OUTPUT_GATE, INPUT_GATE}
+use Rattle.thread_run.specs.thumb_core.declared.regs.Regs.{Regs}
+use Rattle.thread_run.specs.thumb_core.declared.regs.Stepped.{Stepped}
+use Rattle.thread_run.specs.thumb_core.declared.regs.Stepped.TheVariants.{Done, Call, Return, Gate, Trap}
+use Rattle.thread_run.specs.eh_gates.declared.state.Turned.TheVariants.{Went, Ended}
+use Rattle.thread_run.specs.two_machines.Program.{Program, program_tables}
+use Rattle.thread_run.specs.thumb_core.declared.ends.End.TheVariants as the_end
+use Rattle.thread_run.specs.thumb_core.declared.ends.TrapKind.TheVariants as kind
+use Rattle.thread_run.specs.two_machines.ActivationMachine as acts
+use Rattle.thread_run.specs.machines_agree.Turned.{AreBytes}
 
 abbrev pub FitsIn : Event Recorded End → Type 0
 FitsIn (Goes t text left) = AreBytes left

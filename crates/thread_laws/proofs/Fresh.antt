@@ -3,32 +3,32 @@ use Rattle.std.proofs.Common.{◌≡◌, ℕ, zero, suc, ◌+◌, ◌^◌, ◌<�
 use Rattle.std.proofs.lemmas.Bool.{cases_eq, cases_lt}
 use Rattle.std.proofs.lemmas.List.{get_or-map, get_or_past, get_or-replicate, length-map, length-replicate}
 use Rattle.std.proofs.lemmas.Option.{same_Some}
-use Rattle.eh_bus.specs.Guards.{insert_all, AreGuards}
-use Rattle.eh_bus.specs.Map.{AreSegments, SameMap}
-use Rattle.eh_bus.specs.Memory.{Memory}
-use Rattle.eh_bus.specs.declared.map.TheConstants.{STACK_START, STACK_END}
-use Rattle.eh_bus.proofs.MapLaws.{map_refl, map_trans}
-use Rattle.eh_cxa.specs.Lists.{Entry, Free, OutOfUse, entry}
-use Rattle.eh_cxa.specs.Words.{Pool, word}
-use Rattle.eh_cxa.specs.declared.layout.TheConstants.{SLOTS, CLOSED_WORDS, STATE}
-use Rattle.eh_cxa.specs.declared.state.TheConstants.{FREE}
-use Rattle.frame_check.specs.Accepts.{Accepted}
-use Rattle.guest_gates.specs.declared.gates.TheConstants.{NO_CALLER}
-use Rattle.image_memory.specs.Start.{begins_function, image_start}
-use Rattle.thumb_core.specs.Laws.{AreSound}
-use Rattle.thumb_core.specs.declared.regs.TheConstants.{LR, SP}
-use Rattle.thumb_core.specs.declared.regs.Regs.{Regs}
-use Rattle.two_machines.specs.Activations.{memory_of, recorded_start, state_word}
-use Rattle.two_machines.specs.Checked.{program_of}
-use Rattle.two_machines.specs.RecordedSlots.{AreOutside}
-use Rattle.two_machines.specs.Start.{start_of}
-use Rattle.stands_for.specs.Stands.{Keeps, IsProgram}
-use Rattle.stands_for.proofs.First.{starts_stand}
+use Rattle.thread_run.specs.eh_bus.Guards.{insert_all, AreGuards}
+use Rattle.thread_run.specs.eh_bus.Map.{AreSegments, SameMap}
+use Rattle.thread_run.specs.eh_bus.Memory.{Memory}
+use Rattle.thread_run.specs.eh_bus.declared.map.TheConstants.{STACK_START, STACK_END}
+use Rattle.thread_run.proofs.eh_bus.MapLaws.{map_refl, map_trans}
+use Rattle.thread_run.specs.eh_cxa.Lists.{Entry, Free, OutOfUse, entry}
+use Rattle.thread_run.specs.eh_cxa.Words.{Pool, word}
+use Rattle.thread_run.specs.eh_cxa.declared.layout.TheConstants.{SLOTS, CLOSED_WORDS, STATE}
+use Rattle.thread_run.specs.eh_cxa.declared.state.TheConstants.{FREE}
+use Rattle.thread_run.specs.frame_check.Accepts.{Accepted}
+use Rattle.thread_run.specs.guest_gates.declared.gates.TheConstants.{NO_CALLER}
+use Rattle.thread_run.specs.image_memory.Start.{begins_function, image_start}
+use Rattle.thread_run.specs.thumb_core.Laws.{AreSound}
+use Rattle.thread_run.specs.thumb_core.declared.regs.TheConstants.{LR, SP}
+use Rattle.thread_run.specs.thumb_core.declared.regs.Regs.{Regs}
+use Rattle.thread_run.specs.two_machines.Activations.{memory_of, recorded_start, state_word}
+use Rattle.thread_run.specs.two_machines.Checked.{program_of}
+use Rattle.thread_run.specs.two_machines.RecordedSlots.{AreOutside}
+use Rattle.thread_run.specs.two_machines.Start.{start_of}
+use Rattle.thread_run.specs.stands_for.Stands.{Keeps, IsProgram}
+use Rattle.thread_run.proofs.stands_for.First.{starts_stand}
 use Rattle.state_laws.specs.Free.{IsIdle, FreeStarts, quiet}
-use Rattle.thread_memory.specs.Homes.{home_of}
-use Rattle.thread_memory.specs.Owners.{nobodys_from}
-use Rattle.thread_memory.specs.declared.homes.TheConstants.{THREADS}
-use Rattle.thread_memory.specs.declared.owners.Holding.{Holding}
+use Rattle.thread_run.specs.thread_memory.Homes.{home_of}
+use Rattle.thread_run.specs.thread_memory.Owners.{nobodys_from}
+use Rattle.thread_run.specs.thread_memory.declared.homes.TheConstants.{THREADS}
+use Rattle.thread_run.specs.thread_memory.declared.owners.Holding.{Holding}
 use Rattle.thread_run.specs.Elements.{joint_over}
 use Rattle.thread_laws.specs.RecordedThreads.{RecordedThread, RecordedThreads, Owned, entry_for, entries_for, with_states, slots_beside, state_for, begun, thread_in, threads_at_start}
 use Rattle.thread_laws.specs.Standing.{holding, memory_for, ThreadsStand}

@@ -6,46 +6,46 @@ use Rattle.std.proofs.lemmas.Bool.{and_parts, cases_eq, eqb-true, lt-leb}
 use Rattle.std.proofs.lemmas.List.{get_or-set_other}
 use Rattle.std.proofs.lemmas.List.Elements.{Contains-append_left}
 use Rattle.std.proofs.lemmas.Option.{same_Some}
-use Rattle.event_runs.specs.Runs.{Ends}
-use Rattle.eh_bus.specs.Memory.{fetch}
-use Rattle.flow.proofs.Work.{contains_head}
-use Rattle.frame_check.specs.Accepts.{Accepted}
-use Rattle.frame_check.specs.Roles.{look}
-use Rattle.frame_check.specs.Roots.{flow_graph_of}
-use Rattle.frame_facts.specs.Branches.{gate_changes}
-use Rattle.frame_facts.specs.declared.cause.FrameCause.TheVariants.{Undecodable}
-use Rattle.frame_flow.specs.Causes.{shown, causes_at}
-use Rattle.frame_graph.specs.declared.places.Standing.{Standing}
-use Rattle.frame_graph.specs.declared.places.Standing.TheVariants.{Instruction, Udf, Nothing}
-use Rattle.frame_graph.specs.Edges.{is_undecodable, is_nothing}
-use Rattle.frame_graph.specs.Places.{is_udf, standing_at, standing_by, halfword_of, of_decoded, wide_of}
-use Rattle.guest_gates.specs.Gates.{with_r0}
-use Rattle.image_memory.specs.Start.{begins_function}
-use Rattle.thumb_isa.specs.declared.instr.Decoded.{Decoded}
-use Rattle.thumb_isa.specs.declared.instr.Decoded.TheVariants.{Is, Undefined, Unpredictable, NotInProfile}
-use Rattle.thumb_isa.specs.declared.instr.Instr.{Instr}
-use Rattle.thumb_isa.specs.declared.instr.Instr.TheVariants.{Svc}
-use Rattle.thumb_isa.specs.Rows.{decoded_of}
-use Rattle.thumb_core.specs.Laws.{Leaves}
-use Rattle.thumb_core.specs.Step.{step_of, instr_at, instr_of}
-use Rattle.thumb_core.specs.Words.{listed}
-use Rattle.thumb_core.specs.declared.regs.Regs.{Regs}
-use Rattle.thumb_core.specs.declared.regs.Stepped.{Stepped}
-use Rattle.thumb_core.specs.declared.ends.TrapKind.{TrapKind}
-use Rattle.thumb_core.specs.declared.ends.End.TheVariants.{Trap}
-use Rattle.thumb_core.proofs.Acts.{step_acts}
-use Rattle.eh_gates.specs.State.{at_next}
-use Rattle.two_machines.specs.Activations.{Recorded, memory_of}
-use Rattle.two_machines.specs.ActivationMachine.{recorded_event}
-use Rattle.two_machines.specs.Checked.{program_of}
-use Rattle.accepted_code.proofs.Fetch.{code_fetch}
-use Rattle.stands_for.specs.Chain.{StandsAt, code}
-use Rattle.stands_for.specs.Stands.{Keeps, IsProgram, DoesAt}
-use Rattle.stands_for.proofs.Flows.{none_stands}
-use Rattle.stands_for.proofs.Onward.{next_pc, next_even}
-use Rattle.stands_for.proofs.SimpleTurns.{fetch as fetched_at}
-use Rattle.steps_keep.proofs.Gated.{set_words}
-use Rattle.steps_keep.proofs.Jumps.{not_found}
+use Rattle.thread_run.specs.event_runs.Runs.{Ends}
+use Rattle.thread_run.specs.eh_bus.Memory.{fetch}
+use Rattle.thread_run.proofs.flow.Work.{contains_head}
+use Rattle.thread_run.specs.frame_check.Accepts.{Accepted}
+use Rattle.thread_run.specs.frame_check.Roles.{look}
+use Rattle.thread_run.specs.frame_check.Roots.{flow_graph_of}
+use Rattle.thread_run.specs.frame_facts.Branches.{gate_changes}
+use Rattle.thread_run.specs.frame_facts.declared.cause.FrameCause.TheVariants.{Undecodable}
+use Rattle.thread_run.specs.frame_flow.Causes.{shown, causes_at}
+use Rattle.thread_run.specs.frame_graph.declared.places.Standing.{Standing}
+use Rattle.thread_run.specs.frame_graph.declared.places.Standing.TheVariants.{Instruction, Udf, Nothing}
+use Rattle.thread_run.specs.frame_graph.Edges.{is_undecodable, is_nothing}
+use Rattle.thread_run.specs.frame_graph.Places.{is_udf, standing_at, standing_by, halfword_of, of_decoded, wide_of}
+use Rattle.thread_run.specs.guest_gates.Gates.{with_r0}
+use Rattle.thread_run.specs.image_memory.Start.{begins_function}
+use Rattle.thread_run.specs.thumb_isa.declared.instr.Decoded.{Decoded}
+use Rattle.thread_run.specs.thumb_isa.declared.instr.Decoded.TheVariants.{Is, Undefined, Unpredictable, NotInProfile}
+use Rattle.thread_run.specs.thumb_isa.declared.instr.Instr.{Instr}
+use Rattle.thread_run.specs.thumb_isa.declared.instr.Instr.TheVariants.{Svc}
+use Rattle.thread_run.specs.thumb_isa.Rows.{decoded_of}
+use Rattle.thread_run.specs.thumb_core.Laws.{Leaves}
+use Rattle.thread_run.specs.thumb_core.Step.{step_of, instr_at, instr_of}
+use Rattle.thread_run.specs.thumb_core.Words.{listed}
+use Rattle.thread_run.specs.thumb_core.declared.regs.Regs.{Regs}
+use Rattle.thread_run.specs.thumb_core.declared.regs.Stepped.{Stepped}
+use Rattle.thread_run.specs.thumb_core.declared.ends.TrapKind.{TrapKind}
+use Rattle.thread_run.specs.thumb_core.declared.ends.End.TheVariants.{Trap}
+use Rattle.thread_run.proofs.thumb_core.Acts.{step_acts}
+use Rattle.thread_run.specs.eh_gates.State.{at_next}
+use Rattle.thread_run.specs.two_machines.Activations.{Recorded, memory_of}
+use Rattle.thread_run.specs.two_machines.ActivationMachine.{recorded_event}
+use Rattle.thread_run.specs.two_machines.Checked.{program_of}
+use Rattle.thread_run.proofs.accepted_code.Fetch.{code_fetch}
+use Rattle.thread_run.specs.stands_for.Chain.{StandsAt, code}
+use Rattle.thread_run.specs.stands_for.Stands.{Keeps, IsProgram, DoesAt}
+use Rattle.thread_run.proofs.stands_for.Flows.{none_stands}
+use Rattle.thread_run.proofs.stands_for.Onward.{next_pc, next_even}
+use Rattle.thread_run.proofs.stands_for.SimpleTurns.{fetch as fetched_at}
+use Rattle.thread_run.proofs.steps_keep.Gated.{set_words}
+use Rattle.thread_run.proofs.steps_keep.Jumps.{not_found}
 use Rattle.state_laws.specs.Free.{FreeAfterGates}
 use Rattle.thread_run.specs.declared.starting.TheConstants.{START_GATE}
 use Rattle.thread_run.specs.Ending.{asks_to_start}

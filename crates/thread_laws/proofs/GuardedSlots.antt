@@ -2,11 +2,11 @@
 use Rattle.std.proofs.Common.{◌≡◌, ℕ, zero, suc, ◌+◌, ◌<◌, ◌⊎◌, inl, inr, ◌==◌, Bool, true, false, cond, List, [], ◌∷◌, ◌++◌, length, get_or, set, Option, Some, None, refl, sym, ap, subst, ◌∙◌, arith}
 use Rattle.std.proofs.lemmas.Bool.{eqb-true}
 use Rattle.std.proofs.lemmas.Bool.Decides.{nat_tests}
-use Rattle.eh_bus.specs.Guards.{insert_all}
-use Rattle.eh_bus.specs.Lists.{Has}
-use Rattle.eh_bus.proofs.GuardLaws.{Rising, same_rising, inserted_rising, has_inserted, in_inserted, still_inserted}
-use Rattle.two_machines.specs.Activations.{Activation, guarded_of, slots_of}
-use Rattle.two_machines.proofs.Saving.{in_guarded}
+use Rattle.thread_run.specs.eh_bus.Guards.{insert_all}
+use Rattle.thread_run.specs.eh_bus.Lists.{Has}
+use Rattle.thread_run.proofs.eh_bus.GuardLaws.{Rising, same_rising, inserted_rising, has_inserted, in_inserted, still_inserted}
+use Rattle.thread_run.specs.two_machines.Activations.{Activation, guarded_of, slots_of}
+use Rattle.thread_run.proofs.two_machines.Saving.{in_guarded}
 use Rattle.thread_laws.specs.RecordedThreads.{RecordedThread, slots_in, slots_beside}
 use Rattle.thread_laws.specs.Standing.{all_slots}
 

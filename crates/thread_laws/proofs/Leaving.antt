@@ -2,63 +2,63 @@
 use Rattle.std.proofs.Common.{◌≡◌, ℕ, zero, suc, ◌+◌, ◌*◌, ◌%◌, ◌<◌, ◌≤◌, inl, inr, ◌==◌, ◌&&◌, nat_lt, Bool, true, false, cond, List, [], ◌∷◌, ◌++◌, length, get_or, set, Option, Some, None, Result, Ok, Err, refl, sym, subst, ◌∙◌, arith, ℤ}
 use Rattle.std.specs.Prelude.{◌↔◌, is_some}
 use Rattle.std.proofs.lemmas.Bool.{cases_lt, le-leb, lt-ltb}
-use Rattle.event_runs.specs.Runs.{Event, Goes, Ends}
-use Rattle.eh_bus.specs.Lists.{Has}
-use Rattle.eh_bus.specs.Memory.{Memory, loads, is_closed, host_load}
-use Rattle.eh_bus.specs.Segment.{Segment, Apart}
-use Rattle.eh_bus.specs.declared.map.TheConstants.{CLOSED_SIZE, POOL_END, POOL_START, SLOT_SIZE, STACK_START}
-use Rattle.eh_bus.proofs.MapLaws.{map_refl}
-use Rattle.eh_bus.proofs.PartLaws.{host_apart, host_other, guard_places}
-use Rattle.guest_gates.specs.declared.gates.TheConstants.{INPUT_GATE}
-use Rattle.guest_gates.specs.Gates.{gate_event}
-use Rattle.eh_cxa.specs.Allocate.{zeros, allocate_at, allocate_of, free_by, free_of, first_slot}
-use Rattle.eh_cxa.specs.Catch.{catch_fault, catch_by, catch_at, catch_in, begin_catch_of, Fall, stays, falls, ends, leaves, fall, end_catch_by, end_catch_at, end_catch_of, rethrow_by, rethrow_at, rethrow_of}
-use Rattle.eh_cxa.specs.Cleanup.{cleanup_at, begin_cleanup_of}
-use Rattle.eh_cxa.specs.Throw.{Throw, throw_by, start_throw_of, set_barrier_of, barrier_of, land_by, land_of}
-use Rattle.eh_cxa.specs.ListCalls.{is_free, allocate_in, allocate_list, free_by_list, free_list, throw_by_list, throw_entry, throw_list, land_record, land_entry, land_list, catch_by_list, catch_entry, catch_list, fall_of, end_by_list, end_entry, end_from, end_list, rethrow_by_list, rethrow_entry, rethrow_from, rethrow_list}
-use Rattle.eh_cxa.specs.Lists.{Record, Entry, Free, OutOfUse, Live, entry, slots, count_in, state_in, kept}
-use Rattle.eh_cxa.specs.States.{named, is_fresh, is_flying, is_caught, may_be_freed}
-use Rattle.eh_cxa.specs.Words.{Pool, Write, write, word, put, put_all, block, object, block_slot, object_slot}
-use Rattle.eh_cxa.specs.declared.globals.BarrierWords.{BarrierWords}
-use Rattle.eh_cxa.specs.declared.globals.CleanupWords.{CleanupWords}
-use Rattle.eh_cxa.specs.declared.globals.CxaFault.{CxaFault}
-use Rattle.eh_cxa.specs.declared.globals.CxaFault.TheVariants as fault
-use Rattle.eh_cxa.specs.declared.globals.Globals.{Globals}
-use Rattle.eh_cxa.specs.declared.layout.TheConstants.{SLOTS, SLOT_WORDS, CLOSED_WORDS, OBJECT_BYTES, COUNT}
-use Rattle.eh_cxa.specs.declared.state.State.TheVariants.{Flying}
-use Rattle.eh_cxa.specs.declared.state.TheConstants.{FREE}
-use Rattle.eh_cxa.proofs.Pools.{slot_small, slot_block, object_small}
-use Rattle.eh_cxa.proofs.Zeros.{first_passes}
-use Rattle.eh_phase.specs.Frames.{covered_at}
-use Rattle.eh_phase.specs.declared.phase1.Barrier.{Barrier}
-use Rattle.eh_phase.specs.declared.phase2.Entered.{Entered}
-use Rattle.eh_phase.specs.declared.phase2.Entered.TheVariants as enters
-use Rattle.eh_phase.specs.declared.verdict.Thrown.{Thrown}
-use Rattle.eh_trace.specs.declared.event.EventKind.{EventKind}
-use Rattle.eh_trace.specs.declared.event.EventKind.TheVariants as event
-use Rattle.eh_types.specs.Graph.{row_of}
-use Rattle.frame_check.specs.Accepts.{Accepted}
-use Rattle.thumb_core.specs.Laws.{KeepsMap}
-use Rattle.thumb_core.specs.Outcome.{Outcome as Stepping}
-use Rattle.thumb_core.specs.Step.{step_of}
-use Rattle.thumb_core.proofs.Follows.{step_follows}
-use Rattle.thumb_core.specs.declared.regs.Regs.{Regs}
-use Rattle.thumb_core.specs.declared.regs.Stepped.{Stepped}
-use Rattle.thumb_core.specs.declared.regs.Stepped.TheVariants.{Done, Call, Return, Gate, Trap}
-use Rattle.thumb_core.specs.declared.ends.End.{End}
-use Rattle.thumb_core.specs.declared.ends.End.TheVariants as the_end
-use Rattle.thumb_core.specs.declared.ends.TrapKind.TheVariants as kind
-use Rattle.eh_gates.specs.declared.gates.TheConstants.{ALLOCATE_GATE, FREE_GATE, THROW_GATE, BEGIN_CATCH_GATE, END_CATCH_GATE, RETHROW_GATE, END_CLEANUP_GATE, UNEXPECTED_GATE, TERMINATE_GATE, UNCAUGHT_GATE}
-use Rattle.eh_gates.specs.declared.state.Turned.TheVariants.{Went, Ended}
-use Rattle.eh_gates.specs.State.{Tables}
-use Rattle.eh_gates.specs.Landing.{words_of}
-use Rattle.eh_gates.specs.Throwing.{barrier_in, barrier_words, throw_event}
-use Rattle.two_machines.specs.Program.{Program, program_tables}
-use Rattle.two_machines.specs.Activations.{Activation, InProgress, Recorded, reg_in, memory_of, state_word, count_word, words_in, heads, with_lists, with_words, lists_of, cleanups_in}
-use Rattle.two_machines.specs.ActivationMachine as acts
-use Rattle.two_machines.specs.Checked.{program_of}
-use Rattle.two_machines.proofs.Saving.{are_guarded}
-use Rattle.stands_for.specs.Stands.{Keeps}
+use Rattle.thread_run.specs.event_runs.Runs.{Event, Goes, Ends}
+use Rattle.thread_run.specs.eh_bus.Lists.{Has}
+use Rattle.thread_run.specs.eh_bus.Memory.{Memory, loads, is_closed, host_load}
+use Rattle.thread_run.specs.eh_bus.Segment.{Segment, Apart}
+use Rattle.thread_run.specs.eh_bus.declared.map.TheConstants.{CLOSED_SIZE, POOL_END, POOL_START, SLOT_SIZE, STACK_START}
+use Rattle.thread_run.proofs.eh_bus.MapLaws.{map_refl}
+use Rattle.thread_run.proofs.eh_bus.PartLaws.{host_apart, host_other, guard_places}
+use Rattle.thread_run.specs.guest_gates.declared.gates.TheConstants.{INPUT_GATE}
+use Rattle.thread_run.specs.guest_gates.Gates.{gate_event}
+use Rattle.thread_run.specs.eh_cxa.Allocate.{zeros, allocate_at, allocate_of, free_by, free_of, first_slot}
+use Rattle.thread_run.specs.eh_cxa.Catch.{catch_fault, catch_by, catch_at, catch_in, begin_catch_of, Fall, stays, falls, ends, leaves, fall, end_catch_by, end_catch_at, end_catch_of, rethrow_by, rethrow_at, rethrow_of}
+use Rattle.thread_run.specs.eh_cxa.Cleanup.{cleanup_at, begin_cleanup_of}
+use Rattle.thread_run.specs.eh_cxa.Throw.{Throw, throw_by, start_throw_of, set_barrier_of, barrier_of, land_by, land_of}
+use Rattle.thread_run.specs.eh_cxa.ListCalls.{is_free, allocate_in, allocate_list, free_by_list, free_list, throw_by_list, throw_entry, throw_list, land_record, land_entry, land_list, catch_by_list, catch_entry, catch_list, fall_of, end_by_list, end_entry, end_from, end_list, rethrow_by_list, rethrow_entry, rethrow_from, rethrow_list}
+use Rattle.thread_run.specs.eh_cxa.Lists.{Record, Entry, Free, OutOfUse, Live, entry, slots, count_in, state_in, kept}
+use Rattle.thread_run.specs.eh_cxa.States.{named, is_fresh, is_flying, is_caught, may_be_freed}
+use Rattle.thread_run.specs.eh_cxa.Words.{Pool, Write, write, word, put, put_all, block, object, block_slot, object_slot}
+use Rattle.thread_run.specs.eh_cxa.declared.globals.BarrierWords.{BarrierWords}
+use Rattle.thread_run.specs.eh_cxa.declared.globals.CleanupWords.{CleanupWords}
+use Rattle.thread_run.specs.eh_cxa.declared.globals.CxaFault.{CxaFault}
+use Rattle.thread_run.specs.eh_cxa.declared.globals.CxaFault.TheVariants as fault
+use Rattle.thread_run.specs.eh_cxa.declared.globals.Globals.{Globals}
+use Rattle.thread_run.specs.eh_cxa.declared.layout.TheConstants.{SLOTS, SLOT_WORDS, CLOSED_WORDS, OBJECT_BYTES, COUNT}
+use Rattle.thread_run.specs.eh_cxa.declared.state.State.TheVariants.{Flying}
+use Rattle.thread_run.specs.eh_cxa.declared.state.TheConstants.{FREE}
+use Rattle.thread_run.proofs.eh_cxa.Pools.{slot_small, slot_block, object_small}
+use Rattle.thread_run.proofs.eh_cxa.Zeros.{first_passes}
+use Rattle.thread_run.specs.eh_phase.Frames.{covered_at}
+use Rattle.thread_run.specs.eh_phase.declared.phase1.Barrier.{Barrier}
+use Rattle.thread_run.specs.eh_phase.declared.phase2.Entered.{Entered}
+use Rattle.thread_run.specs.eh_phase.declared.phase2.Entered.TheVariants as enters
+use Rattle.thread_run.specs.eh_phase.declared.verdict.Thrown.{Thrown}
+use Rattle.thread_run.specs.eh_trace.declared.event.EventKind.{EventKind}
+use Rattle.thread_run.specs.eh_trace.declared.event.EventKind.TheVariants as event
+use Rattle.thread_run.specs.eh_types.Graph.{row_of}
+use Rattle.thread_run.specs.frame_check.Accepts.{Accepted}
+use Rattle.thread_run.specs.thumb_core.Laws.{KeepsMap}
+use Rattle.thread_run.specs.thumb_core.Outcome.{Outcome as Stepping}
+use Rattle.thread_run.specs.thumb_core.Step.{step_of}
+use Rattle.thread_run.proofs.thumb_core.Follows.{step_follows}
+use Rattle.thread_run.specs.thumb_core.declared.regs.Regs.{Regs}
+use Rattle.thread_run.specs.thumb_core.declared.regs.Stepped.{Stepped}
+use Rattle.thread_run.specs.thumb_core.declared.regs.Stepped.TheVariants.{Done, Call, Return, Gate, Trap}
+use Rattle.thread_run.specs.thumb_core.declared.ends.End.{End}
+use Rattle.thread_run.specs.thumb_core.declared.ends.End.TheVariants as the_end
+use Rattle.thread_run.specs.thumb_core.declared.ends.TrapKind.TheVariants as kind
+use Rattle.thread_run.specs.eh_gates.declared.gates.TheConstants.{ALLOCATE_GATE, FREE_GATE, THROW_GATE, BEGIN_CATCH_GATE, END_CATCH_GATE, RETHROW_GATE, END_CLEANUP_GATE, UNEXPECTED_GATE, TERMINATE_GATE, UNCAUGHT_GATE}
+use Rattle.thread_run.specs.eh_gates.declared.state.Turned.TheVariants.{Went, Ended}
+use Rattle.thread_run.specs.eh_gates.State.{Tables}
+use Rattle.thread_run.specs.eh_gates.Landing.{words_of}
+use Rattle.thread_run.specs.eh_gates.Throwing.{barrier_in, barrier_words, throw_event}
+use Rattle.thread_run.specs.two_machines.Program.{Program, program_tables}
+use Rattle.thread_run.specs.two_machines.Activations.{Activation, InProgress, Recorded, reg_in, memory_of, state_word, count_word, words_in, heads, with_lists, with_words, lists_of, cleanups_in}
+use Rattle.thread_run.specs.two_machines.ActivationMachine as acts
+use Rattle.thread_run.specs.two_machines.Checked.{program_of}
+use Rattle.thread_run.proofs.two_machines.Saving.{are_guarded}
+use Rattle.thread_run.specs.stands_for.Stands.{Keeps}
 use Rattle.thread_laws.specs.Leaving.{LeavesOthers, Leaves, EventsLeaveOthers}
 
 -- ---- slots that are out of use

@@ -2,24 +2,24 @@
 use Rattle.std.proofs.Common.{◌≡◌, ℕ, ◌+◌, ◌≤◌, inl, inr, ◌==◌, Bool, true, false, cond, List, [], ◌∷◌, Option, Some, None, refl, sym, ap, ◌∙◌, arith}
 use Rattle.std.proofs.lemmas.Bool.{eqb-true}
 use Rattle.std.proofs.lemmas.Option.{same_Some}
-use Rattle.eh_bus.specs.Lists.{Has}
-use Rattle.eh_bus.specs.Map.{SameSegment, SameMap}
-use Rattle.eh_bus.specs.Memory.{loads}
-use Rattle.eh_bus.specs.Segment.{Segment}
-use Rattle.eh_cxa.specs.Lists.{Entry, Free, OutOfUse, Live}
-use Rattle.eh_cxa.specs.Stands.{entry_of, live_at}
-use Rattle.eh_cxa.specs.States.{code, named}
-use Rattle.eh_cxa.specs.Words.{Pool}
-use Rattle.eh_cxa.specs.declared.layout.TheConstants.{STATE}
-use Rattle.eh_cxa.specs.declared.state.TheConstants.{FREE, FRESH, FLYING, LANDED, CAUGHT, ENDED}
-use Rattle.eh_cxa.specs.declared.state.State.{State}
-use Rattle.eh_cxa.specs.declared.state.State.TheVariants.{Fresh, Flying, Landed, Caught, Ended}
-use Rattle.frame_check.specs.Accepts.{Accepted}
-use Rattle.two_machines.specs.Activations.{Activation, Recorded, slots_of, state_word}
-use Rattle.stands_for.specs.Holds.{AllSameAt}
-use Rattle.stands_for.specs.Stands.{Keeps}
-use Rattle.stands_for.proofs.Goes.{chain_top}
-use Rattle.stands_for.proofs.Moved.{AllLieIn, chain_lies}
+use Rattle.thread_run.specs.eh_bus.Lists.{Has}
+use Rattle.thread_run.specs.eh_bus.Map.{SameSegment, SameMap}
+use Rattle.thread_run.specs.eh_bus.Memory.{loads}
+use Rattle.thread_run.specs.eh_bus.Segment.{Segment}
+use Rattle.thread_run.specs.eh_cxa.Lists.{Entry, Free, OutOfUse, Live}
+use Rattle.thread_run.specs.eh_cxa.Stands.{entry_of, live_at}
+use Rattle.thread_run.specs.eh_cxa.States.{code, named}
+use Rattle.thread_run.specs.eh_cxa.Words.{Pool}
+use Rattle.thread_run.specs.eh_cxa.declared.layout.TheConstants.{STATE}
+use Rattle.thread_run.specs.eh_cxa.declared.state.TheConstants.{FREE, FRESH, FLYING, LANDED, CAUGHT, ENDED}
+use Rattle.thread_run.specs.eh_cxa.declared.state.State.{State}
+use Rattle.thread_run.specs.eh_cxa.declared.state.State.TheVariants.{Fresh, Flying, Landed, Caught, Ended}
+use Rattle.thread_run.specs.frame_check.Accepts.{Accepted}
+use Rattle.thread_run.specs.two_machines.Activations.{Activation, Recorded, slots_of, state_word}
+use Rattle.thread_run.specs.stands_for.Holds.{AllSameAt}
+use Rattle.thread_run.specs.stands_for.Stands.{Keeps}
+use Rattle.thread_run.proofs.stands_for.Goes.{chain_top}
+use Rattle.thread_run.proofs.stands_for.Moved.{AllLieIn, chain_lies}
 use Rattle.state_laws.specs.Free.{IsIdle, FreeMemory, FreeStarts, FreeAfterGates}
 use Rattle.thread_laws.proofs.GuardedSlots.{has_either, has_old, has_new}
 

@@ -2,16 +2,16 @@
 use Rattle.std.proofs.Common.{◌≡◌, ℕ, zero, suc, ◌+◌, ◌<◌, ◌⊎◌, inl, inr, ◌==◌, not, Bool, true, false, cond, List, [], ◌∷◌, length, get_or, map, Option, Some, None, refl, sym, ap, subst, ◌∙◌, arith, eq-eqb}
 use Rattle.std.proofs.lemmas.Bool.{eqb-true}
 use Rattle.std.proofs.lemmas.Option.{same_Some}
-use Rattle.eh_cxa.specs.Lists.{Entry, Free, OutOfUse, Live}
-use Rattle.eh_cxa.specs.States.{code}
-use Rattle.eh_cxa.specs.Words.{Pool}
-use Rattle.eh_cxa.specs.declared.layout.TheConstants.{STATE}
-use Rattle.eh_cxa.specs.declared.state.TheConstants.{FREE}
-use Rattle.eh_cxa.specs.declared.state.State.{State}
-use Rattle.eh_cxa.specs.declared.state.State.TheVariants.{Fresh, Flying, Landed, Caught, Ended}
-use Rattle.two_machines.specs.Activations.{state_word}
-use Rattle.thread_memory.specs.Owners.{seen_by, made_by, held_after, held_from}
-use Rattle.thread_memory.specs.declared.owners.Holding.{Holding}
+use Rattle.thread_run.specs.eh_cxa.Lists.{Entry, Free, OutOfUse, Live}
+use Rattle.thread_run.specs.eh_cxa.States.{code}
+use Rattle.thread_run.specs.eh_cxa.Words.{Pool}
+use Rattle.thread_run.specs.eh_cxa.declared.layout.TheConstants.{STATE}
+use Rattle.thread_run.specs.eh_cxa.declared.state.TheConstants.{FREE}
+use Rattle.thread_run.specs.eh_cxa.declared.state.State.{State}
+use Rattle.thread_run.specs.eh_cxa.declared.state.State.TheVariants.{Fresh, Flying, Landed, Caught, Ended}
+use Rattle.thread_run.specs.two_machines.Activations.{state_word}
+use Rattle.thread_run.specs.thread_memory.Owners.{seen_by, made_by, held_after, held_from}
+use Rattle.thread_run.specs.thread_memory.declared.owners.Holding.{Holding}
 use Rattle.thread_laws.specs.RecordedThreads.{Owned, entry_for, entries_for, held_by, pool_after}
 use Rattle.thread_laws.specs.Standing.{holding, is_others, Moved, AllMoved}
 

@@ -3,26 +3,26 @@ use Rattle.std.proofs.Common.{◌≡◌, ℕ, zero, suc, ◌+◌, ◌-◌, ◌*�
 use Rattle.std.proofs.lemmas.Bool.{eqb-true, ne_eqb}
 use Rattle.std.proofs.lemmas.List.{take-append-drop, drop-drop, length-drop}
 use Rattle.std.proofs.lemmas.List.Elements.{All-drop}
-use Rattle.eh_bus.specs.Map.{AreSegments, IsMap, IsHome, SameMap}
-use Rattle.eh_bus.specs.Memory.{Memory, loads, written, number_in, host_store}
-use Rattle.eh_bus.specs.Segment.{Segment, AreBytes, Apart, holds, number_at, with_number_at}
-use Rattle.eh_bus.specs.declared.map.TheConstants.{POOL_START, SLOT_SIZE, STACK_START, STACK_END}
-use Rattle.eh_bus.proofs.ByteLaws.{bytes_back}
-use Rattle.eh_bus.proofs.Kept.{inside}
-use Rattle.eh_bus.proofs.PartLaws.{host_other}
+use Rattle.thread_run.specs.eh_bus.Map.{AreSegments, IsMap, IsHome, SameMap}
+use Rattle.thread_run.specs.eh_bus.Memory.{Memory, loads, written, number_in, host_store}
+use Rattle.thread_run.specs.eh_bus.Segment.{Segment, AreBytes, Apart, holds, number_at, with_number_at}
+use Rattle.thread_run.specs.eh_bus.declared.map.TheConstants.{POOL_START, SLOT_SIZE, STACK_START, STACK_END}
+use Rattle.thread_run.proofs.eh_bus.ByteLaws.{bytes_back}
+use Rattle.thread_run.proofs.eh_bus.Kept.{inside}
+use Rattle.thread_run.proofs.eh_bus.PartLaws.{host_other}
 use Rattle.byteorder.specs.Endian.{little_bytes}
-use Rattle.eh_cxa.specs.Lists.{Entry, Free, OutOfUse, Live}
-use Rattle.eh_cxa.specs.States.{code}
-use Rattle.eh_cxa.specs.Words.{Pool, Write, write, word, put, with_word, with_all, put_all}
-use Rattle.eh_cxa.specs.declared.layout.TheConstants.{SLOTS, SLOT_WORDS, STATE}
-use Rattle.eh_cxa.specs.declared.state.State.{State}
-use Rattle.eh_cxa.specs.declared.state.State.TheVariants.{Fresh, Flying, Landed, Caught, Ended}
-use Rattle.eh_cxa.proofs.Pools.{AllFit, Agrees, all_agree, all_is_map, put_is_map}
-use Rattle.two_machines.specs.Activations.{state_word}
-use Rattle.stands_for.proofs.Tame.{AreTame, tame_keeps}
-use Rattle.thread_memory.specs.Homes.{home_of}
-use Rattle.thread_memory.specs.Owners.{seen_by, changes_from}
-use Rattle.thread_memory.specs.declared.homes.TheConstants.{THREADS}
+use Rattle.thread_run.specs.eh_cxa.Lists.{Entry, Free, OutOfUse, Live}
+use Rattle.thread_run.specs.eh_cxa.States.{code}
+use Rattle.thread_run.specs.eh_cxa.Words.{Pool, Write, write, word, put, with_word, with_all, put_all}
+use Rattle.thread_run.specs.eh_cxa.declared.layout.TheConstants.{SLOTS, SLOT_WORDS, STATE}
+use Rattle.thread_run.specs.eh_cxa.declared.state.State.{State}
+use Rattle.thread_run.specs.eh_cxa.declared.state.State.TheVariants.{Fresh, Flying, Landed, Caught, Ended}
+use Rattle.thread_run.proofs.eh_cxa.Pools.{AllFit, Agrees, all_agree, all_is_map, put_is_map}
+use Rattle.thread_run.specs.two_machines.Activations.{state_word}
+use Rattle.thread_run.proofs.stands_for.Tame.{AreTame, tame_keeps}
+use Rattle.thread_run.specs.thread_memory.Homes.{home_of}
+use Rattle.thread_run.specs.thread_memory.Owners.{seen_by, changes_from}
+use Rattle.thread_run.specs.thread_memory.declared.homes.TheConstants.{THREADS}
 use Rattle.thread_laws.specs.RecordedThreads.{Owned, entry_for, entries_for, states_from, with_states}
 use Rattle.thread_laws.specs.Standing.{holding}
 

@@ -1,15 +1,15 @@
 -- Whole runs of threads, over bytes and with recorded activations.
 use Rattle.std.proofs.Common.{◌≡◌, ℕ, List, Option, Some, None, refl, ap, subst, ◌∙◌}
-use Rattle.event_runs.specs.Runs.{Event, Goes, Ends, Ran, run}
-use Rattle.event_runs.specs.Laws.{SameRan}
-use Rattle.frame_check.specs.Accepts.{Accepted}
-use Rattle.thumb_core.specs.declared.ends.End.{End}
-use Rattle.thumb_core.specs.declared.ends.End.TheVariants.{Budget}
-use Rattle.eh_trace.specs.Trace.{Trace}
-use Rattle.two_machines.specs.Checked.{program_of}
-use Rattle.stands_for.specs.Stands.{IsProgram}
-use Rattle.machines_agree.specs.Turned.{AreBytes}
-use Rattle.machines_agree.proofs.RunsOn.{AlikeOn, same_on}
+use Rattle.thread_run.specs.event_runs.Runs.{Event, Goes, Ends, Ran, run}
+use Rattle.thread_run.specs.event_runs.Laws.{SameRan}
+use Rattle.thread_run.specs.frame_check.Accepts.{Accepted}
+use Rattle.thread_run.specs.thumb_core.declared.ends.End.{End}
+use Rattle.thread_run.specs.thumb_core.declared.ends.End.TheVariants.{Budget}
+use Rattle.thread_run.specs.eh_trace.Trace.{Trace}
+use Rattle.thread_run.specs.two_machines.Checked.{program_of}
+use Rattle.thread_run.specs.stands_for.Stands.{IsProgram}
+use Rattle.thread_run.specs.machines_agree.Turned.{AreBytes}
+use Rattle.thread_run.proofs.machines_agree.RunsOn.{AlikeOn, same_on}
 use Rattle.thread_run.specs.Threads.{all_over}
 use Rattle.thread_run.specs.Elements.{Joint, element}
 use Rattle.thread_run.specs.Schedules as bytes_schedules

@@ -4,29 +4,29 @@ use Rattle.std.specs.Option.{option_or}
 use Rattle.std.proofs.lemmas.Bool.{cases_eq, eqb-true}
 use Rattle.std.proofs.lemmas.List.{get_or-set_same, get_or-set_other, length-map, length-set, map-set}
 use Rattle.std.proofs.lemmas.Option.{same_Some}
-use Rattle.event_runs.specs.Runs.{Goes}
-use Rattle.eh_bus.specs.Guards.{insert_all, AreGuards}
-use Rattle.eh_bus.specs.Map.{IsMap}
-use Rattle.eh_bus.specs.Memory.{Memory}
-use Rattle.eh_cxa.specs.Lists.{OutOfUse, Live}
-use Rattle.eh_cxa.specs.Words.{word}
-use Rattle.eh_cxa.specs.declared.layout.TheConstants.{SLOTS, CLOSED_WORDS, STATE}
-use Rattle.frame_check.specs.Accepts.{Accepted}
-use Rattle.guest_gates.specs.Gates.{r0}
-use Rattle.image_memory.specs.Start.{begins_function}
-use Rattle.thumb_core.specs.Laws.{AreSound}
-use Rattle.thumb_core.specs.declared.regs.Regs.{Regs}
-use Rattle.thumb_core.specs.declared.ends.TrapKind.TheVariants as kind
-use Rattle.thumb_core.specs.declared.ends.End.{End}
-use Rattle.thumb_core.specs.declared.ends.End.TheVariants.{Trap}
-use Rattle.two_machines.specs.Activations.{Recorded, bytes_of, memory_of}
-use Rattle.two_machines.specs.Checked.{program_of}
-use Rattle.two_machines.specs.RecordedSlots.{AreOutside}
-use Rattle.stands_for.specs.Stands.{Keeps, IsProgram}
-use Rattle.machines_agree.specs.Turned.{AreBytes}
+use Rattle.thread_run.specs.event_runs.Runs.{Goes}
+use Rattle.thread_run.specs.eh_bus.Guards.{insert_all, AreGuards}
+use Rattle.thread_run.specs.eh_bus.Map.{IsMap}
+use Rattle.thread_run.specs.eh_bus.Memory.{Memory}
+use Rattle.thread_run.specs.eh_cxa.Lists.{OutOfUse, Live}
+use Rattle.thread_run.specs.eh_cxa.Words.{word}
+use Rattle.thread_run.specs.eh_cxa.declared.layout.TheConstants.{SLOTS, CLOSED_WORDS, STATE}
+use Rattle.thread_run.specs.frame_check.Accepts.{Accepted}
+use Rattle.thread_run.specs.guest_gates.Gates.{r0}
+use Rattle.thread_run.specs.image_memory.Start.{begins_function}
+use Rattle.thread_run.specs.thumb_core.Laws.{AreSound}
+use Rattle.thread_run.specs.thumb_core.declared.regs.Regs.{Regs}
+use Rattle.thread_run.specs.thumb_core.declared.ends.TrapKind.TheVariants as kind
+use Rattle.thread_run.specs.thumb_core.declared.ends.End.{End}
+use Rattle.thread_run.specs.thumb_core.declared.ends.End.TheVariants.{Trap}
+use Rattle.thread_run.specs.two_machines.Activations.{Recorded, bytes_of, memory_of}
+use Rattle.thread_run.specs.two_machines.Checked.{program_of}
+use Rattle.thread_run.specs.two_machines.RecordedSlots.{AreOutside}
+use Rattle.thread_run.specs.stands_for.Stands.{Keeps, IsProgram}
+use Rattle.thread_run.specs.machines_agree.Turned.{AreBytes}
 use Rattle.state_laws.specs.Free.{IsIdle}
-use Rattle.thread_memory.specs.Homes.{home_of}
-use Rattle.thread_memory.specs.declared.homes.TheConstants.{THREADS}
+use Rattle.thread_run.specs.thread_memory.Homes.{home_of}
+use Rattle.thread_run.specs.thread_memory.declared.homes.TheConstants.{THREADS}
 use Rattle.thread_run.specs.declared.starting.TheConstants.{NO_THREAD, START_GATE}
 use Rattle.thread_run.specs.declared.thread.Thread.{Thread}
 use Rattle.thread_run.specs.Threads.{put_thread}

@@ -2,20 +2,20 @@
 use Rattle.std.proofs.Common.{◌≡◌, ℕ, ◌+◌, ◌<◌, ◌==◌, Bool, true, false, cond, List, [], get_or, map, Option, Some, None, refl, sym, ap, subst, ◌∙◌, arith}
 use Rattle.std.proofs.lemmas.Bool.{eqb-true}
 use Rattle.std.proofs.lemmas.List.{get_or-map, length-map}
-use Rattle.eh_bus.specs.Guards.{insert_all}
-use Rattle.eh_bus.specs.Map.{IsMap}
-use Rattle.eh_bus.specs.Memory.{Memory}
-use Rattle.eh_bus.specs.Segment.{Segment}
-use Rattle.eh_cxa.specs.Lists.{OutOfUse}
-use Rattle.eh_cxa.specs.Words.{word}
-use Rattle.eh_cxa.specs.declared.layout.TheConstants.{SLOTS, STATE}
-use Rattle.eh_trace.specs.Trace.{Trace}
-use Rattle.frame_check.specs.Accepts.{Accepted}
-use Rattle.two_machines.specs.Activations.{memory_of, bytes_of, state_word}
-use Rattle.two_machines.proofs.FirstEvent.{segments_alone}
-use Rattle.thread_memory.specs.Homes.{home_of}
-use Rattle.thread_memory.specs.Owners.{owners_after, switched}
-use Rattle.thread_memory.specs.declared.owners.Holding.{Holding}
+use Rattle.thread_run.specs.eh_bus.Guards.{insert_all}
+use Rattle.thread_run.specs.eh_bus.Map.{IsMap}
+use Rattle.thread_run.specs.eh_bus.Memory.{Memory}
+use Rattle.thread_run.specs.eh_bus.Segment.{Segment}
+use Rattle.thread_run.specs.eh_cxa.Lists.{OutOfUse}
+use Rattle.thread_run.specs.eh_cxa.Words.{word}
+use Rattle.thread_run.specs.eh_cxa.declared.layout.TheConstants.{SLOTS, STATE}
+use Rattle.thread_run.specs.eh_trace.Trace.{Trace}
+use Rattle.thread_run.specs.frame_check.Accepts.{Accepted}
+use Rattle.thread_run.specs.two_machines.Activations.{memory_of, bytes_of, state_word}
+use Rattle.thread_run.proofs.two_machines.FirstEvent.{segments_alone}
+use Rattle.thread_run.specs.thread_memory.Homes.{home_of}
+use Rattle.thread_run.specs.thread_memory.Owners.{owners_after, switched}
+use Rattle.thread_run.specs.thread_memory.declared.owners.Holding.{Holding}
 use Rattle.thread_run.specs.Elements.{Joint, owners_seen, memory_seen, as_entered, state_in}
 use Rattle.thread_laws.specs.RecordedThreads.{RecordedThread, RecordedThreads, Owned, entry_for, entries_for, states_from, with_states, state_for, bare, thread_in}
 use Rattle.thread_laws.specs.Standing.{holding, AllMoved, OwnersStand, all_slots, ThreadsStand}

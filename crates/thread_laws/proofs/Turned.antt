@@ -2,25 +2,25 @@
 use Rattle.std.proofs.Common.{◌≡◌, ℕ, ◌+◌, ◌^◌, ◌<◌, ◌≤◌, ◌⊎◌, inl, inr, ◌==◌, not, Bool, true, false, cond, List, [], ◌∷◌, length, get_or, Option, Some, None, refl, sym, ap, subst, ◌∙◌, arith}
 use Rattle.std.proofs.lemmas.Bool.{cases_eq, cases_lt, eqb-true}
 use Rattle.std.proofs.lemmas.List.{get_or-map, get_or_past, get_or-set_same, get_or-set_other, length-set, length-map}
-use Rattle.eh_bus.specs.Guards.{insert_all, AreGuards}
-use Rattle.eh_bus.specs.Lists.{Has}
-use Rattle.eh_bus.specs.Map.{AreSegments, IsMap, SameMap}
-use Rattle.eh_bus.specs.Memory.{Memory, loads}
-use Rattle.eh_bus.specs.Segment.{Segment}
-use Rattle.eh_bus.specs.declared.map.TheConstants.{STACK_START}
-use Rattle.eh_bus.proofs.MapLaws.{map_trans}
-use Rattle.eh_cxa.specs.Lists.{Entry, Free, OutOfUse, Live, entry}
-use Rattle.eh_cxa.specs.Words.{word}
-use Rattle.eh_cxa.specs.declared.layout.TheConstants.{SLOTS, SLOT_WORDS, CLOSED_WORDS, STATE}
-use Rattle.eh_trace.specs.Trace.{Trace}
-use Rattle.frame_check.specs.Accepts.{Accepted}
-use Rattle.image_memory.specs.Start.{image_start}
-use Rattle.two_machines.specs.Activations.{Recorded, guarded_of, slots_of, lists_of, memory_of, state_word, with_exceptions}
-use Rattle.two_machines.specs.RecordedSlots.{AreOutside}
-use Rattle.stands_for.specs.Stands.{Keeps}
+use Rattle.thread_run.specs.eh_bus.Guards.{insert_all, AreGuards}
+use Rattle.thread_run.specs.eh_bus.Lists.{Has}
+use Rattle.thread_run.specs.eh_bus.Map.{AreSegments, IsMap, SameMap}
+use Rattle.thread_run.specs.eh_bus.Memory.{Memory, loads}
+use Rattle.thread_run.specs.eh_bus.Segment.{Segment}
+use Rattle.thread_run.specs.eh_bus.declared.map.TheConstants.{STACK_START}
+use Rattle.thread_run.proofs.eh_bus.MapLaws.{map_trans}
+use Rattle.thread_run.specs.eh_cxa.Lists.{Entry, Free, OutOfUse, Live, entry}
+use Rattle.thread_run.specs.eh_cxa.Words.{word}
+use Rattle.thread_run.specs.eh_cxa.declared.layout.TheConstants.{SLOTS, SLOT_WORDS, CLOSED_WORDS, STATE}
+use Rattle.thread_run.specs.eh_trace.Trace.{Trace}
+use Rattle.thread_run.specs.frame_check.Accepts.{Accepted}
+use Rattle.thread_run.specs.image_memory.Start.{image_start}
+use Rattle.thread_run.specs.two_machines.Activations.{Recorded, guarded_of, slots_of, lists_of, memory_of, state_word, with_exceptions}
+use Rattle.thread_run.specs.two_machines.RecordedSlots.{AreOutside}
+use Rattle.thread_run.specs.stands_for.Stands.{Keeps}
 use Rattle.state_laws.specs.Free.{IsIdle, SameRecords, SameParts, over}
-use Rattle.thread_memory.specs.Homes.{home_of}
-use Rattle.thread_memory.specs.declared.homes.TheConstants.{THREADS}
+use Rattle.thread_run.specs.thread_memory.Homes.{home_of}
+use Rattle.thread_run.specs.thread_memory.declared.homes.TheConstants.{THREADS}
 use Rattle.thread_laws.specs.RecordedThreads.{RecordedThread, RecordedThreads, Owned, entry_for, entries_for, with_states, slots_in, slots_beside, state_for, thread_from, with_state, thread_in}
 use Rattle.thread_laws.specs.Standing.{is_others, Moved, AllMoved, all_slots}
 use Rattle.thread_laws.specs.Leaving.{LeavesOthers}

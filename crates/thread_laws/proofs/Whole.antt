@@ -1,6 +1,6 @@
 -- What is told of whole runs from the start.
-use Rattle.two_machines.specs.Checked.{program_of}
-use Rattle.two_machines.specs.Start.{start_of}
+use Rattle.thread_run.specs.two_machines.Checked.{program_of}
+use Rattle.thread_run.specs.two_machines.Start.{start_of}
 use Rattle.thread_run.specs.Elements.{joint_over}
 use Rattle.thread_laws.specs.RecordedThreads.{threads_at_start}
 use Rattle.thread_laws.specs.Laws.{SchedulesSame}

@@ -1,16 +1,16 @@
 -- Threads over bytes and with recorded activations do the same (docs/threads.md, "With recorded activations").
 use Rattle.std.specs.Prelude.{◌≡◌, ℕ, ◌%◌, ◌^◌, ◌+◌, ◌<◌, ◌≤◌, ◌==◌, true, List, length, Some, Err}
-use Rattle.event_runs.specs.Laws.{SameRan}
-use Rattle.eh_bus.specs.Lists.{Has}
-use Rattle.eh_bus.specs.Memory.{store, store_run}
-use Rattle.eh_bus.specs.Place.{IsWidth}
-use Rattle.eh_bus.specs.declared.fault.BusFault.TheVariants.{SavedSlot}
-use Rattle.frame_check.specs.Accepts.{Accepted}
-use Rattle.two_machines.specs.Checked.{program_of}
-use Rattle.two_machines.specs.Start.{start_of}
+use Rattle.thread_run.specs.event_runs.Laws.{SameRan}
+use Rattle.thread_run.specs.eh_bus.Lists.{Has}
+use Rattle.thread_run.specs.eh_bus.Memory.{store, store_run}
+use Rattle.thread_run.specs.eh_bus.Place.{IsWidth}
+use Rattle.thread_run.specs.eh_bus.declared.fault.BusFault.TheVariants.{SavedSlot}
+use Rattle.thread_run.specs.frame_check.Accepts.{Accepted}
+use Rattle.thread_run.specs.two_machines.Checked.{program_of}
+use Rattle.thread_run.specs.two_machines.Start.{start_of}
 use Rattle.memory_laws.specs.Runs.{word_address, CanStore}
-use Rattle.stands_for.specs.Stands.{IsProgram, StandsFor}
-use Rattle.machines_agree.specs.Turned.{AreBytes}
+use Rattle.thread_run.specs.stands_for.Stands.{IsProgram, StandsFor}
+use Rattle.thread_run.specs.machines_agree.Turned.{AreBytes}
 use Rattle.thread_run.specs.Elements.{Joint, as_entered, state_in, joint_over}
 use Rattle.thread_run.specs.Schedules.{Scheduled, schedule_run}
 use Rattle.thread_laws.specs.RecordedThreads.{RecordedThread, RecordedThreads, RecordedPlace, bare, slots_in, thread_in, state_for, threads_at_start, recorded_schedule_run, bytes_told, recorded_told}

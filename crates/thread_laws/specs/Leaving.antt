@@ -1,17 +1,17 @@
 -- What an event leaves of other threads: the guarded words beyond the running stack, and the slots that are out of use (docs/threads.md, "Laws").
 use Rattle.std.specs.Prelude.{◌≡◌, ◌↔◌, ℕ, ◌<◌, List}
-use Rattle.event_runs.specs.Runs.{Event, Goes, Ends}
-use Rattle.eh_bus.specs.Lists.{Has}
-use Rattle.eh_bus.specs.Memory.{loads}
-use Rattle.eh_cxa.specs.Lists.{OutOfUse, entry}
-use Rattle.eh_cxa.specs.Words.{word}
-use Rattle.eh_cxa.specs.declared.layout.TheConstants.{SLOTS, CLOSED_WORDS}
-use Rattle.frame_check.specs.Accepts.{Accepted}
-use Rattle.thumb_core.specs.declared.ends.End.{End}
-use Rattle.two_machines.specs.Activations.{Recorded, memory_of, lists_of}
-use Rattle.two_machines.specs.ActivationMachine.{recorded_event}
-use Rattle.two_machines.specs.Checked.{program_of}
-use Rattle.stands_for.specs.Stands.{Keeps}
+use Rattle.thread_run.specs.event_runs.Runs.{Event, Goes, Ends}
+use Rattle.thread_run.specs.eh_bus.Lists.{Has}
+use Rattle.thread_run.specs.eh_bus.Memory.{loads}
+use Rattle.thread_run.specs.eh_cxa.Lists.{OutOfUse, entry}
+use Rattle.thread_run.specs.eh_cxa.Words.{word}
+use Rattle.thread_run.specs.eh_cxa.declared.layout.TheConstants.{SLOTS, CLOSED_WORDS}
+use Rattle.thread_run.specs.frame_check.Accepts.{Accepted}
+use Rattle.thread_run.specs.thumb_core.declared.ends.End.{End}
+use Rattle.thread_run.specs.two_machines.Activations.{Recorded, memory_of, lists_of}
+use Rattle.thread_run.specs.two_machines.ActivationMachine.{recorded_event}
+use Rattle.thread_run.specs.two_machines.Checked.{program_of}
+use Rattle.thread_run.specs.stands_for.Stands.{Keeps}
 
 pub record LeavesOthers (s t : Recorded) : Type 0 where
   -- the words that are guarded beyond the running stack hold what they held

@@ -1,23 +1,23 @@
 -- Threads with recorded activations that run by a schedule (docs/threads.md, "With recorded activations"): each has activations and lists of its
 -- own, and they share one memory, one pool of exceptions, one output and one list of events.
 use Rattle.std.specs.Prelude.{ℕ, suc, ◌-◌, ◌==◌, List, [], ◌∷◌, ◌++◌, length, map, replicate, Option, Some, None, slice_index, slice_index_or, slice_set, if◌then◌else◌}
-use Rattle.event_runs.specs.Runs.{Event, Goes, Ends, Ran, run}
-use Rattle.eh_bus.specs.Segment.{Segment}
-use Rattle.eh_cxa.specs.Lists.{Record, Entry, Free, OutOfUse, Live, slots}
-use Rattle.eh_cxa.specs.Words.{Write, write, put_all}
-use Rattle.eh_cxa.specs.declared.layout.TheConstants.{SLOTS, STATE}
-use Rattle.eh_gates.specs.State.{at_next}
-use Rattle.eh_trace.specs.Trace.{Trace, no_events}
-use Rattle.guest_gates.specs.Gates.{r0, with_r0}
-use Rattle.thumb_core.specs.declared.regs.TheConstants.{LR, SP}
-use Rattle.thumb_core.specs.declared.regs.Regs.{Regs}
-use Rattle.thumb_core.specs.declared.ends.End.{End}
-use Rattle.thumb_core.specs.declared.ends.End.TheVariants.{Exit, Terminate, Trap, Budget, ReadFault, WriteFault}
-use Rattle.two_machines.specs.Program.{Program}
-use Rattle.two_machines.specs.Start.{start_of}
-use Rattle.two_machines.specs.Activations.{Activation, InProgress, Recorded, callee, cleanups_in, head_of, slots_of, state_word}
-use Rattle.two_machines.specs.ActivationMachine.{recorded_event}
-use Rattle.thread_memory.specs.Homes.{home_of}
+use Rattle.thread_run.specs.event_runs.Runs.{Event, Goes, Ends, Ran, run}
+use Rattle.thread_run.specs.eh_bus.Segment.{Segment}
+use Rattle.thread_run.specs.eh_cxa.Lists.{Record, Entry, Free, OutOfUse, Live, slots}
+use Rattle.thread_run.specs.eh_cxa.Words.{Write, write, put_all}
+use Rattle.thread_run.specs.eh_cxa.declared.layout.TheConstants.{SLOTS, STATE}
+use Rattle.thread_run.specs.eh_gates.State.{at_next}
+use Rattle.thread_run.specs.eh_trace.Trace.{Trace, no_events}
+use Rattle.thread_run.specs.guest_gates.Gates.{r0, with_r0}
+use Rattle.thread_run.specs.thumb_core.declared.regs.TheConstants.{LR, SP}
+use Rattle.thread_run.specs.thumb_core.declared.regs.Regs.{Regs}
+use Rattle.thread_run.specs.thumb_core.declared.ends.End.{End}
+use Rattle.thread_run.specs.thumb_core.declared.ends.End.TheVariants.{Exit, Terminate, Trap, Budget, ReadFault, WriteFault}
+use Rattle.thread_run.specs.two_machines.Program.{Program}
+use Rattle.thread_run.specs.two_machines.Start.{start_of}
+use Rattle.thread_run.specs.two_machines.Activations.{Activation, InProgress, Recorded, callee, cleanups_in, head_of, slots_of, state_word}
+use Rattle.thread_run.specs.two_machines.ActivationMachine.{recorded_event}
+use Rattle.thread_run.specs.thread_memory.Homes.{home_of}
 use Rattle.thread_run.specs.declared.starting.TheConstants.{NO_THREAD}
 use Rattle.thread_run.specs.declared.thread.Thread.{Thread}
 use Rattle.thread_run.specs.Threads.{all_over}

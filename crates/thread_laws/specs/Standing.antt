@@ -1,19 +1,19 @@
 -- Which states of threads over bytes stand for which states of threads with recorded activations (docs/threads.md, "With recorded activations").
 use Rattle.std.specs.Prelude.{◌≡◌, ◌⊎◌, ℕ, ◌<◌, ◌==◌, not, Bool, true, false, List, [], ◌∷◌, ◌++◌, length, map, Option, Some, None, slice_index_or}
-use Rattle.eh_bus.specs.Guards.{insert_all}
-use Rattle.eh_bus.specs.Map.{IsMap, SameMap}
-use Rattle.eh_bus.specs.Memory.{Memory}
-use Rattle.eh_cxa.specs.States.{code}
-use Rattle.eh_cxa.specs.Words.{word}
-use Rattle.eh_cxa.specs.declared.layout.TheConstants.{SLOTS, STATE}
-use Rattle.eh_cxa.specs.declared.state.TheConstants.{FREE}
-use Rattle.frame_check.specs.Accepts.{Accepted}
-use Rattle.image_memory.specs.Start.{image_start}
-use Rattle.two_machines.specs.Activations.{state_word}
-use Rattle.stands_for.specs.Stands.{Keeps}
-use Rattle.thread_memory.specs.Homes.{home_of}
-use Rattle.thread_memory.specs.declared.homes.TheConstants.{THREADS}
-use Rattle.thread_memory.specs.declared.owners.Holding.{Holding}
+use Rattle.thread_run.specs.eh_bus.Guards.{insert_all}
+use Rattle.thread_run.specs.eh_bus.Map.{IsMap, SameMap}
+use Rattle.thread_run.specs.eh_bus.Memory.{Memory}
+use Rattle.thread_run.specs.eh_cxa.States.{code}
+use Rattle.thread_run.specs.eh_cxa.Words.{word}
+use Rattle.thread_run.specs.eh_cxa.declared.layout.TheConstants.{SLOTS, STATE}
+use Rattle.thread_run.specs.eh_cxa.declared.state.TheConstants.{FREE}
+use Rattle.thread_run.specs.frame_check.Accepts.{Accepted}
+use Rattle.thread_run.specs.image_memory.Start.{image_start}
+use Rattle.thread_run.specs.two_machines.Activations.{state_word}
+use Rattle.thread_run.specs.stands_for.Stands.{Keeps}
+use Rattle.thread_run.specs.thread_memory.Homes.{home_of}
+use Rattle.thread_run.specs.thread_memory.declared.homes.TheConstants.{THREADS}
+use Rattle.thread_run.specs.thread_memory.declared.owners.Holding.{Holding}
 use Rattle.thread_run.specs.Elements.{Joint}
 use Rattle.thread_laws.specs.RecordedThreads.{RecordedThread, RecordedThreads, Owned, entry_for, slots_in, state_for, bare_threads, thread_in}
 

@@ -2,7 +2,7 @@
 use Rattle.std.proofs.Common.{◌≡◌, ℕ, true, List, [], length, Option, Some, None, IfSome, inl, inr, refl, sym, ap, subst, ◌∙◌}
 use Rattle.std.specs.Io.KnownBytes.{Appends}
 use Rattle.std.proofs.KnownBytes.{Appends-nil}
-use Rattle.event_runs.specs.Runs.{Event, Goes, Ends, Fails}
+use Rattle.eh_machine.specs.event_runs.Runs.{Event, Goes, Ends, Fails}
 use Rattle.guest_gates.specs.Ends.{is_fault}
 use Rattle.eh_bus.specs.Memory.{Memory}
 use Rattle.thumb_core.specs.declared.ends.End.{End}
@@ -12,8 +12,8 @@ use Rattle.eh_gates.specs.declared.state.Turned.{Turned}
 use Rattle.eh_gates.specs.declared.state.Turned.TheVariants.{Went, Ended}
 use Rattle.eh_gates.specs.State.{State, state_of}
 use Rattle.eh_machine.specs.Turns.{TurnedOnce}
-use Rattle.two_machines.specs.Program.{Program}
-use Rattle.two_machines.specs.Machine.{machine_event, may_fail}
+use Rattle.eh_machine.specs.two_machines.Program.{Program}
+use Rattle.eh_machine.specs.two_machines.Machine.{machine_event, may_fail}
 use Rattle.thread_memory.specs.declared.owners.Holding.{Holding}
 use Rattle.thread_run.specs.declared.thread.Thread.{Thread}
 use Rattle.thread_run.specs.Threads.{running, put_thread}

@@ -10,7 +10,7 @@ use Rattle.eh_gates.specs.declared.state.Core.{Core}
 use Rattle.eh_gates.specs.declared.state.Turned.{Turned}
 use Rattle.eh_gates.specs.declared.state.Turned.TheVariants.{Went, Ended}
 use Rattle.eh_machine.specs.Turns.{IsCounted, CountsFaults}
-use Rattle.two_machines.specs.Program.{Program}
+use Rattle.eh_machine.specs.two_machines.Program.{Program}
 use Rattle.thread_run.specs.declared.thread.Thread.{Thread}
 use Rattle.thread_run.specs.Threads.{all_over, put_thread}
 use Rattle.thread_run.specs.Starting.{Outcome, next_pc, unless_refused, start_refusal, start_gate}

@@ -1,3 +1,12 @@
+pub use Rattle.eh_machine.proofs.flow
+pub mod eh_bus
+pub mod eh_cxa
+pub mod thumb_core
+pub use Rattle.eh_machine.proofs.two_machines
+pub use Rattle.eh_machine.proofs.accepted_code
+pub use Rattle.eh_machine.proofs.stands_for
+pub use Rattle.eh_machine.proofs.steps_keep
+pub use Rattle.eh_machine.proofs.machines_agree
 pub mod Entered
 pub mod Elements
 pub mod Faults

@@ -2,7 +2,7 @@
 use Rattle.std.proofs.Common.{◌≡◌, ℕ, zero, suc, ◌+◌, ◌-◌, Bool, true, false, List, [], ◌∷◌, get_or, Option, Some, None, is_some, if◌then◌else◌, refl, sym, ap, ◌∙◌, arith}
 use Rattle.std.specs.Prelude.{slice_index}
 use Rattle.std.proofs.lemmas.List.{get_or-set_other}
-use Rattle.event_runs.specs.Runs.{Event, Goes, Ends}
+use Rattle.eh_machine.specs.event_runs.Runs.{Event, Goes, Ends}
 use Rattle.guest_gates.specs.Gates.{r0}
 use Rattle.thumb_core.specs.declared.ends.End.{End}
 use Rattle.thumb_core.specs.declared.ends.End.TheVariants.{Exit, Terminate, Trap, Budget, ReadFault, WriteFault}
@@ -10,8 +10,8 @@ use Rattle.eh_gates.specs.declared.state.Core.{Core}
 use Rattle.eh_gates.specs.declared.state.Turned.{Turned}
 use Rattle.eh_gates.specs.declared.state.Turned.TheVariants.{Went, Ended}
 use Rattle.eh_gates.specs.State.{State}
-use Rattle.two_machines.specs.Program.{Program}
-use Rattle.two_machines.specs.Machine.{machine_event}
+use Rattle.eh_machine.specs.two_machines.Program.{Program}
+use Rattle.eh_machine.specs.two_machines.Machine.{machine_event}
 use Rattle.thread_run.specs.declared.thread.Thread.{Thread}
 use Rattle.thread_run.specs.Threads.{core_of, numbered, running, none_runs, ended_with, all_over, put_thread}
 use Rattle.thread_run.specs.Starting.{Outcome, unstarted_from, new_core, begun, answered, unless_refused, start_refusal, start_gate}

@@ -1,14 +1,14 @@
 -- An event of a thread, and that of the machine with recorded activations.
 use Rattle.std.proofs.Common.{◌≡◌, ℕ, List, Some, None, refl, ap, subst, ◌∙◌}
-use Rattle.event_runs.specs.Runs.{Event, Goes, Ends}
+use Rattle.eh_machine.specs.event_runs.Runs.{Event, Goes, Ends}
 use Rattle.thumb_core.specs.declared.ends.End.{End}
 use Rattle.eh_gates.specs.State.{State}
-use Rattle.two_machines.specs.Machine.{machine_event}
-use Rattle.two_machines.specs.Checked.{program_of}
-use Rattle.two_machines.specs.Activations.{Recorded, bytes_of}
-use Rattle.two_machines.specs.ActivationLaws.{Matches}
-use Rattle.stands_for.specs.Stands.{OnEvent}
-use Rattle.machines_agree.proofs.OneEvent.{turns}
+use Rattle.eh_machine.specs.two_machines.Machine.{machine_event}
+use Rattle.eh_machine.specs.two_machines.Checked.{program_of}
+use Rattle.eh_machine.specs.two_machines.Activations.{Recorded, bytes_of}
+use Rattle.eh_machine.specs.two_machines.ActivationLaws.{Matches}
+use Rattle.eh_machine.specs.stands_for.Stands.{OnEvent}
+use Rattle.eh_machine.proofs.machines_agree.OneEvent.{turns}
 use Rattle.thread_run.specs.Threads.{numbered, put_thread}
 use Rattle.thread_run.specs.Elements.{as_entered, core_in, with_event}
 use Rattle.thread_run.specs.Laws.{EventFollows, OwnEventsFollow}

@@ -2,13 +2,13 @@
 use Rattle.std.proofs.Common.{◌≡◌, ℕ, ◌-◌, ◌<◌, false, List, [], Option, Some, None, IfSome, inl, inr, refl, sym, ap, subst, arith, append-nil}
 use Rattle.std.specs.Io.KnownBytes.{Appends}
 use Rattle.std.proofs.KnownBytes.{Appends-nil, Appends-trans}
-use Rattle.event_runs.specs.Runs.{Event, Machine, run, GoesOn, EndsBy, Runs}
-use Rattle.event_runs.proofs.Progress.{Progress, goes_on, ends, spent}
+use Rattle.eh_machine.specs.event_runs.Runs.{Event, Machine, run, GoesOn, EndsBy, Runs}
+use Rattle.eh_machine.proofs.event_runs.Progress.{Progress, goes_on, ends, spent}
 use Rattle.thumb_core.specs.declared.ends.End.{End}
 use Rattle.thumb_core.specs.declared.ends.End.TheVariants.{Exit, Budget}
 use Rattle.eh_gates.specs.declared.state.Turned.{Turned}
 use Rattle.eh_gates.specs.declared.state.Turned.TheVariants.{Went, Ended}
-use Rattle.two_machines.specs.Program.{Program}
+use Rattle.eh_machine.specs.two_machines.Program.{Program}
 use Rattle.thread_run.specs.Threads.{all_over}
 use Rattle.thread_run.specs.Elements.{Joint, element}
 use Rattle.thread_run.specs.Schedules.{Scheduled, thread_at, place_after, placed, at_first, unless_all_over, next_element, schedule_run}

@@ -1,14 +1,14 @@
 -- What calls on threads have done, over known bytes of a source and of a sink.
 use Rattle.std.specs.Prelude.{◌≡◌, ◌⊎◌, ℕ, ◌<◌, true, List, [], Option, Some, None}
 use Rattle.std.specs.Io.KnownBytes.{Appends}
-use Rattle.event_runs.specs.Runs.{Ends, GoesOn, Ran, reached}
+use Rattle.eh_machine.specs.event_runs.Runs.{Ends, GoesOn, Ran, reached}
 use Rattle.guest_gates.specs.Ends.{is_fault}
 use Rattle.thumb_core.specs.declared.ends.End.{End}
 use Rattle.eh_gates.specs.declared.state.Core.{Core}
 use Rattle.eh_gates.specs.declared.state.Turned.{Turned}
 use Rattle.eh_gates.specs.declared.state.Turned.TheVariants.{Went, Ended}
-use Rattle.two_machines.specs.Program.{Program}
-use Rattle.two_machines.specs.Machine.{may_fail}
+use Rattle.eh_machine.specs.two_machines.Program.{Program}
+use Rattle.eh_machine.specs.two_machines.Machine.{may_fail}
 use Rattle.thread_run.specs.Threads.{running, all_over, put_thread}
 use Rattle.thread_run.specs.Elements.{Joint, as_entered, state_in, with_event, element}
 use Rattle.thread_run.specs.Schedules.{Scheduled, at_first, next_element, schedule_run, thread_at}

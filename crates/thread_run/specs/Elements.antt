@@ -1,6 +1,6 @@
 -- The state of threads that share a memory, and one element of a schedule (docs/threads.md, "A run").
 use Rattle.std.specs.Prelude.{ℕ, ◌==◌, List, [], ◌∷◌, length, Option, Some, None, if◌then◌else◌}
-use Rattle.event_runs.specs.Runs.{Event, Goes, Ends}
+use Rattle.eh_machine.specs.event_runs.Runs.{Event, Goes, Ends}
 use Rattle.eh_bus.specs.Memory.{Memory}
 use Rattle.eh_cxa.specs.Words.{word}
 use Rattle.eh_cxa.specs.declared.layout.TheConstants.{SLOTS}
@@ -10,8 +10,8 @@ use Rattle.eh_gates.specs.declared.state.Core.{Core}
 use Rattle.eh_gates.specs.declared.state.Turned.{Turned}
 use Rattle.eh_gates.specs.declared.state.Turned.TheVariants.{Went, Ended}
 use Rattle.eh_gates.specs.State.{State, state_of}
-use Rattle.two_machines.specs.Program.{Program}
-use Rattle.two_machines.specs.Machine.{machine_event}
+use Rattle.eh_machine.specs.two_machines.Program.{Program}
+use Rattle.eh_machine.specs.two_machines.Machine.{machine_event}
 use Rattle.thread_memory.specs.Owners.{nobodys_from, owners_after, switched}
 use Rattle.thread_memory.specs.Seen.{seen}
 use Rattle.thread_memory.specs.declared.owners.Holding.{Holding}

@@ -7,7 +7,7 @@ use Rattle.thumb_core.specs.declared.ends.End.TheVariants.{Exit, Terminate, Trap
 use Rattle.eh_gates.specs.declared.state.Core.{Core}
 use Rattle.eh_gates.specs.declared.state.Turned.{Turned}
 use Rattle.eh_gates.specs.declared.state.Turned.TheVariants.{Went, Ended}
-use Rattle.two_machines.specs.Program.{Program}
+use Rattle.eh_machine.specs.two_machines.Program.{Program}
 use Rattle.thread_run.specs.declared.starting.TheConstants.{START_GATE}
 use Rattle.thread_run.specs.declared.thread.Thread.{Thread}
 use Rattle.thread_run.specs.Threads.{all_over, put_thread}

@@ -1,18 +1,18 @@
 -- What elements of a schedule do to the threads (docs/threads.md, "Laws").
 use Rattle.std.specs.Prelude.{◌≡◌, ℕ, ◌-◌, List, [], ◌∷◌, Option, Some, None, slice_index, slice_index_or}
-use Rattle.event_runs.specs.Runs.{Event, Goes, Ends}
+use Rattle.eh_machine.specs.event_runs.Runs.{Event, Goes, Ends}
 use Rattle.guest_gates.specs.Gates.{r0}
 use Rattle.thumb_core.specs.declared.ends.End.{End}
 use Rattle.eh_gates.specs.declared.state.Core.{Core}
 use Rattle.eh_gates.specs.declared.state.Turned.TheVariants.{Went}
 use Rattle.eh_gates.specs.State.{State}
-use Rattle.two_machines.specs.Program.{Program}
-use Rattle.two_machines.specs.Machine.{machine_event}
-use Rattle.two_machines.specs.Checked.{program_of}
-use Rattle.two_machines.specs.Activations.{Recorded}
-use Rattle.two_machines.specs.ActivationMachine.{recorded_event}
-use Rattle.stands_for.specs.Stands.{IsProgram, StandsFor}
-use Rattle.machines_agree.specs.Turned.{AreBytes}
+use Rattle.eh_machine.specs.two_machines.Program.{Program}
+use Rattle.eh_machine.specs.two_machines.Machine.{machine_event}
+use Rattle.eh_machine.specs.two_machines.Checked.{program_of}
+use Rattle.eh_machine.specs.two_machines.Activations.{Recorded}
+use Rattle.eh_machine.specs.two_machines.ActivationMachine.{recorded_event}
+use Rattle.eh_machine.specs.stands_for.Stands.{IsProgram, StandsFor}
+use Rattle.eh_machine.specs.machines_agree.Turned.{AreBytes}
 use Rattle.frame_check.specs.Accepts.{Accepted}
 use Rattle.thread_run.specs.declared.starting.TheConstants.{START_GATE, NO_THREAD}
 use Rattle.thread_run.specs.declared.thread.Thread.{Thread}

@@ -1,9 +1,9 @@
 -- Runs of threads by a schedule (docs/threads.md, "A run").
 use Rattle.std.specs.Prelude.{ℕ, ◌+◌, ◌-◌, nat_lt, List, [], length, Option, Some, None, slice_get, if◌then◌else◌}
-use Rattle.event_runs.specs.Runs.{Event, Goes, Ends, Ran, run}
+use Rattle.eh_machine.specs.event_runs.Runs.{Event, Goes, Ends, Ran, run}
 use Rattle.thumb_core.specs.declared.ends.End.{End}
 use Rattle.thumb_core.specs.declared.ends.End.TheVariants.{Exit, Budget}
-use Rattle.two_machines.specs.Program.{Program}
+use Rattle.eh_machine.specs.two_machines.Program.{Program}
 use Rattle.thread_schedule.specs.Schedules.{is_digit}
 use Rattle.thread_schedule.specs.declared.schedule.TheConstants.{FIRST_DIGIT}
 use Rattle.thread_run.specs.Threads.{all_over}

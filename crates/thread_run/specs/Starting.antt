@@ -12,8 +12,8 @@ use Rattle.eh_gates.specs.declared.state.Core.{Core}
 use Rattle.eh_gates.specs.declared.state.Turned.{Turned}
 use Rattle.eh_gates.specs.declared.state.Turned.TheVariants.{Went, Ended}
 use Rattle.eh_gates.specs.State.{at_next}
-use Rattle.two_machines.specs.Program.{Program}
-use Rattle.two_machines.specs.Machine.{fell_off}
+use Rattle.eh_machine.specs.two_machines.Program.{Program}
+use Rattle.eh_machine.specs.two_machines.Machine.{fell_off}
 use Rattle.thread_memory.specs.Homes.{home_of}
 use Rattle.thread_run.specs.declared.starting.TheConstants.{NO_THREAD}
 use Rattle.thread_run.specs.declared.thread.Thread.{Thread}

@@ -3,7 +3,7 @@ ghost use Rattle.std.specs.Prelude.{◌≡◌, ◌<◌, IfSome};
 ghost use Rattle.eh_machine.specs.Turns.{CountsFaults};
 ghost use Rattle.thread_memory.specs.Seen.{seen};
 ghost use Rattle.thread_memory.specs.declared.homes.TheConstants.{THREADS};
-ghost use Rattle.two_machines.specs.Checked.{program_of};
+ghost use Rattle.eh_machine.specs.two_machines.Checked.{program_of};
 ghost use Rattle.thread_run.specs.Elements.{Joint, joint_of};
 ghost use Rattle.thread_run.specs.Done.{ElementDone};
 

@@ -1,6 +1,6 @@
 //! What the end of a thread's event does to the threads (docs/threads.md, "Ends").
 ghost use Rattle.std.specs.Prelude.{◌≡◌, ◌<◌};
-ghost use Rattle.two_machines.specs.Checked.{program_of};
+ghost use Rattle.eh_machine.specs.two_machines.Checked.{program_of};
 ghost use Rattle.thread_memory.specs.declared.homes.TheConstants.{THREADS};
 ghost use Rattle.thread_run.specs.Ending.{thread_ends, asks_to_start, stopped, after_end, turn_outcome};
 

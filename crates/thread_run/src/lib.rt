@@ -13,6 +13,7 @@ pub mod starting;
 pub mod tags;
 pub mod thread;
 
+pub use eh_machine::{beyond_stays, turns_same};
 pub use element::Threads;
 pub use starting::{NO_THREAD, START_GATE};
 pub use tags::Tags;

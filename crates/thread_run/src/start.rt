@@ -3,8 +3,8 @@ ghost use Rattle.std.specs.Prelude.{◌≡◌, [], IfOk};
 ghost use Rattle.bus_memories.specs.Paged.{memory_of};
 ghost use Rattle.eh_gates.specs.State.{state_of};
 ghost use Rattle.thread_memory.specs.Seen.{seen};
-ghost use Rattle.two_machines.specs.Checked.{program_of};
-ghost use Rattle.two_machines.specs.Start.{start_of};
+ghost use Rattle.eh_machine.specs.two_machines.Checked.{program_of};
+ghost use Rattle.eh_machine.specs.two_machines.Start.{start_of};
 ghost use Rattle.thread_run.specs.Elements.{joint_of, joint_over};
 ghost use Rattle.thread_run.specs.declared.start.RunMemory.TheVariants.{OutOfMemory};
 

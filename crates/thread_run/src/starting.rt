@@ -1,6 +1,6 @@
 //! The gate that starts a thread (docs/threads.md, "Starting a thread").
 ghost use Rattle.std.specs.Prelude.{◌≡◌, ◌<◌, ◌+◌, ◌%◌, ◌^◌, length, IfSome};
-ghost use Rattle.two_machines.specs.Checked.{program_of};
+ghost use Rattle.eh_machine.specs.two_machines.Checked.{program_of};
 ghost use Rattle.thread_memory.specs.declared.homes.TheConstants.{THREADS};
 ghost use Rattle.thread_run.specs.Threads.{put_thread};
 ghost use Rattle.thread_run.specs.Starting.{next_pc, target_refusal, start_refusal, unstarted_from, new_core, begun, answered, start_gate};

@@ -1,3 +1,6 @@
+pub use Rattle.frames_same.proofs.flow
+pub use Rattle.frames_same.proofs.thumb_core
+pub use Rattle.frames_same.proofs.event_runs
 pub mod frames_same
 pub use Rattle.frames_same.proofs.two_machines
 pub use Rattle.frames_same.proofs.frame_check

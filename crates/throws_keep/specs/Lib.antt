@@ -1,3 +1,5 @@
+pub use Rattle.frames_same.specs.eh_list
+pub use Rattle.frames_same.specs.eh_types
 pub mod frames_same
 pub use Rattle.frames_same.specs.two_machines
 pub use Rattle.frames_same.specs.frame_check

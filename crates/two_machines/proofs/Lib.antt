@@ -1,3 +1,16 @@
+pub use Rattle.frame_check.proofs.flow
+pub use Rattle.frame_check.proofs.frame_facts
+pub use Rattle.frame_check.proofs.frame_graph
+pub use Rattle.frame_check.proofs.frame_reach
+pub use Rattle.frame_check.proofs.frame_flow
+pub mod eh_bus
+pub mod thumb_core
+pub mod event_runs
+pub mod eh_cxa
+pub mod unwind_codes
+pub mod eh_bytecode
+pub mod eh_phase
+pub mod frame_check
 pub mod Leaving
 pub mod Released
 pub mod SameSlots

@@ -1,5 +1,5 @@
 use Rattle.eh_gates.specs.State.{State, state_of}
-use Rattle.two_machines.specs.Checked.{program_of}
+use Rattle.machines_agree.specs.two_machines.Checked.{program_of}
 use Rattle.eh_machine.proofs.Events.{end_turned, given_end, fault_free_end}
 use Rattle.eh_machine.proofs.event.turn_anew.Goals as goal
 

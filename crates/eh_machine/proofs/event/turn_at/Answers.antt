@@ -1,7 +1,7 @@
 use Rattle.std.proofs.Common.{refl}
 use Rattle.thumb_core.specs.declared.regs.Stepped.TheVariants.{Done}
 use Rattle.eh_gates.specs.State.{State, state_of}
-use Rattle.two_machines.specs.Checked.{program_of}
+use Rattle.machines_agree.specs.two_machines.Checked.{program_of}
 use Rattle.eh_machine.proofs.Events.{plain_turned, given_plain, turned_as_before, given_as_before}
 use Rattle.eh_machine.proofs.Passing.{same_fetched, same_told, same_state}
 use Rattle.eh_machine.proofs.event.turn_at.Goals as goal

@@ -1,4 +1,4 @@
-use Rattle.two_machines.specs.Checked.{program_of}
+use Rattle.machines_agree.specs.two_machines.Checked.{program_of}
 use Rattle.eh_machine.proofs.event.turn_cached.Goals as goal
 
 pub turn_at-requires : goal.turn_at-requires

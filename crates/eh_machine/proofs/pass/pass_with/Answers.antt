@@ -1,6 +1,6 @@
 use Rattle.std.proofs.Common.{ℕ, slice_index, refl, sym, ap, ◌∙◌, arith}
 use Rattle.eh_gates.specs.State.{State, state_of}
-use Rattle.two_machines.specs.Checked.{program_of}
+use Rattle.machines_agree.specs.two_machines.Checked.{program_of}
 use Rattle.eh_machine.specs.Passes.{at_of}
 use Rattle.eh_machine.proofs.Passing.{ended, went_on, by_trap, trap_passes, stopped, tested_passes, restored, left_as_it_was, tests_are, reguarded_is, gate_done, gate_passes, above_low, at_step, branches_there, pushes_there, leaves_there, in_stack}
 use Rattle.eh_machine.proofs.pass.pass_with.Goals as goal

@@ -5,7 +5,7 @@ use Rattle.eh_cxa.specs.declared.globals.Globals.{Globals}
 use Rattle.eh_cxa.specs.declared.globals.CxaFault.{CxaFault}
 use Rattle.eh_gates.proofs.Blocks.{throw_block}
 use Rattle.eh_trace.specs.Trace.{pushed}
-use Rattle.two_machines.specs.Checked.{program_of}
+use Rattle.eh_machine.specs.two_machines.Checked.{program_of}
 use Rattle.eh_walk.proofs.Flown.{refused_fly, left_fly, done_fly}
 use Rattle.eh_walk.proofs.forcing.fly.Goals as goal
 

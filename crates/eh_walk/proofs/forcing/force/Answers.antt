@@ -1,6 +1,6 @@
 use Rattle.std.proofs.Common.{rules, ◌≡◌, None, Ok, Err, sym, ◌∙◌, arith}
 use Rattle.eh_gates.specs.State.{state_of}
-use Rattle.two_machines.specs.Checked.{program_of}
+use Rattle.eh_machine.specs.two_machines.Checked.{program_of}
 use Rattle.eh_walk.specs.Sites.{site_state}
 use Rattle.eh_walk.specs.declared.stopping.ForceFault.TheVariants.{NotSite}
 use Rattle.eh_walk.proofs.ForcedActs.{forces, at_no_site, at_site}

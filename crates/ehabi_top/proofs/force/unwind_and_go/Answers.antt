@@ -1,7 +1,7 @@
 use Rattle.std.proofs.Common.{refl, sym, ◌∙◌, ◌-◌}
-use Rattle.eh_gates.specs.State.{State, state_of}
-use Rattle.two_machines.specs.Checked.{program_of}
-use Rattle.two_machines.specs.Machine.{machine_of}
+use Rattle.eh_walk.specs.eh_gates.State.{State, state_of}
+use Rattle.eh_walk.specs.two_machines.Checked.{program_of}
+use Rattle.eh_walk.specs.two_machines.Machine.{machine_of}
 use Rattle.ehabi_top.specs.BothRuns.{bytes_events}
 use Rattle.ehabi_top.specs.ForceReport.{bytes_from_site, bytes_forced, IsRefusedForcing}
 use Rattle.ehabi_top.specs.Loading.{closing_of}

@@ -1,8 +1,8 @@
 use Rattle.std.proofs.Common.{refl}
-use Rattle.eh_gates.specs.State.{State}
-use Rattle.two_machines.specs.Checked.{program_of}
-use Rattle.two_machines.specs.Machine.{machine_of}
-use Rattle.two_machines.specs.Start.{start_of}
+use Rattle.eh_walk.specs.eh_gates.State.{State}
+use Rattle.eh_walk.specs.two_machines.Checked.{program_of}
+use Rattle.eh_walk.specs.two_machines.Machine.{machine_of}
+use Rattle.eh_walk.specs.two_machines.Start.{start_of}
 use Rattle.ehabi_top.specs.BothRuns.{bytes_events}
 use Rattle.ehabi_top.specs.Loading.{closing_of}
 use Rattle.ehabi_top.specs.RunReport.{RunsAccepted, accepted_report, trace}

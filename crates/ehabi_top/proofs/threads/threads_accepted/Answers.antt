@@ -1,7 +1,7 @@
 use Rattle.std.proofs.Common.{ap}
 use Rattle.ehabi_top.specs.ThreadsReport.{ThreadsAccepted}
-use Rattle.thread_memory.specs.Seen.{seen}
-use Rattle.bus_memories.specs.Paged.{memory_of}
+use Rattle.thread_run.specs.thread_memory.Seen.{seen}
+use Rattle.thread_run.specs.bus_memories.Paged.{memory_of}
 use Rattle.thread_run.specs.Elements.{Joint, joint_of}
 use Rattle.ehabi_top.proofs.ThreadReports.{threads_yield}
 use Rattle.ehabi_top.proofs.Yielding.{yields_memory}

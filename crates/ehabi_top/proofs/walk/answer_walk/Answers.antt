@@ -1,4 +1,4 @@
-use Rattle.eh_gates.specs.State.{state_of}
+use Rattle.eh_walk.specs.eh_gates.State.{state_of}
 use Rattle.ehabi_top.specs.WalkReport.{bytes_walk}
 use Rattle.ehabi_top.proofs.WalkReports.{says_end}
 use Rattle.ehabi_top.proofs.walk.answer_walk.Goals as goal

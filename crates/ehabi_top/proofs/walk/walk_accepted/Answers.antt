@@ -1,7 +1,7 @@
 use Rattle.std.proofs.Common.{refl}
-use Rattle.eh_gates.specs.State.{State}
-use Rattle.two_machines.specs.Checked.{program_of}
-use Rattle.two_machines.specs.Start.{start_of}
+use Rattle.eh_walk.specs.eh_gates.State.{State}
+use Rattle.eh_walk.specs.two_machines.Checked.{program_of}
+use Rattle.eh_walk.specs.two_machines.Start.{start_of}
 use Rattle.eh_walk.specs.Reaching.{Onward, after, most_events, site_machine}
 use Rattle.ehabi_top.specs.BothRuns.{bytes_events}
 use Rattle.ehabi_top.specs.WalkReport.{WalksAccepted, accepted_walk, bytes_walk, walk_closing}

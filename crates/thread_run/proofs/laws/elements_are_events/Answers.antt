@@ -1,5 +1,5 @@
 use Rattle.std.proofs.Common.{Some, ap}
-use Rattle.event_runs.specs.Runs.{Goes}
+use Rattle.eh_machine.specs.event_runs.Runs.{Goes}
 use Rattle.thread_run.specs.Threads.{numbered}
 use Rattle.thread_run.proofs.Elements.{element_by, element_passed}
 use Rattle.thread_run.proofs.Own.{own_events_follow}

@@ -1,9 +1,9 @@
 use Rattle.std.proofs.Common.{refl, ◌∙◌, arith}
-use Rattle.event_runs.proofs.Progress.{starts}
+use Rattle.machines_agree.proofs.event_runs.Progress.{starts}
 use Rattle.given_input.proofs.Loops.{given_starts, given_goes_on, given_ends, given_spent}
 use Rattle.eh_gates.specs.State.{State}
-use Rattle.two_machines.specs.Machine.{machine_of}
-use Rattle.two_machines.specs.Checked.{program_of}
+use Rattle.machines_agree.specs.two_machines.Machine.{machine_of}
+use Rattle.machines_agree.specs.two_machines.Checked.{program_of}
 use Rattle.eh_machine.proofs.Events.{ended_counts}
 use Rattle.eh_machine.proofs.Running.{run_goes_on, run_ends, run_spent}
 use Rattle.eh_machine.proofs.FollowingRuns.{follows_run}

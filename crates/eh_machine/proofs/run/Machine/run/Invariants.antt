@@ -1,10 +1,10 @@
 use Rattle.std.proofs.Common.{◌≡◌, IfSome}
-use Rattle.event_runs.proofs.Progress.{Progress}
+use Rattle.machines_agree.proofs.event_runs.Progress.{Progress}
 use Rattle.given_input.proofs.Loops.{GivenProgress}
 use Rattle.eh_gates.specs.State.{State, state_of}
-use Rattle.two_machines.specs.Machine.{machine_of}
+use Rattle.machines_agree.specs.two_machines.Machine.{machine_of}
 use Rattle.thumb_core.specs.declared.ends.End.{End}
-use Rattle.two_machines.specs.Checked.{program_of}
+use Rattle.machines_agree.specs.two_machines.Checked.{program_of}
 use Rattle.eh_machine.specs.Cached.{IsCache}
 use Rattle.eh_machine.proofs.run.Machine.run.Given as goal
 

@@ -1,7 +1,7 @@
 use Rattle.std.proofs.Common.{List, length, sym, ◌∙◌, ap}
 use Rattle.eh_trace.specs.declared.event.Event.{Event}
 use Rattle.eh_gates.specs.State.{State, state_of}
-use Rattle.two_machines.specs.Checked.{program_of}
+use Rattle.eh_machine.specs.two_machines.Checked.{program_of}
 use Rattle.thread_memory.specs.Seen.{seen}
 use Rattle.thread_run.specs.Tags.{tags_up_to}
 use Rattle.thread_run.specs.Elements.{Joint, joint_of}

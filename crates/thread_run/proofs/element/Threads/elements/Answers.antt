@@ -1,7 +1,7 @@
 use Rattle.std.proofs.Common.{refl, ap, ◌∙◌, arith}
-use Rattle.event_runs.proofs.Progress.{starts}
+use Rattle.eh_machine.proofs.event_runs.Progress.{starts}
 use Rattle.eh_machine.proofs.Events.{ended_counts}
-use Rattle.two_machines.specs.Checked.{program_of}
+use Rattle.eh_machine.specs.two_machines.Checked.{program_of}
 use Rattle.thumb_core.specs.declared.ends.End.{End}
 use Rattle.thread_memory.specs.Seen.{seen}
 use Rattle.thread_run.specs.Elements.{Joint, joint_of}

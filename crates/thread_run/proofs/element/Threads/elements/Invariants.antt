@@ -1,7 +1,7 @@
 use Rattle.std.proofs.Common.{◌≡◌, ◌≤◌, IfSome, length}
-use Rattle.event_runs.proofs.Progress.{Progress}
+use Rattle.eh_machine.proofs.event_runs.Progress.{Progress}
 use Rattle.thumb_core.specs.declared.ends.End.{End}
-use Rattle.two_machines.specs.Checked.{program_of}
+use Rattle.eh_machine.specs.two_machines.Checked.{program_of}
 use Rattle.thread_memory.specs.Seen.{seen}
 use Rattle.thread_run.specs.Elements.{joint_of}
 use Rattle.thread_run.specs.Schedules.{Scheduled, at_first}

@@ -1,4 +1,4 @@
-use Rattle.two_machines.specs.Checked.{program_of}
+use Rattle.eh_machine.specs.two_machines.Checked.{program_of}
 use Rattle.thread_memory.specs.Seen.{seen}
 use Rattle.thread_run.specs.Elements.{joint_of}
 use Rattle.thread_run.proofs.Running.{over_before}

@@ -1,0 +1,3 @@
+-- What the crates above cite of machines_agree.
+pub use Rattle.machines_agree.specs.Beyond
+pub use Rattle.machines_agree.specs.Turned

@@ -1,0 +1,3 @@
+-- What the crates above cite of thumb_isa.
+pub use Rattle.thumb_isa.specs.Rows
+pub use Rattle.thumb_isa.specs.declared

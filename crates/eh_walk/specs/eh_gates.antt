@@ -1,0 +1,4 @@
+-- What the crates above cite of eh_gates.
+pub use Rattle.eh_gates.specs.State
+pub use Rattle.eh_gates.specs.Throwing
+pub use Rattle.eh_gates.specs.declared

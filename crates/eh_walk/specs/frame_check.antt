@@ -1,0 +1,2 @@
+-- What the crates above cite of frame_check.
+pub use Rattle.frame_check.specs.Accepts

@@ -1,0 +1,3 @@
+-- What the crates above cite of eh_cxa.
+pub use Rattle.eh_cxa.proofs.Pools
+pub use Rattle.eh_cxa.proofs.Zeros

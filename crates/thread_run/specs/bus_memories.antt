@@ -1,0 +1,2 @@
+-- What the crates above cite of bus_memories.
+pub use Rattle.bus_memories.specs.Paged

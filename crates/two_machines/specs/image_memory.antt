@@ -1,0 +1,2 @@
+-- What the crates above cite of image_memory.
+pub use Rattle.image_memory.specs.Start
