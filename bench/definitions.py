@@ -35,13 +35,13 @@ TEXTS = texts()
 
 
 def handed_on():
-    """What a crate's specs/Lib.antt hands on of other crates."""
+    """What a crate hands on of other crates: by specs/Lib.antt whole, and by a file specs/X.antt single files of X."""
     found = {}
     for (crate, module), text in TEXTS.items():
-        if module == "Lib":
-            for it in re.finditer(r"^pub use Rattle\.(\S+?)(?: as (\S+))?$", text, re.M):
-                path = it[1].split(".")
-                found[crate, it[2] or path[-1]] = path
+        inside = [] if module == "Lib" else [module]
+        for it in re.finditer(r"^pub use Rattle\.([^\s{]+?)(?: as (\S+))?$", text, re.M):
+            path = it[1].split(".")
+            found[crate, ".".join([*inside, it[2] or path[-1]])] = path
     return found
 
 
@@ -54,9 +54,10 @@ def home(path):
         crate, rest = path[0], path[2:]
         if not rest or rest[0] == "declared":
             return None
-        if (crate, rest[0]) not in HANDED_ON:
+        length = next((n for n in (1, 2) if (crate, ".".join(rest[:n])) in HANDED_ON), None)
+        if length is None:
             break
-        path = HANDED_ON[crate, rest[0]] + rest[1:]
+        path = HANDED_ON[crate, ".".join(rest[:length])] + rest[length:]
         if path[1] != "specs":
             path = [path[0], "specs", *path[1:]]
     for length in range(len(rest), 0, -1):

@@ -3,7 +3,7 @@
 //! - `segment START SIZE` and `writable START SIZE`: memory, from which bytes are missing after the last that is put
 //! - `words ADDRESS WORD ..`, `code ADDRESS HALFWORD ..` `text ADDRESS TEXT`, and `names ADDRESS NAME ..`, each
 //!   name with a zero byte after it
-//! - `entry ADDRESS`, `index ADDRESS SIZE`, `function NAME ADDRESS SIZE`, `object NAME ADDRESS SIZE`, `thumb ADDRESS`
+//! - `entry ADDRESS`, `index ADDRESS SIZE`, `function NAME ADDRESS SIZE`, `object NAME ADDRESS SIZE`, `thumb ADDRESS`, `data ADDRESS`
 //! - `vtables`: the vtables of the kinds of types
 use crate::draft::Draft;
 use crate::vtables::put_vtables;
@@ -70,6 +70,7 @@ fn put_content(alloc: Global, draft: &mut Draft, what: &str, rest: &str) -> Resu
         "names" => put_names(alloc, draft, at, rest),
         "text" => draft.put_bytes(at, rest.as_bytes()),
         "thumb" => draft.put_symbol("$t", at, 0, SymbolKind::Code),
+        "data" => draft.put_symbol("$d", at, 0, SymbolKind::Words),
         "entry" => {
             draft.set_entry(at);
             Ok(())

@@ -4,7 +4,7 @@ use Rattle.std.proofs.lemmas.Bool.{ne_eqb}
 use Rattle.ehabi_top.specs.Answered.{IsAnswer}
 use Rattle.program_answers.specs.Statuses.{is_conclusive}
 use Rattle.ehabi_top.specs.Report.{Reports, IfTold}
-use Rattle.ehabi_top.specs.Words.{Command, FlatFile, BuildSources, CheckFile, CheckSources, RunFile, RunSources, RunThreads, GenerateProgram, command_of}
+use Rattle.ehabi_top.specs.Words.{Command, FlatFile, BuildSources, CheckFile, CheckSources, RunFile, RunSources, RunGnu, RunThreads, GenerateProgram, command_of}
 use Rattle.program_answers.specs.Files.{FileState}
 use Rattle.ehabi_top.specs.Yields.{Streams, DoesWhole}
 use Rattle.command_laws.specs.Answers.{IsReported, IsConclusive, ReadsNothing, AnswersAreReports}
@@ -25,6 +25,7 @@ told_of (Some (CheckFile name)) held bytes left P t = subst (P held bytes) (sym 
 told_of (Some (CheckSources names)) held bytes left P t = subst (P held bytes) (sym t.0) (t.1 bytes)
 told_of (Some (RunFile name request)) held bytes left P t = t
 told_of (Some (RunSources names request)) held bytes left P t = t
+told_of (Some (RunGnu name budget)) held bytes left P t = t
 told_of (Some (RunThreads names budget)) held bytes left P t = t
 told_of (Some (GenerateProgram number functions)) held bytes left P t = subst (P held bytes) (sym t.0) (t.1 held bytes)
 
@@ -37,6 +38,7 @@ left_of (Some (CheckFile name)) files input left P n t = t.0
 left_of (Some (CheckSources names)) files input left P n t = t.0
 left_of (Some (RunFile name request)) files input left P n t = absurd n
 left_of (Some (RunSources names request)) files input left P n t = absurd n
+left_of (Some (RunGnu name budget)) files input left P n t = absurd n
 left_of (Some (RunThreads names budget)) files input left P n t = absurd n
 left_of (Some (GenerateProgram number functions)) files input left P n t = t.0
 

@@ -18,7 +18,7 @@ use Rattle.ehabi_top.specs.Loading.{Report}
 use Rattle.ehabi_top.specs.Report.{Reports, IfTold, LacksFile, Refuses}
 use Rattle.ehabi_top.specs.Sources.{NamedText, and_rest, all_answers}
 use Rattle.ehabi_top.specs.Unfit.{RefusedHeld}
-use Rattle.ehabi_top.specs.Words.{Command, FlatFile, BuildSources, CheckFile, CheckSources, RunFile, RunSources, RunThreads, GenerateProgram, command_of}
+use Rattle.ehabi_top.specs.Words.{Command, FlatFile, BuildSources, CheckFile, CheckSources, RunFile, RunSources, RunGnu, RunThreads, GenerateProgram, command_of}
 use Rattle.ehabi_top.specs.Yields.{DoesPart, RefusedOf}
 use Rattle.program_answers.specs.Files.{IsUnavailable}
 use Rattle.command_laws.specs.Answers.{IsConclusive}
@@ -130,6 +130,7 @@ lacks (Some (CheckFile name)) held = of_one held name
 lacks (Some (CheckSources names)) held = (some_lack held names, lack_some held names)
 lacks (Some (RunFile name request)) held = of_one held name
 lacks (Some (RunSources names request)) held = (some_lack held names, lack_some held names)
+lacks (Some (RunGnu name budget)) held = (some_lack held (name ∷ []), lack_some held (name ∷ []))
 lacks (Some (RunThreads names budget)) held = (some_lack held names, lack_some held names)
 lacks (Some (GenerateProgram number functions)) held = (λ h. h, λ h. h)
 
@@ -177,6 +178,7 @@ named (Some (CheckFile name)) = refl
 named (Some (CheckSources names)) = refl
 named (Some (RunFile name request)) = refl
 named (Some (RunSources names request)) = refl
+named (Some (RunGnu name budget)) = refl
 named (Some (RunThreads names budget)) = refl
 named (Some (GenerateProgram number functions)) = refl
 

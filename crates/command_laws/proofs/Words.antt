@@ -2,14 +2,14 @@
 use Rattle.std.specs.Prelude.{if◌then◌else◌, is_some, ◌||◌, nat_le, take, slice_index_or, codes}
 use Rattle.std.specs.List.{list_all}
 use Rattle.std.specs.Str.{bytes_eq}
-use Rattle.std.proofs.Common.{◌≡◌, ◌↔◌, ◌⊎◌, inl, inr, ℕ, ◌-◌, ◌≤◌, ◌&&◌, Bool, true, false, List, [], ◌∷◌, ◌++◌, length, Option, option_map, Some, None, refl, sym, ap, subst, ◌∙◌, arith, append_assoc}
+use Rattle.std.proofs.Common.{◌≡◌, ◌↔◌, ◌⊎◌, inl, inr, ℕ, ◌-◌, ◌≤◌, ◌&&◌, Bool, true, false, List, [], ◌∷◌, ◌++◌, length, Option, option_map, Some, None, not, refl, sym, ap, subst, ◌∙◌, arith, append_assoc}
 use Rattle.std.proofs.Math.Seq.{take-append_seam}
 use Rattle.std.proofs.lemmas.Bool.{leb-true, le-leb, and_parts, and_from, true≢false, false≢true}
 use Rattle.std.proofs.lemmas.Bool.Decides.{Decides-eqb}
 use Rattle.std.proofs.lemmas.List.{get_or_push, length-append}
 use Rattle.std.proofs.lemmas.Option.{same_Some, none-some}
 use Rattle.std.proofs.lemmas.Slice.Eq.{bytes_eq-Decides, ends_is}
-use Rattle.ehabi_top.specs.Words.{Command, FlatFile, BuildSources, CheckFile, CheckSources, RunFile, RunSources, RunThreads, GenerateProgram, budget_of, flat_command, is_source, are_sources, build_command, image_name, check_command, files_command, with_budget, run_command, frame_number, with_frame, force_command, is_schedule, are_program, thread_files, with_elements, threads_command, program_number, program_functions, program_of, gen_command, command_of}
+use Rattle.ehabi_top.specs.Words.{Command, FlatFile, BuildSources, CheckFile, CheckSources, RunFile, RunSources, RunGnu, RunThreads, GenerateProgram, budget_of, flat_command, is_source, are_sources, build_command, image_name, check_command, files_command, with_budget, run_command, frame_number, with_frame, force_command, is_schedule, are_program, thread_files, with_elements, threads_command, gnu_command, program_number, program_functions, program_of, gen_command, command_of}
 use Rattle.ehabi_top.specs.declared.words.Request.{Request}
 use Rattle.ehabi_top.specs.declared.words.Task.{Task}
 use Rattle.ehabi_top.specs.declared.words.Task.TheVariants.{Run, Walk, Force}
@@ -99,6 +99,38 @@ flat_from : (name word : List ℕ) (n : ℕ) → 1 ≤ length name → IsBudget 
 unfolding flat_command
 flat_from name word n h b =
     ap (λ t. if t then option_map (FlatFile name) (budget_of word) else None) (le-leb 1 (length name) h) ∙ ap (option_map (FlatFile name)) ((budget word n).1 b)
+
+image : (name : List ℕ) → ((nat_le 1 (length name) && not (is_source name)) ≡ true) ↔ IsImage name
+image name = (
+  λ e. let p = and_parts (nat_le 1 (length name)) (not (is_source name)) e in record { some = leb-true 1 (length name) p.0; no_source = λ s. true≢false (sym ((source name).1 s) ∙ unnot (is_source name) p.1) },
+  λ h. and_from (nat_le 1 (length name)) (not (is_source name)) (le-leb 1 (length name) h.some) (no_source (is_source name) refl h),
+)
+  where
+    unnot : (t : Bool) → not t ≡ true → t ≡ false
+    unnot true e = absurd (false≢true e)
+    unnot false e = refl
+
+    no_source : (t : Bool) → is_source name ≡ t → IsImage name → not t ≡ true
+    no_source true e h = absurd (h.no_source ((source name).0 e))
+    no_source false e h = refl
+
+gnu_to : (rest : List (List ℕ)) (c : Command) → gnu_command rest ≡ Some c → AreWordsOf c (codes "gnu" ∷ rest)
+unfolding gnu_command
+gnu_to [] c e = absurd (none-some c e)
+gnu_to (name ∷ []) c e = absurd (none-some c e)
+gnu_to (name ∷ word ∷ []) c e = go (nat_le 1 (length name) && not (is_source name)) (budget_of word) refl refl e
+  where
+    go : (t : Bool) (o : Option ℕ) → (nat_le 1 (length name) && not (is_source name)) ≡ t → budget_of word ≡ o → (if t then option_map (RunGnu name) o else None) ≡ Some c
+        → AreWordsOf c (codes "gnu" ∷ name ∷ word ∷ [])
+    go true (Some n) p q e = subst (λ d. AreWordsOf d (codes "gnu" ∷ name ∷ word ∷ [])) (same_Some (RunGnu name n) c e) (word, refl, (image name).0 p, (budget word n).0 q)
+    go true None p q e = absurd (none-some c e)
+    go false o p q e = absurd (none-some c e)
+gnu_to (name ∷ word ∷ more ∷ rest) c e = absurd (none-some c e)
+
+gnu_from : (name word : List ℕ) (n : ℕ) → IsImage name → IsBudget word n → gnu_command (name ∷ word ∷ []) ≡ Some (RunGnu name n)
+unfolding gnu_command
+gnu_from name word n h b =
+    ap (λ t. if t then option_map (RunGnu name) (budget_of word) else None) ((image name).1 h) ∙ ap (option_map (RunGnu name)) ((budget word n).1 b)
 
 build_to : (names : List (List ℕ)) (c : Command) → build_command names ≡ Some c → AreWordsOf c (codes "build" ∷ names)
 unfolding build_command
@@ -337,8 +369,11 @@ threads_from files schedule number n p s b =
 abbrev by_threads : List ℕ → List (List ℕ) → Option Command
 by_threads word rest = if bytes_eq word (codes "threads") then threads_command rest else None
 
+abbrev by_gnu : List ℕ → List (List ℕ) → Option Command
+by_gnu word rest = if bytes_eq word (codes "gnu") then gnu_command rest else by_threads word rest
+
 abbrev by_force : List ℕ → List (List ℕ) → Option Command
-by_force word rest = if bytes_eq word (codes "force") then force_command rest else by_threads word rest
+by_force word rest = if bytes_eq word (codes "force") then force_command rest else by_gnu word rest
 
 abbrev by_walk : List ℕ → List (List ℕ) → Option Command
 by_walk word rest = if bytes_eq word (codes "walk") then run_command Walk rest else by_force word rest
@@ -368,7 +403,8 @@ unfolding command_of
 words_of [] c e = absurd (none-some c e)
 words_of (word ∷ rest) c e =
     let threads = by_word word (codes "threads") rest (threads_command rest) None c (threads_words rest c) (λ f. absurd (none-some c f)) in
-    let force = by_word word (codes "force") rest (force_command rest) (by_threads word rest) c (force_words rest c) threads in
+    let gnu = by_word word (codes "gnu") rest (gnu_command rest) (by_threads word rest) c (gnu_to rest c) threads in
+    let force = by_word word (codes "force") rest (force_command rest) (by_gnu word rest) c (force_words rest c) gnu in
     let walk = by_word word (codes "walk") rest (run_command Walk rest) (by_force word rest) c (walk_words rest c) force in
     let gen = by_word word (codes "gen") rest (gen_command rest) (by_walk word rest) c (gen_to rest c) walk in
     let run = by_word word (codes "run") rest (run_command Run rest) (by_gen word rest) c (run_words rest c) gen in
@@ -391,6 +427,7 @@ command_is (CheckFile name) words h = ap command_of h.0 ∙ check_from name h.1
 command_is (CheckSources names) words h = ap command_of h.0 ∙ check_sources_from names h.1
 command_is (RunFile name request) words h = run_command_of request.task request.budget (name ∷ []) words (RunFile name request) h.0 (files_file name request h.1)
 command_is (RunSources names request) words h = run_command_of request.task request.budget names words (RunSources names request) h.0 (files_sources names request h.1)
+command_is (RunGnu name n) words h = ap command_of h.1 ∙ gnu_from name h.0 n h.2 h.3
 command_is (RunThreads names n) words h = ap command_of h.4 ∙ threads_from h.0 h.1 h.2 n h.5 h.6 h.7 ∙ ap (λ l. Some (RunThreads l n)) (sym h.3)
 command_is (GenerateProgram k m) words h = ap command_of h.2 ∙ gen_from h.0 h.1 k m h.3 h.4 h.5 h.6 h.7
 

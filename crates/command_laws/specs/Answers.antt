@@ -4,7 +4,7 @@ use Rattle.std.specs.Io.KnownBytes.{Appends}
 use Rattle.ehabi_top.specs.Answered.{IsAnswer}
 use Rattle.ehabi_top.specs.Loading.{Report}
 use Rattle.ehabi_top.specs.Report.{Reports}
-use Rattle.ehabi_top.specs.Words.{Command, FlatFile, BuildSources, CheckFile, CheckSources, RunFile, RunSources, RunThreads, GenerateProgram, command_of}
+use Rattle.ehabi_top.specs.Words.{Command, FlatFile, BuildSources, CheckFile, CheckSources, RunFile, RunSources, RunGnu, RunThreads, GenerateProgram, command_of}
 use Rattle.program_answers.specs.Files.{FileState}
 use Rattle.ehabi_top.specs.Yields.{Streams}
 
@@ -31,6 +31,7 @@ ReadsNothing (Some (CheckFile name)) = Unit {0}
 ReadsNothing (Some (CheckSources names)) = Unit {0}
 ReadsNothing (Some (RunFile name request)) = ⊥
 ReadsNothing (Some (RunSources names request)) = ⊥
+ReadsNothing (Some (RunGnu name budget)) = ⊥
 ReadsNothing (Some (RunThreads names budget)) = ⊥
 ReadsNothing (Some (GenerateProgram number functions)) = Unit {0}
 

@@ -9,7 +9,7 @@ use Rattle.frame_check.specs.Accepts.{IsAccepted}
 use Rattle.ehabi_top.specs.Answered.{IsAnswer}
 use Rattle.ehabi_top.specs.Loading.{Report}
 use Rattle.ehabi_top.specs.Report.{Reports}
-use Rattle.ehabi_top.specs.Words.{Command, FlatFile, BuildSources, CheckFile, CheckSources, RunFile, RunSources, RunThreads, GenerateProgram, command_of}
+use Rattle.ehabi_top.specs.Words.{Command, FlatFile, BuildSources, CheckFile, CheckSources, RunFile, RunSources, RunGnu, RunThreads, GenerateProgram, command_of}
 use Rattle.ehabi_top.specs.Yields.{Streams}
 use Rattle.ehabi_top.specs.declared.words.Task.TheVariants.{Run, Walk}
 use Rattle.program_answers.specs.Files.{FileState}
@@ -64,6 +64,7 @@ names_in (Some (CheckFile name)) = name ∷ []
 names_in (Some (CheckSources names)) = names
 names_in (Some (RunFile name request)) = name ∷ []
 names_in (Some (RunSources names request)) = names
+names_in (Some (RunGnu name budget)) = name ∷ []
 names_in (Some (RunThreads names budget)) = names
 names_in (Some (GenerateProgram number functions)) = []
 

@@ -1,6 +1,6 @@
 -- Which words are which command, in letters and digits (docs/command-line.md, "Words").
 use Rattle.std.specs.Prelude.{◌≡◌, ◌↔◌, ◌⊎◌, ℕ, ◌+◌, ◌*◌, ◌^◌, ◌≤◌, List, [], ◌∷◌, ◌++◌, length, codes, Some, None}
-use Rattle.ehabi_top.specs.Words.{Command, FlatFile, BuildSources, CheckFile, CheckSources, RunFile, RunSources, RunThreads, GenerateProgram, command_of}
+use Rattle.ehabi_top.specs.Words.{Command, FlatFile, BuildSources, CheckFile, CheckSources, RunFile, RunSources, RunGnu, RunThreads, GenerateProgram, command_of}
 use Rattle.ehabi_top.specs.declared.words.Task.{Task}
 use Rattle.ehabi_top.specs.declared.words.Task.TheVariants.{Run, Walk, Force}
 
@@ -68,6 +68,7 @@ AreWordsOf (CheckFile name) words = (words ≡ codes "check" ∷ name ∷ []) ×
 AreWordsOf (CheckSources names) words = (words ≡ codes "check" ∷ names) × AreSources names
 AreWordsOf (RunFile name request) words = AreRunWords request.task request.budget (name ∷ []) words × IsImage name
 AreWordsOf (RunSources names request) words = AreRunWords request.task request.budget names words × AreSources names
+AreWordsOf (RunGnu name budget) words = (number : List ℕ) × (words ≡ codes "gnu" ∷ name ∷ number ∷ []) × IsImage name × IsBudget number budget
 AreWordsOf (RunThreads names budget) words =
     (files : List (List ℕ)) × (schedule : List ℕ) × (number : List ℕ) × (names ≡ files ++ schedule ∷ [])
     × (words ≡ codes "threads" ∷ (files ++ schedule ∷ number ∷ [])) × AreProgram files × IsSchedule schedule × IsBudget number budget

@@ -3,6 +3,7 @@
 #![tactic(auto)]
 
 mod accepted;
+pub mod cached_turns;
 mod decode_cache;
 mod event;
 mod guards;
@@ -13,6 +14,7 @@ mod start;
 mod tests_of;
 
 pub use accepted::tables;
+pub use cached_turns::CachedTurns;
 pub use eh_gates::{Core, Turned};
 pub use event::{Shared, turn};
 pub use machines_agree::{beyond_stays, runs_guard, runs_same, turns_same};

@@ -14,7 +14,7 @@ use case_file::run_file;
 use std::io::Error;
 
 /// The files of cases.
-const FILES: [&str; 16] = [
+const FILES: [&str; 17] = [
     "commands.txt",
     "sources.txt",
     "bytes.txt",
@@ -28,6 +28,7 @@ const FILES: [&str; 16] = [
     "traps.txt",
     "walks.txt",
     "forced.txt",
+    "gnu.txt",
     "threads.txt",
     "generated.txt",
     "failing.txt",

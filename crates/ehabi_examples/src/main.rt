@@ -1,5 +1,5 @@
-//! Runs the examples of data/, each by the command in its own head comment, and compares what it writes and its status with
-//! that comment; and builds them, and compares the image that is read of what was written with the parts that the sources
+//! Runs the examples of data/, each by the command in its own head comment, or in the text beside an image of a compiler, and compares what it writes
+//! and its status with what stands there; and builds the sources, and compares the image that is read of what was written with the parts that they
 //! link to.
 #![tactic(auto)]
 
@@ -57,6 +57,22 @@ const THROWS: [&str; 15] = [
     "threads_saved_slot.s",
 ];
 
+/// Images of compilers with GNU tables, by the text beside each.
+const GNU: [&str; 12] = [
+    "gnu/frames.txt",
+    "gnu/cleanup.txt",
+    "gnu/types.txt",
+    "gnu/virtual.txt",
+    "gnu/pointers.txt",
+    "gnu/nested.txt",
+    "gnu/noexcept.txt",
+    "gnu/uncaught.txt",
+    "gnu/long.txt",
+    "gnu/globals.txt",
+    "gnu/spec.txt",
+    "gnu/clang.txt",
+];
+
 /// What the head comment of an example says: the words of its command after the program's name, its input, what it
 /// writes, and its status.
 #[derive(Drop)]
@@ -86,16 +102,17 @@ impl<'a> Head<'a> {
         Ok(())
     }
 
-    /// Takes a line of the example.
+    /// Takes a line of the example. In a source it is a comment.
     fn take(&mut self, line: &'a str) -> Result<(), AllocError> {
-        if let Some(text) = line.strip_prefix("@ < ") {
+        let line = line.strip_prefix("@ ").unwrap_or(line);
+        if let Some(text) = line.strip_prefix("< ") {
             self.input.extend_from_slice(text.as_bytes())?;
             self.input.push(b'\n')?;
-        } else if let Some(command) = line.strip_prefix("@ $ ./ehabi_run ") {
+        } else if let Some(command) = line.strip_prefix("$ ./ehabi_run ") {
             self.take_command(command)?;
-        } else if let Some(status) = line.strip_prefix("@ exit status ") {
+        } else if let Some(status) = line.strip_prefix("exit status ") {
             self.status = status.parse().ok();
-        } else if let Some(text) = line.strip_prefix("@ >") {
+        } else if let Some(text) = line.strip_prefix(">") {
             self.wrote
                 .extend_from_slice(text.strip_prefix(" ").unwrap_or(text).as_bytes())?;
             self.wrote.push(b'\n')?;
@@ -153,20 +170,15 @@ fn is_built(host: &HostRuntime, sources: &[&str]) -> Result<bool, Error> {
     })
 }
 
-/// Words without the last one.
-fn all_but_last<'a, 'w>(words: &'w [&'a str]) -> Option<&'w [&'a str]> {
-    words.split_last().map(|(_last, front)| front)
-}
-
-/// The sources of a command: what stands after its first word, for all but `check` in front of its last one, and for `threads` in front of its
-/// schedule.
-fn sources_of<'a, 'w>(words: &'w [&'a str]) -> Option<&'w [&'a str]> {
-    let (command, rest) = words.split_first()?;
-    match *command {
-        "check" => Some(rest),
-        "threads" => all_but_last(all_but_last(rest)?),
-        _ => all_but_last(rest),
+/// The sources among the words of a command.
+fn sources_of<'a>(alloc: Global, words: &[&'a str]) -> Result<Vec<&'a str>, AllocError> {
+    let mut sources = Vec::new(alloc);
+    for word in words {
+        if word.ends_with(".s") {
+            sources.push(*word)?;
+        }
     }
+    Ok(sources)
 }
 
 /// What comes of an example.
@@ -178,10 +190,11 @@ fn verdict(host: &HostRuntime, name: &str) -> Result<&'static str, Error> {
         wrote,
         status: said,
     } = head_of(host.alloc(), text.as_str())?;
-    let Some(sources) = sources_of(words.as_slice()) else {
+    if words.is_empty() {
         return Ok("no command");
-    };
-    if !is_built(host, sources)? {
+    }
+    let sources = sources_of(host.alloc(), words.as_slice())?;
+    if !sources.is_empty() && !is_built(host, sources.as_slice())? {
         return Ok("another image than its parts'");
     }
     let (out, status) = run(host, words.as_slice(), input);
@@ -204,5 +217,6 @@ fn print_verdicts(host: &HostRuntime, names: &[&str]) -> Result<(), Error> {
 
 fn main(host: HostRuntime) -> Result<(), Error> {
     print_verdicts(&host, &EXAMPLES)?;
-    print_verdicts(&host, &THROWS)
+    print_verdicts(&host, &THROWS)?;
+    print_verdicts(&host, &GNU)
 }

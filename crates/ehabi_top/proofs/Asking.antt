@@ -3,7 +3,7 @@ use Rattle.std.specs.Prelude.{◌<◌, ◌&&◌, nat_le, if◌then◌else◌, op
 use Rattle.std.specs.Str.{bytes_eq}
 use Rattle.std.proofs.Common.{◌≡◌, ◌≤◌, ℕ, List, [], ◌∷◌, Option, Some, None, Bool, true, false, IfSome, refl, sym, subst, leb-true, arith}
 use Rattle.eh_kit.specs.declared.program_text.TheConstants.{MAX_FUNCTIONS}
-use Rattle.ehabi_top.specs.Words.{Command, FlatFile, BuildSources, CheckFile, CheckSources, RunFile, RunSources, RunThreads, GenerateProgram, if_between, number_of, budget_of, program_number, program_functions, program_of, flat_command, are_sources, build_command, image_name, check_command, files_command, with_budget, run_command, with_frame, frame_number, force_command, thread_files, with_elements, threads_command, gen_command, command_of}
+use Rattle.ehabi_top.specs.Words.{Command, FlatFile, BuildSources, CheckFile, CheckSources, RunFile, RunSources, RunGnu, RunThreads, GenerateProgram, if_between, number_of, budget_of, program_number, program_functions, program_of, flat_command, are_sources, build_command, image_name, check_command, files_command, with_budget, run_command, with_frame, force_command, thread_files, gnu_command, with_elements, threads_command, gen_command, command_of}
 use Rattle.ehabi_top.specs.declared.words.Request.{Request}
 use Rattle.ehabi_top.specs.declared.words.Task.{Task}
 use Rattle.ehabi_top.specs.declared.words.Task.TheVariants as task
@@ -22,6 +22,7 @@ IsAsked (Some (CheckFile name)) = Unit {0}
 IsAsked (Some (CheckSources names)) = Unit {0}
 IsAsked (Some (RunFile name request)) = Unit {0}
 IsAsked (Some (RunSources names request)) = Unit {0}
+IsAsked (Some (RunGnu name budget)) = Unit {0}
 IsAsked (Some (RunThreads names budget)) = Unit {0}
 IsAsked (Some (GenerateProgram number functions)) = AreAsked functions
 
@@ -73,6 +74,13 @@ force_asked : (words : List (List ℕ)) → IsAsked (force_command words)
 unfolding force_command
 force_asked words = either _ (with_frame _ _) None (frame_asked _ _) tt
 
+gnu_asked : (words : List (List ℕ)) → IsAsked (gnu_command words)
+unfolding gnu_command
+gnu_asked [] = tt
+gnu_asked (name ∷ []) = tt
+gnu_asked (name ∷ number ∷ []) = either _ _ None (mapped (RunGnu name) (budget_of number) (all_some _ (budget_of number) (λ _. tt))) tt
+gnu_asked (name ∷ number ∷ more ∷ rest) = tt
+
 thread_files_asked : (names : List (List ℕ)) (budget : ℕ) → IsAsked (thread_files names budget)
 unfolding thread_files
 thread_files_asked names budget = either _ (Some (RunThreads names budget)) None tt tt
@@ -120,8 +128,11 @@ gen_asked (number ∷ functions ∷ more ∷ rest) = tt
 abbrev by_threads : List ℕ → List (List ℕ) → Option Command
 by_threads word rest = if bytes_eq word (codes "threads") then threads_command rest else None
 
+abbrev by_gnu : List ℕ → List (List ℕ) → Option Command
+by_gnu word rest = if bytes_eq word (codes "gnu") then gnu_command rest else by_threads word rest
+
 abbrev by_force : List ℕ → List (List ℕ) → Option Command
-by_force word rest = if bytes_eq word (codes "force") then force_command rest else by_threads word rest
+by_force word rest = if bytes_eq word (codes "force") then force_command rest else by_gnu word rest
 
 abbrev by_walk : List ℕ → List (List ℕ) → Option Command
 by_walk word rest = if bytes_eq word (codes "walk") then run_command task.Walk rest else by_force word rest
@@ -143,7 +154,8 @@ unfolding command_of
 asked [] = tt
 asked (word ∷ rest) =
     let threads = either (bytes_eq word (codes "threads")) (threads_command rest) None (threads_asked rest) tt in
-    let force = either (bytes_eq word (codes "force")) (force_command rest) (by_threads word rest) (force_asked rest) threads in
+    let gnu = either (bytes_eq word (codes "gnu")) (gnu_command rest) (by_threads word rest) (gnu_asked rest) threads in
+    let force = either (bytes_eq word (codes "force")) (force_command rest) (by_gnu word rest) (force_asked rest) gnu in
     let walk = either (bytes_eq word (codes "walk")) (run_command task.Walk rest) (by_force word rest) (run_asked task.Walk rest) force in
     let gen = either (bytes_eq word (codes "gen")) (gen_command rest) (by_walk word rest) (gen_asked rest) walk in
     let run = either (bytes_eq word (codes "run")) (run_command task.Run rest) (by_gen word rest) (run_asked task.Run rest) gen in

@@ -1,14 +1,13 @@
 -- The report of a forced unwinding, from what the run to a site does, and what is done from there.
-use Rattle.std.proofs.Common.{◌≡◌, ◌⊎◌, ℕ, ◌-◌, List, ◌++◌, Option, Some, None, IfSome, Result, Ok, Err, true, false, inl, inr, refl, sym, ap, subst, ◌∙◌, append_assoc, arith}
+use Rattle.std.proofs.Common.{◌≡◌, ◌⊎◌, ℕ, ◌-◌, List, ◌++◌, Option, Some, None, IfSome, Result, Ok, Err, false, inl, inr, refl, sym, ap, subst, ◌∙◌}
 use Rattle.std.specs.Prelude.{IfOk, ◌↔◌}
 use Rattle.std.proofs.KnownBytes.{Appends-trans}
 use Rattle.std.specs.Io.KnownBytes.{Appends, Keeps}
-use Rattle.eh_port.specs.Causes.{Rose}
 use Rattle.eh_port.specs.Writing.{AppendsPart}
 use Rattle.eh_port.proofs.Parts.{part_first, part_then, part_whole}
 use Rattle.eh_walk.specs.eh_gates.State.{State}
 use Rattle.eh_walk.specs.event_runs.Laws.{SameRan}
-use Rattle.eh_walk.specs.event_runs.Runs.{Machine, Ran, Runs, ran_of}
+use Rattle.eh_walk.specs.event_runs.Runs.{Ran, ran_of}
 use Rattle.frame_check.specs.Accepts.{Accepted}
 use Rattle.eh_walk.specs.guest_gates.Ends.{is_fault}
 use Rattle.eh_walk.specs.stands_for.Stands.{StandsFor}
@@ -19,24 +18,24 @@ use Rattle.eh_walk.specs.two_machines.Activations.{Recorded}
 use Rattle.eh_walk.specs.two_machines.Checked.{program_of}
 use Rattle.eh_walk.specs.two_machines.Machine.{machine_of}
 use Rattle.eh_walk.specs.two_machines.Start.{start_of}
-use Rattle.eh_walk.specs.Forced.{Forced, RecordedForced}
+use Rattle.eh_walk.specs.Forced.{Forced}
 use Rattle.eh_walk.specs.Laws.{OnwardFor}
 use Rattle.eh_walk.specs.Reaching.{Onward, RunsToSite}
 use Rattle.eh_walk.specs.declared.stopping.ForceFault.{ForceFault}
 use Rattle.eh_walk.specs.declared.stopping.ForceFault.TheVariants.{NotSite, NoFrame, InsideCleanup, NoStop, BadTables, BadType, PoolFull}
 use Rattle.ehabi_top.specs.BothRuns.{bytes_events, recorded_events}
 use Rattle.ehabi_top.specs.ForceReport.{unforced, from_forced, preceded, by_site_end, force_report, bytes_forced, activations_forced, bytes_from_site, accepted_force, recorded_force_report, ForcesAccepted, IsRefusal, IsRefusedForcing, IsUnforced, ForceSame, ForcesSame}
-use Rattle.ehabi_top.specs.Loading.{Report, Closing, closing_of, closed_report}
+use Rattle.ehabi_top.specs.Loading.{Report, closing_of, closed_report}
 use Rattle.program_answers.specs.Statuses.{SaysWhy, SaysWhyBy, IsOfCommand}
 use Rattle.ehabi_top.specs.RunReport.{run_report, trace}
 use Rattle.report_lines.specs.Text.{end_line}
 use Rattle.ehabi_top.specs.WalkReport.{bytes_to_site, recorded_to_site}
 use Rattle.program_answers.specs.Writes.{Answers, Stopped}
 use Rattle.ehabi_top.specs.Writes.{AnswersRun}
-use Rattle.ehabi_top.specs.Yields.{Streams, streams, DoesWhole, DoesPart, Only, YieldsBy, Yields, RefusedWhere, RefusedOn}
+use Rattle.ehabi_top.specs.Yields.{streams, DoesWhole, DoesPart, Only, YieldsBy, Yields, RefusedOn}
 use Rattle.program_answers.specs.declared.status.TheConstants.{REFUSED}
 use Rattle.program_answers.specs.declared.stop.Stop.{Stop}
-use Rattle.program_answers.specs.declared.stop.Stop.TheVariants.{Read, Write, Memory}
+use Rattle.program_answers.specs.declared.stop.Stop.TheVariants.{Memory}
 use Rattle.ehabi_top.specs.declared.words.TheConstants.{MOST_INSTRUCTIONS}
 use Rattle.ehabi_top.proofs.Statuses.{IsOfRun, end_of_run, says_end}
 use Rattle.program_answers.proofs.Statuses.{says_unfit, refused_reported}

@@ -13,6 +13,7 @@ mod WalkReports
 mod ForceReports
 mod ThreadReports
 mod Threading
+mod GnuReports
 mod Judging
 mod Doing
 mod Runners

@@ -1,5 +1,5 @@
 -- The commands: what each asks the files for, and what it makes of the bytes.
-use Rattle.std.proofs.Common.{◌≡◌, ℕ, List, Option, Some, None, IfSome, Result, Ok, Err, refl, sym, ap, ◌∙◌}
+use Rattle.std.proofs.Common.{◌≡◌, ℕ, List, [], ◌∷◌, Option, Some, None, IfSome, Result, Ok, Err, refl, sym, ap, ◌∙◌}
 use Rattle.eh_files.specs.FileList.{answer_of}
 use Rattle.eh_files.specs.declared.FileAnswer.{FileAnswer}
 use Rattle.eh_files.specs.declared.FileAnswer.TheVariants.{Found, Missing, TooLong}
@@ -19,8 +19,9 @@ use Rattle.ehabi_top.specs.TaskReport.{RunBytesReports, RunBytesRefuse}
 use Rattle.ehabi_top.specs.Yields.{Only, RefusedOf}
 use Rattle.ehabi_top.specs.Sources.{NamedText, Refusal}
 use Rattle.ehabi_top.specs.Unfit.{RefusedHeld}
-use Rattle.ehabi_top.specs.Words.{FlatFile, BuildSources, CheckFile, CheckSources, RunFile, RunSources, RunThreads}
+use Rattle.ehabi_top.specs.Words.{FlatFile, BuildSources, CheckFile, CheckSources, RunFile, RunSources, RunGnu, RunThreads}
 use Rattle.ehabi_top.specs.ThreadsReport.{Threaded, RefusesThreaded, ThreadsBytesReports, threaded_last, threads_found}
+use Rattle.ehabi_top.specs.GnuReport.{Rewritten, RefusesRewritten, GnuBytesReports, rewritten_last, gnu_found}
 use Rattle.ehabi_top.proofs.Doing.{Held, Asks, Reads, LeavesInput}
 use Rattle.program_answers.proofs.Statuses.{says_unavailable}
 use Rattle.ehabi_top.proofs.Statuses.{made_fits, made_refused}
@@ -188,3 +189,31 @@ threads_asks names budget = record {
 
 pub threads_reads : (names : List (List ℕ)) (budget : ℕ) → Reads (Some (RunThreads names budget))
 threads_reads names budget P files input left h = h
+
+-- ---- GNU's tables
+
+gnu_is : (names : List (List ℕ)) (held : Held) → gnu_found names held ≡ made_of_found rewritten_last (files_of held names)
+unfolding gnu_found
+gnu_is names held = refl
+
+-- a file that is missing or too long
+pub gnu_unavailable : (names : List (List ℕ)) (line : List ℕ) (held : Option Held)
+    → IfSome held (λ h. Err line ≡ files_of h names) → IfSome held (λ h. gnu_found names h ≡ Err (record { status = FILE_UNAVAILABLE; line = line }))
+gnu_unavailable names line None e = tt
+gnu_unavailable names line (Some h) e = gnu_is names h ∙ ap (made_of_found rewritten_last) (sym e)
+
+pub gnu_made : (names : List (List ℕ)) (files : List NamedText) (answer : Result Rewritten (List ℕ)) (held : Option Held)
+    → IfSome held (λ h. Ok files ≡ files_of h names) → rewritten_last files ≡ answer → IfSome held (λ h. gnu_found names h ≡ or_refused answer)
+gnu_made names files answer None e b = tt
+gnu_made names files answer (Some h) e b = gnu_is names h ∙ ap (made_of_found rewritten_last) (sym e) ∙ ap or_refused b
+
+pub gnu_asks : (name : List ℕ) (budget : ℕ) → Asks (Some (RunGnu name budget)) (gnu_found (name ∷ [])) (GnuBytesReports budget) RefusesRewritten
+gnu_asks name budget = let names = name ∷ [] in record {
+  reports = λ held input r h. h;
+  fits = λ held input made s e w. let v = made_fits rewritten_last RefusesRewritten input (files_of held names) made s (sym (gnu_is names held) ∙ e) w in record { missing = v.missing; refused = v.refused };
+  lacks = λ held input refusal e. let v = made_refused rewritten_last RefusesRewritten input (files_of held names) refusal (sym (gnu_is names held) ∙ e) in record { missing = v.missing; refused = v.refused };
+  some = λ e. cc;
+}
+
+pub gnu_reads : (name : List ℕ) (budget : ℕ) → Reads (Some (RunGnu name budget))
+gnu_reads name budget P files input left h = h

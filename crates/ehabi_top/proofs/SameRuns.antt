@@ -18,7 +18,9 @@ use Rattle.eh_walk.specs.Laws.{ReachesSame, ReachesLeaveBytes, WalksSame, Forcin
 use Rattle.ehabi_top.specs.BothRuns.{RunSame, SlotsStay}
 use Rattle.ehabi_top.specs.ForceReport.{ForcesSame, forced_type, bytes_forced, activations_forced}
 use Rattle.ehabi_top.specs.WalkReport.{WalkSame, bytes_to_site, recorded_to_site}
+use Rattle.ehabi_top.specs.GnuReport.{GnuSame}
 use Rattle.ehabi_top.specs.ThreadsReport.{ThreadsSame}
+use Rattle.gnu_machine.specs.Laws.{GnuRunsSame}
 use Rattle.thread_laws.specs.Laws.{SchedulesSame}
 
 pub program_here : (a : Accepted) (m : Memory) → IsImage a.image → IsSound a → IsMap m → m ≡ (start_of (program_of a)).memory → IsProgram a
@@ -70,3 +72,8 @@ program_by_segments a ss image sound are e = record {
 
 pub threads_same : (a : Accepted) → IsProgram a → SchedulesSame → ThreadsSame a
 threads_same a is same digits budget input bytes = same a digits budget input is bytes
+
+pub gnu_same : (filters : List (ℕ × ℕ)) (a : Accepted) → IsProgram a → GnuRunsSame filters → GnuSame filters a
+gnu_same filters a is same budget input bytes =
+    let w = same a budget input is bytes in
+    record { text = w.text; end = w.end; left = w.left; spare = w.spare; state = ap (λ (s : State). s.events) w.state.same }

@@ -5,7 +5,7 @@ use Rattle.eh_files.specs.FileList.{answer_of}
 use Rattle.eh_files.specs.declared.FileAnswer.{FileAnswer}
 use Rattle.eh_files.specs.declared.FileAnswer.TheVariants.{Found, Missing, TooLong}
 use Rattle.ehabi_top.specs.Building.{refusal_of}
-use Rattle.ehabi_top.specs.Words.{Command, FlatFile, BuildSources, CheckFile, CheckSources, RunFile, RunSources, RunThreads, GenerateProgram}
+use Rattle.ehabi_top.specs.Words.{Command, FlatFile, BuildSources, CheckFile, CheckSources, RunFile, RunSources, RunGnu, RunThreads, GenerateProgram}
 use Rattle.program_answers.specs.Files.{FileState}
 use Rattle.ehabi_top.specs.declared.refusal.FilesFault.{FilesFault}
 use Rattle.ehabi_top.specs.declared.sources.Loaded.{Loaded}
@@ -23,6 +23,7 @@ files_named (Some (CheckFile name)) = name ∷ []
 files_named (Some (CheckSources names)) = names
 files_named (Some (RunFile name request)) = name ∷ []
 files_named (Some (RunSources names request)) = names
+files_named (Some (RunGnu name budget)) = name ∷ []
 files_named (Some (RunThreads names budget)) = names
 files_named (Some (GenerateProgram number functions)) = []
 

@@ -23,9 +23,13 @@ use Rattle.eh_files.specs.declared.FileAnswer.TheVariants.{Found, Missing, TooLo
 use Rattle.ehabi_top.specs.RefusalText.{source_line, asm_line, link_line, schedule_line}
 use Rattle.ehabi_top.specs.Sources.{NamedText, NamedStmts, Refusal, and_then, all_answers}
 use Rattle.program_answers.specs.Files.{missing_line, too_long_line}
+use Rattle.gnu_images.specs.declared.refusal.GnuFault.{GnuFault}
+use Rattle.gnu_images.specs.declared.refusal.GnuFault.TheVariants as tables
+use Rattle.report_lines.specs.CheckText.{index_line}
+use Rattle.report_lines.specs.TablesText.{tables_line}
 use Rattle.report_lines.specs.Text.{image_fault_line}
 use Rattle.ehabi_top.specs.declared.refusal.BuildFault.{BuildFault}
-use Rattle.ehabi_top.specs.declared.refusal.BuildFault.TheVariants.{InSource, InObject, InLink, InImage, InSchedule, OutOfMemory}
+use Rattle.ehabi_top.specs.declared.refusal.BuildFault.TheVariants.{InSource, InObject, InLink, InImage, InIndex, InTables, InSchedule, OutOfMemory}
 use Rattle.ehabi_top.specs.declared.refusal.FilesFault.{FilesFault}
 use Rattle.ehabi_top.specs.declared.refusal.FilesFault.TheVariants as files
 use Rattle.ehabi_top.specs.declared.sources.TheConstants.{FILE_LIMIT}
@@ -116,12 +120,19 @@ abbrev pub is_image_memory : ImageFault → Bool
 is_image_memory image.OutOfMemory = true
 is_image_memory fault = false
 
+abbrev pub is_tables_memory : GnuFault → Bool
+is_tables_memory (tables.Entry e) = false
+is_tables_memory tables.TooLarge = false
+is_tables_memory tables.OutOfMemory = true
+
 -- want of memory
 abbrev pub is_memory : BuildFault → Bool
 is_memory (InSource name fault) = is_source_memory fault.what
 is_memory (InObject name fault) = is_asm_memory fault.what
 is_memory (InLink fault) = is_link_memory fault
 is_memory (InImage fault) = is_image_memory fault
+is_memory (InIndex fault) = false
+is_memory (InTables fault) = is_tables_memory fault
 is_memory (InSchedule name at) = false
 is_memory OutOfMemory = true
 
@@ -131,6 +142,8 @@ fault_line (InSource name fault) = source_line name.now fault
 fault_line (InObject name fault) = asm_line name.now fault
 fault_line (InLink fault) = link_line fault
 fault_line (InImage fault) = image_fault_line fault
+fault_line (InIndex fault) = index_line fault
+fault_line (InTables fault) = tables_line fault
 fault_line (InSchedule name at) = schedule_line name.now at
 fault_line OutOfMemory = []
 

@@ -19,6 +19,7 @@ pub mod GenerateReport
 pub mod Sources
 pub mod TaskReport
 pub mod ThreadsReport
+pub mod GnuReport
 pub mod RefusalText
 pub mod Building
 pub mod AsksFor

@@ -1,7 +1,7 @@
 -- What the program writes, answers and leaves of the input, by its words, its files and its input (docs/command-line.md).
 --
 -- A command joins by a case of each definition of the first part; nothing below them changes.
-use Rattle.std.specs.Prelude.{ℕ, ◌≡◌, ◌⊎◌, ◌↔◌, List, Option, Some, None, IfOk, IfSome, IsOk, IsErr, IsErrOf, Result}
+use Rattle.std.specs.Prelude.{ℕ, ◌≡◌, ◌⊎◌, ◌↔◌, List, [], ◌∷◌, Option, Some, None, IfOk, IfSome, IsOk, IsErr, IsErrOf, Result}
 use Rattle.eh_port.specs.Causes.{Rose}
 use Rattle.eh_files.specs.FileList.{answer_of}
 use Rattle.ehabi_top.specs.declared.sources.TheConstants.{FILE_LIMIT}
@@ -17,12 +17,13 @@ use Rattle.ehabi_top.specs.BuildReport.{build_report, IsUnwritten}
 use Rattle.ehabi_top.specs.Building.{files_of}
 use Rattle.ehabi_top.specs.CheckReport.{CheckReports, CheckSourcesReports}
 use Rattle.ehabi_top.specs.FlatReport.{flat_report, IsTooLarge}
+use Rattle.ehabi_top.specs.GnuReport.{GnuReports, RefusedGnu}
 use Rattle.ehabi_top.specs.GenerateReport.{GenerateReports, IsUnfitProgram}
 use Rattle.ehabi_top.specs.TaskReport.{RunReports, RunSourcesReports, RunBytesRefuse}
 use Rattle.ehabi_top.specs.Text.{usage}
 use Rattle.ehabi_top.specs.ThreadsReport.{ThreadsReports, RefusedThreads}
 use Rattle.ehabi_top.specs.Unfit.{RefusedHeld, RefusedSources}
-use Rattle.ehabi_top.specs.Words.{Command, FlatFile, BuildSources, CheckFile, CheckSources, RunFile, RunSources, RunThreads, GenerateProgram}
+use Rattle.ehabi_top.specs.Words.{Command, FlatFile, BuildSources, CheckFile, CheckSources, RunFile, RunSources, RunGnu, RunThreads, GenerateProgram}
 use Rattle.ehabi_top.specs.Yields.{Streams, NoFault, DoesWhole, DoesPart, RefusedWhere, RefusedOf}
 
 -- ---- by command
@@ -36,6 +37,7 @@ Reports (Some (CheckFile name)) files input r = CheckReports name files input r
 Reports (Some (CheckSources names)) files input r = CheckSourcesReports names files input r
 Reports (Some (RunFile name request)) files input r = RunReports name request files input r
 Reports (Some (RunSources names request)) files input r = RunSourcesReports names request files input r
+Reports (Some (RunGnu name budget)) files input r = GnuReports name budget files input r
 Reports (Some (RunThreads names budget)) files input r = ThreadsReports names budget files input r
 Reports (Some (GenerateProgram number functions)) files input r = GenerateReports number functions input r
 
@@ -48,6 +50,7 @@ LacksFile (Some (CheckFile name)) files = IsUnavailable (answer_of files name FI
 LacksFile (Some (CheckSources names)) files = IsErr (files_of files names)
 LacksFile (Some (RunFile name request)) files = IsUnavailable (answer_of files name FILE_LIMIT)
 LacksFile (Some (RunSources names request)) files = IsErr (files_of files names)
+LacksFile (Some (RunGnu name budget)) files = IsErr (files_of files (name ∷ []))
 LacksFile (Some (RunThreads names budget)) files = IsErr (files_of files names)
 LacksFile (Some (GenerateProgram number functions)) files = ⊥
 
@@ -61,6 +64,7 @@ Refuses (Some (CheckFile name)) files = RefusedHeld (RefusedOf IsUnaccepted) (an
 Refuses (Some (CheckSources names)) files = RefusedSources (RefusedOf IsUnaccepted) (files_of files names)
 Refuses (Some (RunFile name request)) files = RefusedHeld (RunBytesRefuse request) (answer_of files name FILE_LIMIT)
 Refuses (Some (RunSources names request)) files = RefusedSources (RunBytesRefuse request) (files_of files names)
+Refuses (Some (RunGnu name budget)) files = RefusedGnu (files_of files (name ∷ []))
 Refuses (Some (RunThreads names budget)) files = RefusedThreads (files_of files names)
 Refuses (Some (GenerateProgram number functions)) files = RefusedWhere (IsUnfitProgram number functions)
 
@@ -75,6 +79,7 @@ IfTold (Some (CheckFile name)) files input left P = (left ≡ input) × IfSome f
 IfTold (Some (CheckSources names)) files input left P = (left ≡ input) × IfSome files (λ held. (bytes : List ℕ) → P held bytes (Some bytes))
 IfTold (Some (RunFile name request)) files input left P = IfSome files (λ held. IfSome input (λ bytes. P held bytes left))
 IfTold (Some (RunSources names request)) files input left P = IfSome files (λ held. IfSome input (λ bytes. P held bytes left))
+IfTold (Some (RunGnu name budget)) files input left P = IfSome files (λ held. IfSome input (λ bytes. P held bytes left))
 IfTold (Some (RunThreads names budget)) files input left P = IfSome files (λ held. IfSome input (λ bytes. P held bytes left))
 IfTold (Some (GenerateProgram number functions)) files input left P = (left ≡ input) × ((held : List (List ℕ × List ℕ)) (bytes : List ℕ) → P held bytes (Some bytes))
 

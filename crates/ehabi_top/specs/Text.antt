@@ -5,7 +5,7 @@ use Rattle.eh_trace.specs.declared.event.EventKind.TheVariants.{Throw, Rethrow, 
 use Rattle.report_lines.specs.Text.{count_line}
 
 abbrev pub usage : List ℕ
-usage = codes "usage: ehabi_run flat FILE N | build FILE.. | check FILE.. | run FILE.. N | gen K M | walk FILE.. N | force FILE.. N K | threads FILE.. SCHED N\n"
+usage = codes "usage: ehabi_run flat FILE N | build FILE.. | check FILE.. | run FILE.. N | gen K M | walk FILE.. N | force FILE.. N K | gnu FILE N | threads FILE.. SCHED N\n"
 
 -- ---- runs
 

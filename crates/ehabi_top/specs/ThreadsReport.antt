@@ -1,6 +1,6 @@
 -- The report of `threads` (docs/threads.md, "The command"): an image that is accepted is run as threads, by the schedule that the last of the files
 -- holds.
-use Rattle.std.specs.Prelude.{ℕ, ◌≡◌, ◌-◌, ◌++◌, Bool, false, not, List, [], ◌∷◌, length, take, slice_index_or, Option, Result, Ok, Err, if◌then◌else◌}
+use Rattle.std.specs.Prelude.{ℕ, ◌≡◌, ◌-◌, ◌++◌, Bool, false, not, List, [], ◌∷◌, length, take, slice_index_or, Option, Result, Ok, if◌then◌else◌}
 use Rattle.std.specs.Result.{result_map_both}
 use Rattle.eh_bus.specs.Segment.{AreBytes}
 use Rattle.eh_trace.specs.Text.{trace_text}

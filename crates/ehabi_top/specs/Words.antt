@@ -1,5 +1,5 @@
 -- Which command the words ask for.
-use Rattle.std.specs.Prelude.{ℕ, ◌+◌, ◌-◌, ◌*◌, ◌&&◌, ◌||◌, nat_eq, Bool, List, [], ◌∷◌, length, take, slice_index_or, codes, nat_le, if◌then◌else◌, Option, Some, None, is_some, option_map}
+use Rattle.std.specs.Prelude.{ℕ, ◌+◌, ◌-◌, ◌*◌, ◌&&◌, ◌||◌, nat_eq, Bool, List, [], ◌∷◌, length, take, slice_index_or, codes, nat_le, if◌then◌else◌, Option, Some, None, is_some, option_map, not}
 use Rattle.program_answers.specs.Words.{texts}
 use Rattle.std.specs.List.{ends_with, list_all}
 use Rattle.std.specs.Str.{bytes_eq}
@@ -10,7 +10,7 @@ use Rattle.ehabi_top.specs.declared.words.Form.{Form}
 use Rattle.ehabi_top.specs.declared.words.Task.{Task}
 use Rattle.ehabi_top.specs.declared.words.Task.TheVariants as task
 use Rattle.ehabi_top.specs.declared.words.Request.{Request}
-use Rattle.ehabi_top.specs.declared.words.Form.TheVariants.{Flat, Build, Check, CheckSources as CheckOfSources, Run, RunSources as RunOfSources, Threads, Generate}
+use Rattle.ehabi_top.specs.declared.words.Form.TheVariants.{Flat, Build, Check, CheckSources as CheckOfSources, Run, RunSources as RunOfSources, Gnu, Threads, Generate}
 
 -- a command and what it is given
 pub data Command : Type 0 where
@@ -26,6 +26,8 @@ pub data Command : Type 0 where
   RunFile : (name : List ℕ) (request : Request) → Command
   -- `run FILE.. N`, `walk FILE.. N` and `force FILE.. N K` of sources
   RunSources : (names : List (List ℕ)) (request : Request) → Command
+  -- `gnu FILE N`: the name of one image
+  RunGnu : (name : List ℕ) (budget : ℕ) → Command
   -- `threads FILE.. SCHED N`: the names of a program's files and, last, of a schedule
   RunThreads : (names : List (List ℕ)) (budget : ℕ) → Command
   -- `gen K M`: the program of a number, and how many functions it is asked for
@@ -39,6 +41,7 @@ command (Check name) = CheckFile name.now
 command (CheckOfSources names) = CheckSources (texts names.now)
 command (Run name request) = RunFile name.now request
 command (RunOfSources names request) = RunSources (texts names.now) request
+command (Gnu name budget) = RunGnu name.now budget
 command (Threads names budget) = RunThreads (texts names.now) budget
 command (Generate number functions) = GenerateProgram number functions
 
@@ -113,6 +116,13 @@ with_frame words (Some number) = run_command (task.Force number) words
 unfoldable pub force_command : List (List ℕ) → Option Command
 force_command words = if nat_le 1 (length words) then with_frame (take (length words - 1) words) (frame_number (slice_index_or words (length words - 1) [])) else None
 
+-- the words after `gnu`: the name of an image, and a budget
+unfoldable pub gnu_command : List (List ℕ) → Option Command
+gnu_command [] = None
+gnu_command (name ∷ []) = None
+gnu_command (name ∷ number ∷ []) = if nat_le 1 (length name) && not (is_source name) then option_map (RunGnu name) (budget_of number) else None
+gnu_command (name ∷ number ∷ more ∷ rest) = None
+
 -- the name of a schedule ends in `.sched`
 abbrev pub is_schedule : List ℕ → Bool
 is_schedule name = ends_with nat_eq name (codes ".sched")
@@ -163,4 +173,5 @@ command_of (word ∷ rest) =
     else (if bytes_eq word (codes "gen") then gen_command rest
     else (if bytes_eq word (codes "walk") then run_command task.Walk rest
     else (if bytes_eq word (codes "force") then force_command rest
-    else (if bytes_eq word (codes "threads") then threads_command rest else None)))))))
+    else (if bytes_eq word (codes "gnu") then gnu_command rest
+    else (if bytes_eq word (codes "threads") then threads_command rest else None))))))))

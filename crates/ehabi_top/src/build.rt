@@ -95,7 +95,10 @@ fn linked_parts<'a>(alloc: Global, objects: &[Object]) -> Result<ImageParts, Bui
 }
 
 // The bytes of the image of parts.
-fn written_bytes<'a>(alloc: Global, parts: &ImageParts) -> Result<Vec<u8>, BuildFault<'a>>
+pub(crate) fn written_bytes<'a>(
+    alloc: Global,
+    parts: &ImageParts,
+) -> Result<Vec<u8>, BuildFault<'a>>
     ensures { MatchResult result (λ bytes. written_bytes parts.now ≡ Ok bytes.items)
         (λ fault. is_memory fault ≡ false → written_bytes parts.now ≡ Err (fault_line fault)) }
 {

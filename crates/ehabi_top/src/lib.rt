@@ -15,6 +15,7 @@ mod check;
 mod flat;
 mod force;
 mod generated;
+mod gnu;
 pub mod laws;
 mod named;
 mod recorded;
@@ -32,6 +33,7 @@ use eh_files::Files;
 use eh_port::{Sink, Source};
 use flat::flat;
 use generated::count_program;
+use gnu::gnu;
 pub use plain_run::flat_run;
 use program_answers::Stop;
 use program_answers::answer::answer_text;
@@ -61,7 +63,7 @@ fn perform<F: Files, I: Source, O: Sink>(
     match form_of(words) {
         None => answer_text(
             out,
-            b"usage: ehabi_run flat FILE N | build FILE.. | check FILE.. | run FILE.. N | gen K M | walk FILE.. N | force FILE.. N K | threads FILE.. SCHED N\n",
+            b"usage: ehabi_run flat FILE N | build FILE.. | check FILE.. | run FILE.. N | gen K M | walk FILE.. N | force FILE.. N K | gnu FILE N | threads FILE.. SCHED N\n",
             USAGE,
         ),
         Some(Form::Flat(name, budget)) => flat(alloc, name, budget, files, input, out),
@@ -72,6 +74,7 @@ fn perform<F: Files, I: Source, O: Sink>(
         Some(Form::RunSources(names, request)) => {
             run_sources(alloc, names, request, files, input, out)
         }
+        Some(Form::Gnu(name, budget)) => gnu(alloc, name, budget, files, input, out),
         Some(Form::Threads(names, budget)) => threads(alloc, names, budget, files, input, out),
         Some(Form::Generate(number, functions)) => count_program(alloc, number, functions, out),
     }

@@ -4,16 +4,18 @@ ghost use Rattle.eh_walk.specs.two_machines.Checked.{program_of};
 ghost use Rattle.eh_walk.specs.two_machines.Start.{start_of};
 ghost use Rattle.ehabi_top.specs.BothRuns.{RunSame, SlotsStay};
 ghost use Rattle.ehabi_top.specs.ForceReport.{ForcesSame};
+ghost use Rattle.ehabi_top.specs.GnuReport.{GnuSame};
 ghost use Rattle.ehabi_top.specs.ThreadsReport.{ThreadsSame};
 ghost use Rattle.ehabi_top.specs.WalkReport.{WalkSame};
 
 use crate::force::forced_type;
 use eh_bus::bus::Bus;
+use eh_machine::{runs_guard, runs_same as all_runs_same};
 use eh_walk::laws::{
     forcings_same, going_on_same, reaches_leave_bytes, reaches_same, walks_same as all_walks_same,
 };
 use frame_check::Accepted;
-use eh_machine::{runs_guard, runs_same as all_runs_same};
+use gnu_machine::laws::gnu_runs_same;
 use thread_laws::schedules_same;
 
 /// From the start of an accepted image, over any bus that has its memory, the machine over bytes does what the one with recorded activations
@@ -57,6 +59,18 @@ pub(crate) fn forces_same<B: Bus>(accepted: &Accepted, bus: &B)
     reaches_leave_bytes();
     forcings_same();
     going_on_same();
+}
+
+/// From the start of an accepted image, over any bus that has its memory, the run with what the landing pads of GNU's code are given does the same
+/// over bytes and with recorded activations, whatever the filters are.
+pub(crate) fn gnu_same<B: Bus>(accepted: &Accepted, filters: &[(u32, u32)], bus: &B)
+    requires start { B.memory bus.now ≡ (start_of (program_of accepted.now)).memory }
+    ensures { GnuSame filters.now accepted.now }
+{
+    accepted.holds();
+    let _ = accepted.image().functions();
+    let _ = bus;
+    gnu_runs_same(filters);
 }
 
 /// From the start of an accepted image, over any bus that has its segments, a run of threads does the same over bytes and with recorded

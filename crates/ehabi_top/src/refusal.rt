@@ -8,18 +8,22 @@ ghost use Rattle.program_answers.specs.Writes.{Answers};
 
 use asm_layout::{AsmFault, AsmWhat};
 use asm_read::{SourceFault, SourceWhat};
+use eh_index::IndexFault;
 use eh_kit::KitMemory;
 use eh_link::LinkFault;
 use eh_port::Sink;
 use eh_word::{Name, address_text};
 use elf_image::ImageFault;
+use gnu_images::GnuFault;
 use itoa::Buffer;
 use program_answers::Stop;
 use program_answers::answer::{
     answer_both, answer_missing, answer_text, answer_three, answer_too_long,
 };
 use program_answers::status::REFUSED;
-use report_lines::{Line, append, image_fault_line, refusal_line, refusal_line_with};
+use report_lines::{
+    Line, append, image_fault_line, index_line, refusal_line, refusal_line_with, tables_line,
+};
 use std::alloc::AllocFailed;
 
 /// Why sources give no image, or a file no schedule.
@@ -33,6 +37,10 @@ pub(crate) enum BuildFault<'a> {
     InLink(LinkFault),
     /// The linked parts have no image.
     InImage(ImageFault),
+    /// The image has an index that isn't read.
+    InIndex(IndexFault),
+    /// Its unwind tables aren't rewritten.
+    InTables(GnuFault),
     /// The file of this name holds no schedule: the offset of the first byte that it may not have, or its length where it has no digit.
     InSchedule(&'a str, usize),
     /// Want of memory.
@@ -81,6 +89,8 @@ pub(crate) fn is_memory(fault: &BuildFault) -> bool
         BuildFault::InObject(_, fault) => matches!(fault.what, AsmWhat::OutOfMemory),
         BuildFault::InLink(fault) => matches!(fault, LinkFault::OutOfMemory),
         BuildFault::InImage(fault) => matches!(fault, ImageFault::OutOfMemory),
+        BuildFault::InIndex(_) => false,
+        BuildFault::InTables(fault) => matches!(fault, GnuFault::OutOfMemory),
         BuildFault::InSchedule(_, _) => false,
         BuildFault::OutOfMemory => true,
     }
@@ -194,6 +204,8 @@ pub(crate) fn answer_build_fault<O: Sink>(out: &mut O, fault: &BuildFault) -> Re
             image_fault_line(*fault).as_slice(),
             REFUSED,
         ),
+        BuildFault::InIndex(fault) => answer_text(out, index_line(*fault).as_slice(), REFUSED),
+        BuildFault::InTables(fault) => answer_text(out, tables_line(*fault).as_slice(), REFUSED),
         BuildFault::InSchedule(name, at) => {
             answer_both(
                 out,

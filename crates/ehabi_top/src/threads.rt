@@ -49,7 +49,7 @@ fn is_image(files: &[SourceText]) -> bool
 }
 
 // The bytes of the last of files; those of none are none.
-fn last_bytes(alloc: Global, mut files: Vec<SourceText>) -> Bytes
+pub(crate) fn last_bytes(alloc: Global, mut files: Vec<SourceText>) -> Bytes
     ensures { result ≡ (last_file files.entry.items).text }
 {
     match files.pop() {

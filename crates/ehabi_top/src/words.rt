@@ -1,7 +1,7 @@
 //! The forms of the words that the program is given.
 ghost use Rattle.std.specs.Borrow.{Bor};
 ghost use Rattle.std.specs.Prelude.{◌≡◌, ◌≤◌, ◌&&◌, ℕ, List, option_map};
-ghost use Rattle.ehabi_top.specs.Words.{command, number_of, budget_of, program_number, program_functions, is_source, are_sources, flat_command, build_command, image_name, check_command, files_command, run_command, frame_number, force_command, is_schedule, are_program, thread_files, threads_command, gen_command, command_of};
+ghost use Rattle.ehabi_top.specs.Words.{command, number_of, budget_of, program_number, program_functions, is_source, are_sources, flat_command, build_command, image_name, check_command, files_command, run_command, frame_number, force_command, gnu_command, is_schedule, are_program, thread_files, threads_command, gen_command, command_of};
 ghost use Rattle.program_answers.specs.Words.{texts};
 
 use eh_kit::MAX_FUNCTIONS;
@@ -58,6 +58,8 @@ pub enum Form<'a> {
     Run(&'a str, Request),
     /// `run FILE.. N`, `walk FILE.. N` and `force FILE.. N K`: the names of sources, and what is asked of the image that they are built to.
     RunSources(&'a [&'a str], Request),
+    /// `gnu FILE N`: the name of an image with unwind tables of GNU's compilers, and how many instructions may run.
+    Gnu(&'a str, u64),
     /// `threads FILE.. SCHED N`: the names of a program's files and, last, of a schedule, and how many elements of it may go.
     Threads(&'a [&'a str], u64),
     /// `gen K M`: the number of a program, and how many functions it is asked for.
@@ -206,6 +208,22 @@ fn force_form<'a>(words: &'a [&'a str]) -> Option<Form<'a>>
     run_form(Task::Force(number), rest)
 }
 
+// `gnu FILE N`, without the first word.
+#[tactic(auto, unfolding(crate::specs::Words::gnu_command))]
+fn gnu_form<'a>(words: &[&'a str]) -> Option<Form<'a>>
+    ensures { option_map command result ≡ gnu_command (texts words.now) }
+{
+    match words {
+        [name, number] => {
+            if name.is_empty() || is_source(name) {
+                return None;
+            }
+            Some(Form::Gnu(name, budget_of(number)?))
+        }
+        _ => None,
+    }
+}
+
 // The name of a schedule ends in `.sched`.
 fn is_schedule(name: &str) -> bool
     ensures { result ≡ is_schedule name.now }
@@ -303,6 +321,7 @@ pub fn form_of<'a>(words: &'a [&'a str]) -> Option<Form<'a>>
         "gen" => gen_form(rest),
         "walk" => run_form(Task::Walk, rest),
         "force" => force_form(rest),
+        "gnu" => gnu_form(rest),
         "threads" => threads_form(rest),
         _ => None,
     }

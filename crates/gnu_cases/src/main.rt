@@ -7,6 +7,7 @@ mod entries;
 mod image;
 mod signed;
 mod tables;
+mod translations;
 mod unsigned;
 
 use case_rows::run_file;
@@ -15,6 +16,7 @@ use entries::Entries;
 use signed::SignedNumbers;
 use std::io::Error;
 use tables::Rewritten;
+use translations::Translations;
 use unsigned::UnsignedNumbers;
 
 fn main(host: HostRuntime) -> Result<(), Error> {
@@ -22,5 +24,6 @@ fn main(host: HostRuntime) -> Result<(), Error> {
     run_file(&host, "unsigned.txt", &UnsignedNumbers)?;
     run_file(&host, "entries.txt", &Entries)?;
     run_file(&host, "changes.txt", &Changes)?;
-    run_file(&host, "tables.txt", &Rewritten)
+    run_file(&host, "tables.txt", &Rewritten)?;
+    run_file(&host, "translations.txt", &Translations)
 }

@@ -11,7 +11,7 @@ ghost use Rattle.number_laws.specs.Gates.{PlainGateNumbers, GateNumbers, KeptNum
 ghost use Rattle.number_laws.specs.Checker.{FactNumbers, FlowGraphNumbers, ReachNumbers};
 ghost use Rattle.number_laws.specs.Sources.{ReaderNumbers, DirectiveNumbers, LayoutNumbers, ObjectNumbers};
 ghost use Rattle.number_laws.specs.Linked.{LinkNumbers, GeneratorNumbers};
-ghost use Rattle.number_laws.specs.Gnu.{GnuTableNumbers, DescriptorByteNumbers, GnuImageNumbers};
+ghost use Rattle.number_laws.specs.Gnu.{GnuTableNumbers, DescriptorByteNumbers, GnuImageNumbers, GnuTranslationNumbers};
 ghost use Rattle.number_laws.specs.Threads.{ThreadNumbers, AuditNumbers};
 
 /// The memory map: stack, pool, slots, images and pages.
@@ -152,6 +152,11 @@ pub fn descriptor_byte_numbers()
 /// How many bytes of call-site tables an image has.
 pub fn gnu_image_numbers()
     ensures { GnuImageNumbers }
+{}
+
+/// Rewritten images: where the new segment may begin, how long a file may be, and the symbol that is kept beside the vtables.
+pub fn gnu_translation_numbers()
+    ensures { GnuTranslationNumbers }
 {}
 
 /// The size of a thread's home, and how many tags there are.

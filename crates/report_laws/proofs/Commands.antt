@@ -4,10 +4,10 @@ use Rattle.std.proofs.Math.Seq.{take-append_seam}
 use Rattle.std.proofs.lemmas.Bool.Decides.{Decides-eqb}
 use Rattle.std.proofs.lemmas.List.{get_or_push, length-append}
 use Rattle.std.proofs.lemmas.Slice.Eq.{ends_is}
-use Rattle.std.proofs.Common.{◌≡◌, ◌+◌, ℕ, Bool, true, false, List, [], ◌∷◌, ◌++◌, codes, decimal, Result, Some, Ok, Err, refl, sym, ap, subst, ◌∙◌, arith}
+use Rattle.std.proofs.Common.{◌≡◌, ◌+◌, ℕ, Bool, true, false, List, [], ◌∷◌, ◌++◌, codes, decimal, Result, None, Some, Ok, Err, refl, sym, ap, subst, ◌∙◌, arith}
 use Rattle.eh_files.specs.FileList.{answer_of}
 use Rattle.eh_files.specs.declared.FileAnswer.{FileAnswer}
-use Rattle.eh_files.specs.declared.FileAnswer.TheVariants.{Found, Missing, TooLong}
+use Rattle.eh_files.specs.declared.FileAnswer.TheVariants.{Found, Missing, TooLong as FileTooLong}
 use Rattle.elf_image.specs.Image.{Image, image_of}
 use Rattle.elf_image.specs.declared.fault.ImageFault.{ImageFault}
 use Rattle.frame_check.specs.Accepts.{Accepted, IsAccepted, Refuses}
@@ -27,15 +27,29 @@ use Rattle.ehabi_top.specs.GenerateReport.{CountsAccepted}
 use Rattle.ehabi_top.specs.Loading.{Report}
 use Rattle.ehabi_top.specs.Report.{Reports}
 use Rattle.ehabi_top.specs.Sources.{NamedText, Refusal, and_rest, all_answers}
+use Rattle.std.specs.Result.{result_map_both}
+use Rattle.eh_index.specs.Refusal.{index_refusal}
+use Rattle.eh_index.specs.declared.fault.IndexFault.{IndexFault}
+use Rattle.eh_word.specs.Address.{address_text}
+use Rattle.elf_write.specs.Layout.{written_of}
+use Rattle.gnu_images.specs.declared.refusal.GnuFault.{GnuFault}
+use Rattle.gnu_images.specs.declared.refusal.GnuFault.TheVariants.{Entry, TooLarge, OutOfMemory}
+use Rattle.gnu_tables.specs.declared.fault.EntryFault.{EntryFault}
+use Rattle.gnu_tables.specs.declared.fault.EntryFault.TheVariants.{Personality, Short, Format, Order, Filter, Chain, TooLong}
+use Rattle.gnu_translation.specs.Parts.{new_parts, new_tables}
+use Rattle.gnu_translation.specs.Refusal.{translation_refusal}
+use Rattle.report_lines.specs.CheckText.{index_line}
+use Rattle.report_lines.specs.TablesText.{entry_name, tables_line}
+use Rattle.ehabi_top.specs.GnuReport.{GnuAccepted, GnuBytesReports, Rewritten, by_image, by_index, by_tables, gnu_found, rewritten_bytes, rewritten_last, with_filters}
 use Rattle.ehabi_top.specs.RefusalText.{schedule_line}
 use Rattle.ehabi_top.specs.ThreadsReport.{Threaded, ThreadsAccepted, ThreadsBytesReports, digits_of, is_image, last_file, no_file as empty_file, program_bytes, threaded_last, threaded_of, threads_found}
 use Rattle.thread_schedule.specs.Schedules.{schedule_of}
 use Rattle.ehabi_top.specs.TaskReport.{TaskReports, DoesTask, RunBytesReports}
-use Rattle.ehabi_top.specs.Words.{Command, FlatFile, BuildSources, CheckFile, CheckSources, RunFile, RunSources, RunThreads, GenerateProgram, is_source}
+use Rattle.ehabi_top.specs.Words.{Command, FlatFile, BuildSources, CheckFile, CheckSources, RunFile, RunSources, RunGnu, RunThreads, GenerateProgram, is_source}
 use Rattle.ehabi_top.specs.declared.words.Task.{Task}
 use Rattle.ehabi_top.specs.declared.words.Task.TheVariants.{Run, Walk, Force}
 use Rattle.report_laws.specs.Written.{ReportsAreWritten, RunEnds}
-use Rattle.report_laws.specs.Commands.{line_of, Told, SaysAccepted, SaysTask, SaysCounts, SaysThreads, OfFile, AreThere, OfSources, IsFirst, IsSource, program, ThreadsAreTold, CommandsAreTold}
+use Rattle.report_laws.specs.Commands.{line_of, Told, SaysAccepted, SaysTask, SaysCounts, SaysGnu, SaysThreads, IsRefusedBy, lsda_line, lsda_name, OfFile, AreThere, OfSources, IsFirst, IsSource, program, ThreadsAreTold, CommandsAreTold}
 
 -- ---- bytes
 
@@ -140,6 +154,17 @@ flat_is : (name : List ℕ) (budget : ℕ) (files : List (List ℕ × List ℕ))
 unfolding flat_report
 flat_is name budget files input answer e = ap (λ a. found_report (code_report budget) a input) e
 
+-- the rewritten image of a file, where there is none
+gnu_lack : (name : List ℕ) (answer : FileAnswer) (refusal : Refusal) → bytes_of_answer name answer ≡ Err refusal
+    → made_of_found rewritten_last (and_rest (found_text name answer) (Ok [])) ≡ Err refusal
+gnu_lack name (Found bytes) refusal e = absurd (cc)
+gnu_lack name Missing refusal e = e
+gnu_lack name FileTooLong refusal e = e
+
+gnu_lacks : (name : List ℕ) (files : List (List ℕ × List ℕ)) (refusal : Refusal) → file_bytes name files ≡ Err refusal → gnu_found (name ∷ []) files ≡ Err refusal
+unfolding gnu_found file_bytes all_answers
+gnu_lacks name files refusal e = gnu_lack name (answer_of files name 4194304) refusal e
+
 no_file : (command : Command) (name : List ℕ) (files : List (List ℕ × List ℕ)) (input : List ℕ) (r : Report) (refusal : Refusal)
     → OfFile command name → file_bytes name files ≡ Err refusal → Reports (Some command) files input r → r ≡ record { text = refusal.line; status = refusal.status; left = input }
 no_file (FlatFile file budget) name files input r refusal of e h = h ∙ flat_is file budget files input (Err refusal) (ap (λ n. file_bytes n files) of ∙ e)
@@ -150,6 +175,8 @@ no_file (CheckSources names) name files input r refusal of e h = absurd of
 no_file (RunFile file request) name files input r refusal of e h =
     lacking (RunBytesReports request) (file_bytes file files) input r refusal (ap (λ n. file_bytes n files) of ∙ e) h
 no_file (RunSources names request) name files input r refusal of e h = absurd of
+no_file (RunGnu file budget) name files input r refusal of e h =
+    lacking (GnuBytesReports budget) (gnu_found (file ∷ []) files) input r refusal (gnu_lacks file files refusal (ap (λ n. file_bytes n files) of ∙ e)) h
 no_file (RunThreads names budget) name files input r refusal of e h = absurd of
 no_file (GenerateProgram number functions) name files input r refusal of e h = absurd of
 
@@ -206,6 +233,7 @@ no_image_of (CheckSources sources) names files input r refusal of e h =
 no_image_of (RunFile name request) names files input r refusal of e h = absurd of
 no_image_of (RunSources sources request) names files input r refusal of e h =
     lacking (RunBytesReports request) (image_bytes sources files) input r refusal (ap (λ n. image_bytes n files) of ∙ e) h
+no_image_of (RunGnu name budget) names files input r refusal of e h = absurd of
 no_image_of (RunThreads sources budget) names files input r refusal of e h = absurd of
 no_image_of (GenerateProgram number functions) names files input r refusal of e h = absurd of
 
@@ -279,7 +307,7 @@ threads_told w = record {
       (threads_lack files names name (name ++ codes ": missing\n") Missing first refl) h;
   too_long = λ names budget name files input r first h.
       lacking (ThreadsBytesReports budget) (threads_found names files) input r (record { status = 10; line = name ++ codes ": too long\n" })
-      (threads_lack files names name (name ++ codes ": too long\n") TooLong first refl) h;
+      (threads_lack files names name (name ++ codes ": too long\n") FileTooLong first refl) h;
   schedule = λ names budget program schedule offset files input r held e h.
       lacking (ThreadsBytesReports budget) (threads_found names files) input r (record { status = 3; line = schedule_line schedule.name offset })
       (threads_there files names (program ++ schedule ∷ []) held ∙ ap or_refused (last_of program schedule ∙ unread program schedule offset e)) h;
@@ -297,25 +325,94 @@ threads_told w = record {
       ∙ ap or_refused (last_of (file ∷ []) schedule ∙ read_with (file ∷ []) schedule digits file.text e (of_image file n))) h);
 }
 
+-- ---- GNU's tables
+
+gnu_runs : ReportsAreWritten → (filters : List (ℕ × ℕ)) (budget : ℕ) (bytes input : List ℕ) (r : Report) → BytesReportsBy (GnuAccepted filters budget) bytes input r
+    → Told (SaysGnu filters budget input) bytes input r
+gnu_runs w filters budget bytes input r h = told (GnuAccepted filters budget) (SaysGnu filters budget input) bytes input r (λ a e. (w.gnu filters budget a input r e, w.gnu_recorded filters budget a input r e)) h
+
+entry_names : (fault : EntryFault) → entry_name fault ≡ lsda_name fault
+entry_names Personality = refl
+entry_names Short = refl
+entry_names Format = refl
+entry_names Order = refl
+entry_names Filter = refl
+entry_names Chain = refl
+entry_names TooLong = refl
+
+lines : (fault : GnuFault) → tables_line fault ≡ lsda_line fault
+lines (Entry e) = ap (λ name. codes "lsda: " ++ name ++ codes " " ++ address_text e.start ++ codes "\n") (entry_names e.fault)
+lines TooLarge = refl
+lines OutOfMemory = refl
+
+-- the one file
+one_file : (source : NamedText) → rewritten_last (source ∷ []) ≡ rewritten_bytes source.text
+unfolding rewritten_last
+one_file source = ap (λ (f : NamedText). rewritten_bytes f.text) (last_is [] source)
+
+gnu_there : (name : List ℕ) (files : List (List ℕ × List ℕ)) (bytes : List ℕ) (found : Result Rewritten (List ℕ)) → answer_of files name 4194304 ≡ Found bytes → rewritten_bytes bytes ≡ found
+    → gnu_found (name ∷ []) files ≡ or_refused found
+unfolding gnu_found
+gnu_there name files bytes found e f =
+    let source : NamedText = record { name = name; text = bytes } in
+    ap (made_of_found rewritten_last) (all_there files (name ∷ []) (source ∷ []) (refl, e, tt)) ∙ ap or_refused (one_file source ∙ f)
+
+module _ (bytes : List ℕ) where
+  unread_image : (fault : ImageFault) → image_of bytes ≡ Err fault → rewritten_bytes bytes ≡ Err (image_fault_line fault)
+  unfolding rewritten_bytes
+  unread_image fault e = ap by_image e
+
+  read_image : (image : Image) → image_of bytes ≡ Ok image → rewritten_bytes bytes ≡ by_index image (index_refusal image)
+  unfolding rewritten_bytes
+  read_image image e = ap by_image e
+
+  unread_index : (image : Image) (fault : IndexFault) → image_of bytes ≡ Ok image → index_refusal image ≡ Some fault → rewritten_bytes bytes ≡ Err (index_line fault)
+  unread_index image fault e f = read_image image e ∙ ap (by_index image) f
+
+  read_index : (image : Image) → image_of bytes ≡ Ok image → index_refusal image ≡ None → rewritten_bytes bytes ≡ by_tables image (translation_refusal image)
+  read_index image e f = read_image image e ∙ ap (by_index image) f
+
+  unread_tables : (image : Image) (fault : GnuFault) → image_of bytes ≡ Ok image → index_refusal image ≡ None → translation_refusal image ≡ Some fault
+      → rewritten_bytes bytes ≡ Err (lsda_line fault)
+  unread_tables image fault e f g = read_index image e f ∙ ap (by_tables image) g ∙ ap Err (lines fault)
+
+  written : (image : Image) (new : List ℕ) → image_of bytes ≡ Ok image → index_refusal image ≡ None → translation_refusal image ≡ None → written_of (new_parts image) ≡ Ok new
+      → rewritten_bytes bytes ≡ Ok (record { bytes = new; filters = (new_tables image).filters })
+  written image new e f g h =
+      read_index image e f ∙ ap (by_tables image) g
+      ∙ ap (λ w. result_map_both (with_filters (new_tables image).filters) (λ line. line) (result_map_both (λ b. b) image_fault_line w)) h
+
+gnu_unread : (name : List ℕ) (budget : ℕ) (files : List (List ℕ × List ℕ)) (bytes line input : List ℕ) (r : Report) → answer_of files name 4194304 ≡ Found bytes
+    → rewritten_bytes bytes ≡ Err line → Reports (Some (RunGnu name budget)) files input r → IsRefusedBy line input r
+gnu_unread name budget files bytes line input r e f h =
+    lacking (GnuBytesReports budget) (gnu_found (name ∷ []) files) input r (record { status = 3; line = line }) (gnu_there name files bytes (Err line) e f) h
+
 -- ---- all
 
 pub commands : ReportsAreWritten → CommandsAreTold
 commands w = record {
   files = record {
     missing = λ command name files input r of e h. no_file command name files input r (record { status = 10; line = name ++ codes ": missing\n" }) of (file_is name files Missing e) h;
-    too_long = λ command name files input r of e h. no_file command name files input r (record { status = 10; line = name ++ codes ": too long\n" }) of (file_is name files TooLong e) h;
+    too_long = λ command name files input r of e h. no_file command name files input r (record { status = 10; line = name ++ codes ": too long\n" }) of (file_is name files FileTooLong e) h;
     flat = λ name budget files code input r e le h.
         subst (RunEnds (flat_ran budget (code_start code) input) (codes "\n")) (sym (flat_code name budget files code input r e h)) (w.flat budget code input le);
     flat_large = λ name budget files code input r e lt h. flat_code name budget files code input r e h ∙ w.large budget code input lt;
     check = λ name files bytes input r e h. checks bytes input r (there (BytesReportsBy ChecksAccepted) (file_bytes name files) input r bytes (file_is name files (Found bytes) e) h);
     run = λ task name budget files bytes input r e h.
         runs w task budget bytes input r (there (RunBytesReports (record { task = task; budget = budget })) (file_bytes name files) input r bytes (file_is name files (Found bytes) e) h);
+    no_image = λ name budget files bytes input fault r e f h. gnu_unread name budget files bytes (image_fault_line fault) input r e (unread_image bytes fault f) h;
+    no_index = λ name budget files bytes input image fault r e f g h. gnu_unread name budget files bytes (index_line fault) input r e (unread_index bytes image fault f g) h;
+    no_tables = λ name budget files bytes input image fault r e f g t h. gnu_unread name budget files bytes (lsda_line fault) input r e (unread_tables bytes image fault f g t) h;
+    gnu = λ name budget files bytes new input image r e f g t w' h.
+        gnu_runs w (new_tables image).filters budget new input r
+        (there (GnuBytesReports budget) (gnu_found (name ∷ []) files) input r (record { bytes = new; filters = (new_tables image).filters })
+        (gnu_there name files bytes (Ok (record { bytes = new; filters = (new_tables image).filters })) e (written bytes image new f g t w')) h);
   };
   sources = record {
     missing = λ command names name files input r of first h.
         no_image_of command names files input r (record { status = 10; line = name ++ codes ": missing\n" }) of (image_lacks files names name (name ++ codes ": missing\n") Missing first refl) h;
     too_long = λ command names name files input r of first h.
-        no_image_of command names files input r (record { status = 10; line = name ++ codes ": too long\n" }) of (image_lacks files names name (name ++ codes ": too long\n") TooLong first refl) h;
+        no_image_of command names files input r (record { status = 10; line = name ++ codes ": too long\n" }) of (image_lacks files names name (name ++ codes ": too long\n") FileTooLong first refl) h;
     refused = λ command names sources line files input r of held e h.
         no_image_of command names files input r (record { status = 3; line = line }) of (image_there files names sources held ∙ ap or_refused e) h;
     build = λ names sources bytes files input r held e h. h ∙ build_is names files input (Ok bytes) (image_there files names sources held ∙ ap or_refused e);

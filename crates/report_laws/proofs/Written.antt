@@ -27,6 +27,7 @@ use Rattle.ehabi_top.specs.Finding.{file_bytes, bytes_of_answer}
 use Rattle.ehabi_top.specs.FlatReport.{code_report, line_feed}
 use Rattle.ehabi_top.specs.ForceReport.{accepted_force, recorded_force_report, by_site_end, from_forced, preceded}
 use Rattle.ehabi_top.specs.GenerateReport.{summary_report, recorded_summary, counted_report}
+use Rattle.ehabi_top.specs.GnuReport.{gnu_report, recorded_gnu_report}
 use Rattle.ehabi_top.specs.Loading.{Report, Closing, closing_of, ran_report, status_of}
 use Rattle.ehabi_top.specs.RunReport.{accepted_report, recorded_report, run_report}
 use Rattle.ehabi_top.specs.ThreadsReport.{accepted_threads, recorded_threads_report}
@@ -36,7 +37,7 @@ use Rattle.report_lines.specs.Text.{end_line, image_fault_line}
 use Rattle.ehabi_top.specs.WalkReport.{accepted_walk, recorded_walk_report, walk_closing, walked_by}
 use Rattle.program_answers.specs.declared.status.TheConstants.{DONE, EXIT_NONZERO, REFUSED}
 use Rattle.ehabi_top.specs.declared.walk.TheConstants.{MOST_FRAMES}
-use Rattle.report_laws.specs.Written.{OnImage, over_bytes, with_activations, EndsSo, RunEnds, trace_of, IsRun, WalkEnds, IsWalk, ForceEnds, IsForce, threads_of, threads_ran, IsThreads, recorded_threads_ran, IsRecordedThreads, IsCount, ReportsAreWritten}
+use Rattle.report_laws.specs.Written.{OnImage, over_bytes, with_activations, EndsSo, RunEnds, trace_of, IsRun, WalkEnds, IsWalk, ForceEnds, IsForce, threads_of, threads_ran, IsThreads, recorded_threads_ran, IsRecordedThreads, IsCount, gnu_ran, IsGnu, recorded_gnu_ran, IsRecordedGnu, ReportsAreWritten}
 
 -- ---- ends
 
@@ -77,6 +78,24 @@ accepted_is budget a input = refl
 recorded_is : (budget : ℕ) (a : Accepted) (input : List ℕ) → recorded_report budget a input ≡ run_of a (with_activations a) budget input
 unfolding recorded_report run_of
 recorded_is budget a input = refl
+
+-- ---- runs of GNU's code
+
+gnu_is : (filters : List (ℕ × ℕ)) (budget : ℕ) (a : Accepted) (input : List ℕ) → gnu_report filters budget a input ≡ run_report (λ s. s.events) a (gnu_ran a filters budget input)
+unfolding gnu_report
+gnu_is filters budget a input = refl
+
+recorded_gnu_is : (filters : List (ℕ × ℕ)) (budget : ℕ) (a : Accepted) (input : List ℕ)
+    → recorded_gnu_report filters budget a input ≡ run_report (λ s. s.events) a (recorded_gnu_ran a filters budget input)
+unfolding recorded_gnu_report
+recorded_gnu_is filters budget a input = refl
+
+is_gnu : (filters : List (ℕ × ℕ)) (budget : ℕ) (a : Accepted) (input : List ℕ) (r : Report) → r ≡ gnu_report filters budget a input → IsGnu a filters budget input r
+is_gnu filters budget a input r e = runs a (over_bytes a) (gnu_ran a filters budget input) r (e ∙ gnu_is filters budget a input)
+
+is_recorded_gnu : (filters : List (ℕ × ℕ)) (budget : ℕ) (a : Accepted) (input : List ℕ) (r : Report) → r ≡ recorded_gnu_report filters budget a input
+    → IsRecordedGnu a filters budget input r
+is_recorded_gnu filters budget a input r e = runs a (with_activations a) (recorded_gnu_ran a filters budget input) r (e ∙ recorded_gnu_is filters budget a input)
 
 -- ---- runs of threads
 
@@ -272,10 +291,12 @@ written = record {
   walk = λ budget a input r h. is_walk a (over_bytes a) budget input r (h.is ∙ walk_is budget a input);
   force = λ number budget a input r h. is_force number a (over_bytes a) budget input r (h.is ∙ force_is number budget a input);
   threads = λ digits budget a input r h. is_threads digits budget a input r h.is;
+  gnu = λ filters budget a input r h. is_gnu filters budget a input r h.is;
   gen = λ a input r h. subst (IsCount a (over_bytes a) input) (sym (h.is ∙ summary_is a input)) (is_count a (over_bytes a) input);
   run_recorded = λ budget a input r h bytes. is_run a (with_activations a) budget input r (h.recorded bytes ∙ recorded_is budget a input);
   walk_recorded = λ budget a input r h bytes. is_walk a (with_activations a) budget input r (h.recorded bytes ∙ recorded_walk_is budget a input);
   force_recorded = λ number budget a input r h bytes. is_force number a (with_activations a) budget input r (h.recorded bytes ∙ recorded_force_is number budget a input);
+  gnu_recorded = λ filters budget a input r h bytes. is_recorded_gnu filters budget a input r (h.recorded bytes);
   threads_recorded = λ digits budget a input r h bytes. is_recorded_threads digits budget a input r (h.recorded bytes);
   gen_recorded = λ a input r h. subst (IsCount a (with_activations a) input) (sym (h.recorded ∙ recorded_summary_is a input)) (is_count a (with_activations a) input);
   guarded = λ budget a input r h bytes count width at value slot w aligned has low high. h.guarded bytes count width at value slot w (ap (λ n. n == 0) aligned) has low high;

@@ -1,12 +1,22 @@
 -- What the report of each command is made of (docs/command-line.md, "What is written", "Checks"): which bytes it works on, what it says of an accepted
 -- image, and what of files and sources that are refused.
-use Rattle.std.specs.Prelude.{◌≡◌, ℕ, ◌-◌, ◌<◌, ◌≤◌, List, [], ◌∷◌, ◌++◌, length, codes, decimal, Some, Ok, Err}
+use Rattle.std.specs.Prelude.{◌≡◌, ℕ, ◌-◌, ◌<◌, ◌≤◌, List, [], ◌∷◌, ◌++◌, length, codes, decimal, None, Some, Ok, Err}
 use Rattle.elf_image.specs.Image.{Image, image_of}
 use Rattle.elf_image.specs.declared.fault.ImageFault.{ImageFault}
 use Rattle.eh_files.specs.FileList.{answer_of}
 use Rattle.eh_files.specs.declared.FileAnswer.{FileAnswer}
-use Rattle.eh_files.specs.declared.FileAnswer.TheVariants.{Found, Missing, TooLong}
+use Rattle.eh_files.specs.declared.FileAnswer.TheVariants.{Found, Missing, TooLong as FileTooLong}
 use Rattle.eh_kit.specs.ProgramText.{generated_text}
+use Rattle.eh_index.specs.Refusal.{index_refusal}
+use Rattle.eh_index.specs.declared.fault.IndexFault.{IndexFault}
+use Rattle.eh_word.specs.Address.{address_text}
+use Rattle.elf_write.specs.Layout.{written_of}
+use Rattle.gnu_images.specs.declared.refusal.GnuFault.{GnuFault}
+use Rattle.gnu_images.specs.declared.refusal.GnuFault.TheVariants.{Entry, TooLarge, OutOfMemory}
+use Rattle.gnu_tables.specs.declared.fault.EntryFault.{EntryFault}
+use Rattle.gnu_tables.specs.declared.fault.EntryFault.TheVariants.{Personality, Short, Format, Order, Filter, Chain, TooLong}
+use Rattle.gnu_translation.specs.Parts.{new_parts, new_tables}
+use Rattle.gnu_translation.specs.Refusal.{translation_refusal}
 use Rattle.frame_check.specs.Accepts.{Accepted, IsAccepted, IsSound, Refuses}
 use Rattle.frame_check.specs.declared.fault.CheckFault.{CheckFault}
 use Rattle.frame_check.specs.declared.fault.CheckFault.TheVariants as check
@@ -18,11 +28,11 @@ use Rattle.report_lines.specs.Text.{image_fault_line}
 use Rattle.ehabi_top.specs.Loading.{Report}
 use Rattle.ehabi_top.specs.Report.{Reports}
 use Rattle.ehabi_top.specs.Sources.{NamedText}
-use Rattle.ehabi_top.specs.Words.{Command, FlatFile, BuildSources, CheckFile, CheckSources, RunFile, RunSources, RunThreads, GenerateProgram}
+use Rattle.ehabi_top.specs.Words.{Command, FlatFile, BuildSources, CheckFile, CheckSources, RunFile, RunSources, RunGnu, RunThreads, GenerateProgram}
 use Rattle.ehabi_top.specs.declared.words.Task.{Task}
 use Rattle.ehabi_top.specs.declared.words.Task.TheVariants.{Run, Walk, Force}
 use Rattle.thread_schedule.specs.Schedules.{schedule_of}
-use Rattle.report_laws.specs.Written.{over_bytes, with_activations, IsOfBytes, RunEnds, IsRun, IsWalk, IsForce, IsThreads, IsRecordedThreads, IsCount, RefusesToStore}
+use Rattle.report_laws.specs.Written.{over_bytes, with_activations, IsOfBytes, RunEnds, IsRun, IsWalk, IsForce, IsThreads, IsRecordedThreads, IsGnu, IsRecordedGnu, IsCount, RefusesToStore}
 
 -- ---- what is refused
 
@@ -64,6 +74,21 @@ pub record Told (Says : Accepted → Report → Type 0) (bytes input : List ℕ)
   pub accepted : (image : Image) → image_of bytes ≡ Ok image → IsAccepted image → IsSaid Says image r
   pub unaccepted : (image : Image) → image_of bytes ≡ Ok image → (IsAccepted image → ⊥) → IsRejectedBy image input r
 
+-- what is refused of an entry has the start of its function, too much alone no address
+abbrev pub lsda_name : EntryFault → List ℕ
+lsda_name Personality = codes "Personality"
+lsda_name Short = codes "Short"
+lsda_name Format = codes "Format"
+lsda_name Order = codes "Order"
+lsda_name Filter = codes "Filter"
+lsda_name Chain = codes "Chain"
+lsda_name TooLong = codes "TooLong"
+
+abbrev pub lsda_line : GnuFault → List ℕ
+lsda_line (Entry e) = codes "lsda: " ++ lsda_name e.fault ++ codes " " ++ address_text e.start ++ codes "\n"
+lsda_line TooLarge = codes "lsda: TooLarge\n"
+lsda_line OutOfMemory = codes "lsda: OutOfMemory\n"
+
 -- ---- what is said of an accepted image
 
 -- `check` says how many functions it has
@@ -80,6 +105,10 @@ SaysTask (Force number) budget input a r = IsForce number a (over_bytes a) budge
 abbrev pub SaysThreads : List ℕ → ℕ → List ℕ → Accepted → Report → Type 0
 SaysThreads digits budget input a r = IsThreads a digits budget input r × (IsOfBytes input → IsRecordedThreads a digits budget input r)
 
+-- `gnu` its run with what the landing pads of GNU's code are given, in the same two ways
+abbrev pub SaysGnu : List (ℕ × ℕ) → ℕ → List ℕ → Accepted → Report → Type 0
+SaysGnu filters budget input a r = IsGnu a filters budget input r × (IsOfBytes input → IsRecordedGnu a filters budget input r)
+
 -- `gen` what its run counts, of 1,000,000,000 instructions and with nothing to read
 abbrev pub SaysCounts : List ℕ → Accepted → Report → Type 0
 SaysCounts input a r = IsCount a (over_bytes a) input r × IsCount a (with_activations a) input r
@@ -94,6 +123,7 @@ OfFile (CheckFile file) name = file ≡ name
 OfFile (CheckSources names) name = ⊥
 OfFile (RunFile file request) name = file ≡ name
 OfFile (RunSources names request) name = ⊥
+OfFile (RunGnu file budget) name = file ≡ name
 OfFile (RunThreads names budget) name = ⊥
 OfFile (GenerateProgram number functions) name = ⊥
 
@@ -101,7 +131,7 @@ pub record FilesAreTold : Type 0 where
   pub missing : (command : Command) (name : List ℕ) (files : List (List ℕ × List ℕ)) (input : List ℕ) (r : Report)
       → OfFile command name → answer_of files name 4194304 ≡ Missing → Reports (Some command) files input r → IsUnavailableBy (name ++ codes ": missing\n") input r
   pub too_long : (command : Command) (name : List ℕ) (files : List (List ℕ × List ℕ)) (input : List ℕ) (r : Report)
-      → OfFile command name → answer_of files name 4194304 ≡ TooLong → Reports (Some command) files input r → IsUnavailableBy (name ++ codes ": too long\n") input r
+      → OfFile command name → answer_of files name 4194304 ≡ FileTooLong → Reports (Some command) files input r → IsUnavailableBy (name ++ codes ": too long\n") input r
   pub flat : (name : List ℕ) (budget : ℕ) (files : List (List ℕ × List ℕ)) (code input : List ℕ) (r : Report)
       → answer_of files name 4194304 ≡ Found code → length code ≤ 1048576 → Reports (Some (FlatFile name budget)) files input r
       → RunEnds (flat_ran budget (code_start code) input) (codes "\n") r
@@ -113,6 +143,21 @@ pub record FilesAreTold : Type 0 where
   pub run : (task : Task) (name : List ℕ) (budget : ℕ) (files : List (List ℕ × List ℕ)) (bytes input : List ℕ) (r : Report)
       → answer_of files name 4194304 ≡ Found bytes → Reports (Some (RunFile name (record { task = task; budget = budget }))) files input r
       → Told (SaysTask task budget input) bytes input r
+  -- an image that isn't rewritten: its bytes stand for none, its index is refused, its tables are, or the new image is
+  pub no_image : (name : List ℕ) (budget : ℕ) (files : List (List ℕ × List ℕ)) (bytes input : List ℕ) (fault : ImageFault) (r : Report)
+      → answer_of files name 4194304 ≡ Found bytes → image_of bytes ≡ Err fault → Reports (Some (RunGnu name budget)) files input r
+      → IsRefusedBy (image_fault_line fault) input r
+  pub no_index : (name : List ℕ) (budget : ℕ) (files : List (List ℕ × List ℕ)) (bytes input : List ℕ) (image : Image) (fault : IndexFault) (r : Report)
+      → answer_of files name 4194304 ≡ Found bytes → image_of bytes ≡ Ok image → index_refusal image ≡ Some fault → Reports (Some (RunGnu name budget)) files input r
+      → IsRefusedBy (index_line fault) input r
+  pub no_tables : (name : List ℕ) (budget : ℕ) (files : List (List ℕ × List ℕ)) (bytes input : List ℕ) (image : Image) (fault : GnuFault) (r : Report)
+      → answer_of files name 4194304 ≡ Found bytes → image_of bytes ≡ Ok image → index_refusal image ≡ None → translation_refusal image ≡ Some fault
+      → Reports (Some (RunGnu name budget)) files input r → IsRefusedBy (lsda_line fault) input r
+  -- else the rewritten image is what is judged and run
+  pub gnu : (name : List ℕ) (budget : ℕ) (files : List (List ℕ × List ℕ)) (bytes new input : List ℕ) (image : Image) (r : Report)
+      → answer_of files name 4194304 ≡ Found bytes → image_of bytes ≡ Ok image → index_refusal image ≡ None → translation_refusal image ≡ None
+      → written_of (new_parts image) ≡ Ok new → Reports (Some (RunGnu name budget)) files input r
+      → Told (SaysGnu (new_tables image).filters budget input) new input r
 
 -- ---- sources
 
@@ -131,6 +176,7 @@ OfSources (CheckFile name) names = ⊥
 OfSources (CheckSources files) names = files ≡ names
 OfSources (RunFile name request) names = ⊥
 OfSources (RunSources files request) names = files ≡ names
+OfSources (RunGnu name budget) names = ⊥
 OfSources (RunThreads files budget) names = ⊥
 OfSources (GenerateProgram number functions) names = ⊥
 
@@ -147,7 +193,7 @@ pub record SourcesAreTold : Type 0 where
   pub missing : (command : Command) (names : List (List ℕ)) (name : List ℕ) (files : List (List ℕ × List ℕ)) (input : List ℕ) (r : Report)
       → OfSources command names → IsFirst files names name Missing → Reports (Some command) files input r → IsUnavailableBy (name ++ codes ": missing\n") input r
   pub too_long : (command : Command) (names : List (List ℕ)) (name : List ℕ) (files : List (List ℕ × List ℕ)) (input : List ℕ) (r : Report)
-      → OfSources command names → IsFirst files names name TooLong → Reports (Some command) files input r → IsUnavailableBy (name ++ codes ": too long\n") input r
+      → OfSources command names → IsFirst files names name FileTooLong → Reports (Some command) files input r → IsUnavailableBy (name ++ codes ": too long\n") input r
   pub refused : (command : Command) (names : List (List ℕ)) (sources : List NamedText) (line : List ℕ) (files : List (List ℕ × List ℕ)) (input : List ℕ) (r : Report)
       → OfSources command names → AreThere files names sources → built sources ≡ Err line → Reports (Some command) files input r → IsRefusedBy line input r
   pub build : (names : List (List ℕ)) (sources : List NamedText) (bytes : List ℕ) (files : List (List ℕ × List ℕ)) (input : List ℕ) (r : Report)
@@ -168,7 +214,7 @@ pub record ThreadsAreTold : Type 0 where
   pub missing : (names : List (List ℕ)) (budget : ℕ) (name : List ℕ) (files : List (List ℕ × List ℕ)) (input : List ℕ) (r : Report)
       → IsFirst files names name Missing → Reports (Some (RunThreads names budget)) files input r → IsUnavailableBy (name ++ codes ": missing\n") input r
   pub too_long : (names : List (List ℕ)) (budget : ℕ) (name : List ℕ) (files : List (List ℕ × List ℕ)) (input : List ℕ) (r : Report)
-      → IsFirst files names name TooLong → Reports (Some (RunThreads names budget)) files input r → IsUnavailableBy (name ++ codes ": too long\n") input r
+      → IsFirst files names name FileTooLong → Reports (Some (RunThreads names budget)) files input r → IsUnavailableBy (name ++ codes ": too long\n") input r
   -- a schedule that isn't read, before anything is made of the program
   pub schedule : (names : List (List ℕ)) (budget : ℕ) (program : List NamedText) (schedule : NamedText) (offset : ℕ) (files : List (List ℕ × List ℕ)) (input : List ℕ) (r : Report)
       → AreThere files names (program ++ schedule ∷ []) → schedule_of schedule.text ≡ Err offset → Reports (Some (RunThreads names budget)) files input r

@@ -29,6 +29,7 @@ use Rattle.ehabi_top.specs.two_machines.Activations.{Recorded, recorded_start, s
 use Rattle.ehabi_top.specs.two_machines.Checked.{program_of}
 use Rattle.ehabi_top.specs.two_machines.Machine.{machine_of}
 use Rattle.ehabi_top.specs.two_machines.Start.{start_of}
+use Rattle.gnu_machine.specs.GnuMachine.{gnu_machine_of, recorded_gnu_machine}
 use Rattle.thumb_core.specs.EndNames.{cause_name, kind_name}
 use Rattle.thumb_core.specs.declared.ends.End.{End}
 use Rattle.thumb_core.specs.declared.ends.End.TheVariants.{Exit, Terminate, Trap, Budget, ReadFault, WriteFault}
@@ -38,6 +39,7 @@ use Rattle.ehabi_top.specs.Finding.{file_bytes}
 use Rattle.ehabi_top.specs.FlatReport.{code_report}
 use Rattle.ehabi_top.specs.ForceReport.{ForcesAccepted}
 use Rattle.ehabi_top.specs.GenerateReport.{CountsAccepted}
+use Rattle.ehabi_top.specs.GnuReport.{GnuAccepted}
 use Rattle.ehabi_top.specs.Loading.{Report}
 use Rattle.ehabi_top.specs.Report.{Reports}
 use Rattle.ehabi_top.specs.RunReport.{RunsAccepted}
@@ -168,6 +170,20 @@ pub record ForceEnds {S : Type 0} (number : ℕ) (a : Accepted) (x : OnImage S) 
 abbrev pub IsForce : {S : Type 0} → ℕ → Accepted → OnImage S → ℕ → List ℕ → Report → Type 0
 IsForce number a x budget input r = ForceEnds number a x (x.to_site budget input) r
 
+-- .. of a run with what the landing pads of GNU's code are given, by the filters of catches: over bytes
+abbrev pub gnu_ran : Accepted → List (ℕ × ℕ) → ℕ → List ℕ → Ran State End
+gnu_ran a filters budget input = ran_of (gnu_machine_of (program_of a) filters) budget (start_of (program_of a)) input
+
+abbrev pub IsGnu : Accepted → List (ℕ × ℕ) → ℕ → List ℕ → Report → Type 0
+IsGnu a filters budget input r = RunEnds (gnu_ran a filters budget input) (trace_of a (gnu_ran a filters budget input).state.events) r
+
+-- .. and with recorded activations
+abbrev pub recorded_gnu_ran : Accepted → List (ℕ × ℕ) → ℕ → List ℕ → Ran Recorded End
+recorded_gnu_ran a filters budget input = ran_of (recorded_gnu_machine (program_of a) filters) budget (recorded_start (program_of a)) input
+
+abbrev pub IsRecordedGnu : Accepted → List (ℕ × ℕ) → ℕ → List ℕ → Report → Type 0
+IsRecordedGnu a filters budget input r = RunEnds (recorded_gnu_ran a filters budget input) (trace_of a (recorded_gnu_ran a filters budget input).state.events) r
+
 -- .. of a run of threads: the trace, with the number of an event's thread before its line
 abbrev pub threads_of : Accepted → Trace → List ℕ → List ℕ
 threads_of a events tags = codes "\n-- trace\n" ++ tagged tags (trace_text a.image (name_of a.types) events)
@@ -228,6 +244,7 @@ pub record ReportsAreWritten : Type 0 where
   pub walk : (budget : ℕ) (a : Accepted) (input : List ℕ) (r : Report) → WalksAccepted budget a input r → IsWalk a (over_bytes a) budget input r
   pub force : (number budget : ℕ) (a : Accepted) (input : List ℕ) (r : Report) → ForcesAccepted number budget a input r → IsForce number a (over_bytes a) budget input r
   pub threads : (digits : List ℕ) (budget : ℕ) (a : Accepted) (input : List ℕ) (r : Report) → ThreadsAccepted digits budget a input r → IsThreads a digits budget input r
+  pub gnu : (filters : List (ℕ × ℕ)) (budget : ℕ) (a : Accepted) (input : List ℕ) (r : Report) → GnuAccepted filters budget a input r → IsGnu a filters budget input r
   pub gen : (a : Accepted) (input : List ℕ) (r : Report) → CountsAccepted a input r → IsCount a (over_bytes a) input r
   -- .. and with recorded activations, on an input of bytes
   pub run_recorded : (budget : ℕ) (a : Accepted) (input : List ℕ) (r : Report) → RunsAccepted budget a input r → IsOfBytes input → IsRun a (with_activations a) budget input r
@@ -236,6 +253,8 @@ pub record ReportsAreWritten : Type 0 where
       → ForcesAccepted number budget a input r → IsOfBytes input → IsForce number a (with_activations a) budget input r
   pub threads_recorded : (digits : List ℕ) (budget : ℕ) (a : Accepted) (input : List ℕ) (r : Report)
       → ThreadsAccepted digits budget a input r → IsOfBytes input → IsRecordedThreads a digits budget input r
+  pub gnu_recorded : (filters : List (ℕ × ℕ)) (budget : ℕ) (a : Accepted) (input : List ℕ) (r : Report)
+      → GnuAccepted filters budget a input r → IsOfBytes input → IsRecordedGnu a filters budget input r
   pub gen_recorded : (a : Accepted) (input : List ℕ) (r : Report) → CountsAccepted a input r → IsCount a (with_activations a) input r
   pub guarded : (budget : ℕ) (a : Accepted) (input : List ℕ) (r : Report) → RunsAccepted budget a input r → IsOfBytes input → RefusesToStore a input
   pub flat : (budget : ℕ) (code input : List ℕ) → length code ≤ 1048576
@@ -245,7 +264,7 @@ pub record ReportsAreWritten : Type 0 where
   pub usage : (files : List (List ℕ × List ℕ)) (input : List ℕ) (r : Report) → Reports None files input r
       → r
       ≡ record {
-        text = codes "usage: ehabi_run flat FILE N | build FILE.. | check FILE.. | run FILE.. N | gen K M | walk FILE.. N | force FILE.. N K | threads FILE.. SCHED N\n";
+        text = codes "usage: ehabi_run flat FILE N | build FILE.. | check FILE.. | run FILE.. N | gen K M | walk FILE.. N | force FILE.. N K | gnu FILE N | threads FILE.. SCHED N\n";
         status = 2;
         left = input;
       }

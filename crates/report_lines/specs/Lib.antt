@@ -1,2 +1,3 @@
 pub mod Text
 pub mod CheckText
+pub mod TablesText

@@ -5,8 +5,8 @@
 ghost use Rattle.thread_laws.specs.Leaving.{EventsLeaveOthers};
 ghost use Rattle.thread_laws.specs.Laws.{EachStands, SlotsAreGuarded, SlotsStopRuns, StartsStand, RunsStand, SchedulesSame};
 
-use thread_run::{beyond_stays, turns_same};
 use state_laws::{free_after_gates, free_memory, free_starts};
+use thread_run::{beyond_stays, turns_same};
 
 /// An event leaves the guarded words beyond the running stack, and the slots that are out of use, as they were.
 pub fn events_leave_others()

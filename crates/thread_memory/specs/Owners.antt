@@ -1,8 +1,8 @@
 -- Whose exception a slot holds, and what each thread reads of it (docs/threads.md).
-use Rattle.std.specs.Prelude.{ℕ, zero, suc, ◌^◌, ◌<◌, ◌==◌, Bool, false, not, List, [], ◌∷◌, ◌++◌, Option, Some, None, All, if◌then◌else◌}
+use Rattle.std.specs.Prelude.{◌≡◌, ℕ, zero, suc, ◌^◌, ◌<◌, ◌≤◌, ◌==◌, Bool, false, not, List, [], ◌∷◌, ◌++◌, Option, Some, None, All, length, slice_index_or, if◌then◌else◌}
 use Rattle.eh_bus.specs.Memory.{Memory}
 use Rattle.eh_cxa.specs.Words.{Pool, Write, write, put_all}
-use Rattle.eh_cxa.specs.declared.layout.TheConstants.{STATE}
+use Rattle.eh_cxa.specs.declared.layout.TheConstants.{SLOTS, STATE}
 use Rattle.eh_cxa.specs.declared.state.TheConstants.{FREE}
 use Rattle.thread_memory.specs.Homes.{home_of}
 use Rattle.thread_memory.specs.declared.owners.Holding.{Holding}
@@ -41,6 +41,23 @@ change_of old new slot h = if seen_by old h == seen_by new h then [] else write 
 abbrev pub changes_from : ℕ → ℕ → ℕ → List Holding → List Write
 changes_from old new slot [] = []
 changes_from old new slot (h ∷ more) = change_of old new slot h ++ changes_from old new (suc slot) more
+
+-- a slot that is free, and nobody's
+abbrev pub unused : Holding
+unused = record { owner = None; state = FREE }
+
+-- from a number on every slot is: those of a memory, and what is kept of them
+abbrev pub AreFree : Pool → ℕ → Type 0
+AreFree w used = (slot : ℕ) → used ≤ slot → slot < SLOTS → w slot STATE ≡ FREE
+
+abbrev pub AreUnused : List Holding → ℕ → Type 0
+AreUnused owners used = (slot : ℕ) → used ≤ slot → slice_index_or owners slot unused ≡ unused
+
+-- what the slots before a number hold once a thread has run; the others are as they were
+pub record Noted (thread : ℕ) (w : Pool) (old new : List Holding) (used : ℕ) : Type 0 where
+  pub sized : length new ≡ length old
+  pub told : (slot : ℕ) (d : Holding) → slot < used → slice_index_or new slot d ≡ held_after thread (w slot STATE) (slice_index_or old slot d)
+  pub rest : (slot : ℕ) (d : Holding) → used ≤ slot → slice_index_or new slot d ≡ slice_index_or old slot d
 
 -- the memory after a switch from one thread to another: the other's home, and the state words as it reads them
 abbrev pub switched : ℕ → ℕ → List Holding → Memory → Memory

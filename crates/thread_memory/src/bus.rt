@@ -8,8 +8,9 @@ ghost use Rattle.eh_bus.specs.Place.{IsWidth};
 ghost use Rattle.eh_bus.specs.Segment.{Segment};
 ghost use Rattle.eh_bus.specs.declared.fault.BusFault.TheVariants.{SavedSlot};
 ghost use Rattle.eh_cxa.specs.Words.{word};
+ghost use Rattle.eh_cxa.specs.declared.layout.TheConstants.{SLOTS};
 ghost use Rattle.thread_memory.specs.Seen.{seen, aligned_hit, IsOutside};
-ghost use Rattle.thread_memory.specs.Owners.{owners_after, switched};
+ghost use Rattle.thread_memory.specs.Owners.{owners_after, switched, AreFree};
 ghost use Rattle.thread_memory.specs.declared.homes.TheConstants.{THREADS};
 ghost use Rattle.thread_memory.specs.declared.bus.ThreadMemory.TheVariants.{OutOfMemory};
 
@@ -18,7 +19,8 @@ use crate::owners::Owners;
 use bus_memories::guards::Guards;
 use eh_bus::bus::Bus;
 use eh_bus::fault::BusFault;
-use eh_bus::map::{STACK_END, STACK_START};
+use eh_bus::map::{POOL_START, SLOT_SIZE, STACK_END, STACK_START};
+use eh_cxa::layout::SLOTS;
 use std::alloc::{AllocError, Global};
 
 /// There was no memory for the guards.
@@ -42,10 +44,14 @@ pub struct ThreadBus<B: Bus> {
     inner: B,
     guards: Guards,
     thread: usize,
+    /// From this slot of the pool on each is free.
+    used: u32,
     ghost rising: { AreGuards guards } by { AreGuards-prop guards },
     ghost within: { thread < THREADS },
     ghost at_home: { IsHome (home_of thread) },
     ghost plain: { (B.memory inner).guards ≡ [] },
+    ghost few: { used ≤ SLOTS },
+    ghost free: { AreFree (word (B.memory inner)) used },
 }
 
 impl<B: Bus + Drop> ThreadBus<B> {
@@ -59,6 +65,7 @@ impl<B: Bus + Drop> ThreadBus<B> {
             inner,
             guards,
             thread: 0,
+            used: SLOTS,
         })
     }
 }
@@ -72,8 +79,9 @@ impl<B: Bus> ThreadBus<B> {
         ensures memory { seen (B.memory self.new.inner) self.new.guards self.new.thread ≡ switched ran thread owners.new.slots (seen (B.memory self.old.inner) self.old.guards self.old.thread) }
         ensures thread { self.new.thread ≡ thread }
     {
-        owners.note(ran, &self.inner);
+        owners.note(ran, self.used, &self.inner);
         owners.show(ran, thread, &mut self.inner);
+        self.used = owners.used;
         self.thread = thread;
     }
 
@@ -185,6 +193,7 @@ impl<B: Bus> Bus for ThreadBus<B> {
     }
 
     fn host_store32(&mut self, a: u32, v: u32) {
+        self.used = self.used.max((a - POOL_START) / SLOT_SIZE + 1);
         self.inner.host_store32(a, v);
     }
 

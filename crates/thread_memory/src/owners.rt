@@ -1,7 +1,8 @@
 //! Whose exception each slot of the pool holds; docs/threads.md states the rules.
-ghost use Rattle.std.specs.Prelude.{◌≡◌, ◌<◌, length, slice_index_or};
+ghost use Rattle.std.specs.Prelude.{◌≡◌, ◌<◌, ◌≤◌, ℕ, length, slice_index_or, IsTrue, false};
 ghost use Rattle.eh_cxa.specs.Words.{word, put_all};
-ghost use Rattle.thread_memory.specs.Owners.{seen_by, held_after, held_from, owners_after, change_of, changes_from, nobodys_from};
+ghost use Rattle.eh_cxa.specs.declared.layout.TheConstants.{SLOTS};
+ghost use Rattle.thread_memory.specs.Owners.{seen_by, held_after, held_from, owners_after, change_of, changes_from, nobodys_from, unused, AreFree, AreUnused, Noted};
 ghost use Rattle.thread_memory.specs.declared.owners.Holding.{Holding};
 
 use eh_bus::bus::Bus;
@@ -30,6 +31,13 @@ impl Holding {
         }
     }
 
+    /// Whether it is not free, or somebody's.
+    fn is_used(&self) -> bool
+        ensures { result ≡ false → self.now ≡ unused }
+    {
+        self.owner.is_some() || self.state != FREE
+    }
+
     /// What the slot holds once a thread has run that now reads this state.
     fn after(&self, thread: usize, state: u32) -> Holding
         ensures { result ≡ held_after thread state self.now }
@@ -47,10 +55,20 @@ impl Holding {
     }
 }
 
+/// A slot that is free, and nobody's.
+const UNUSED: Holding = Holding {
+    owner: None,
+    state: FREE,
+};
+
 /// What each slot holds, by its number.
 #[derive(Clone, Copy, PartialEq, Eq, Debug)]
 pub struct Owners {
     pub slots: [Holding; SLOTS as usize],
+    /// From this slot on each is free, and nobody's.
+    pub(crate) used: u32,
+    ghost few: { used ≤ SLOTS },
+    ghost rest: { AreUnused slots used },
 }
 
 impl Owners {
@@ -58,37 +76,58 @@ impl Owners {
     pub fn nobodys<B: Bus>(bus: &B) -> Owners
         ensures { result.slots ≡ nobodys_from (word (B.memory bus.now)) 0 SLOTS }
     {
-        let mut slots = [Holding {
-            owner: None,
-            state: FREE,
-        }; SLOTS as usize];
+        let mut slots = [UNUSED; SLOTS as usize];
         for slot in 0..SLOTS {
             slots[slot as usize] = Holding {
                 owner: None,
                 state: get(bus, slot, STATE),
             };
         }
-        Owners { slots }
+        Owners { slots, used: SLOTS }
     }
 
-    /// What the slots hold once a thread has run on a memory that is as it now sees it.
-    pub(crate) fn note<B: Bus>(&mut self, thread: usize, bus: &B)
-        ensures { self.new.slots ≡ owners_after thread (word (B.memory bus.now)) self.old.slots }
+    /// What the slots hold once a thread has run on a memory that is as it now sees it, of which the slots from `used` on are free.
+    pub(crate) fn note<B: Bus>(&mut self, thread: usize, used: u32, bus: &B)
+        requires free { AreFree (word (B.memory bus.now)) used }
+        requires within { used ≤ SLOTS }
+        ensures slots { self.new.slots ≡ owners_after thread (word (B.memory bus.now)) self.old.slots }
+        ensures free { AreFree (word (B.memory bus.now)) self.new.used }
     {
-        for slot in 0..SLOTS {
-            let holding = self.slots[slot as usize];
-            self.slots[slot as usize] = holding.after(thread, get(bus, slot, STATE));
-        }
+        self.used = note_first(&mut self.slots, thread, used.max(self.used), bus);
     }
 
     /// Writes the state words that another thread reads otherwise than the one that has run.
     pub(crate) fn show<B: Bus>(&self, old: usize, new: usize, bus: &mut B)
-        ensures { B.memory bus.new ≡ put_all (changes_from old new 0 self.now.slots) (B.memory bus.old) }
+        ensures memory { B.memory bus.new ≡ put_all (changes_from old new 0 self.now.slots) (B.memory bus.old) }
+        ensures free { AreFree (word (B.memory bus.old)) self.now.used → AreFree (word (B.memory bus.new)) self.now.used }
     {
-        for slot in 0..SLOTS {
+        for slot in 0..self.used {
             show_slot(&self.slots, slot, old, new, bus);
         }
     }
+}
+
+/// What the first so many slots hold once a thread has run, and from which slot on none of them is in use.
+fn note_first<B: Bus>(
+    slots: &mut [Holding; SLOTS as usize],
+    thread: usize,
+    count: u32,
+    bus: &B,
+) -> u32
+    requires { count ≤ SLOTS }
+    ensures noted { Noted thread (word (B.memory bus.now)) slots.old slots.new count }
+    ensures within { result ≤ count }
+    ensures rest { (slot : ℕ) → result ≤ slot → slot < count → slice_index_or slots.new slot unused ≡ unused }
+{
+    let mut used = 0;
+    for slot in 0..count {
+        let holding = slots[slot as usize].after(thread, get(bus, slot, STATE));
+        slots[slot as usize] = holding;
+        if holding.is_used() {
+            used = slot + 1;
+        }
+    }
+    used
 }
 
 /// Writes the state word of one slot where the other thread reads it otherwise.

@@ -9,6 +9,7 @@ pub use Rattle.eh_machine.proofs.steps_keep
 pub use Rattle.eh_machine.proofs.machines_agree
 pub mod Entered
 pub mod Elements
+pub mod InPlace
 pub mod Faults
 pub mod Running
 pub mod Looking

@@ -1,5 +1,6 @@
 //! One element of a schedule (docs/threads.md, "A run").
 ghost use Rattle.std.specs.Prelude.{◌≡◌, ◌<◌, IfSome};
+ghost use Rattle.std.specs.Coded.{Coded-set};
 ghost use Rattle.eh_machine.specs.Turns.{CountsFaults};
 ghost use Rattle.thread_memory.specs.Seen.{seen};
 ghost use Rattle.thread_memory.specs.declared.homes.TheConstants.{THREADS};
@@ -12,7 +13,7 @@ use crate::entering::enter;
 use crate::tags::Tags;
 use crate::thread::{Thread, running};
 use eh_bus::bus::Bus;
-use eh_machine::{Shared, Turned, turn};
+use eh_machine::{CachedTurns, Shared, Turned};
 use eh_port::{Sink, Source};
 use eh_trace::Events;
 use frame_check::Accepted;
@@ -22,6 +23,8 @@ use thread_memory::{Owners, THREADS, ThreadBus};
 #[derive(Drop)]
 pub struct Threads<'a, B: Bus> {
     pub accepted: &'a Accepted<'a>,
+    /// The same image, with what was decoded of it.
+    pub turns: CachedTurns<'a>,
     /// The threads by their numbers, with `None` for one that was never started.
     pub threads: [Option<Thread>; THREADS],
     /// The thread that ran last: the memory is as it sees it.
@@ -32,12 +35,14 @@ pub struct Threads<'a, B: Bus> {
     pub events: Events,
     /// The thread of each event that is kept.
     pub tags: Tags,
+    ghost of_image: { turns ≡ accepted.now } by { Coded-set turns-code turns accepted.now },
 }
 
 impl<'a, B: Bus> Threads<'a, B> {
     /// One element of a schedule, by the thread that it names. Where that thread runs it does one event, or starts a thread, or ends; any
     /// other element is passed over. A trap, a terminate and a fault of the outside end the run, and so does the end of the last thread that
     /// ran. Takes no memory.
+    #[inline(always)]
     pub fn element<I: Source, O: Sink>(
         &mut self,
         named: Option<usize>,
@@ -54,21 +59,22 @@ impl<'a, B: Bus> Threads<'a, B> {
         ensures faults { CountsFaults (λ end. result ≡ Turned.Ended end) (I.faults input.old) (I.faults input.new) (O.faults out.old) (O.faults out.new) }
         ensures accepted { self.new.accepted ≡ self.old.accepted }
     {
-        let Some(found) = running(&self.threads, named) else {
+        let Some(thread) = running(&self.threads, named) else {
             return Turned::Went;
         };
-        let thread = found.0;
-        let mut core = found.1;
         enter(&mut self.shared.bus, &mut self.owners, self.entered, thread);
         self.entered = thread;
-        let did = turn(
-            self.accepted,
-            &mut core,
+        let Some(slot) = &mut self.threads[thread] else {
+            return Turned::Went;
+        };
+        let did = self.turns.turn(
+            &mut slot.core,
             &mut self.shared,
             &mut self.events,
             input,
             out,
         );
+        let core = slot.core;
         let answer = apply_turn(self.accepted, &mut self.threads, thread, &core, did);
         self.tags.reach(thread as u8, self.events.kept().len());
         answer

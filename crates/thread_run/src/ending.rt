@@ -1,8 +1,11 @@
 //! What the end of a thread's event does to the threads (docs/threads.md, "Ends").
-ghost use Rattle.std.specs.Prelude.{◌≡◌, ◌<◌};
+ghost use Rattle.std.specs.Prelude.{◌≡◌, ◌<◌, List, Option, None, is_some, slice_index_or, true};
 ghost use Rattle.eh_machine.specs.two_machines.Checked.{program_of};
 ghost use Rattle.thread_memory.specs.declared.homes.TheConstants.{THREADS};
 ghost use Rattle.thread_run.specs.Ending.{thread_ends, asks_to_start, stopped, after_end, turn_outcome};
+ghost use Rattle.thread_run.specs.Starting.{Outcome};
+ghost use Rattle.thread_run.specs.Threads.{put_thread};
+ghost use Rattle.thread_run.specs.declared.thread.Thread.{Thread};
 
 use crate::starting::{START_GATE, start_gate};
 use crate::thread::{Thread, all_over, put_thread};
@@ -73,7 +76,8 @@ fn after_end(
     }
 }
 
-/// What an event of a thread does to the threads, once it left this core.
+/// What an event of a thread does to the threads, once it was done in the thread's own place and left this core there.
+#[inline(always)]
 pub(crate) fn apply_turn(
     a: &Accepted,
     threads: &mut [Option<Thread>; THREADS],
@@ -82,13 +86,11 @@ pub(crate) fn apply_turn(
     turned: Turned,
 ) -> Turned
     requires { thread < THREADS }
-    ensures { (result, threads.new) ≡ turn_outcome (program_of a.now) thread core.now turned threads.old }
+    ensures { (before : List (Option Thread)) → is_some (slice_index_or before thread None) ≡ true → threads.old ≡ put_thread before thread core.now None
+        → ◌≡◌ {A = Outcome} (result, threads.new) (turn_outcome (program_of a.now) thread core.now turned before) }
 {
     match turned {
-        Turned::Went => {
-            put_thread(threads, thread, core, None);
-            Turned::Went
-        }
+        Turned::Went => Turned::Went,
         Turned::Ended(end) => after_end(a, threads, thread, core, end),
     }
 }

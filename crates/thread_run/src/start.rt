@@ -13,7 +13,7 @@ use crate::tags::Tags;
 use crate::thread::Thread;
 use bus_memories::paged::PagedBus;
 use eh_bus::bus::Bus;
-use eh_machine::{Core, MachineMemory, Shared, start_parts};
+use eh_machine::{CachedTurns, Core, MachineMemory, Shared, start_parts};
 use eh_trace::{Events, TraceMemory};
 use frame_check::Accepted;
 use std::alloc::Global;
@@ -75,6 +75,7 @@ impl<'a, B: Bus + Drop> Threads<'a, B> {
         let bus = ThreadBus::over(alloc, bus)?;
         Ok(Threads {
             accepted: a,
+            turns: CachedTurns::of(a),
             threads: first_alone(core),
             entered: 0,
             owners,

@@ -1,5 +1,5 @@
 //! The threads of a run, by their numbers (docs/threads.md, "Threads").
-ghost use Rattle.std.specs.Prelude.{◌≡◌, ◌<◌, IfSome};
+ghost use Rattle.std.specs.Prelude.{◌≡◌, ◌<◌, IfNone, IfSome, None, Some, is_some, slice_index_or, true};
 ghost use Rattle.thread_memory.specs.declared.homes.TheConstants.{THREADS};
 ghost use Rattle.thread_run.specs.Threads.{core_of, running, none_runs, ended_with, all_over, put_thread};
 
@@ -13,34 +13,29 @@ pub struct Thread {
     pub ended: Option<u32>,
 }
 
-/// The core of a thread that runs; one that was never started doesn't.
-pub(crate) fn core_of(thread: &Option<Thread>) -> Option<Core>
-    ensures { result ≡ core_of thread.now }
+/// Whether a thread runs; one that was never started doesn't.
+#[inline(always)]
+pub(crate) fn runs(thread: &Option<Thread>) -> bool
+    ensures { result ≡ is_some (core_of thread.now) }
 {
     match thread {
-        None => None,
-        Some(thread) => match thread.ended {
-            None => Some(thread.core),
-            Some(_) => None,
-        },
+        None => false,
+        Some(thread) => thread.ended.is_none(),
     }
 }
 
-/// The thread that is named, where it runs, and its core.
-pub(crate) fn running(
-    threads: &[Option<Thread>; THREADS],
-    named: Option<usize>,
-) -> Option<(usize, Core)>
+/// The number of the thread that is named, where it runs.
+#[inline(always)]
+pub(crate) fn running(threads: &[Option<Thread>; THREADS], named: Option<usize>) -> Option<usize>
     requires { IfSome named (λ thread. thread < THREADS) }
-    ensures is { result ≡ running threads.now named }
-    ensures within { IfSome result (λ found. found.0 < THREADS) }
+    ensures none { IfNone result (running threads.now named ≡ None) }
+    ensures named { IfSome result (λ thread. named ≡ Some thread) }
+    ensures runs { IfSome result (λ thread. is_some (core_of (slice_index_or threads.now thread None)) ≡ true) }
+    ensures within { IfSome result (λ thread. thread < THREADS) }
 {
     match named {
-        None => None,
-        Some(thread) => match core_of(&threads[thread]) {
-            None => None,
-            Some(core) => Some((thread, core)),
-        },
+        Some(thread) if runs(&threads[thread]) => Some(thread),
+        Some(_) | None => None,
     }
 }
 
@@ -49,7 +44,7 @@ fn none_runs(threads: &[Option<Thread>]) -> bool
     ensures { result ≡ none_runs threads.now }
 {
     for thread in threads {
-        if core_of(thread).is_some() {
+        if runs(thread) {
             return false;
         }
     }

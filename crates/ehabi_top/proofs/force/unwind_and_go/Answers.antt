@@ -1,4 +1,4 @@
-use Rattle.std.proofs.Common.{refl, sym, ◌∙◌, ◌-◌}
+use Rattle.std.proofs.Common.{refl, ◌-◌}
 use Rattle.eh_walk.specs.eh_gates.State.{State, state_of}
 use Rattle.eh_walk.specs.two_machines.Checked.{program_of}
 use Rattle.eh_walk.specs.two_machines.Machine.{machine_of}

@@ -1,6 +1,3 @@
-use Rattle.std.proofs.Common.{sym, subst, ◌<◌, ◌^◌}
-use Rattle.elf_image.specs.Image.{Image}
-use Rattle.ehabi_top.specs.ForceReport.{forced_type}
 use Rattle.ehabi_top.proofs.SameRuns.{program_here, forces_same}
 use Rattle.ehabi_top.proofs.recorded.forces_same.Goals as goal
 

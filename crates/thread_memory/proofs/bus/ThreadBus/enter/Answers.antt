@@ -8,9 +8,11 @@ invariant_of-self g c = record {
   rising = c.args.self.now.rising;
   within = c.requires;
   at_home = home_is c.args.thread c.requires;
-  plain = stays_plain (changes_from c.args.ran c.args.thread 0 c.note.new.self.slots) (g.B.Bus.memory c.args.self.now.inner) (g.B.Bus.memory c.show.new.bus) c.show.ensures c.args.self.now.plain;
+  plain = stays_plain (changes_from c.args.ran c.args.thread 0 c.note.new.self.slots) (g.B.Bus.memory c.args.self.now.inner) (g.B.Bus.memory c.show.new.bus) c.show.ensures.memory c.args.self.now.plain;
+  few = c.note.new.self.few;
+  free = c.show.ensures.free c.note.ensures.free;
 }
 
 pub returns-clause-memory : goal.returns-clause-memory
 returns-clause-memory g c =
-    enters c.args.ran c.args.thread c.args.self.now.thread c.note.new.self.slots (g.B.Bus.memory c.args.self.now.inner) (g.B.Bus.memory c.show.new.bus) c.args.self.now.guards c.show.ensures
+    enters c.args.ran c.args.thread c.args.self.now.thread c.note.new.self.slots (g.B.Bus.memory c.args.self.now.inner) (g.B.Bus.memory c.show.new.bus) c.args.self.now.guards c.show.ensures.memory

@@ -8,6 +8,8 @@ invariant_of-self g c = record {
   within = c.args.self.now.within;
   at_home = c.args.self.now.at_home;
   plain = c.args.self.now.plain;
+  few = c.args.self.now.few;
+  free = c.args.self.now.free;
 }
 
 pub returns-clause-keeps : goal.returns-clause-keeps

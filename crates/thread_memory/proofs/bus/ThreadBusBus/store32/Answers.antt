@@ -3,6 +3,7 @@ use Rattle.bus_memories.proofs.CallLaws.{guards_keep_map}
 use Rattle.thread_memory.proofs.Seeing.{seen_map}
 use Rattle.thread_memory.proofs.Stores.{store_reaches}
 use Rattle.thread_memory.specs.Seen.{aligned_hit}
+use Rattle.thread_memory.proofs.Freeing.{plain_after_store, free_after_store}
 use Rattle.thread_memory.proofs.bus.ThreadBusBus.store32.Goals as goal
 
 pub returns-in-Some-clause-stored : goal.returns-in-Some-clause-stored
@@ -12,3 +13,13 @@ returns-in-Some-clause-stored g c =
 
 pub returns-in-Some-clause-keeps : goal.returns-in-Some-clause-keeps
 returns-in-Some-clause-keeps g c = guards_keep_map _ c.args.self.now.guards
+
+pub invariant_of-self : goal.invariant_of-self
+invariant_of-self g c = record {
+  rising = c.args.self.now.rising;
+  within = c.args.self.now.within;
+  at_home = c.args.self.now.at_home;
+  plain = plain_after_store 4 _ c.args.a c.args.v _ _ c.store32.ensures.stored c.args.self.now.plain;
+  few = c.args.self.now.few;
+  free = free_after_store 4 _ c.args.a c.args.v _ _ c.args.self.now.used (inr (inr refl)) c.store32.ensures.stored c.args.self.now.free;
+}

@@ -3,6 +3,7 @@ use Rattle.bus_memories.proofs.CallLaws.{guards_keep_map, undone}
 use Rattle.thread_memory.proofs.Seeing.{seen_map}
 use Rattle.thread_memory.proofs.Stores.{store_reaches, store_through}
 use Rattle.thread_memory.specs.Seen.{aligned_hit}
+use Rattle.thread_memory.proofs.Freeing.{plain_after_store, free_after_store}
 use Rattle.thread_memory.proofs.bus.ThreadBusBus.store8.Goals as goal
 
 pub returns-in-Some-clause-stored : goal.returns-in-Some-clause-stored
@@ -18,3 +19,13 @@ returns-in-None-clause-undone g c =
     let e : aligned_hit c.args.self.now.guards 1 c.args.a ≡ None = cc in
     undone 1 _ _ _ _ c.args.v (seen_map _ _ _ (g.met.B.Bus.is_map c.args.self.now.inner) c.args.self.now.rising c.args.self.now.within)
     (store_through 1 _ c.args.self.now.guards c.args.self.now.thread c.args.a c.args.v _ _ c.args.self.now.plain e c.store8.ensures.stored)
+
+pub invariant_of-self : goal.invariant_of-self
+invariant_of-self g c = record {
+  rising = c.args.self.now.rising;
+  within = c.args.self.now.within;
+  at_home = c.args.self.now.at_home;
+  plain = plain_after_store 1 _ c.args.a c.args.v _ _ c.store8.ensures.stored c.args.self.now.plain;
+  few = c.args.self.now.few;
+  free = free_after_store 1 _ c.args.a c.args.v _ _ c.args.self.now.used (inl refl) c.store8.ensures.stored c.args.self.now.free;
+}

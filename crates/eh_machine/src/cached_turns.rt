@@ -1,0 +1,78 @@
+//! Events of one accepted image, by a decode cache that is kept from one to the next (docs/machine.md, "An event").
+ghost use Rattle.std.specs.Prelude.{◌≡◌, IfSome};
+ghost use Rattle.eh_gates.specs.State.{State, state_of};
+ghost use Rattle.given_input.specs.Given.{OnGiven};
+ghost use Rattle.machines_agree.specs.two_machines.Checked.{program_of};
+ghost use Rattle.eh_machine.specs.Turns.{TurnedOnce, CountsFaults};
+
+use crate::decode_cache::DecodeCache;
+use crate::event::{Shared, turn_cached};
+use eh_bus::bus::Bus;
+use eh_gates::{Core, Turned};
+use eh_port::{Sink, Source};
+use eh_trace::Events;
+use frame_check::Accepted;
+use std::marker::Model;
+
+/// An accepted image, with what was decoded of it. A run of several threads keeps one for all of them.
+#[derive(Drop)]
+pub struct CachedTurns<'a> {
+    accepted: &'a Accepted<'a>,
+    cache: DecodeCache,
+}
+
+impl<'a> Model for CachedTurns<'a> {
+    ghost use Rattle.frame_check.specs.Accepts.{Accepted as Parts};
+    ghost use Rattle.machines_agree.specs.two_machines.Checked.{program_of};
+    ghost use Rattle.eh_machine.specs.Cached.{IsCache};
+
+    ghost Value = { Parts };
+
+    ghost view = { λ t. t.accepted.now };
+
+    ghost invariant = { λ t. IsCache (program_of t.accepted.now) t.cache };
+}
+
+impl<'a> CachedTurns<'a> {
+    /// Of an image, with nothing decoded yet.
+    pub fn of(a: &'a Accepted<'a>) -> CachedTurns<'a>
+        ensures { result ≡ a.now }
+    {
+        CachedTurns {
+            accepted: a,
+            cache: DecodeCache::new(),
+        }
+    }
+
+    /// One event of a run of the image, as `turn` does it. What was decoded before isn't fetched again. Takes no memory.
+    #[inline(always)]
+    pub fn turn<B: Bus, I: Source, O: Sink>(
+        &mut self,
+        core: &mut Core,
+        shared: &mut Shared<B>,
+        events: &mut Events,
+        input: &mut I,
+        out: &mut O,
+    ) -> Turned
+        ensures image { self.new ≡ self.old }
+        ensures told { IfSome (I.left input.old) (λ bytes.
+            let old : State = state_of core.old (B.memory shared.old.bus) events.old in
+            let new : State = state_of core.new (B.memory shared.new.bus) events.new in
+            TurnedOnce (program_of self.old) old bytes result new (I.left input.new) (O.written out.old) (O.written out.new)) }
+        ensures given { OnGiven (λ bytes left.
+            let old : State = state_of core.old (B.memory shared.old.bus) events.old in
+            let new : State = state_of core.new (B.memory shared.new.bus) events.new in
+            TurnedOnce (program_of self.old) old bytes result new left (O.written out.old) (O.written out.new)) }
+        ensures faults { CountsFaults (λ end. result ≡ Turned.Ended end) (I.faults input.old) (I.faults input.new) (O.faults out.old) (O.faults out.new) }
+    {
+        turn_cached(
+            self.accepted,
+            &mut self.cache,
+            core,
+            shared,
+            events,
+            input,
+            out,
+        )
+    }
+}

@@ -1,0 +1,134 @@
+-- Where a gate is done, its instruction stands at a place of the first activation's function.
+use Rattle.std.proofs.Common.{◌≡◌, ℕ, zero, suc, ◌+◌, ◌-◌, ◌/◌, ◌<◌, inl, inr, ◌&&◌, nat_le, Bool, true, false, cond, [], Option, Some, None, Ok, refl, sym, ap, subst, ◌∙◌, arith}
+use Rattle.std.specs.Prelude.{Contains}
+use Rattle.std.proofs.lemmas.Bool.{and_parts, cases_eq, eqb-true, lt-leb}
+use Rattle.std.proofs.lemmas.List.Elements.{Contains-append_left}
+use Rattle.std.proofs.lemmas.Option.{same_Some}
+use Rattle.eh_bus.specs.Memory.{fetch}
+use Rattle.flow.proofs.Work.{contains_head}
+use Rattle.frame_check.specs.Accepts.{Accepted}
+use Rattle.frame_check.specs.Roles.{look}
+use Rattle.frame_check.specs.Roots.{flow_graph_of}
+use Rattle.eh_machine.specs.frame_facts.declared.cause.FrameCause.TheVariants.{Undecodable}
+use Rattle.frame_flow.specs.Causes.{shown, causes_at}
+use Rattle.eh_machine.specs.frame_graph.declared.places.Standing.{Standing}
+use Rattle.eh_machine.specs.frame_graph.declared.places.Standing.TheVariants.{Instruction, Udf, Nothing}
+use Rattle.eh_machine.specs.frame_graph.Edges.{is_undecodable, is_nothing}
+use Rattle.eh_machine.specs.frame_graph.Places.{is_udf, standing_at, standing_by, halfword_of, of_decoded, wide_of}
+use Rattle.eh_machine.specs.thumb_isa.declared.instr.Decoded.{Decoded}
+use Rattle.eh_machine.specs.thumb_isa.declared.instr.Decoded.TheVariants.{Is, Undefined, Unpredictable, NotInProfile}
+use Rattle.eh_machine.specs.thumb_isa.declared.instr.Instr.{Instr}
+use Rattle.eh_machine.specs.thumb_isa.declared.instr.Instr.TheVariants.{Svc}
+use Rattle.eh_machine.specs.thumb_isa.Rows.{decoded_of}
+use Rattle.thumb_core.specs.Laws.{Leaves}
+use Rattle.thumb_core.specs.Step.{step_of, instr_at, instr_of}
+use Rattle.thumb_core.specs.declared.regs.Stepped.{Stepped}
+use Rattle.thumb_core.specs.declared.regs.Stepped.TheVariants.{Gate}
+use Rattle.thumb_core.proofs.Acts.{step_acts}
+use Rattle.eh_machine.specs.two_machines.Activations.{Recorded, memory_of}
+use Rattle.eh_machine.proofs.accepted_code.Fetch.{code_fetch}
+use Rattle.eh_machine.specs.stands_for.Chain.{StandsAt, code}
+use Rattle.eh_machine.specs.stands_for.Stands.{Keeps, IsProgram, DoesAt}
+use Rattle.eh_machine.proofs.stands_for.Flows.{none_stands}
+use Rattle.eh_machine.proofs.stands_for.SimpleTurns.{fetch as fetched_at}
+use Rattle.eh_machine.proofs.steps_keep.Jumps.{not_found}
+
+-- ---- what stands at pc is an instruction
+
+abbrev undefined : Decoded → Bool
+undefined (Is i size) = false
+undefined Undefined = true
+undefined Unpredictable = false
+undefined NotInProfile = false
+
+all_undefined : ℕ → Bool
+all_undefined zero = true
+all_undefined (suc n) = undefined (decoded_of (0xde00 + n) 0) && all_undefined n
+
+all : all_undefined 256 ≡ true
+unfolding decoded_of all_undefined
+all = refl
+
+among : (n k : ℕ) → all_undefined n ≡ true → k < n → undefined (decoded_of (0xde00 + k) 0) ≡ true
+unfolding all_undefined
+among zero k e h = absurd (omega (arith, h))
+among (suc n) k e h =
+    let w = and_parts (undefined (decoded_of (0xde00 + n) 0)) (all_undefined n) e in
+    elim (cases_eq k n) [
+      | inl same ↦ subst (λ j. undefined (decoded_of (0xde00 + j) 0) ≡ true) (sym same) w.0
+      | inr other ↦ among n k w.1 (omega (arith, h, other))
+    ]
+
+is_none : (d : Decoded) → undefined d ≡ true → instr_of d ≡ None
+is_none (Is i size) e = absurd cc
+is_none Undefined e = refl
+is_none Unpredictable e = absurd cc
+is_none NotInProfile e = absurd cc
+
+module _ (x : Accepted) (is : IsProgram x) (s : Recorded) (k : Keeps x s) (number size : ℕ) (gate : instr_at (memory_of s) s.regs.pc ≡ Some (Svc number, size)) (reached : (look x.roles s.regs.pc).is_instr ≡ true) where
+  at : StandsAt x s.first s.segments s.regs s.regs.pc
+  at = k.first reached
+
+  not_nothing : standing_at (flow_graph_of x.image at.function) at.place ≡ Nothing → ⊥
+  unfolding causes_at
+  not_nothing e =
+      let c = code x at.function at.marks in
+      let yes : is_undecodable c.flow_graph at.place ≡ true = ap is_nothing e in
+      let first : Contains (shown (is_undecodable c.flow_graph at.place) Undecodable) Undecodable = rw yes (contains_head Undecodable []) in
+      not_found c at.place at.fact (none_stands x at.function at.marks is.sound at.of.among at.of.are) at.state Undecodable
+      (Contains-append_left (shown (is_undecodable c.flow_graph at.place) Undecodable) _ Undecodable first)
+
+  none_gate : ◌≡◌ {A = Option (Instr × ℕ)} None (Some (Svc number, size)) → ⊥
+  none_gate e = cc
+
+  not_udf : standing_at (flow_graph_of x.image at.function) at.place ≡ Udf → ⊥
+  unfolding standing_at
+  not_udf e = by_halves (halfword_of (flow_graph_of x.image at.function) at.place) (halfword_of (flow_graph_of x.image at.function) (at.place + 1)) refl e
+    where
+      none_at : (first : ℕ) → halfword_of (flow_graph_of x.image at.function) at.place ≡ Some first → is_udf first ≡ true → instr_at (memory_of s) s.regs.pc ≡ None
+      none_at first h udf =
+          let top : first / 256 ≡ 0xde = eqb-true (first / 256) 0xde udf in
+          let same : 0xde00 + (first - 0xde00) ≡ first = omega (arith, top) in
+          let fetches : fetch (memory_of s) s.regs.pc ≡ Ok first = rw at.address (code_fetch x.image at.function s.segments is.image at.of.among k.image at.place first h) in
+          let narrow : nat_le 0xe800 first ≡ false = lt-leb 0xe800 first (omega (arith, top)) in
+          let none : instr_of (decoded_of first 0) ≡ None =
+          subst (λ n. instr_of (decoded_of n 0) ≡ None) same (is_none (decoded_of (0xde00 + (first - 0xde00)) 0) (among 256 (first - 0xde00) all (omega (arith, top)))) in
+          rw (fetches, narrow) none
+
+      of_decoded_not : (d : Decoded) → of_decoded d ≡ Udf → ⊥
+      of_decoded_not (Is i size) h = absurd cc
+      of_decoded_not Undefined h = absurd cc
+      of_decoded_not Unpredictable h = absurd cc
+      of_decoded_not NotInProfile h = absurd cc
+
+      wide_not : (first : ℕ) (w : Option ℕ) → wide_of first w ≡ Udf → ⊥
+      wide_not first None h = absurd cc
+      wide_not first (Some second) h = of_decoded_not (decoded_of first second) h
+
+      by_udf : (u b : Bool) (first : ℕ) (w : Option ℕ) → halfword_of (flow_graph_of x.image at.function) at.place ≡ Some first → is_udf first ≡ u
+          → cond u Udf (cond b (of_decoded (decoded_of first 0)) (wide_of first w)) ≡ Udf → ⊥
+      by_udf true b first w h u g = none_gate (sym (none_at first h u) ∙ gate)
+      by_udf false true first w h u g = of_decoded_not (decoded_of first 0) g
+      by_udf false false first w h u g = wide_not first w g
+
+      by_halves : (o w : Option ℕ) → halfword_of (flow_graph_of x.image at.function) at.place ≡ o → standing_by o w ≡ Udf → ⊥
+      by_halves None w h g = absurd cc
+      by_halves (Some first) w h g = by_udf (is_udf first) _ first w h refl g
+
+  pub does : DoesAt x s (Svc number)
+  does = by (standing_at (flow_graph_of x.image at.function) at.place) refl
+    where
+      by : (t : Standing) → standing_at (flow_graph_of x.image at.function) at.place ≡ t → DoesAt x s (Svc number)
+      by (Instruction i n) e =
+          let stands = (fetched_at x is s k at i n e).stands in
+          let same : ◌≡◌ {A = Instr × ℕ} (i, n) (Svc number, size) = same_Some _ _ (sym stands ∙ gate) in
+          record { reached = reached; at = at; size = n; stands = e ∙ ap (λ (j : Instr). Instruction j n) (ap (λ (w : Instr × ℕ). w.0) same) }
+      by Udf e = absurd (not_udf e)
+      by Nothing e = absurd (not_nothing e)
+
+-- by what was done
+pub gate_there : (x : Accepted) → IsProgram x → (s : Recorded) → Keeps x s → (number : ℕ) → (step_of s.regs (memory_of s)).0 ≡ Gate number → (look x.roles s.regs.pc).is_instr ≡ true → DoesAt x s (Svc number)
+gate_there x is s k number step reached =
+    let acts = step_acts s.regs (memory_of s) (record { count = k.sound.words.count; words = k.sound.words.small }) in
+    let left = subst (λ (w : Stepped). Leaves (instr_at (memory_of s) s.regs.pc) w s.regs (memory_of s) (step_of s.regs (memory_of s)).1) step acts.leaves in
+    does x is s k number left.0 left.1 reached

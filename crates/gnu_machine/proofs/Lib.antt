@@ -1,0 +1,12 @@
+mod Turning
+mod Events
+mod Gate
+mod PadStates
+mod Lands
+mod Throws
+mod Resumes
+mod Arrives
+mod GivenAlike
+mod Alike
+mod Following
+mod Pads

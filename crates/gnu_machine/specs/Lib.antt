@@ -1,0 +1,5 @@
+pub mod Handed
+pub mod GnuMachine
+pub mod Done
+pub mod Laws
+pub mod PadLaws

@@ -1,0 +1,5 @@
+pub mod Ends
+pub mod Marking
+pub mod Sizes
+pub mod Rising
+pub mod Making

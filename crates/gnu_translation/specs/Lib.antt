@@ -1,0 +1,6 @@
+pub mod Segments
+pub mod Marks
+pub mod Symbols
+pub mod Parts
+pub mod Sizes
+pub mod Refusal

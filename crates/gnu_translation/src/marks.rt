@@ -1,0 +1,81 @@
+//! Mapping symbols that stand for what an image says of its addresses. docs/gnu-tables.md states the rule.
+ghost use Rattle.std.specs.Prelude.{◌≡◌, ◌+◌, ◌≤◌, ◌++◌, OnOk, IfOk};
+ghost use Rattle.std.specs.List.{flat_map};
+ghost use Rattle.elf_image.specs.declared.limits.TheConstants.{ADDRESS_LIMIT};
+ghost use Rattle.elf_image.specs.Segments.{RiseFrom, segment_end};
+ghost use Rattle.gnu_translation.specs.Marks.{turns, is_marked, marks_from, marks_in, marks_of};
+
+use elf_image::{Image, Segment};
+use std::alloc::{AllocError, Global};
+
+/// Whether one of an address and the one two bytes below is code, and the other isn't.
+fn turns(image: &Image, a: u32) -> bool
+    requires { 2 ≤ a }
+    ensures { result ≡ turns image.now a }
+{
+    image.is_code(a) != image.is_code(a - 2)
+}
+
+/// Whether a mark stands at an address of a segment: at the first even one, and where code begins or ends.
+fn is_marked(image: &Image, start: u32, a: u32) -> bool
+    requires { start ≤ ADDRESS_LIMIT }
+    ensures { result ≡ is_marked image.now start a }
+{
+    a % 2 == 0 && (a < start + 2 || turns(image, a))
+}
+
+/// Adds the marks of so many addresses.
+#[tactic(auto, using(crate::proofs::Marking::marking))]
+fn push_from(
+    marks: &mut Vec<(u32, bool)>,
+    image: &Image,
+    start: u32,
+    size: u32,
+) -> Result<(), AllocError>
+    requires { start + size ≤ ADDRESS_LIMIT }
+    ensures { OnOk result (marks.new.items ≡ marks.old.items ++ marks_from image.now start size) }
+{
+    for k in 0..size {
+        let a = start + k;
+        if is_marked(image, start, a) {
+            marks.push((a, image.is_code(a)))?;
+        }
+    }
+    Ok(())
+}
+
+/// Adds the marks of a segment, if it may be executed.
+fn push_in(marks: &mut Vec<(u32, bool)>, image: &Image, s: &Segment) -> Result<(), AllocError>
+    requires { segment_end s.now ≤ ADDRESS_LIMIT }
+    ensures { OnOk result (marks.new.items ≡ marks.old.items ++ marks_in image.now s.now) }
+{
+    if s.may_execute() {
+        push_from(marks, image, s.start(), s.size())?;
+    }
+    Ok(())
+}
+
+/// The marks of segments.
+#[tactic(auto, using(crate::proofs::Ends::ends))]
+fn marks_along(
+    alloc: Global,
+    image: &Image,
+    segments: &[Segment],
+) -> Result<Vec<(u32, bool)>, AllocError>
+    requires { RiseFrom 0 segments.now }
+    ensures { IfOk result (λ v. v.items ≡ flat_map (marks_in image.now) segments.now) }
+{
+    let mut marks = Vec::new(alloc);
+    for s in segments {
+        push_in(&mut marks, image, s)?;
+    }
+    Ok(marks)
+}
+
+/// The marks of an image. Two halvings for each even address that may be executed.
+#[tactic(auto, unfolding(crate::specs::Marks::marks_of))]
+pub(crate) fn marks_of(alloc: Global, image: &Image) -> Result<Vec<(u32, bool)>, AllocError>
+    ensures { IfOk result (λ v. v.items ≡ marks_of image.now) }
+{
+    marks_along(alloc, image, image.segments())
+}

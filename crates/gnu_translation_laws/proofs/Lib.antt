@@ -1,0 +1,13 @@
+pub mod Placing
+pub mod Standing
+pub mod Table
+pub mod Functions
+pub mod Marks
+pub mod Words
+pub mod Parts
+pub mod Fitting
+pub mod Sizes
+pub mod Good
+pub mod Rows
+pub mod Index
+pub mod Names
