@@ -12,6 +12,13 @@ const FRONT: &str =
 /// What stands after them: far is `push {r7, lr}; svc #18; pop {r7, pc}`.
 const AFTER: &str = "segment 20000000 6 ; code 20000000 B580 DF12 BD80";
 
+/// What stands in front of leaf's code where main's entry is generic: main is as above, and behind it its landing pad `pop {r3, r4, pc}`.
+const GENERIC_FRONT: &str =
+    "entry 8000 ; vtables ; index 80C0 18 ; function main 8000 C ; function leaf 8010 2 ; function __gxx_personality_v0 8012 2 ; object _ZTIi 80B0 8 ; segment 8000 100 ; thumb 8000 ; data 8014 ; code 8000 B518 2401 F000 F804 BD18 BD18 ; code 8010";
+
+/// The type int, and main's row.
+const GENERIC_AFTER: &str = "fundamental 80B8 ; names 80B8 i ; words 80C0 >8000 >8090 >8010";
+
 /// Where the functions of `many` begin.
 const MANY: u32 = 0x8000;
 
@@ -31,6 +38,7 @@ pub fn file_of(alloc: Global, question: &str) -> Result<Vec<u8>, Unanswered> {
     match what {
         "rows" => image_of(alloc, rows_text(alloc, rest)?.as_str()),
         "image" => image_of(alloc, rest),
+        "generic" => image_of(alloc, generic_text(alloc, rest)?.as_str()),
         "many" => image_of(alloc, many_text(alloc, decimal(rest)?)?.as_str()),
         "long" => image_of(alloc, long_text(alloc, decimal(rest)?)?.as_str()),
         _ => Err(Unanswered::NotKnown),
@@ -49,6 +57,23 @@ fn rows_text(alloc: Global, rest: &str) -> Result<String, Unanswered> {
     };
     Ok(format!(in alloc;
         "{FRONT} >8000 {main} >{second} 80B0B0B0 >20000000 {far} ; {AFTER}{further}"
+    )?)
+}
+
+/// `generic SITE ACTION LEAF ROW [PART ; ..]`: an image where main has a generic entry with these words of its record and its action, where
+/// these are leaf's code and the word of its row, and with further parts. The word at 80A8 begins a generic entry of another routine.
+fn generic_text(alloc: Global, rest: &str) -> Result<String, Unanswered> {
+    let (site, rest) = first_word(rest);
+    let (action, rest) = first_word(rest);
+    let (leaf, rest) = first_word(rest);
+    let (row, parts) = first_word(rest);
+    let further = if parts.is_empty() {
+        String::new(alloc)
+    } else {
+        format!(in alloc; " ; {parts}")?
+    };
+    Ok(format!(in alloc;
+        "{GENERIC_FRONT} {leaf} 4770 ; words 8090 >8012 A8B0 10D00FF {site} {action} C >8010 B0B0B0 {GENERIC_AFTER} {row} >8012 1{further}"
     )?)
 }
 

@@ -1,15 +1,15 @@
 -- What a call that audits a file does.
-use Rattle.std.proofs.Common.{◌≡◌, ℕ, List, Option, Some, None, IfSome, Result, Ok, Err, inl, inr, refl, sym, subst, ◌∙◌, arith}
+use Rattle.std.proofs.Common.{◌≡◌, ℕ, List, Option, Some, None, IfSome, Result, Ok, Err, inl, inr, refl, sym, subst, arith}
 use Rattle.std.specs.Prelude.{◌↔◌, IfOk}
 use Rattle.std.proofs.KnownBytes.{Keeps-refl}
 use Rattle.elf_image.specs.Image.{image_of}
 use Rattle.eh_files.specs.FileList.{answer_of, FileCause}
 use Rattle.eh_files.specs.declared.FileAnswer.{FileAnswer}
-use Rattle.eh_files.specs.declared.FileAnswer.TheVariants.{Found, Missing, TooLong}
+use Rattle.eh_files.specs.declared.FileAnswer.TheVariants.{Found}
 use Rattle.eh_files.specs.declared.FileFault.{FileFault}
 use Rattle.eh_files.specs.declared.FileFault.TheVariants.{Failed, OutOfMemory}
 use Rattle.eh_port.specs.Causes.{Rose}
-use Rattle.program_answers.specs.Files.{FileState, IsUnavailable, missing_line, too_long_line}
+use Rattle.program_answers.specs.Files.{FileState, IsUnavailable}
 use Rattle.program_answers.specs.Statuses.{IsReported}
 use Rattle.program_answers.specs.Writes.{Answers, stop_of}
 use Rattle.program_answers.specs.declared.status.TheConstants.{DONE, USAGE, REFUSED, FILE_UNAVAILABLE}
@@ -18,25 +18,14 @@ use Rattle.program_answers.specs.declared.stop.Stop.TheVariants.{Read, Write, Me
 use Rattle.program_answers.proofs.Answering.{of_status, only_write}
 use Rattle.program_answers.proofs.Statuses.{unavailable_reported, usage_reported}
 use Rattle.program_answers.proofs.Stops.{some_more}
-use Rattle.ehabi_audit_top.specs.Does.{DoesWhole, DoesPart, Judges, Tells, Why, Does}
+use Rattle.ehabi_audit_top.specs.Does.{DoesWhole, Judges, Tells, Why, Does}
 use Rattle.ehabi_audit_top.specs.Report.{AuditReport, told, FoundReports, ReadReports, Reports, IsAcceptedRead, IsAcceptedAnswer, IsRefusedAnswer}
 use Rattle.ehabi_audit_top.specs.Text.{usage}
 use Rattle.ehabi_audit_top.specs.declared.report.TheConstants.{MOST_BYTES}
-use Rattle.ehabi_audit_top.proofs.Tellings.{IsOfBytes, read_status}
+use Rattle.ehabi_audit_top.proofs.Tellings.{IsOfBytes, read_status, whole_as, part_as}
 
 abbrev Held : Type 0
 Held = List (List ℕ × List ℕ)
-
--- ---- reports of one thing are reports of another
-
-whole_as : (Says Other : AuditReport → Type 0) (result : Result ℕ Stop) (a b : Option (List ℕ)) → ((r : AuditReport) → Says r → Other r)
-    → IfOk result (λ s. DoesWhole Says s a b) → IfOk result (λ s. DoesWhole Other s a b)
-whole_as Says Other (Ok s) a b says w = record { report = w.report; is = says w.report w.is; status_is = w.status_is; wrote = w.wrote }
-whole_as Says Other (Err stop) a b says w = tt
-
-part_as : (Says Other : AuditReport → Type 0) (a b : Option (List ℕ)) → ((r : AuditReport) → Says r → Other r) → DoesPart Says a b → DoesPart Other a b
-part_as Says Other a b says (inl kept) = inl kept
-part_as Says Other a b says (inr w) = inr (record { report = w.report; is = says w.report w.is; wrote = w.wrote })
 
 -- ---- a file that is there
 

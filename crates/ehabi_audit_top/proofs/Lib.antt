@@ -1,6 +1,8 @@
+mod Generics
+mod Entries
 mod Writings
+mod Listed
 mod Tellings
 mod Files
 mod Endings
-mod Listed
 mod Summaries

@@ -1,19 +1,21 @@
 -- A list of what isn't well is empty exactly where nothing is said against the image.
-use Rattle.std.proofs.Common.{◌≡◌, ℕ, List, [], ◌∷◌, ◌++◌, ◌-◌, Bool, true, false, Option, Some, None, refl, sym, ap, subst, ◌∙◌, arith}
-use Rattle.std.specs.Prelude.{◌↔◌, ◌&&◌, flat_map}
+use Rattle.std.proofs.Common.{◌≡◌, ℕ, List, [], ◌∷◌, ◌++◌, ◌-◌, ◌==◌, length, Bool, true, false, Option, Some, None, refl, sym, ap, subst, arith}
+use Rattle.std.specs.Prelude.{◌&&◌, flat_map}
 use Rattle.std.specs.Option.{is_none}
 use Rattle.std.specs.List.{list_all}
 use Rattle.std.proofs.lemmas.Bool.{and_parts}
+use Rattle.std.proofs.lemmas.Bool.Decides.{nat_tests}
 use Rattle.eh_types.specs.declared.fault.TypeFault.{TypeFault}
 use Rattle.frame_audit.specs.Audits.{Audit, is_clear}
 use Rattle.frame_audit.specs.Listing.{Audited}
 use Rattle.frame_audit.specs.declared.functions.Unwell.{Unwell}
 use Rattle.frame_audit.proofs.Listed.{unlisted_is_well}
+use Rattle.gnu_images.specs.declared.tables.RefusedEntry.{RefusedEntry}
 use Rattle.program_answers.specs.declared.status.TheConstants.{DONE}
 use Rattle.report_lines.specs.CheckText.{cause_text}
 use Rattle.ehabi_audit_top.specs.Laws.{LinesAreOfUnwell, StatusIsOfList}
 use Rattle.ehabi_audit_top.specs.Report.{clear_status}
-use Rattle.ehabi_audit_top.specs.Text.{address_end, finding_line, function_line, unwell_line, types_text, listed_text}
+use Rattle.ehabi_audit_top.specs.Text.{entry_line, address_end, finding_line, function_line, unwell_line, types_text, found_text, listed_text}
 
 -- a text that ends in some text isn't empty
 ends_some : (xs ys : List ℕ) → (ys ≡ [] → ⊥) → xs ++ ys ≡ [] → ⊥
@@ -62,24 +64,50 @@ types_none : (t : Option TypeFault) → types_text t ≡ [] → is_none t ≡ tr
 types_none None e = refl
 types_none (Some fault) e = absurd (begun _ _ e)
 
-both_true : (p q : Bool) → p ≡ true → q ≡ true → (p && q) ≡ true
+pub both_true : (p q : Bool) → p ≡ true → q ≡ true → (p && q) ≡ true
 both_true p q e h = rw e h
 
 cleared : (clear : Bool) → clear_status clear ≡ DONE → clear ≡ true
 cleared true e = refl
 cleared false e = absurd (omega (arith, e))
 
-pub status_is_of_list : StatusIsOfList
-unfolding is_clear
-status_is_of_list x = (forth, back)
-  where
-    forth : clear_status (is_clear x) ≡ DONE → listed_text x ≡ []
-    forth e =
-        let two = and_parts (list_all (λ (a : Audited). is_none a.unwell) x.functions) (is_none x.types) (cleared (is_clear x) e) in
-        let types : types_text x.types ≡ [] = ap types_text (none_is x.types two.1) in
-        subst (λ (text : List ℕ). text ++ types_text x.types ≡ []) (sym (clear_lines x.functions two.0)) types
+pub none_refused : (refused : List RefusedEntry) → (length refused == 0) ≡ true → refused ≡ []
+none_refused [] e = refl
+none_refused (r ∷ refused) e = absurd (let none : length (r ∷ refused) ≡ 0 = grind (arith, nat_tests) in omega (arith, none))
 
-    back : listed_text x ≡ [] → clear_status (is_clear x) ≡ DONE
+pub no_refused : (refused : List RefusedEntry) → refused ≡ [] → (length refused == 0) ≡ true
+no_refused refused e = rw e refl
+
+pub no_lines : (x : Audit) → is_clear x ≡ true → found_text x ≡ []
+unfolding is_clear
+no_lines x e =
+    let two = and_parts (list_all (λ (a : Audited). is_none a.unwell) x.functions) (is_none x.types) e in
+    let types : types_text x.types ≡ [] = ap types_text (none_is x.types two.1) in
+    subst (λ (text : List ℕ). text ++ types_text x.types ≡ []) (sym (clear_lines x.functions two.0)) types
+
+pub no_line_is_clear : (x : Audit) → found_text x ≡ [] → is_clear x ≡ true
+unfolding is_clear
+no_line_is_clear x e =
+    let two = both_none (flat_map function_line x.functions) (types_text x.types) e in
+    both_true _ _ (lines_clear x.functions two.0) (types_none x.types two.1)
+
+-- ---- .. and of the refused entries
+
+no_entry_lines : (refused : List RefusedEntry) → flat_map entry_line refused ≡ [] → refused ≡ []
+no_entry_lines [] e = refl
+no_entry_lines (r ∷ refused) e =
+    let two = both_none (entry_line r) (flat_map entry_line refused) e in
+    absurd (begun _ _ two.0)
+
+pub status_is_of_list : StatusIsOfList
+status_is_of_list refused x = (forth, back)
+  where
+    forth : clear_status (length refused == 0 && is_clear x) ≡ DONE → listed_text refused x ≡ []
+    forth e =
+        let two = and_parts (length refused == 0) (is_clear x) (cleared (length refused == 0 && is_clear x) e) in
+        subst (λ (entries : List RefusedEntry). flat_map entry_line entries ++ found_text x ≡ []) (sym (none_refused refused two.0)) (no_lines x two.1)
+
+    back : listed_text refused x ≡ [] → clear_status (length refused == 0 && is_clear x) ≡ DONE
     back e =
-        let two = both_none (flat_map function_line x.functions) (types_text x.types) e in
-        ap clear_status (both_true _ _ (lines_clear x.functions two.0) (types_none x.types two.1))
+        let two = both_none (flat_map entry_line refused) (found_text x) e in
+        ap clear_status (both_true _ _ (no_refused refused (no_entry_lines refused two.0)) (no_line_is_clear x two.1))

@@ -1,25 +1,34 @@
 -- What a call that writes a report tells.
-use Rattle.std.proofs.Common.{◌≡◌, ℕ, List, Bool, true, false, Option, Some, None, Result, Ok, Err, inl, inr, refl, sym, subst, ◌∙◌, arith}
+use Rattle.std.proofs.Common.{◌≡◌, ℕ, ◌==◌, ◌&&◌, List, [], length, Bool, true, false, Option, Some, None, Result, Ok, Err, inl, inr, refl, sym, ap, subst, ◌∙◌, arith}
 use Rattle.std.specs.Prelude.{◌↔◌, IfOk}
 use Rattle.std.proofs.KnownBytes.{Keeps-refl}
-use Rattle.std.proofs.lemmas.Bool.{false≢true}
-use Rattle.elf_image.specs.Image.{Image}
+use Rattle.std.proofs.lemmas.Bool.{and_parts, false≢true}
+use Rattle.elf_image.specs.Image.{Image, image_of}
 use Rattle.elf_image.specs.declared.fault.ImageFault.{ImageFault}
-use Rattle.eh_index.specs.Refusal.{index_refusal}
+use Rattle.eh_index.specs.Refusal.{index_refusal, unless_refused}
 use Rattle.eh_index.specs.declared.fault.IndexFault.{IndexFault}
+use Rattle.elf_write.specs.Layout.{written_of}
 use Rattle.frame_check.specs.Accepts.{IsAccepted}
-use Rattle.frame_audit.specs.Audits.{Audit, IsAudit}
+use Rattle.frame_audit.specs.Audits.{Audit, IsAudit, is_clear}
+use Rattle.gnu_images.specs.declared.refusal.GnuFault.{GnuFault}
+use Rattle.gnu_images.specs.declared.tables.RefusedEntry.{RefusedEntry}
+use Rattle.gnu_translation.specs.Parts.{new_parts, new_tables}
+use Rattle.gnu_translation.specs.Refusal.{rewrite_refusal}
 use Rattle.report_lines.specs.CheckText.{index_line}
+use Rattle.report_lines.specs.TablesText.{tables_line}
 use Rattle.program_answers.specs.Statuses.{IsOfCommand}
 use Rattle.program_answers.specs.Writes.{Answers}
-use Rattle.program_answers.specs.declared.status.TheConstants.{DONE, REFUSED, FILE_UNAVAILABLE}
+use Rattle.program_answers.specs.declared.status.TheConstants.{REFUSED, FILE_UNAVAILABLE}
 use Rattle.program_answers.specs.declared.stop.Stop.{Stop}
 use Rattle.program_answers.specs.declared.stop.Stop.TheVariants.{Read, Write, Memory}
 use Rattle.program_answers.proofs.Statuses.{done_reported, refused_reported}
-use Rattle.ehabi_audit_top.specs.Does.{Judges, Tells}
-use Rattle.ehabi_audit_top.specs.Report.{AuditReport, told, clear_status, status_of, IndexReports, ImageReports, ReadReports}
+use Rattle.ehabi_audit_top.specs.Does.{DoesWhole, DoesPart, Judges, Tells}
+use Rattle.ehabi_audit_top.specs.Report.{AuditReport, told, clear_status, status_of, IndexAudits, ReadAudits, WrittenAudits, TablesReports, RowsReports, IndexReports, ImageReports, ReadReports, IsWrittenChecked, AreTablesAccepted, IsAcceptedBy, IsAcceptedImage}
+use Rattle.ehabi_audit_top.specs.Tables.{has_generic}
 use Rattle.ehabi_audit_top.specs.Text.{audit_text}
 use Rattle.ehabi_audit_top.specs.Writing.{Writes}
+use Rattle.ehabi_audit_top.proofs.Entries.{no_line_is_translated, translated_is_rewritten}
+use Rattle.ehabi_audit_top.proofs.Listed.{both_true, none_refused, no_refused}
 
 -- ---- statuses
 
@@ -82,18 +91,110 @@ tells_none Says accepted a f = record {
   memory = λ e. refl;
 }
 
--- ---- images
+-- ---- reports of one thing are reports of another
 
-pub audit_says : (image : Image) (x : Audit) → index_refusal image ≡ None → IsAudit image x → ImageReports image (told (audit_text x) (status_of x))
-audit_says image x read is = subst (λ (o : Option IndexFault). IndexReports o image (told (audit_text x) (status_of x))) (sym read) (record { audit = x; is = is; says = refl })
+pub whole_as : (Says Other : AuditReport → Type 0) (result : Result ℕ Stop) (a b : Option (List ℕ)) → ((r : AuditReport) → Says r → Other r)
+    → IfOk result (λ s. DoesWhole Says s a b) → IfOk result (λ s. DoesWhole Other s a b)
+whole_as Says Other (Ok s) a b says w = record { report = w.report; is = says w.report w.is; status_is = w.status_is; wrote = w.wrote }
+whole_as Says Other (Err stop) a b says w = tt
 
-pub index_says : (image : Image) (fault : IndexFault) → index_refusal image ≡ Some fault → ImageReports image (told (index_line fault) REFUSED)
-index_says image fault e = subst (λ (o : Option IndexFault). IndexReports o image (told (index_line fault) REFUSED)) (sym e) refl
+pub part_as : (Says Other : AuditReport → Type 0) (a b : Option (List ℕ)) → ((r : AuditReport) → Says r → Other r) → DoesPart Says a b → DoesPart Other a b
+part_as Says Other a b says (inl kept) = inl kept
+part_as Says Other a b says (inr w) = inr (record { report = w.report; is = says w.report w.is; wrote = w.wrote })
 
+judges_as : (accepted other : Type 0) (result : Result ℕ Stop) → accepted ↔ other → IfOk result (Judges accepted) → IfOk result (Judges other)
+judges_as accepted other (Ok s) i j = record { done = ((λ h. i.0 (j.done.0 h)), (λ o. j.done.1 (i.1 o))); refused = ((λ h o. j.refused.0 h (i.1 o)), (λ n. j.refused.1 (λ a. n (i.0 a)))) }
+judges_as accepted other (Err stop) i j = tt
+
+pub tells_as : (Says Other : AuditReport → Type 0) (accepted other : Type 0) (result : Result ℕ Stop) (a b : Option (List ℕ)) (f g : ℕ)
+    → ((r : AuditReport) → Says r → Other r) → accepted ↔ other → Tells Says accepted result a b f g → Tells Other other result a b f g
+tells_as Says Other accepted other result a b f g says i t = record {
+  whole = whole_as Says Other result a b says t.whole;
+  part = part_as Says Other a b says t.part;
+  judges = judges_as accepted other result i t.judges;
+  read = t.read;
+  write = t.write;
+  memory = t.memory;
+}
+
+-- ---- audits
+
+pub audit_says : (refused : List RefusedEntry) (image : Image) (x : Audit) → index_refusal image ≡ None → IsAudit image x
+    → IndexAudits refused (index_refusal image) image (told (audit_text refused x) (status_of refused x))
+audit_says refused image x read is =
+    subst (λ (o : Option IndexFault). IndexAudits refused o image (told (audit_text refused x) (status_of refused x))) (sym read) (record { audit = x; is = is; says = refl })
+
+pub index_audits : (refused : List RefusedEntry) (image : Image) (fault : IndexFault) → index_refusal image ≡ Some fault → IndexAudits refused (index_refusal image) image (told (index_line fault) REFUSED)
+index_audits refused image fault e = subst (λ (o : Option IndexFault). IndexAudits refused o image (told (index_line fault) REFUSED)) (sym e) refl
+
+pub none_is_clear : (refused : List RefusedEntry) (x : Audit) (accepted : Type 0) → (is_clear x ≡ true) ↔ accepted → ((length refused == 0 && is_clear x) ≡ true) ↔ ((refused ≡ []) × accepted)
+none_is_clear refused x accepted i = (forth, back)
+  where
+    forth : (length refused == 0 && is_clear x) ≡ true → (refused ≡ []) × accepted
+    forth e = let two = and_parts (length refused == 0) (is_clear x) e in (none_refused refused two.0, i.0 two.1)
+
+    back : (refused ≡ []) × accepted → (length refused == 0 && is_clear x) ≡ true
+    back p = both_true (length refused == 0) (is_clear x) (no_refused refused p.0) (i.1 p.1)
+
+-- an index that isn't read is of no accepted image
 pub unread_unaccepted : (image : Image) (fault : IndexFault) → index_refusal image ≡ Some fault → IsAccepted image → ⊥
 unread_unaccepted image fault e a =
     let no : Some fault ≡ None = sym e ∙ a.index in
     cc
+
+-- ---- rewritten images
+
+pub tables_say : (image : Image) → rewrite_refusal image ≡ None → (r : AuditReport) → WrittenAudits (new_tables image).refused (written_of (new_parts image)) r → TablesReports image (rewrite_refusal image) r
+tables_say image e r s = subst (λ (o : Option GnuFault). TablesReports image o r) (sym e) s
+
+pub tables_accepted : (image : Image) → rewrite_refusal image ≡ None → (((new_tables image).refused ≡ []) × IsWrittenChecked (written_of (new_parts image))) ↔ AreTablesAccepted image
+tables_accepted image e = let same = no_line_is_translated image e in ((λ p. (same.0 p.0, p.1)), (λ p. (same.1 p.0, p.1)))
+
+pub large_says : (image : Image) (fault : GnuFault) → rewrite_refusal image ≡ Some fault → TablesReports image (rewrite_refusal image) (told (tables_line fault) REFUSED)
+large_says image fault e = subst (λ (o : Option GnuFault). TablesReports image o (told (tables_line fault) REFUSED)) (sym e) refl
+
+pub large_unaccepted : (image : Image) (fault : GnuFault) → rewrite_refusal image ≡ Some fault → AreTablesAccepted image → ⊥
+large_unaccepted image fault e p =
+    let no : Some fault ≡ None = sym e ∙ translated_is_rewritten image p.0 in
+    cc
+
+-- ---- images
+
+pub index_is_read : (o : Option IndexFault) (image index : Image) → Ok index ≡ unless_refused o image → (index ≡ image) × (o ≡ None)
+index_is_read None image index e = (let same : index ≡ image = cc in same, refl)
+index_is_read (Some fault) image index e = absurd cc
+
+pub index_is_unread : (o : Option IndexFault) (image : Image) (fault : IndexFault) → Err fault ≡ unless_refused o image → o ≡ Some fault
+index_is_unread None image fault e = absurd cc
+index_is_unread (Some other) image fault e = let same : fault ≡ other = cc in ap Some (sym same)
+
+pub index_says : (image : Image) (fault : IndexFault) → index_refusal image ≡ Some fault → ImageReports image (told (index_line fault) REFUSED)
+index_says image fault e = subst (λ (o : Option IndexFault). IndexReports o image (told (index_line fault) REFUSED)) (sym e) refl
+
+unread_by : (b : Bool) (image : Image) (fault : IndexFault) → index_refusal image ≡ Some fault → IsAcceptedBy b image → ⊥
+unread_by true image fault e p =
+    let no : Some fault ≡ None = sym e ∙ p.0 in
+    cc
+unread_by false image fault e a = unread_unaccepted image fault e a
+
+pub index_unaccepted : (image : Image) (fault : IndexFault) → index_refusal image ≡ Some fault → IsAcceptedImage image → ⊥
+index_unaccepted image fault e a = unread_by (has_generic image) image fault e a
+
+module _ (image : Image) (read : index_refusal image ≡ None) where
+  rows_say : (b : Bool) → has_generic image ≡ b → (r : AuditReport) → RowsReports b image r → ImageReports image r
+  rows_say b e r s = subst (λ (o : Option IndexFault). IndexReports o image r) (sym read) (subst (λ (c : Bool). RowsReports c image r) (sym e) s)
+
+  pub generic_says : has_generic image ≡ true → (r : AuditReport) → TablesReports image (rewrite_refusal image) r → ImageReports image r
+  generic_says e r s = rows_say true e r s
+
+  pub generic_accepted : has_generic image ≡ true → AreTablesAccepted image ↔ IsAcceptedImage image
+  generic_accepted e = subst (λ (b : Bool). AreTablesAccepted image ↔ IsAcceptedBy b image) (sym e) ((λ p. (read, p)), (λ p. p.1))
+
+  pub plain_says : has_generic image ≡ false → (r : AuditReport) → IndexAudits [] (index_refusal image) image r → ImageReports image r
+  plain_says e r s = rows_say false e r (subst (λ (o : Option IndexFault). IndexAudits [] o image r) read s)
+
+  pub plain_accepted : has_generic image ≡ false → ((◌≡◌ {A = List RefusedEntry} [] []) × IsAccepted image) ↔ IsAcceptedImage image
+  plain_accepted e = subst (λ (b : Bool). ((◌≡◌ {A = List RefusedEntry} [] []) × IsAccepted image) ↔ IsAcceptedBy b image) (sym e) ((λ p. p.1), (λ p. (refl, p)))
 
 -- ---- what statuses reports of bytes have
 
@@ -108,9 +209,29 @@ clear_of_bytes false = record { of = refused_reported; there = λ e. omega (arit
 refused_of_bytes : (r : AuditReport) (text : List ℕ) → r ≡ told text REFUSED → IsOfBytes r.status
 refused_of_bytes r text e = rw e (clear_of_bytes false)
 
+index_audited : (refused : List RefusedEntry) (o : Option IndexFault) (image : Image) (r : AuditReport) → IndexAudits refused o image r → IsOfBytes r.status
+index_audited refused (Some fault) image r e = refused_of_bytes r _ e
+index_audited refused None image r e = rw e.says (clear_of_bytes _)
+
+read_audited : (refused : List RefusedEntry) (read : Result Image ImageFault) (r : AuditReport) → ReadAudits refused read r → IsOfBytes r.status
+read_audited refused (Ok image) r e = index_audited refused (index_refusal image) image r e
+read_audited refused (Err fault) r e = refused_of_bytes r _ e
+
+written_audited : (refused : List RefusedEntry) (written : Result (List ℕ) ImageFault) (r : AuditReport) → WrittenAudits refused written r → IsOfBytes r.status
+written_audited refused (Ok bytes) r e = read_audited refused (image_of bytes) r e
+written_audited refused (Err fault) r e = refused_of_bytes r _ e
+
+tables_reported : (image : Image) (o : Option GnuFault) (r : AuditReport) → TablesReports image o r → IsOfBytes r.status
+tables_reported image (Some fault) r e = refused_of_bytes r _ e
+tables_reported image None r e = written_audited (new_tables image).refused (written_of (new_parts image)) r e
+
+rows_reported : (b : Bool) (image : Image) (r : AuditReport) → RowsReports b image r → IsOfBytes r.status
+rows_reported true image r e = tables_reported image (rewrite_refusal image) r e
+rows_reported false image r e = index_audited [] None image r e
+
 indexed : (o : Option IndexFault) (image : Image) (r : AuditReport) → IndexReports o image r → IsOfBytes r.status
 indexed (Some fault) image r e = refused_of_bytes r _ e
-indexed None image r e = rw e.says (clear_of_bytes _)
+indexed None image r e = rows_reported (has_generic image) image r e
 
 pub read_status : (read : Result Image ImageFault) (r : AuditReport) → ReadReports read r → IsOfBytes r.status
 read_status (Ok image) r e = indexed (index_refusal image) image r e

@@ -14,7 +14,8 @@ pub record IsAuditAnswer (words : List (List ℕ)) (files files' : FileState) (b
   pub report : is_conclusive status ≡ true → IfTold (name_of words) files.held (λ held. DoesWhole (Reports (name_of words) held) status before now)
   -- In any case it wrote a first part of one, or nothing.
   pub part : IfTold (name_of words) files.held (λ held. DoesPart (Reports (name_of words) held) before now)
-  -- 0 is exactly of a file that holds an image that the checker accepts, and 3 of one that holds none; 10 is of a file that is missing or too long.
+  -- 0 is exactly of a file that holds an image that is accepted, itself or, where an entry of its index is generic, rewritten; 3 is of one that holds
+  -- none, and 10 of a file that is missing or too long.
   pub done : is_conclusive status ≡ true → IfSome files.held (λ held. (status ≡ DONE) ↔ HoldsAccepted (name_of words) held)
   pub refused : is_conclusive status ≡ true → IfSome files.held (λ held. (status ≡ REFUSED) ↔ HoldsRefused (name_of words) held)
   pub missing : is_conclusive status ≡ true → IfSome files.held (λ held. (status ≡ FILE_UNAVAILABLE) ↔ LacksFile (name_of words) held)

@@ -1,13 +1,18 @@
 -- What holds of every audit that is written: laws above its text.
-use Rattle.std.specs.Prelude.{◌≡◌, ◌↔◌, []}
+use Rattle.std.specs.Prelude.{◌≡◌, ◌↔◌, List, [], map, filter_map, None}
 use Rattle.elf_image.specs.Functions.{Function}
 use Rattle.elf_image.specs.Image.{Image}
 use Rattle.frame_check.specs.Accepts.{IsWell}
 use Rattle.frame_check.specs.Roots.{flow_graph_of}
 use Rattle.frame_audit.specs.Audits.{Audit}
 use Rattle.frame_audit.specs.Listing.{Audited, IsAudited}
+use Rattle.gnu_images.specs.declared.refusal.GnuFault.TheVariants.{Entry}
+use Rattle.gnu_images.specs.declared.tables.RefusedEntry.{RefusedEntry}
+use Rattle.gnu_translation.specs.Parts.{new_tables}
+use Rattle.gnu_translation.specs.Refusal.{rewrite_refusal, translation_refusal}
 use Rattle.program_answers.specs.declared.status.TheConstants.{DONE}
 use Rattle.ehabi_audit_top.specs.Report.{status_of}
+use Rattle.ehabi_audit_top.specs.Tables.{refused_at, rows_of}
 use Rattle.ehabi_audit_top.specs.Text.{function_line, listed_text}
 use Rattle.ehabi_audit_top.specs.declared.report.TheConstants.{MOST_BYTES}
 use Rattle.ehabi_audit_top.specs.declared.words.TheConstants.{HYPHEN}
@@ -18,7 +23,15 @@ LinesAreOfUnwell = (image : Image) (f : Function) (a : Audited) → IsAudited im
 
 -- the status is 0 exactly where nothing is listed
 abbrev pub StatusIsOfList : Type 0
-StatusIsOfList = (x : Audit) → (status_of x ≡ DONE) ↔ (listed_text x ≡ [])
+StatusIsOfList = (refused : List RefusedEntry) (x : Audit) → (status_of refused x ≡ DONE) ↔ (listed_text refused x ≡ [])
+
+-- the refused entries that have a line are those of which something is refused, each with its fault, in the order of the rows
+abbrev pub LinesAreOfRefused : Type 0
+LinesAreOfRefused = (image : Image) → map Entry (new_tables image).refused ≡ filter_map (refused_at image) (rows_of image)
+
+-- of an image that is rewritten none has a line exactly where `gnu` refuses nothing
+abbrev pub NoLineIsTranslated : Type 0
+NoLineIsTranslated = (image : Image) → rewrite_refusal image ≡ None → ((new_tables image).refused ≡ []) ↔ (translation_refusal image ≡ None)
 
 -- the numbers that the definitions cite
 pub record AuditNumbers : Type 0 where

@@ -1,4 +1,5 @@
 pub mod Words
+pub mod Tables
 pub mod Text
 pub mod Writing
 pub mod Report

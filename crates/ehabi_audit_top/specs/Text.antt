@@ -12,11 +12,20 @@ use Rattle.frame_audit.specs.declared.counts.Question.{Question}
 use Rattle.frame_audit.specs.declared.counts.Question.TheVariants as question
 use Rattle.frame_audit.specs.declared.counts.TheConstants.{CAUSES}
 use Rattle.frame_audit.specs.declared.functions.Unwell.{Unwell}
+use Rattle.gnu_images.specs.declared.refusal.GnuFault.TheVariants.{Entry}
+use Rattle.gnu_images.specs.declared.tables.RefusedEntry.{RefusedEntry}
 use Rattle.report_lines.specs.CheckText.{cause_text, type_line}
+use Rattle.report_lines.specs.TablesText.{tables_line}
 use Rattle.report_lines.specs.Text.{count_line}
 
 abbrev pub usage : List ℕ
 usage = codes "usage: ehabi_audit FILE\n"
+
+-- ---- what isn't rewritten
+
+-- the line of a refused entry, as `gnu` tells it
+abbrev pub entry_line : RefusedEntry → List ℕ
+entry_line e = tables_line (Entry e)
 
 -- ---- what isn't well
 
@@ -61,18 +70,23 @@ agreement_line well all kind = decimal well ++ codes " of " ++ decimal all ++ co
 abbrev pub counted : Audit → Question → ℕ
 counted x q = count_by (answers q) x.functions
 
-unfoldable pub summary_text : Audit → List ℕ
-summary_text x =
-    codes "-- summary\n" ++ flat_map (cause_count_line x.functions) CAUSES ++ stray_text x.stray
+-- of an image of whose index these entries are refused
+unfoldable pub summary_text : List RefusedEntry → Audit → List ℕ
+summary_text refused x =
+    codes "-- summary\n" ++ flat_map (cause_count_line x.functions) CAUSES ++ some_count_line (codes "lsda") (length refused) ++ stray_text x.stray
     ++ agreement_line (counted x question.UnwindsWell) (counted x question.Unwinds) (codes " with a table")
     ++ agreement_line (counted x question.CantUnwindWell) (counted x question.CantUnwind) (codes " that can't be unwound")
     ++ agreement_line (counted x question.Well) (length x.functions) []
 
 -- ---- an audit
 
--- what is said against the image: a line for each function that isn't well, in rising order, and that of the types
-abbrev pub listed_text : Audit → List ℕ
-listed_text x = flat_map function_line x.functions ++ types_text x.types
+-- what is said against the functions and the types: a line for each function that isn't well, in rising order, and that of the types
+abbrev pub found_text : Audit → List ℕ
+found_text x = flat_map function_line x.functions ++ types_text x.types
 
-abbrev pub audit_text : Audit → List ℕ
-audit_text x = listed_text x ++ summary_text x
+-- .. and first a line for each refused entry, in the order of the index
+abbrev pub listed_text : List RefusedEntry → Audit → List ℕ
+listed_text refused x = flat_map entry_line refused ++ found_text x
+
+abbrev pub audit_text : List RefusedEntry → Audit → List ℕ
+audit_text refused x = listed_text refused x ++ summary_text refused x

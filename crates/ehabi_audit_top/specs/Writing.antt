@@ -1,5 +1,5 @@
 -- What a call that writes a text has done, part by part.
-use Rattle.std.specs.Prelude.{ℕ, ◌≡◌, ◌≤◌, List, Option, OnOk, IsErrOf, Result}
+use Rattle.std.specs.Prelude.{ℕ, ◌≡◌, List, Option, OnOk, IsErrOf, Result}
 use Rattle.std.specs.Io.KnownBytes.{Appends}
 use Rattle.eh_port.specs.Causes.{Rose}
 use Rattle.eh_port.specs.Writing.{AppendsPart}

@@ -7,10 +7,12 @@ ghost use Rattle.ehabi_audit_top.specs.Words.{name_of};
 ghost use Rattle.program_answers.specs.Files.{file_state};
 ghost use Rattle.program_answers.specs.Words.{texts};
 
+mod audited;
 pub mod laws;
 mod listing;
 mod report;
 mod summary;
+mod tables;
 mod words;
 
 use eh_files::Files;
@@ -41,9 +43,9 @@ fn perform<F: Files, O: Sink>(
 
 /// All that the program does. The words are those after the program's name, and the answer is its status:
 ///
-/// - 0: the checker accepts the image, and nothing is listed;
+/// - 0: the checker accepts the image, rewritten where its tables are a C++ compiler's, and nothing is listed;
 /// - 2: the words aren't one name;
-/// - 3: functions or types are listed, or the line says why the file isn't audited;
+/// - 3: entries, functions or types are listed, or the line says why the file isn't audited;
 /// - 7: a read of the file failed;
 /// - 8: a write of the output failed;
 /// - 9: there was no memory;

@@ -1,6 +1,7 @@
 //! What is said against an image, line by line (docs/audit.md, "The program").
 ghost use Rattle.std.specs.Prelude.{◌≡◌, ◌++◌, flat_map, IfOk, OnOk};
-ghost use Rattle.ehabi_audit_top.specs.Text.{address_end, unwell_line, function_line, types_text, listed_text, audit_text};
+ghost use Rattle.gnu_images.specs.declared.refusal.GnuFault.TheVariants.{Entry};
+ghost use Rattle.ehabi_audit_top.specs.Text.{entry_line, address_end, unwell_line, function_line, types_text, found_text, listed_text, audit_text};
 ghost use Rattle.ehabi_audit_top.specs.Writing.{Writes};
 
 use crate::summary::summary_lines;
@@ -8,8 +9,9 @@ use eh_port::{Sink, put_all};
 use eh_types::TypeFault;
 use eh_word::address_text;
 use frame_audit::{Audit, Audited, Unwell};
+use gnu_images::{GnuFault, RefusedEntry};
 use program_answers::Stop;
-use report_lines::{push_cause_text, type_line};
+use report_lines::{push_cause_text, tables_line, type_line};
 use std::alloc::{AllocError, Global};
 
 /// Writes a text.
@@ -20,6 +22,26 @@ fn write_text<O: Sink>(out: &mut O, text: &[u8]) -> Result<(), Stop>
         Ok(()) => Ok(()),
         Err(_) => Err(Stop::Write),
     }
+}
+
+/// Writes the line of a refused entry.
+fn write_entry<O: Sink>(out: &mut O, e: &RefusedEntry) -> Result<(), Stop>
+    ensures { Writes (entry_line e.now) result (O.written out.old) (O.written out.new) (O.faults out.old) (O.faults out.new) }
+{
+    write_text(out, tables_line(GnuFault::Entry(*e)).as_slice())
+}
+
+/// Writes the lines of refused entries.
+fn write_refused<O: Sink>(out: &mut O, refused: &[RefusedEntry]) -> Result<(), Stop>
+    ensures { Writes (flat_map entry_line refused.now) result (O.written out.old) (O.written out.new) (O.faults out.old) (O.faults out.new) }
+{
+    for e in refused {
+        match write_entry(out, e) {
+            Ok(()) => {}
+            Err(stop) => return Err(stop),
+        }
+    }
+    Ok(())
 }
 
 /// Puts an address and the end of its line after others.
@@ -86,9 +108,9 @@ fn write_types<O: Sink>(out: &mut O, types: Option<TypeFault>) -> Result<(), Sto
     }
 }
 
-/// Writes all that is said against the image.
-fn write_list<O: Sink>(alloc: Global, out: &mut O, audit: &Audit) -> Result<(), Stop>
-    ensures { Writes (listed_text audit.now) result (O.written out.old) (O.written out.new) (O.faults out.old) (O.faults out.new) }
+/// Writes all that is said against the functions and the types.
+fn write_found<O: Sink>(alloc: Global, out: &mut O, audit: &Audit) -> Result<(), Stop>
+    ensures { Writes (found_text audit.now) result (O.written out.old) (O.written out.new) (O.faults out.old) (O.faults out.new) }
 {
     match write_functions(alloc, out, audit.functions()) {
         Ok(()) => write_types(out, audit.types()),
@@ -96,12 +118,32 @@ fn write_list<O: Sink>(alloc: Global, out: &mut O, audit: &Audit) -> Result<(), 
     }
 }
 
-/// Writes an audit: all that is said against the image, and the summary.
-pub(crate) fn write_audit<O: Sink>(alloc: Global, out: &mut O, audit: &Audit) -> Result<(), Stop>
-    ensures { Writes (audit_text audit.now) result (O.written out.old) (O.written out.new) (O.faults out.old) (O.faults out.new) }
+/// Writes all that is said against the image: refused entries come first.
+fn write_list<O: Sink>(
+    alloc: Global,
+    out: &mut O,
+    refused: &[RefusedEntry],
+    audit: &Audit,
+) -> Result<(), Stop>
+    ensures { Writes (listed_text refused.now audit.now) result (O.written out.old) (O.written out.new) (O.faults out.old) (O.faults out.new) }
 {
-    match write_list(alloc, out, audit) {
-        Ok(()) => match summary_lines(alloc, audit) {
+    match write_refused(out, refused) {
+        Ok(()) => write_found(alloc, out, audit),
+        Err(stop) => Err(stop),
+    }
+}
+
+/// Writes an audit: all that is said against the image, and the summary.
+pub(crate) fn write_audit<O: Sink>(
+    alloc: Global,
+    out: &mut O,
+    refused: &[RefusedEntry],
+    audit: &Audit,
+) -> Result<(), Stop>
+    ensures { Writes (audit_text refused.now audit.now) result (O.written out.old) (O.written out.new) (O.faults out.old) (O.faults out.new) }
+{
+    match write_list(alloc, out, refused, audit) {
+        Ok(()) => match summary_lines(alloc, refused, audit) {
             Ok(lines) => write_text(out, lines.as_slice()),
             Err(_) => Err(Stop::Memory),
         },

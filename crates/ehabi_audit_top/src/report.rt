@@ -1,54 +1,39 @@
 //! From the name of a file to what is written and answered (docs/audit.md, "The program").
-ghost use Rattle.std.specs.Prelude.{◌≡◌, IfOk, Some};
+ghost use Rattle.std.specs.Prelude.{◌≡◌, Some};
 ghost use Rattle.elf_image.specs.Image.{image_of};
-ghost use Rattle.frame_check.specs.Accepts.{IsAccepted};
 ghost use Rattle.ehabi_audit_top.specs.Does.{Does, Tells};
-ghost use Rattle.ehabi_audit_top.specs.Report.{status_of, ImageReports, ReadReports, IsAcceptedRead};
-ghost use Rattle.ehabi_audit_top.specs.Text.{audit_text};
-ghost use Rattle.ehabi_audit_top.specs.Writing.{Writes};
+ghost use Rattle.ehabi_audit_top.specs.Report.{ImageReports, ReadReports, IsAcceptedImage, IsAcceptedRead};
 ghost use Rattle.program_answers.specs.Files.{file_state};
 
-use crate::listing::write_audit;
+use crate::audited::answer_audited;
+use crate::tables::{answer_tables, has_generic};
 use eh_files::{FileAnswer, Files};
+use eh_index::Index;
 use eh_port::Sink;
 use elf_image::read::read_image;
 use elf_image::{Image, ImageFault};
-use frame_audit::{Audit, AuditFault, audit_image};
 use program_answers::Stop;
 use program_answers::answer::{answer_missing, answer_text, answer_too_long};
-use program_answers::status::{DONE, REFUSED};
+use program_answers::status::REFUSED;
 use report_lines::{image_fault_line, index_line};
 use std::alloc::Global;
 
 /// The most bytes of a file: those of an image with what its debugger reads.
 pub const MOST_BYTES: usize = 67_108_864;
 
-/// Whether anything is said against the image, as a status.
-fn status_of(audit: &Audit) -> u8
-    ensures { result ≡ status_of audit.now }
-{
-    if audit.is_clear() { DONE } else { REFUSED }
-}
-
-/// Ends with an audit.
-fn answer_audit<O: Sink>(alloc: Global, out: &mut O, audit: &Audit) -> Result<u8, Stop>
-    ensures writes { Writes (audit_text audit.now) result (O.written out.old) (O.written out.new) (O.faults out.old) (O.faults out.new) }
-    ensures status { IfOk result (λ status. status ≡ status_of audit.now) }
-{
-    match write_audit(alloc, out, audit) {
-        Ok(()) => Ok(status_of(audit)),
-        Err(stop) => Err(stop),
-    }
-}
-
-/// Ends with the audit of an image, or with the line of an index that isn't read.
+/// Ends with the audit of an image, or of the rewritten one where an entry is generic, or with the line of an index that isn't read.
 fn answer_image<O: Sink>(alloc: Global, out: &mut O, image: &Image) -> Result<u8, Stop>
-    ensures { Tells (ImageReports image.now) (IsAccepted image.now) result (O.written out.old) (O.written out.new) (O.faults out.old) (O.faults out.new) }
+    ensures { Tells (ImageReports image.now) (IsAcceptedImage image.now) result (O.written out.old) (O.written out.new) (O.faults out.old) (O.faults out.new) }
 {
-    match audit_image(alloc, image) {
-        Ok(audit) => answer_audit(alloc, out, &audit),
-        Err(AuditFault::Index(fault)) => { answer_text(out, index_line(fault).as_slice(), REFUSED) }
-        Err(AuditFault::OutOfMemory) => Err(Stop::Memory),
+    match Index::read(image) {
+        Ok(index) => {
+            if has_generic(&index) {
+                answer_tables(alloc, out, image, &index)
+            } else {
+                answer_audited(alloc, out, &[], image)
+            }
+        }
+        Err(fault) => answer_text(out, index_line(fault).as_slice(), REFUSED),
     }
 }
 

@@ -4,6 +4,7 @@ ghost use Rattle.ehabi_audit_top.specs.Text.{some_count_line, cause_count_line, 
 
 use frame_audit::{Audit, CAUSES, Question};
 use frame_facts::FrameCause;
+use gnu_images::RefusedEntry;
 use itoa::Buffer;
 use report_lines::push_count;
 use std::alloc::{AllocError, Global};
@@ -64,16 +65,21 @@ fn push_agreement(
     lines.extend_from_slice(b" agree\n")
 }
 
-/// The summary of an audit.
+/// The summary of an audit of an image of whose index so many entries are refused.
 #[tactic(auto, unfolding(crate::specs::Text::summary_text))]
-pub(crate) fn summary_lines(alloc: Global, audit: &Audit) -> Result<Vec<u8>, AllocError>
-    ensures { IfOk result (λ lines. lines.items ≡ summary_text audit.now) }
+pub(crate) fn summary_lines(
+    alloc: Global,
+    refused: &[RefusedEntry],
+    audit: &Audit,
+) -> Result<Vec<u8>, AllocError>
+    ensures { IfOk result (λ lines. lines.items ≡ summary_text refused.now audit.now) }
 {
     let with_table = audit.count(Question::Unwinds);
     let without = audit.count(Question::CantUnwind);
     let mut lines = Vec::new(alloc);
     lines.extend_from_slice(b"-- summary\n")?;
     push_causes(&mut lines, audit, &CAUSES)?;
+    push_some_count(&mut lines, b"lsda", refused.len())?;
     push_stray(&mut lines, audit.stray())?;
     push_agreement(
         &mut lines,

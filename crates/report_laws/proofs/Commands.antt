@@ -1,10 +1,10 @@
 -- What the report of each command is made of.
-use Rattle.std.specs.Prelude.{MatchResult, take, slice_index_or, not, ◌-◌, length, if◌then◌else◌}
+use Rattle.std.specs.Prelude.{take, not, ◌-◌, length}
 use Rattle.std.proofs.Math.Seq.{take-append_seam}
 use Rattle.std.proofs.lemmas.Bool.Decides.{Decides-eqb}
 use Rattle.std.proofs.lemmas.List.{get_or_push, length-append}
 use Rattle.std.proofs.lemmas.Slice.Eq.{ends_is}
-use Rattle.std.proofs.Common.{◌≡◌, ◌+◌, ℕ, Bool, true, false, List, [], ◌∷◌, ◌++◌, codes, decimal, Result, None, Some, Ok, Err, refl, sym, ap, subst, ◌∙◌, arith}
+use Rattle.std.proofs.Common.{◌≡◌, ◌+◌, ℕ, Bool, true, false, List, [], ◌∷◌, ◌++◌, codes, Result, None, Some, Ok, Err, refl, sym, ap, subst, ◌∙◌, arith}
 use Rattle.eh_files.specs.FileList.{answer_of}
 use Rattle.eh_files.specs.declared.FileAnswer.{FileAnswer}
 use Rattle.eh_files.specs.declared.FileAnswer.TheVariants.{Found, Missing, TooLong as FileTooLong}
@@ -17,7 +17,7 @@ use Rattle.image_memory.specs.Start.{code_start}
 use Rattle.plain_run.specs.Machine.{flat_ran}
 use Rattle.ehabi_top.specs.Accepting.{IsFound, IsRejected, check_fault_line, no_image_report, rejected_report, BytesReportsBy}
 use Rattle.ehabi_top.proofs.BytesCases.{by_bytes}
-use Rattle.report_lines.specs.Text.{image_fault_line}
+use Rattle.report_lines.specs.Text.{after_blank, image_fault_line, refusal_line}
 use Rattle.ehabi_top.specs.BuildReport.{plain_report, build_report}
 use Rattle.ehabi_top.specs.Building.{found_text, file_of, files_of, built, or_refused, made_of_found, image_bytes}
 use Rattle.ehabi_top.specs.CheckReport.{ChecksAccepted}
@@ -42,7 +42,7 @@ use Rattle.report_lines.specs.CheckText.{index_line}
 use Rattle.report_lines.specs.TablesText.{entry_name, tables_line}
 use Rattle.ehabi_top.specs.GnuReport.{GnuAccepted, GnuBytesReports, Rewritten, by_image, by_index, by_tables, gnu_found, rewritten_bytes, rewritten_last, with_filters}
 use Rattle.ehabi_top.specs.RefusalText.{schedule_line}
-use Rattle.ehabi_top.specs.ThreadsReport.{Threaded, ThreadsAccepted, ThreadsBytesReports, digits_of, is_image, last_file, no_file as empty_file, program_bytes, threaded_last, threaded_of, threads_found}
+use Rattle.ehabi_top.specs.ThreadsReport.{ThreadsAccepted, ThreadsBytesReports, digits_of, is_image, last_file, no_file as empty_file, program_bytes, threaded_last, threaded_of, threads_found}
 use Rattle.thread_schedule.specs.Schedules.{schedule_of}
 use Rattle.ehabi_top.specs.TaskReport.{TaskReports, DoesTask, RunBytesReports}
 use Rattle.ehabi_top.specs.Words.{Command, FlatFile, BuildSources, CheckFile, CheckSources, RunFile, RunSources, RunGnu, RunThreads, GenerateProgram, is_source}
@@ -154,12 +154,17 @@ flat_is : (name : List ℕ) (budget : ℕ) (files : List (List ℕ × List ℕ))
 unfolding flat_report
 flat_is name budget files input answer e = ap (λ a. found_report (code_report budget) a input) e
 
+refused_by : Refusal → Result (List ℕ) Refusal → Refusal
+refused_by other (Ok bytes) = other
+refused_by other (Err refusal) = refusal
+
 -- the rewritten image of a file, where there is none
 gnu_lack : (name : List ℕ) (answer : FileAnswer) (refusal : Refusal) → bytes_of_answer name answer ≡ Err refusal
     → made_of_found rewritten_last (and_rest (found_text name answer) (Ok [])) ≡ Err refusal
+unfolding refused_by
 gnu_lack name (Found bytes) refusal e = absurd (cc)
-gnu_lack name Missing refusal e = e
-gnu_lack name FileTooLong refusal e = e
+gnu_lack name Missing refusal e = ap (λ a. Err (refused_by refusal a)) e
+gnu_lack name FileTooLong refusal e = ap (λ a. Err (refused_by refusal a)) e
 
 gnu_lacks : (name : List ℕ) (files : List (List ℕ × List ℕ)) (refusal : Refusal) → file_bytes name files ≡ Err refusal → gnu_found (name ∷ []) files ≡ Err refusal
 unfolding gnu_found file_bytes all_answers
@@ -331,17 +336,18 @@ gnu_runs : ReportsAreWritten → (filters : List (ℕ × ℕ)) (budget : ℕ) (b
     → Told (SaysGnu filters budget input) bytes input r
 gnu_runs w filters budget bytes input r h = told (GnuAccepted filters budget) (SaysGnu filters budget input) bytes input r (λ a e. (w.gnu filters budget a input r e, w.gnu_recorded filters budget a input r e)) h
 
-entry_names : (fault : EntryFault) → entry_name fault ≡ lsda_name fault
-entry_names Personality = refl
-entry_names Short = refl
-entry_names Format = refl
-entry_names Order = refl
-entry_names Filter = refl
-entry_names Chain = refl
-entry_names TooLong = refl
+entry_lines : (fault : EntryFault) (at : List ℕ)
+    → refusal_line (codes "lsda") (entry_name fault) (after_blank at) ≡ codes "lsda: " ++ lsda_name fault ++ codes " " ++ at ++ codes "\n"
+entry_lines Personality at = refl
+entry_lines Short at = refl
+entry_lines Format at = refl
+entry_lines Order at = refl
+entry_lines Filter at = refl
+entry_lines Chain at = refl
+entry_lines TooLong at = refl
 
 lines : (fault : GnuFault) → tables_line fault ≡ lsda_line fault
-lines (Entry e) = ap (λ name. codes "lsda: " ++ name ++ codes " " ++ address_text e.start ++ codes "\n") (entry_names e.fault)
+lines (Entry e) = entry_lines e.fault (address_text e.start)
 lines TooLarge = refl
 lines OutOfMemory = refl
 

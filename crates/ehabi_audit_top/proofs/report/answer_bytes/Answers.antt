@@ -1,8 +1,4 @@
-use Rattle.std.proofs.Common.{◌∙◌, Result, refl, sym, subst}
-use Rattle.elf_image.specs.Image.{Image}
-use Rattle.elf_image.specs.declared.fault.ImageFault.{ImageFault}
-use Rattle.ehabi_audit_top.specs.Does.{Tells}
-use Rattle.ehabi_audit_top.specs.Report.{ReadReports, IsAcceptedRead}
+use Rattle.std.proofs.Common.{◌∙◌, refl}
 use Rattle.ehabi_audit_top.proofs.Tellings.{judges_refused, tells_answered, tells_none}
 use Rattle.ehabi_audit_top.proofs.report.answer_bytes.Goals as goal
 

@@ -1,6 +1,6 @@
 use Rattle.std.proofs.Common.{refl}
 use Rattle.eh_files.specs.declared.FileAnswer.TheVariants as answer
-use Rattle.ehabi_audit_top.proofs.Files.{does_found, does_lack, does_unread}
+use Rattle.ehabi_audit_top.proofs.Files.{does_found, does_lack}
 use Rattle.ehabi_audit_top.proofs.report.answer_file.Goals as goal
 
 pub returns-in-Found : goal.returns-in-Found

@@ -4,7 +4,7 @@ use Rattle.ehabi_audit_top.proofs.summary.summary_lines.Goals as goal
 
 pub returns : goal.returns
 returns c =
-    summed c.args.audit.now _ _ _ _ _ _ _ _ _ _ _ _ _ _
+    summed c.args.refused.now c.args.audit.now _ _ _ _ _ _ _ _ _ _ _ _ _ _ _
     (record {
       with_well_is = c.count.ensures;
       with_all_is = c.count-with_table.ensures;
@@ -13,5 +13,5 @@ returns c =
       well_is = c.count-3.ensures;
       all_is = ap length c.functions-all.ensures;
     })
-    c.new-lines.ensures.items c.in_ok-extend_from_slice.ensures.items c.in_ok-push_causes.ensures c.stray.ensures c.in_ok-push_stray.ensures c.in_ok-push_agreement.ensures c.in_ok-push_agreement-2.ensures
+    c.new-lines.ensures.items c.in_ok-extend_from_slice.ensures.items c.in_ok-push_causes.ensures c.in_ok-push_some_count.ensures c.stray.ensures c.in_ok-push_stray.ensures c.in_ok-push_agreement.ensures c.in_ok-push_agreement-2.ensures
     c.in_ok-push_agreement-3.ensures
